@@ -1,0 +1,4 @@
+pub mod Outcome
+pub mod Decoding
+pub mod Folding
+pub mod formers
