@@ -1,0 +1,21 @@
+-- When a call to the outside may answer that it failed: only where the count of faults has risen in it.
+use Rattle.std.specs.Prelude.{◌≡◌, ℕ, ◌+◌, ◌-◌, ◌^◌, ◌<◌, ◌≤◌, min, Result, Err}
+use Rattle.asp_io.specs.declared.fault.Failed.{Failed}
+
+-- one more than the count, unless it is at its end
+abbrev pub counted : ℕ → ℕ
+counted count = min (count + 1) (2 ^ 64 - 1)
+
+-- the count has risen, or stands at its end
+abbrev pub HasRisen : ℕ → ℕ → Type 0
+HasRisen old new = counted old ≤ new
+
+-- The count has not fallen, and the call answers this fault only where it has risen.
+pub record HasCause {T E : Type 0} (fault : E) (old new : ℕ) (result : Result T E) : Type 0 where
+  pub later : old ≤ new
+  pub within : new < 2 ^ 64
+  pub failed : result ≡ Err fault → HasRisen old new
+
+-- the one value of its type
+abbrev pub failure : Failed
+failure = record {}

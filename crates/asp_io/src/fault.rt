@@ -1,0 +1,55 @@
+//! Faults of the outside.
+ghost use Rattle.std.specs.Prelude.{◌≡◌};
+ghost use Rattle.asp_io.specs.declared.fault.IoStop.TheVariants.{Failed as HasFailed, Memory as OutOfMemory};
+
+use std::alloc::{AllocError, AllocFailed};
+use thiserror::Error;
+use vb_value::Memory;
+
+/// A stream or a connection failed, and its count of faults rose.
+#[derive(Clone, Copy, Debug, PartialEq, Eq, Error)]
+#[error("the stream or the connection failed")]
+pub struct Failed;
+
+/// Why a call to the outside that also takes memory gave nothing.
+#[derive(Clone, Copy, Debug, PartialEq, Eq, Error)]
+pub enum IoStop {
+    /// The folder or the stream failed, and its count of faults rose.
+    #[error("the folder or the stream failed")]
+    Failed,
+    /// Memory ran out.
+    #[error("out of memory")]
+    Memory,
+}
+
+impl From<Failed> for IoStop {
+    ghost from_gives = { λ _ stop. stop ≡ HasFailed };
+
+    fn from(_: Failed) -> IoStop {
+        IoStop::Failed
+    }
+}
+
+impl From<Memory> for IoStop {
+    ghost from_gives = { λ _ stop. stop ≡ OutOfMemory };
+
+    fn from(_: Memory) -> IoStop {
+        IoStop::Memory
+    }
+}
+
+impl From<AllocError> for IoStop {
+    ghost from_gives = { λ _ stop. stop ≡ OutOfMemory };
+
+    fn from(_: AllocError) -> IoStop {
+        IoStop::Memory
+    }
+}
+
+impl<T: Drop> From<AllocFailed<T>> for IoStop {
+    ghost from_gives = { λ _ stop. stop ≡ OutOfMemory };
+
+    fn from(_: AllocFailed<T>) -> IoStop {
+        IoStop::Memory
+    }
+}
