@@ -13,7 +13,7 @@ HasRisen old new = counted old ≤ new
 -- The count has not fallen, and the call answers this fault only where it has risen.
 pub record HasCause {T E : Type 0} (fault : E) (old new : ℕ) (result : Result T E) : Type 0 where
   pub later : old ≤ new
-  pub within : new < 2 ^ 64
+  pub within : old < 2 ^ 64 → new < 2 ^ 64
   pub failed : result ≡ Err fault → HasRisen old new
 
 -- the one value of its type

@@ -3,3 +3,4 @@ pub mod Folder
 pub mod Source
 pub mod Sink
 pub mod Wire
+pub mod Copying

@@ -3,6 +3,7 @@
 #![tactic(auto)]
 
 mod clock;
+mod copying;
 mod fault;
 mod folder;
 mod link;
@@ -11,6 +12,7 @@ mod source;
 mod wire;
 
 pub use clock::Clock;
+pub use copying::{CopyStop, write_all, write_file};
 pub use fault::{Failed, IoStop};
 pub use folder::Folder;
 pub use link::Link;
