@@ -1,1 +1,2 @@
+mod SitePaths
 mod Writing

@@ -10,7 +10,7 @@ path_of file = file.path
 
 -- the bytes of the file at this path, where there is one
 abbrev pub bytes_of : List SiteFile → List ℕ → Option (List ℕ)
-bytes_of files path = option_map (λ file. file.bytes) (find (λ file. pointwise nat_eq file.path path) files)
+bytes_of files path = option_map (λ file. file.bytes) (find (λ file. pointwise nat_eq path file.path) files)
 
 -- some file has this path
 abbrev pub HasFile : List SiteFile → List ℕ → Type 0

@@ -4,3 +4,4 @@ pub mod Source
 pub mod Sink
 pub mod Wire
 pub mod Copying
+pub mod FaultPlan

@@ -5,17 +5,21 @@
 mod clock;
 mod copying;
 mod fault;
+mod fault_plan;
 mod folder;
 mod link;
 mod sink;
 mod source;
+mod sure_folder;
 mod wire;
 
 pub use clock::Clock;
 pub use copying::{CopyStop, write_all, write_file};
 pub use fault::{Failed, IoStop};
+pub use fault_plan::FaultPlan;
 pub use folder::Folder;
 pub use link::Link;
 pub use sink::Sink;
 pub use source::Source;
+pub use sure_folder::SureFolder;
 pub use wire::Wire;

@@ -1,0 +1,17 @@
+-- Which calls of a thing in memory are to fail.
+use Rattle.std.specs.Prelude.{Bool, ◌==◌}
+use Rattle.std.specs.List.{list_any}
+use Rattle.asp_io.specs.declared.fault_plan.FaultPlan.{FaultPlan}
+use Rattle.asp_io.specs.Faults.{counted}
+
+-- whether the next call, by its number, is one of those that are to fail
+abbrev pub fails_next : FaultPlan → Bool
+fails_next plan = list_any (λ number. number == counted plan.calls) plan.fails
+
+-- the plan after a call that has not failed
+abbrev pub after_call : FaultPlan → FaultPlan
+after_call plan = record plan { calls = counted plan.calls }
+
+-- the plan after a call that has failed
+abbrev pub after_fault : FaultPlan → FaultPlan
+after_fault plan = record plan { calls = counted plan.calls; faults = counted plan.faults }
