@@ -1,5 +1,5 @@
 -- Files under their paths, and lists of paths that may be those of a site.
-use Rattle.std.proofs.Common.{◌≡◌, ◌≢◌, ℕ, ◌+◌, ◌<◌, ◌≤◌, Bool, true, false, cond, List, [], ◌∷◌, ◌++◌, Option, None, Some, length, get_or, map, nat_eq, take, refl, sym, ◌∙◌, ap, subst, arith, length-take}
+use Rattle.std.proofs.Common.{◌≡◌, ◌≢◌, ℕ, ◌+◌, ◌<◌, ◌≤◌, Bool, true, false, cond, List, [], ◌∷◌, ◌++◌, Option, None, Some, length, get_or, map, nat_eq, option_map, take, refl, sym, ◌∙◌, ap, subst, arith, length-take}
 use Rattle.std.specs.Prelude.{MatchOption}
 use Rattle.std.specs.Cmp.Lexicographic.{pointwise}
 use Rattle.std.specs.List.{All, AllPairs, Contains, find}
@@ -9,7 +9,7 @@ use Rattle.std.proofs.lemmas.List.Quantifiers.{all_pairs_push}
 use Rattle.std.proofs.lemmas.Map.Made.{Contains-tail}
 use Rattle.std.proofs.lemmas.Slice.Eq.{bytes_eq-Decides}
 use Rattle.vb_value.specs.declared.site_file.SiteFile.{SiteFile}
-use Rattle.asp_io.specs.Folder.{AreSitePaths, HasFile, IsRooted, path_of}
+use Rattle.asp_io.specs.Folder.{AreSitePaths, HasFile, IsRooted, bytes_of, path_of}
 
 -- what both outcomes of a search say, from what they say of the rest
 either : {X : Type 0} {P Q R S : Type 0} (found : Option X) → (P → R) → (Q → S) → MatchOption found P (λ _. Q) → MatchOption found R (λ _. S)
@@ -40,6 +40,15 @@ some_file files path file is = subst (λ found. MatchOption found (¬ (HasFile f
 pub no_file : (files : List SiteFile) (path : List ℕ)
     → None ≡ find (λ file. pointwise nat_eq path file.path) files → ¬ (HasFile files path)
 no_file files path is = subst (λ found. MatchOption found (¬ (HasFile files path)) (λ _. HasFile files path)) (sym is) (find_file_finds files path)
+
+-- a file that the folder has has bytes
+pub has_bytes : (files : List SiteFile) (path : List ℕ) (most : ℕ) → HasFile files path
+    → None ≡ option_map (take most) (bytes_of files path) → ⊥
+has_bytes files path most has none =
+    let step : (found : Option SiteFile) → found ≡ find (λ file. pointwise nat_eq path file.path) files
+    → None ≡ option_map (take most) (option_map (λ file. file.bytes) found) → ⊥ =
+    elim [ None ↦ λ is _. no_file files path is has | Some file ↦ λ _ is. cc ] in
+    step (find (λ file. pointwise nat_eq path file.path) files) refl none
 
 -- each path of a site begins with a slash and is new
 pub site_path_is_new : (paths : List (List ℕ)) (at : ℕ) (path : List ℕ) → get_or paths at path ≡ path → at < length paths

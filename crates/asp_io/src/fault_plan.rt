@@ -1,7 +1,9 @@
 //! Which calls of a thing in memory are to fail.
-ghost use Rattle.std.specs.Prelude.{◌≡◌};
+ghost use Rattle.std.specs.Prelude.{◌≡◌, ◌≤◌, ◌↔◌, IsErr, IsTrue};
 ghost use Rattle.asp_io.specs.FaultPlan.{after_call, after_fault, fails_next};
+ghost use Rattle.asp_io.specs.Faults.{HasCause, failure};
 
+use crate::fault::Failed;
 use vb_value::List;
 
 /// Which calls are to fail, and how many there were.
@@ -35,18 +37,27 @@ impl FaultPlan {
         self.fails.iter().any(|number| *number == next)
     }
 
-    /// Counts a call that has not failed.
-    pub fn count_call(&mut self)
-        ensures { self.new ≡ after_call self.old }
+    /// Counts a call, and a fault where that call is to fail.
+    pub fn next_call(&mut self) -> Result<(), Failed>
+        ensures fails { IsErr result ↔ IsTrue (fails_next self.old) }
+        ensures plan { self.new ≡ after_call self.old }
+        ensures cause { HasCause failure self.old.faults self.new.faults result }
     {
+        let fails = self.fails_next();
         self.calls = self.calls.saturating_add(1);
+        if fails {
+            Err(self.count_fault())
+        } else {
+            Ok(())
+        }
     }
 
-    /// Counts a call that has failed.
-    pub fn count_fault(&mut self)
-        ensures { self.new ≡ after_fault self.old }
+    /// Counts a fault, which the caller is to answer.
+    pub fn count_fault(&mut self) -> Failed
+        ensures plan { self.new ≡ after_fault self.old }
+        ensures later { self.old.faults ≤ self.new.faults }
     {
-        self.count_call();
         self.faults = self.faults.saturating_add(1);
+        Failed
     }
 }

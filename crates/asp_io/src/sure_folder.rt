@@ -67,6 +67,24 @@ impl SureFolder {
     }
 }
 
+impl Folder for SureFolder {
+    ghost files = { λ folder. Some folder };
+
+    ghost faults = { λ _. 0 };
+
+    fn names(&mut self, alloc: Global) -> Result<List<Text>, IoStop> {
+        Ok(self.paths(alloc)?)
+    }
+
+    #[tactic(auto, using(crate::proofs::SitePaths::has_bytes))]
+    fn read(&mut self, alloc: Global, name: &Text, most: u32) -> Result<Bytes, IoStop> {
+        match self.start_of(alloc, name, most)? {
+            Some(bytes) => Ok(bytes),
+            None => unreachable!(),
+        }
+    }
+}
+
 /// The first of the files that has this path.
 fn find_file<'a>(files: &'a [SiteFile], path: &Text) -> Option<&'a SiteFile>
     ensures { option_copied result ≡ find (λ file. pointwise nat_eq path.now file.path) files.now }
