@@ -5,3 +5,4 @@ pub mod Sink
 pub mod Wire
 pub mod Copying
 pub mod FaultPlan
+pub mod MemSink
