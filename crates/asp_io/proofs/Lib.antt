@@ -1,3 +1,5 @@
 mod Reading
 mod SitePaths
+mod Sorting
+mod Streams
 mod Writing
