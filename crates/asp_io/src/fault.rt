@@ -1,8 +1,12 @@
 //! Faults of the outside.
 ghost use Rattle.std.specs.Prelude.{◌≡◌};
+ghost use Rattle.std.specs.IoError.{error_kind};
+ghost use Rattle.asp_io.specs.Faults.{stop_of};
 ghost use Rattle.asp_io.specs.declared.fault.IoStop.TheVariants.{Failed as HasFailed, Memory as OutOfMemory};
 
 use std::alloc::{AllocError, AllocFailed};
+use std::io;
+use std::io::ErrorKind;
 use thiserror::Error;
 use vb_value::Memory;
 
@@ -51,5 +55,17 @@ impl<T: Drop> From<AllocFailed<T>> for IoStop {
 
     fn from(_: AllocFailed<T>) -> IoStop {
         IoStop::Memory
+    }
+}
+
+/// An error of std is want of memory by its kind, and else a fault.
+impl From<io::Error> for IoStop {
+    ghost from_gives = { λ error stop. stop ≡ stop_of (error_kind error) };
+
+    fn from(error: io::Error) -> IoStop {
+        match error.kind() {
+            ErrorKind::OutOfMemory => IoStop::Memory,
+            _ => IoStop::Failed,
+        }
     }
 }

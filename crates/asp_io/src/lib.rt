@@ -45,3 +45,6 @@ pub use sure_sink::SureSink;
 pub use sure_source::SureSource;
 pub use sure_wire::SureWire;
 pub use wire::Wire;
+
+#[cfg(test)]
+mod tests;

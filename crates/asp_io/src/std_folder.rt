@@ -1,6 +1,7 @@
 //! A folder of the system.
 ghost use Rattle.std.specs.Prelude.{◌≡◌, ◌≤◌, None, IfOk, length};
 ghost use Rattle.asp_io.specs.Faults.{HasCause};
+ghost use Rattle.asp_io.specs.Folder.{AreSitePaths};
 
 use crate::fault::IoStop;
 use crate::folder::Folder;
@@ -57,7 +58,7 @@ impl<R: Files + AllocGlobal + Clone + Drop> Folder for StdFolder<R> {
     ghost faults = { λ folder. folder };
 
     fn names(&mut self, alloc: Global) -> Result<List<Text>, IoStop> {
-        let names = files_below(&self.rt, alloc, self.root.as_str());
+        let names = names_below(&self.rt, alloc, self.root.as_str());
         count_fault(&mut self.faults, names)
     }
 
@@ -78,6 +79,18 @@ fn count_fault<T>(faults: &mut u64, answer: Result<T, IoStop>) -> Result<T, IoSt
     answer
 }
 
+/// The path of each file below `root`.
+fn names_below<R: Files + AllocGlobal + Clone + Drop>(
+    rt: &R,
+    alloc: Global,
+    root: &str,
+) -> Result<List<Text>, IoStop>
+    ensures { IfOk result AreSitePaths }
+{
+    let base = base_path(rt, alloc, root)?;
+    files_below(rt, alloc, base.as_str())
+}
+
 /// The first `most` bytes of the file at the path `name` below `root`.
 fn read_below<R: Files + AllocGlobal>(
     rt: &R,
@@ -88,29 +101,23 @@ fn read_below<R: Files + AllocGlobal>(
 ) -> Result<Bytes, IoStop>
     ensures { IfOk result (λ bytes. length bytes ≤ most) }
 {
-    let mut file = open_below(rt, alloc, root, name)?;
+    let mut path = base_path(rt, alloc, root)?;
+    let name = name.to_string(alloc)?;
+    path.push_str(name.as_str())?;
+    if !name.as_str().starts_with('/') || !is_plain_file(rt, path.as_str())? {
+        return Err(IoStop::Failed);
+    }
+    let mut file = fs::open(rt, path.as_str())?;
     read_start(alloc, &mut file, most)
 }
 
-/// Opens the regular file at the path `name` below `root`, where no part below the root is a symbolic link.
-fn open_below<R: Files + AllocGlobal>(
-    rt: &R,
-    alloc: Global,
-    root: &str,
-    name: &Text,
-) -> Result<R::File, IoStop> {
-    let name = name.to_string(alloc)?;
-    let root = fs::canonicalize(rt, root)?;
-    let mut path = String::from_str(alloc, root.as_str().trim_end_matches('/'))?;
-    path.push_str(name.as_str())?;
-    let is_below = name.as_str().starts_with('/');
-    if !is_below || !is_plain_file(rt, path.as_str())? {
-        return Err(IoStop::Failed);
-    }
-    Ok(fs::open(rt, path.as_str())?)
+/// The root's own path, without symbolic links, to which a path that begins with `/` can be added.
+fn base_path<R: Files + AllocGlobal>(rt: &R, alloc: Global, root: &str) -> Result<String, IoStop> {
+    let path = fs::canonicalize(rt, root)?;
+    Ok(String::from_str(alloc, path.as_str().trim_end_matches('/'))?)
 }
 
-/// Whether the path leads to a regular file by no symbolic link and no `.` or `..`.
+/// Whether the path leads to a regular file, with no symbolic link, `.` or `..` in it.
 fn is_plain_file<R: Files + AllocGlobal>(rt: &R, path: &str) -> Result<bool, IoStop> {
     let is_plain = fs::canonicalize(rt, path)?.as_str() == path;
     Ok(is_plain && fs::symlink_metadata(rt, path)?.is_file())

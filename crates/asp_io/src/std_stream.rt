@@ -5,20 +5,11 @@ ghost use Rattle.std.specs.Io.KnownBytes.{Appends, Consumes, IsAtEnd};
 
 use crate::fault::{Failed, IoStop};
 use std::alloc::Global;
-use std::io::{Error, ErrorKind, Read, Write};
+use std::io::{ErrorKind, Read, Write};
 use vb_value::{Bytes, List};
 
 /// How many bytes a read asks for at most.
 const CHUNK: usize = 4096;
-
-impl From<Error> for IoStop {
-    fn from(error: Error) -> IoStop {
-        match error.kind() {
-            ErrorKind::OutOfMemory => IoStop::Memory,
-            _ => IoStop::Failed,
-        }
-    }
-}
 
 /// The first `most` bytes that `from` gives. A read that was interrupted is tried again.
 #[tactic(auto, using(crate::proofs::Streams::consumes_more, crate::proofs::Streams::read_is_start))]

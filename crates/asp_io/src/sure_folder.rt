@@ -54,6 +54,13 @@ impl SureFolder {
         Ok(paths)
     }
 
+    /// Whether it has a file at the path `name`.
+    pub fn has_file(&self, name: &Text) -> bool
+        ensures { IsTrue result ↔ HasFile self.now name.now }
+    {
+        has_file(self.files.as_slice(), name)
+    }
+
     /// The first `most` bytes of the file at the path `name`, or `None` where there is no such file.
     pub fn start_of(&self, alloc: Global, name: &Text, most: u32) -> Result<Option<Bytes>, Memory>
         ensures { Gives result (option_map (take most) (bytes_of self.now name.now)) }
