@@ -1,10 +1,9 @@
 -- Paths that were sorted and then kept once each.
-use Rattle.std.proofs.Common.{◌≡◌, ◌≢◌, ℕ, ◌<◌, List, [], ◌∷◌, length, nat_eq, refl, sym, ◌∙◌, ap, subst, arith}
+use Rattle.std.proofs.Common.{◌≡◌, ◌≢◌, ℕ, ◌<◌, List, [], ◌∷◌, nat_eq, sym, ◌∙◌, ap, subst, arith}
 use Rattle.std.specs.Cmp.Lexicographic.{pointwise, slice_cmp, lists_ties}
 use Rattle.std.specs.Cmp.{unsigned_ties}
 use Rattle.std.specs.Ordering.{nat_cmp, ordering_reverse}
-use Rattle.std.specs.declared.cmp.Ordering.{Ordering}
-use Rattle.std.specs.declared.cmp.Ordering.TheVariants.{Less, Equal, Greater}
+use Rattle.std.specs.declared.cmp.Ordering.TheVariants.{Less, Greater}
 use Rattle.std.specs.List.{All, AllByRecursion, AllPairs, dedup}
 use Rattle.std.specs.List.Retain.{DiffersFromLast, IsFiltered}
 use Rattle.std.specs.List.Sorted.{IsPermutation, IsSorted, IsStrictlySortedBy}
@@ -30,7 +29,8 @@ all_differ path (other ∷ paths) below =
     All-cons (λ other. path ≢ other) other paths (below_differs path other below.0) (all_differ path paths below.1)
 
 -- no two of strictly sorted paths are alike
-sorted_differ : (paths : List (List ℕ)) → IsStrictlySortedBy (slice_cmp nat_cmp) paths → AllPairs (λ path other. path ≢ other) paths
+sorted_differ : (paths : List (List ℕ)) → IsStrictlySortedBy (slice_cmp nat_cmp) paths
+    → AllPairs (λ path other. path ≢ other) paths
 unfolding IsStrictlySortedBy
 sorted_differ [] sorted = λ i j d before within. absurd (let none : j < 0 = within in omega arith)
 sorted_differ (path ∷ paths) sorted =

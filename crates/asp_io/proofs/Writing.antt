@@ -1,5 +1,6 @@
 -- A piece that is written by several calls.
-use Rattle.std.proofs.Common.{◌≡◌, ℕ, ◌+◌, ◌-◌, List, ◌++◌, Option, None, Some, length, take, drop, refl, ◌∙◌, ap, sym, append_assoc}
+use Rattle.std.proofs.Common.{◌≡◌, ℕ, ◌+◌, ◌-◌, List, ◌++◌, Option, None, Some}
+use Rattle.std.proofs.Common.{length, take, drop, refl, ◌∙◌, ap, sym, append_assoc}
 use Rattle.std.proofs.lemmas.List.{take_rest}
 use Rattle.std.proofs.Math.Seq.{take-add}
 use Rattle.asp_io.specs.Sink.{with_bytes, Writes}
@@ -17,6 +18,7 @@ pub written_more : (before old new : Option (List ℕ)) (piece : List ℕ) (take
     → new ≡ with_bytes before (take (taken + count) piece)
 written_more before old new piece taken count was writes =
     let bytes = take count (drop taken piece) in
-    let added : new ≡ with_bytes old bytes = writes.added ∙ ap (λ rest. with_bytes old (take count rest)) (take_rest piece taken) in
+    let added : new ≡ with_bytes old bytes =
+    writes.added ∙ ap (λ rest. with_bytes old (take count rest)) (take_rest piece taken) in
     added ∙ ap (λ held. with_bytes held bytes) was ∙ with_bytes-append before (take taken piece) bytes
     ∙ ap (with_bytes before) (sym (take-add taken count piece))

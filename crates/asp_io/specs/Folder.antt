@@ -8,9 +8,13 @@ use Rattle.vb_value.specs.declared.site_file.SiteFile.{SiteFile}
 abbrev pub path_of : SiteFile → List ℕ
 path_of file = file.path
 
+-- the file at this path, where there is one
+abbrev pub file_at : List SiteFile → List ℕ → Option SiteFile
+file_at files path = find (λ file. pointwise nat_eq path file.path) files
+
 -- the bytes of the file at this path, where there is one
 abbrev pub bytes_of : List SiteFile → List ℕ → Option (List ℕ)
-bytes_of files path = option_map (λ file. file.bytes) (find (λ file. pointwise nat_eq path file.path) files)
+bytes_of files path = option_map (λ file. file.bytes) (file_at files path)
 
 -- some file has this path
 abbrev pub HasFile : List SiteFile → List ℕ → Type 0

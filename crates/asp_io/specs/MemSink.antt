@@ -1,5 +1,6 @@
 -- A sink in memory: the bytes it holds, the room it has left, and which calls fail.
-use Rattle.std.specs.Prelude.{ℕ, ◌+◌, ◌-◌, Bool, nat_eq, nat_lt, ◌&&◌, ◌||◌, if◌then◌else◌, List, ◌++◌, length, take, Result, Ok, Err}
+use Rattle.std.specs.Prelude.{ℕ, ◌-◌, Bool, nat_eq, nat_lt, ◌&&◌, ◌||◌}
+use Rattle.std.specs.Prelude.{if◌then◌else◌, List, ◌++◌, length, take, Result, Ok, Err}
 use Rattle.asp_io.specs.declared.fault.Failed.{Failed}
 use Rattle.asp_io.specs.declared.fault_plan.FaultPlan.{FaultPlan}
 use Rattle.asp_io.specs.FaultPlan.{after_call, after_fault, fails_next}

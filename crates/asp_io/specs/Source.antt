@@ -1,5 +1,6 @@
 -- What a read takes from the bytes that are left.
-use Rattle.std.specs.Prelude.{◌≡◌, ℕ, ◌-◌, ◌^◌, ◌<◌, ◌≤◌, Option, IfSome, List, [], ◌++◌, length, take, drop, min, option_map}
+use Rattle.std.specs.Prelude.{◌≡◌, ℕ, ◌-◌, ◌^◌, ◌<◌, ◌≤◌, Option, IfSome}
+use Rattle.std.specs.Prelude.{List, [], ◌++◌, length, take, drop, min, option_map}
 
 -- A read has put the next `count` bytes at the front of the slice, and kept the rest of the slice.
 pub record Reads (left rest : Option (List ℕ)) (old new : List ℕ) (count : ℕ) : Type 0 where

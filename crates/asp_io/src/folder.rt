@@ -1,5 +1,6 @@
 //! A folder of files.
-ghost use Rattle.std.specs.Prelude.{◌≡◌, ℕ, ◌≤◌, Option, Some, List as Items, IfOk, IfSome, length, map, option_map, take};
+ghost use Rattle.std.specs.Prelude.{◌≡◌, ℕ, ◌≤◌, Option, Some, List as Items};
+ghost use Rattle.std.specs.Prelude.{IfOk, IfSome, length, map, option_map, take};
 ghost use Rattle.std.specs.Option.{ForSome};
 ghost use Rattle.vb_value.specs.declared.site_file.SiteFile.{SiteFile};
 ghost use Rattle.asp_io.specs.Faults.{HasCause};

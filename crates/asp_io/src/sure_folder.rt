@@ -1,9 +1,8 @@
 //! A folder in memory that never fails.
-ghost use Rattle.std.specs.Prelude.{◌≡◌, ◌≤◌, ◌↔◌, Some, IfOk, IfSome, IsTrue, SomeIff, length, map, nat_eq, option_copied, option_map, take};
-ghost use Rattle.std.specs.Cmp.Lexicographic.{pointwise};
-ghost use Rattle.std.specs.List.{find};
+ghost use Rattle.std.specs.Prelude.{◌≡◌, ◌≤◌, ◌↔◌, Some, IfOk, IfSome, IsTrue};
+ghost use Rattle.std.specs.Prelude.{SomeIff, length, map, option_copied, option_map, take};
 ghost use Rattle.vb_value.specs.Outcome.{Gives};
-ghost use Rattle.asp_io.specs.Folder.{AreSitePaths, HasFile, IsRooted, bytes_of, path_of};
+ghost use Rattle.asp_io.specs.Folder.{AreSitePaths, HasFile, IsRooted, bytes_of, file_at, path_of};
 
 use crate::fault::IoStop;
 use crate::folder::Folder;
@@ -94,7 +93,7 @@ impl Folder for SureFolder {
 
 /// The first of the files that has this path.
 fn find_file<'a>(files: &'a [SiteFile], path: &Text) -> Option<&'a SiteFile>
-    ensures { option_copied result ≡ find (λ file. pointwise nat_eq path.now file.path) files.now }
+    ensures { option_copied result ≡ file_at files.now path.now }
 {
     files.iter().find(|file| *path == file.path)
 }

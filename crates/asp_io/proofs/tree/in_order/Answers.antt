@@ -8,4 +8,5 @@ pub returns : goal.returns
 returns c =
     let sorted = c.in_ok-sort.ensures in
     let rooted = subst (All IsRooted) (sym c.into_vec-paths.ensures) c.requires in
-    subst AreSitePaths (sym c.from_vec.ensures) (kept_paths _ _ _ rooted sorted.permutation sorted.sorted c.dedup.ensures.filtered)
+    let kept = kept_paths _ _ _ rooted sorted.permutation sorted.sorted c.dedup.ensures.filtered in
+    subst AreSitePaths (sym c.from_vec.ensures) kept
