@@ -1,0 +1,9 @@
+//! Page files: a page is read into its pieces of text and the values that it writes, and each of these
+//! into its numbers.
+#![tactic(auto)]
+
+mod fragment;
+mod sum;
+
+pub use fragment::{Fragment, PageStop, fragments};
+pub use sum::{SumStop, sum_numbers};
