@@ -1,3 +1,4 @@
 pub mod Sum
+pub mod Front
 pub mod Forms
 pub mod Fragments

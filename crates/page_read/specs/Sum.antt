@@ -1,5 +1,5 @@
 -- Sums as a page writes them: numbers joined by plus signs, with spaces and tabs round their words.
-use Rattle.std.specs.Prelude.{◌≡◌, ◌≢◌, ℕ, ◌≤◌, ◌⊎◌, List, [], ◌∷◌, ◌++◌, All, IsTrue, is_ok}
+use Rattle.std.specs.Prelude.{◌≡◌, ◌≢◌, ℕ, ◌≤◌, ◌⊎◌, List, [], ◌∷◌, ◌++◌, All}
 
 -- a digit, 0 to 9
 abbrev pub IsDigit : ℕ → Type 0

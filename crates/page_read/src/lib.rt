@@ -6,4 +6,4 @@ mod fragment;
 mod sum;
 
 pub use fragment::{Fragment, PageStop, fragments};
-pub use sum::{SumStop, sum_numbers};
+pub use sum::{SumStop, sum_numbers, sum_unique};
