@@ -2,6 +2,7 @@
 //! into its numbers.
 #![tactic(auto)]
 
+mod form;
 mod fragment;
 mod sum;
 
