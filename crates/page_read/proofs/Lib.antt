@@ -1,2 +1,4 @@
 pub mod Terms
 pub mod Begins
+pub mod Lines
+pub mod Pieces
