@@ -2,3 +2,5 @@ pub mod Terms
 pub mod Begins
 pub mod Lines
 pub mod Pieces
+pub mod Reading
+pub mod Page

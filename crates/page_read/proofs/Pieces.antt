@@ -84,7 +84,7 @@ form_follows (Write text line ∷ pieces) none = inr (inl (inl refl))
 form_follows (Text text ∷ pieces) none = absurd none
 
 -- the line of a write, from the line ends that are left
-line_of_write : (before text : List ℕ) (line : ℕ) → begins_with_feed text ≡ false
+pub line_of_write : (before text : List ℕ) (line : ℕ) → begins_with_feed text ≡ false
     → line + line_ends_in text ≡ 1 + line_ends_in (before ++ text) → line ≡ 1 + line_ends_in before
 line_of_write before text line none at_line = omega (arith, line_ends_in-append before text none)
 
@@ -92,7 +92,7 @@ line_of_write before text line none at_line = omega (arith, line_ends_in-append 
 
 -- the first piece of a text, and pieces of the rest, are pieces of the text
 pub first_with : (before text rest : List ℕ) (piece : Fragment) (line : ℕ) (more : List Fragment)
-    → IsFirst line text piece rest → line + line_ends_in text ≡ 1 + line_ends_in (before ++ text)
+    → IsFirst line text piece rest → (begins_with_feed text ≡ false → line ≡ 1 + line_ends_in before)
     → IsCutInto (before ++ spelling_of piece) rest more → IsCutInto before text (piece ∷ more)
 first_with before text rest (Text plain) line more first at_line cut =
     let P : List ℕ → Type 0 = λ rest. BeginsNoFormWithin (length plain) (plain ++ rest) in (
@@ -109,7 +109,7 @@ first_with before text rest (Text plain) line more first at_line cut =
 first_with before text rest (Write body at) line more first at_line cut =
     let spelled = first.spelled in
     let feed : begins_with_feed text ≡ false = ap begins_with_feed spelled in
-    let at_line' = line_of_write before text line feed at_line in (
+    let at_line' = at_line feed in (
       first.spelled ∙ ap (λ (r : List ℕ). spelling_of (Write body at) ++ r) cut.0,
       (
         record { unclosed = first.right.0; sum = first.right.1; at_line = first.right.2 ∙ at_line' },
@@ -119,7 +119,7 @@ first_with before text rest (Write body at) line more first at_line cut =
 
 -- pieces of a text are its first piece and pieces of the rest
 pub first_only : (before text rest : List ℕ) (piece : Fragment) (line : ℕ) (all : List Fragment)
-    → IsFirst line text piece rest → line + line_ends_in text ≡ 1 + line_ends_in (before ++ text)
+    → IsFirst line text piece rest → (begins_with_feed text ≡ false → line ≡ 1 + line_ends_in before)
     → IsCutInto before text all
     → (more : List Fragment) × (all ≡ piece ∷ more) × IsCutInto (before ++ spelling_of piece) rest more
 first_only before text rest (Text []) line all first at_line cut = absurd (first.right.0 refl)
@@ -150,7 +150,7 @@ first_only before text rest (Write body at) line (Write other at' ∷ more) firs
     let both = close_unique body other rest (text_of more) first.right.0 cut.1.0.unclosed bodies in
     let texts : body ≡ other = both.0 in
     let feed : begins_with_feed text ≡ false = ap begins_with_feed first.spelled in
-    let at_line' = line_of_write before text line feed at_line in
+    let at_line' = at_line feed in
     let here = first.right.2 in
     let there = cut.1.0.at_line in
     let lines : at ≡ at' = cc in
@@ -159,7 +159,7 @@ first_only before text rest (Write body at) line (Write other at' ∷ more) firs
     (more, cc, (both.1, subst P (sym pieces) cut.1.1))
 
 -- a first piece of a list is a first piece of its text
-first_of : (before : List ℕ) (piece : Fragment) (pieces : List Fragment) → ArePieces before (piece ∷ pieces)
+pub first_of : (before : List ℕ) (piece : Fragment) (pieces : List Fragment) → ArePieces before (piece ∷ pieces)
     → IsFirst (1 + line_ends_in before) (text_of (piece ∷ pieces)) piece (text_of pieces)
 first_of before (Text text) pieces are = record {
   spelled = refl;

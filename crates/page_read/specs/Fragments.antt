@@ -2,6 +2,11 @@
 -- pieces belong to which bytes.
 use Rattle.std.specs.Prelude.{◌≡◌, ◌≢◌, ℕ, ◌+◌, ◌≤◌, List, [], ◌∷◌, ◌++◌, length, chars, codes, IsUtf8, slice_get, Result, Ok, Err, Some}
 use Rattle.vb_value.specs.declared.site_file.FaultKind.{FaultKind}
+use Rattle.vb_value.specs.declared.site_file.FaultKind.TheVariants.{NotYet}
+use Rattle.vb_value.specs.declared.text.Utf8Stop.{Utf8Stop}
+use Rattle.vb_value.specs.declared.text.Utf8Stop.TheVariants.{NotUtf8, Memory as NoRoomForText}
+use Rattle.page_read.specs.declared.sum.SumStop.{SumStop}
+use Rattle.page_read.specs.declared.sum.SumStop.TheVariants.{NoSum, Memory as NoRoomForSum}
 use Rattle.page_read.specs.declared.fragment.Fragment.{Fragment}
 use Rattle.page_read.specs.declared.fragment.Fragment.TheVariants.{Text, Write}
 use Rattle.page_read.specs.declared.fragment.PageStop.{PageStop}
@@ -70,3 +75,13 @@ abbrev pub IfFault : {T : Type 0} → Result T PageStop → (FaultKind → ℕ �
 IfFault (Ok given) P = Unit {0}
 IfFault (Err (Fault kind line)) P = P kind line
 IfFault (Err Memory) P = Unit {0}
+
+-- the stop of a page whose text can't be read
+abbrev pub stop_of_text : Utf8Stop → PageStop
+stop_of_text NotUtf8 = Fault NotYet 0
+stop_of_text NoRoomForText = Memory
+
+-- the stop of a page where what is written is not a sum that can be read
+abbrev pub stop_of_sum : SumStop → PageStop
+stop_of_sum NoSum = Fault NotYet 0
+stop_of_sum NoRoomForSum = Memory

@@ -4,7 +4,8 @@
 
 mod form;
 mod fragment;
+mod piece;
 mod sum;
 
-pub use fragment::{Fragment, PageStop, fragments};
+pub use fragment::{Fragment, PageStop, fragments, fragments_unique};
 pub use sum::{SumStop, sum_numbers, sum_unique};
