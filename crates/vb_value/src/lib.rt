@@ -8,6 +8,8 @@ mod copied;
 mod list;
 mod memory;
 mod site_file;
+#[cfg(test)]
+mod tests;
 mod text;
 
 pub use boxed::Boxed;
