@@ -68,6 +68,10 @@ pub record IsFragmentsOf (bytes : List ℕ) (pieces : List Fragment) : Type 0 wh
   pub spelled : chars bytes ≡ text_of pieces
   pub right : ArePieces [] pieces
 
+-- no pieces are those of a file with these bytes
+abbrev pub IsNoPage : List ℕ → Type 0
+IsNoPage bytes = (pieces : List Fragment) → ¬ (IsFragmentsOf bytes pieces)
+
 -- ---- refusals
 
 -- where the answer is a fault of the page, this holds of its kind and its line

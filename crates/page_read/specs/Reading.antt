@@ -20,3 +20,7 @@ MayBegin line (Write text at) rest = HoldsNoClose text × IsSomeSum text × (at 
 pub record IsFirst (line : ℕ) (text : List ℕ) (piece : Fragment) (rest : List ℕ) : Type 0 where
   pub spelled : text ≡ spelling_of piece ++ rest
   pub right : MayBegin line piece rest
+
+-- wherever the text stands, it is not cut into pieces
+abbrev pub IsNeverCut : List ℕ → Type 0
+IsNeverCut text = (before : List ℕ) (pieces : List Fragment) → ¬ (IsCutInto before text pieces)

@@ -2,7 +2,7 @@
 ghost use Rattle.std.specs.Prelude.{◌≡◌, ℕ, List as Items, IfOk};
 ghost use Rattle.vb_value.specs.declared.site_file.FaultKind.TheVariants.{NotYet};
 ghost use Rattle.page_read.specs.declared.fragment.Fragment.{Fragment as Piece};
-ghost use Rattle.page_read.specs.Fragments.{IfFault, IsFragmentsOf};
+ghost use Rattle.page_read.specs.Fragments.{IfFault, IsFragmentsOf, IsNoPage};
 
 use crate::piece::pieces;
 use crate::sum::SumStop;
@@ -86,7 +86,7 @@ pub fn fragments(alloc: Global, bytes: &[u8]) -> Result<List<Fragment>, PageStop
 
     // A fault is that of the whole file, and comes only where no pieces belong to it.
     ensures fault { IfFault result (λ kind line. (kind ≡ NotYet) × (line ≡ 0)) }
-    ensures no_page { IfFault result (λ _ _. (pieces : Items Piece) → ¬ (IsFragmentsOf bytes.now pieces)) }
+    ensures no_page { IfFault result (λ _ _. IsNoPage bytes.now) }
 {
     if bytes.len() > 65536 {
         return Err(NOT_YET);

@@ -9,3 +9,6 @@ mod sum;
 
 pub use fragment::{Fragment, PageStop, fragments, fragments_unique};
 pub use sum::{SumStop, sum_numbers, sum_unique};
+
+#[cfg(test)]
+mod tests;

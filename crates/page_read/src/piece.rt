@@ -1,10 +1,10 @@
 //! The pieces of a page's text, one after another.
-ghost use Rattle.std.specs.Prelude.{◌≡◌, ◌+◌, ◌<◌, ◌≤◌, ◌^◌, ◌++◌, ℕ, List as Items, [], IfOk, IfSome, IfNone, codes, drop, length};
+ghost use Rattle.std.specs.Prelude.{◌≡◌, ◌≢◌, ◌+◌, ◌<◌, ◌≤◌, ◌^◌, ◌++◌, ℕ, List as Items, [], IfOk, IfSome, IfNone, codes, drop, length};
 ghost use Rattle.vb_value.specs.declared.site_file.FaultKind.TheVariants.{NotYet};
 ghost use Rattle.page_read.specs.declared.fragment.Fragment.{Fragment as Piece};
 ghost use Rattle.page_read.specs.Forms.{BeginsForm, HoldsNoClose};
 ghost use Rattle.page_read.specs.Fragments.{IfFault, spelling_of};
-ghost use Rattle.page_read.specs.Reading.{IsCutInto, IsFirst};
+ghost use Rattle.page_read.specs.Reading.{IsCutInto, IsFirst, IsNeverCut};
 
 use crate::form::{begins_with, close_place, line_after, plain_len};
 use crate::fragment::{Fragment, NOT_YET, PageStop};
@@ -13,7 +13,7 @@ use std::alloc::Global;
 use vb_value::List;
 
 /// The pieces of a text.
-#[tactic(auto, using(crate::proofs::Reading::read_nothing, crate::proofs::Reading::read_whole, crate::proofs::Reading::read_refused, crate::proofs::Reading::read_piece))]
+#[tactic(auto, using(crate::proofs::Reading::read_nothing, crate::proofs::Reading::read_whole))]
 pub fn pieces(alloc: Global, text: &[char]) -> Result<List<Fragment>, PageStop>
     requires { length text.now < 2 ^ 31 }
     ensures ok { IfOk result (λ pieces. IsCutInto [] text.now pieces) }
@@ -42,7 +42,7 @@ fn first_piece(alloc: Global, text: &[char], line: u32) -> Result<(Fragment, usi
     ensures len { IfOk result (λ first. length (spelling_of first.0) ≡ first.1) }
     ensures ok { IfOk result (λ first. IsFirst line text.now first.0 (drop first.1 text.now)) }
     ensures fault { IfFault result (λ kind line. (kind ≡ NotYet) × (line ≡ 0)) }
-    ensures none { IfFault result (λ _ _. (before : Items ℕ) (pieces : Items Piece) → ¬ (IsCutInto before text.now pieces)) }
+    ensures none { IfFault result (λ _ _. IsNeverCut text.now) }
 {
     let count = plain_len(text);
     if count == 0 {
@@ -61,7 +61,7 @@ fn first_write(alloc: Global, text: &[char], line: u32) -> Result<(Fragment, usi
     ensures len { IfOk result (λ first. length (spelling_of first.0) ≡ first.1) }
     ensures ok { IfOk result (λ first. IsFirst line text.now first.0 (drop first.1 text.now)) }
     ensures fault { IfFault result (λ kind line. (kind ≡ NotYet) × (line ≡ 0)) }
-    ensures none { IfFault result (λ _ _. (before : Items ℕ) (pieces : Items Piece) → ¬ (IsCutInto before text.now pieces)) }
+    ensures none { IfFault result (λ _ _. IsNeverCut text.now) }
 {
     let Some(body) = write_body(text) else {
         return Err(NOT_YET);
@@ -78,7 +78,8 @@ fn write_body(text: &[char]) -> Option<&[char]>
     ensures found { IfSome result (λ body. HoldsNoClose body.now) }
     ensures spelled { IfSome result
         (λ body. text.now ≡ codes "<%=" ++ (body.now ++ (codes "%>" ++ drop (length body.now + 5) text.now))) }
-    ensures none { IfNone result ((body rest : Items ℕ) → text.now ≡ codes "<%=" ++ (body ++ (codes "%>" ++ rest)) → ⊥) }
+    ensures none { IfNone result
+        ((body rest : Items ℕ) → text.now ≢ codes "<%=" ++ (body ++ (codes "%>" ++ rest))) }
 {
     if !begins_with(text, &['<', '%', '=']) {
         return None;
