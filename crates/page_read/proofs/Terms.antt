@@ -119,6 +119,24 @@ pub record IsReadAs (text word number tail rest : List ℕ) : Type 0 where
   pub tail_is : tail ≡ drop digits word
   pub rest_is : rest ≡ drop blanks' tail
 
+-- the fronts, one after another
+pub read_as : (text word number tail rest : List ℕ) (blanks digits blanks' : ℕ)
+    → IsFront IsBlank text blanks → word ≡ drop blanks text
+    → IsFront IsDigit word digits → number ≡ take digits word → tail ≡ drop digits word
+    → IsFront IsBlank tail blanks' → rest ≡ drop blanks' tail → IsReadAs text word number tail rest
+read_as text word number tail rest blanks digits blanks' front word_is middle number_is tail_is back rest_is = record {
+  blanks = blanks;
+  digits = digits;
+  blanks' = blanks';
+  front = front;
+  middle = middle;
+  back = back;
+  word_is = word_is;
+  number_is = number_is;
+  tail_is = tail_is;
+  rest_is = rest_is;
+}
+
 -- the text that the fronts make up
 read_whole : (text word number tail rest : List ℕ) (is : IsReadAs text word number tail rest)
     → text ≡ take is.blanks text ++ (number ++ (take is.blanks' tail ++ rest))
@@ -249,3 +267,6 @@ pub read_never : (text rest : List ℕ) (numbers : List (List ℕ)) → IsReadTo
     → ((more : List (List ℕ)) → ¬ (AreTerms (43 ∷ rest) more)) → (all : List (List ℕ)) → ¬ (IsSum text all)
 read_never text rest numbers read none all is =
     let left = read.only all is.1 in none left.0 left.2
+
+-- what reads a sum term by term
+pub ruleset reading = (read_none, read_next, read_all, read_never)

@@ -27,7 +27,7 @@ impl From<Memory> for SumStop {
 }
 
 /// The numbers of a sum, in order, each as its digits as they stand.
-#[tactic(auto, using(crate::proofs::Terms::read_none, crate::proofs::Terms::read_next, crate::proofs::Terms::read_all, crate::proofs::Terms::read_never))]
+#[tactic(auto, using(crate::proofs::Terms::reading))]
 pub fn sum_numbers(alloc: Global, text: &[char]) -> Result<List<Text>, SumStop>
     ensures ok { IfOk result (λ numbers. IsSum text.now numbers) }
     ensures no_sum { result ≡ Err NoSum → (numbers : Items (Items ℕ)) → ¬ (IsSum text.now numbers) }
