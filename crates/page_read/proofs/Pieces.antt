@@ -60,7 +60,8 @@ plain_unique (c ∷ a) [] x y plain_a plain_b end_x end_y same = elim end_y [
 plain_unique (c ∷ a) (d ∷ b) x y plain_a plain_b end_x end_y same =
     let tails : a ++ x ≡ b ++ y = cc in
     let heads : c ≡ d = cc in
-    let both = plain_unique a b x y (λ at less. plain_a (suc at) (omega arith)) (λ at less. plain_b (suc at) (omega arith)) end_x end_y tails in
+    let both = plain_unique a b x y (λ at less. plain_a (suc at) (omega arith))
+    (λ at less. plain_b (suc at) (omega arith)) end_x end_y tails in
     let fronts : a ≡ b = both.0 in
     (cc, both.1)
 

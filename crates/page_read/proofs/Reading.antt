@@ -44,14 +44,18 @@ no_sum_there text body rest form spelled closed none before (Write other line �
 
 -- ---- the reader's places
 
--- the pieces up to this place were read, and whatever follows them is what the rest is cut into
-pub record IsReadUpTo (text : List ℕ) (at : ℕ) (pieces : List Fragment) : Type 0 where
-  pub with : (more : List Fragment) → IsCutInto (take at text) (drop at text) more → IsCutInto [] text (pieces ++ more)
+-- the pieces before the rest were read, and whatever follows them is what the rest is cut into
+pub record IsReadPast (text before rest : List ℕ) (pieces : List Fragment) : Type 0 where
+  pub with : (more : List Fragment) → IsCutInto before rest more → IsCutInto [] text (pieces ++ more)
   pub only : (all : List Fragment) → IsCutInto [] text all
-      → (more : List Fragment) × (all ≡ pieces ++ more) × IsCutInto (take at text) (drop at text) more
+      → (more : List Fragment) × (all ≡ pieces ++ more) × IsCutInto before rest more
+
+-- the pieces up to this place were read
+abbrev pub IsReadUpTo : List ℕ → ℕ → List Fragment → Type 0
+IsReadUpTo text at pieces = IsReadPast text (take at text) (drop at text) pieces
 
 -- at first
-pub read_nothing : (text : List ℕ) → IsReadUpTo text 0 []
+pub read_nothing : (text : List ℕ) → IsReadPast text [] text []
 read_nothing text = record { with = λ more cut. cut; only = λ all cut. (all, refl, cut) }
 
 -- at the end
@@ -62,53 +66,34 @@ read_whole text at pieces read end =
     let none : drop at text ≡ [] = drop_all at text end in
     subst P (simp append-nil) (read.with [] (none, tt))
 
--- where the rest has no pieces, the text has none
-pub read_refused : (text : List ℕ) (at : ℕ) (pieces : List Fragment) → IsReadUpTo text at pieces
-    → ((before : List ℕ) (more : List Fragment) → ¬ (IsCutInto before (drop at text) more))
-    → (all : List Fragment) → ¬ (IsCutInto [] text all)
-read_refused text at pieces read none all cut =
-    let left = read.only all cut in none (take at text) left.0 left.2
-
--- a front of a text, by its length
-next_front : (text a b rest : List ℕ) (count : ℕ) → text ≡ (a ++ b) ++ rest → length (a ++ b) ≡ count
-    → take count text ≡ a ++ b
-next_front text a b rest count cut long = ap (take count) cut ∙ take_at (a ++ b) rest count long
-
 -- one piece more
-pub read_piece : (text : List ℕ) (at count line : ℕ) (pieces : List Fragment) (piece : Fragment)
-    → IsReadUpTo text at pieces → IsFirst line (drop at text) piece (drop count (drop at text))
-    → length (spelling_of piece) ≡ count → at ≤ length text
-    → line + line_ends_in (drop at text) ≡ 1 + line_ends_in text
-    → IsReadUpTo text (at + count) (pieces ++ piece ∷ [])
-read_piece text at count line pieces piece read first long within at_line =
+read_piece : (text before rest left : List ℕ) (line : ℕ) (pieces : List Fragment) (piece : Fragment)
+    → IsReadPast text before rest pieces → IsFirst line rest piece left
+    → (begins_with_feed rest ≡ false → line ≡ 1 + line_ends_in before)
+    → IsReadPast text (before ++ spelling_of piece) left (pieces ++ piece ∷ [])
+read_piece text before rest left line pieces piece read first at_line = record {
+  with = λ more cut.
+      let here = first_with before rest left piece line more first at_line cut in
+      let P : List Fragment → Type 0 = IsCutInto [] text in
+      let regrouped : pieces ++ piece ∷ more ≡ (pieces ++ piece ∷ []) ++ more = simp append_assoc in
+      subst P regrouped (read.with (piece ∷ more) here);
+  only = λ all cut.
+      let there = read.only all cut in
+      let after = first_only before rest left piece line there.0 first at_line there.2 in
+      let pushed = ap (λ (more : List Fragment). pieces ++ more) after.1 in
+      (after.0, there.1 ∙ (pushed ∙ simp append_assoc), after.2);
+}
+
+-- what stands before the rest, one part longer
+front_more : (text part left : List ℕ) (at count : ℕ) → drop at text ≡ part ++ left → length part ≡ count
+    → at ≤ length text → take at text ++ part ≡ take (at + count) text
+front_more text part left at count cut long within =
     let whole : take at text ++ drop at text ≡ text = take-append-drop at text in
-    let at_line' : begins_with_feed (drop at text) ≡ false → line ≡ 1 + line_ends_in (take at text) =
-    λ feed. line_of_write (take at text) (drop at text) line feed
-    (at_line ∙ ap (λ (t : List ℕ). 1 + line_ends_in t) (sym whole)) in
-    let next_rest : drop (at + count) text ≡ drop count (drop at text) = sym (drop-drop count at text) in
-    let next_before : take (at + count) text ≡ take at text ++ spelling_of piece =
-    next_front text (take at text) (spelling_of piece) (drop count (drop at text)) (at + count)
-    (sym whole ∙ (ap (λ (t : List ℕ). take at text ++ t) first.spelled ∙ simp append_assoc))
-    (omega (arith, length-append (take at text) (spelling_of piece), length-take at text)) in
-    record {
-      with = λ more cut.
-          let P : List ℕ → List ℕ → Type 0 = λ before rest. IsCutInto before rest more in
-          let there : IsCutInto (take at text ++ spelling_of piece) (drop count (drop at text)) more =
-          subst (λ (b : List ℕ). P b (drop count (drop at text))) next_before (subst (P (take (at + count) text)) next_rest cut) in
-          let here = first_with (take at text) (drop at text) (drop count (drop at text)) piece line more first at_line' there in
-          let Q : List Fragment → Type 0 = IsCutInto [] text in
-          let regrouped : pieces ++ piece ∷ more ≡ (pieces ++ piece ∷ []) ++ more = simp append_assoc in
-          subst Q regrouped (read.with (piece ∷ more) here);
-      only = λ all cut.
-          let left = read.only all cut in
-          let after = first_only (take at text) (drop at text) (drop count (drop at text)) piece line left.0 first at_line' left.2 in
-          let P : List ℕ → List ℕ → Type 0 = λ before rest. IsCutInto before rest after.0 in
-          let there : IsCutInto (take (at + count) text) (drop (at + count) text) after.0 =
-          subst (P (take (at + count) text)) (sym next_rest) (subst (λ (b : List ℕ). P b (drop count (drop at text))) (sym next_before) after.2) in
-          let same : all ≡ (pieces ++ piece ∷ []) ++ after.0 =
-          left.1 ∙ (ap (λ (m : List Fragment). pieces ++ m) after.1 ∙ simp append_assoc) in
-          (after.0, same, there);
-    }
+    let parts : text ≡ (take at text ++ part) ++ left =
+    sym whole ∙ (ap (λ (t : List ℕ). take at text ++ t) cut ∙ simp append_assoc) in
+    let there : length (take at text ++ part) ≡ at + count =
+    omega (arith, length-append (take at text) part, length-take at text) in
+    sym (ap (take (at + count)) parts ∙ take_at (take at text ++ part) left (at + count) there)
 
 -- one piece more, by what a slice of the rest says
 pub read_step : (text rest : List ℕ) (at count line : ℕ) (pieces more : List Fragment) (piece : Fragment)
@@ -117,8 +102,14 @@ pub read_step : (text rest : List ℕ) (at count line : ℕ) (pieces more : List
     → line + line_ends_in (drop at text) ≡ 1 + line_ends_in text → IsReadUpTo text (at + count) more
 read_step text rest at count line pieces more piece is pushed read first long within at_line =
     let P : List ℕ → Type 0 = λ rest'. IsFirst line rest' piece (drop count rest') in
-    let Q : List Fragment → Type 0 = IsReadUpTo text (at + count) in
-    subst Q (sym pushed) (read_piece text at count line pieces piece read (subst P is first) long within at_line)
+    let first' = subst P is first in
+    let whole : text ≡ take at text ++ drop at text = sym (take-append-drop at text) in
+    let at_line' = at_line ∙ ap (λ (t : List ℕ). 1 + line_ends_in t) whole in
+    let next =
+    read_piece text (take at text) (drop at text) (drop count (drop at text)) line pieces piece
+    read first' (λ feed. line_of_write (take at text) (drop at text) line feed at_line') in
+    let front = front_more text (spelling_of piece) (drop count (drop at text)) at count first'.spelled long within in
+    rw (pushed, ← front, ← drop-drop count at text) next
 
 -- the line after one piece more
 pub line_step : (text rest : List ℕ) (at count line next : ℕ) → rest ≡ drop at text
