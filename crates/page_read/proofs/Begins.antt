@@ -12,7 +12,8 @@ pub letter_more : (text word : List ℕ) (at c small letter : ℕ) → at < leng
     → take at (folded text) ≡ take at word → take (at + 1) (folded text) ≡ take (at + 1) word
 letter_more text word at c small letter within in_word read read_word folds same before =
     let long : at < length (folded text) = simp length-map within in
-    let there : get_or (folded text) at 0 ≡ to_ascii_lowercase (get_or text at c) = get_or-map to_ascii_lowercase text at c 0 within in
+    let there : get_or (folded text) at 0 ≡ to_ascii_lowercase (get_or text at c) =
+    get_or-map to_ascii_lowercase text at c 0 within in
     let here : get_or word at 0 ≡ get_or word at letter = get_or_default word at 0 letter in_word in
     let folds' : to_ascii_lowercase c ≡ to_ascii_lowercase (get_or text at c) = ap to_ascii_lowercase read in
     take_more_same (folded text) word at 0 long in_word before cc
@@ -23,7 +24,8 @@ begins_longer word text count begins =
     let moved : folded (take count text) ≡ take count (folded text) = sym (take-map to_ascii_lowercase count text) in
     let front : take (length word) (take count (folded text)) ≡ word = ap (take (length word)) (sym moved) ∙ begins in
     let lengths = ap length front in
-    let short : length word ≤ count = omega (arith, lengths, length-take (length word) (take count (folded text)), length-take count (folded text)) in
+    let most = length-take (length word) (take count (folded text)) in
+    let short : length word ≤ count = omega (arith, lengths, most, length-take count (folded text)) in
     sym (take-take (length word) count (folded text) short) ∙ front
 
 -- where no `%>` begins before a place, none stands in what is before it

@@ -11,12 +11,17 @@ use Rattle.page_read.proofs.Lines.{line_ends_in-append}
 -- ---- cuts of one kind
 
 -- a write, with what follows it
-pub write_cut : (body rest : List ℕ) → codes "<%=" ++ body ++ codes "%>" ++ rest ≡ codes "<%=" ++ (body ++ (codes "%>" ++ rest))
+pub write_cut : (body rest : List ℕ)
+    → codes "<%=" ++ body ++ codes "%>" ++ rest ≡ codes "<%=" ++ (body ++ (codes "%>" ++ rest))
 write_cut body rest = simp append_assoc
 
 -- no form begins in the empty text
 pub no_form : ¬ (BeginsForm [])
-no_form begins = elim begins [ inl one ↦ elim one [ inl h ↦ cc | inr h ↦ cc ] | inr one ↦ elim one [ inl h ↦ cc | inr h ↦ cc ] ]
+no_form begins =
+    elim begins [
+      | inl one ↦ elim one [ inl word ↦ cc | inr word ↦ cc ]
+      | inr one ↦ elim one [ inl word ↦ cc | inr word ↦ cc ]
+    ]
 
 -- equal heads and tails make equal texts
 heads_and_tails : (c d : ℕ) (a b : List ℕ) → c ≡ d → a ≡ b → c ∷ a ≡ d ∷ b

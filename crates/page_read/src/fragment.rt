@@ -14,7 +14,7 @@ use vb_value::{FaultKind, List, Memory, Text, Utf8Stop};
 pub enum Fragment {
     /// Plain text, which is written as it stands.
     Text(Text),
-    /// What stands between `<%=` and `%>`, whose value is written.
+    /// What stands between `<%=` and `%>` (the output directive of ASP 3.0), whose value is written.
     Write {
         /// What stands between the marks, blanks and all.
         text: Text,
