@@ -9,6 +9,7 @@ mod list;
 mod memory;
 mod site_file;
 mod text;
+mod token;
 
 pub use boxed::Boxed;
 pub use bytes::Bytes;
@@ -17,3 +18,4 @@ pub use list::List;
 pub use memory::Memory;
 pub use site_file::{FaultKind, SiteFault, SiteFile};
 pub use text::{Text, Utf8Stop, fold};
+pub use token::{Keyword, Symbol, Token, TokenKind};
