@@ -6,4 +6,6 @@ pub mod Strings
 pub mod Symbols
 pub mod Pieces
 pub mod Lines
+pub mod Places
 pub mod Tokens
+pub mod Spans

@@ -7,8 +7,8 @@ use Rattle.vb_value.specs.declared.token.TokenKind.{TokenKind}
 use Rattle.vb_value.specs.declared.token.TokenKind.TheVariants.{Name, Keyword as KeywordKind}
 use Rattle.vb_lex.specs.declared.fault.LexFault.TheVariants.{LongName, OpenBracket}
 use Rattle.vb_lex.specs.declared.names.TheConstants.{KEYWORDS}
-use Rattle.vb_lex.specs.declared.piece.Behind.{Behind}
-use Rattle.vb_lex.specs.declared.piece.Behind.TheVariants as behind
+use Rattle.vb_lex.specs.declared.place.Behind.{Behind}
+use Rattle.vb_lex.specs.declared.place.Behind.TheVariants as behind
 use Rattle.vb_lex.specs.declared.piece.Piece.{Piece}
 use Rattle.vb_lex.specs.declared.piece.Piece.TheVariants.{Gap, Word, Fault}
 use Rattle.vb_lex.specs.Characters.{close_bracket, is_bracketed, is_name_part}

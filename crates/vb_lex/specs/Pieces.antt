@@ -2,7 +2,7 @@
 use Rattle.std.specs.Prelude.{ℕ, List, if◌then◌else◌, ◌==◌, slice_index}
 use Rattle.std.specs.Char.{is_ascii_alphabetic}
 use Rattle.vb_value.specs.declared.token.TokenKind.TheVariants.{LineEnd}
-use Rattle.vb_lex.specs.declared.piece.Behind.{Behind}
+use Rattle.vb_lex.specs.declared.place.Behind.{Behind}
 use Rattle.vb_lex.specs.declared.piece.Piece.{Piece}
 use Rattle.vb_lex.specs.declared.piece.Piece.TheVariants.{Gap, Word}
 use Rattle.vb_lex.specs.Characters.{ampersand, apostrophe, is_blank, is_decimal, is_line_end, open_bracket, point, quote}

@@ -4,8 +4,8 @@ use Rattle.vb_value.specs.declared.token.Symbol.{Symbol}
 use Rattle.vb_value.specs.declared.token.Symbol.TheVariants as s
 use Rattle.vb_value.specs.declared.token.TokenKind.TheVariants.{Symbol as SymbolKind}
 use Rattle.vb_lex.specs.declared.fault.LexFault.TheVariants.{BadCharacter, BadNumber, BadOperator, DateLiteral}
-use Rattle.vb_lex.specs.declared.piece.Behind.{Behind}
-use Rattle.vb_lex.specs.declared.piece.Behind.TheVariants as behind
+use Rattle.vb_lex.specs.declared.place.Behind.{Behind}
+use Rattle.vb_lex.specs.declared.place.Behind.TheVariants as behind
 use Rattle.vb_lex.specs.declared.piece.Piece.{Piece}
 use Rattle.vb_lex.specs.declared.piece.Piece.TheVariants.{Word, Fault}
 use Rattle.vb_lex.specs.Characters as c

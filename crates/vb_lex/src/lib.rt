@@ -4,13 +4,16 @@
 mod characters;
 mod fault;
 mod gaps;
+mod laws;
 mod lexer;
 mod lines;
 mod names;
 mod numbers;
 mod piece;
+mod place;
 mod strings;
 mod symbols;
 
 pub use fault::{LexFault, LexStop};
-
+pub use laws::{one_fault, one_token_list, tokens_or_fault};
+pub use lexer::lex;

@@ -6,7 +6,8 @@ ghost use Rattle.vb_lex.specs.Names as spec;
 
 use crate::characters::{Class, character, run};
 use crate::fault::LexFault;
-use crate::piece::{Behind, Piece};
+use crate::piece::Piece;
+use crate::place::Behind;
 use std::alloc::Global;
 use vb_value::{Keyword, Memory, Text, TokenKind};
 

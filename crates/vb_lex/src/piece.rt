@@ -24,14 +24,3 @@ pub enum Piece {
         kind: LexFault,
     },
 }
-
-/// What stands before a place, as far as the next word's kind hangs on it.
-#[derive(Clone, Copy, Debug, PartialEq, Eq)]
-pub enum Behind {
-    /// A name, `Me` or `)` stands directly before the place.
-    Path,
-    /// The last word before the place is a `.`.
-    Point,
-    /// Neither.
-    Other,
-}

@@ -4,7 +4,8 @@ ghost use Rattle.vb_lex.specs.Symbols as spec;
 
 use crate::characters::{Class, character, is_in};
 use crate::fault::LexFault;
-use crate::piece::{Behind, Piece};
+use crate::piece::Piece;
+use crate::place::Behind;
 use vb_value::{Symbol, TokenKind};
 
 fn word(symbol: Symbol, length: usize) -> Piece
