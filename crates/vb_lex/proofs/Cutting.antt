@@ -1,6 +1,6 @@
 -- How a text is cut, one piece after another.
-use Rattle.std.proofs.Common.{◌≡◌, ℕ, ◌+◌, ◌-◌, ◌<◌, ◌≤◌, List, [], ◌∷◌, ◌++◌, length, drop, refl, sym, ap, ◌∙◌, subst, arith}
-use Rattle.std.proofs.lemmas.List.{length-drop, append_assoc}
+use Rattle.std.proofs.Common.{◌≡◌, ℕ, ◌+◌, ◌<◌, ◌≤◌, List, [], ◌∷◌, ◌++◌, length, drop, refl, sym, ap, ◌∙◌, subst, arith}
+use Rattle.std.proofs.lemmas.List.{length-drop}
 use Rattle.vb_value.specs.declared.token.Token.{Token}
 use Rattle.vb_value.specs.declared.token.TokenKind.{TokenKind}
 use Rattle.vb_lex.specs.declared.fault.LexFault.{LexFault}
@@ -8,7 +8,6 @@ use Rattle.vb_lex.specs.declared.piece.Piece.{Piece}
 use Rattle.vb_lex.specs.declared.piece.Piece.TheVariants.{Gap, Word, Fault}
 use Rattle.vb_lex.specs.declared.place.Place.{Place}
 use Rattle.vb_lex.specs.Lines.{line_at}
-use Rattle.vb_lex.specs.Pieces.{piece}
 use Rattle.vb_lex.specs.Places.{first_place, past, token_at}
 use Rattle.vb_lex.specs.Spans.{IsWithin}
 use Rattle.vb_lex.specs.Tokens.{FaultsAt, IsCut, IsTaken, Reaches, Tokenizes, edge, piece_at, tokens_from}
@@ -37,13 +36,13 @@ tokens_push_gap text from (Fault fault ∷ pieces) to taken cut = absurd cut.2
 tokens_push_word : (text : List ℕ) (from : Place) (pieces : List Piece) (to : Place) (kind : TokenKind) (taken : ℕ)
     → IsCut text from pieces to
     → tokens_from text from (pieces ++ Word kind taken ∷ [])
-        ≡ tokens_from text from pieces ++ token_at to kind taken ∷ []
+    ≡ tokens_from text from pieces ++ token_at to kind taken ∷ []
 tokens_push_word text from [] to kind taken same = ap (λ p. token_at p kind taken ∷ []) same
 tokens_push_word text from (Gap n ∷ pieces) to kind taken cut =
     tokens_push_word text (past text from (Gap n)) pieces to kind taken cut.3
 tokens_push_word text from (Word word n ∷ pieces) to kind taken cut =
     ap (λ ts. token_at from word n ∷ ts)
-        (tokens_push_word text (past text from (Word word n)) pieces to kind taken cut.3)
+    (tokens_push_word text (past text from (Word word n)) pieces to kind taken cut.3)
 tokens_push_word text from (Fault fault ∷ pieces) to kind taken cut = absurd cut.2
 
 -- the line of the place where pieces end
@@ -74,7 +73,7 @@ pub gap_ends : (text : List ℕ) (place : Place) (taken : ℕ) → place.at < le
 gap_ends text place taken within stands =
     let rest = length-drop place.at text in
     let both = gap_of (drop place.at text) (piece_at text place) taken stands
-        (piece_within place.behind (drop place.at text) (omega arith)) in
+    (piece_within place.behind (drop place.at text) (omega arith)) in
     (both.0, omega (arith, both.1))
 
 pub word_ends : (text : List ℕ) (place : Place) (kind : TokenKind) (taken : ℕ) → place.at < length text
@@ -82,7 +81,7 @@ pub word_ends : (text : List ℕ) (place : Place) (kind : TokenKind) (taken : �
 word_ends text place kind taken within stands =
     let rest = length-drop place.at text in
     let both = word_of (drop place.at text) (piece_at text place) kind taken stands
-        (piece_within place.behind (drop place.at text) (omega arith)) in
+    (piece_within place.behind (drop place.at text) (omega arith)) in
     (both.0, omega (arith, both.1))
 
 -- the steps of a loop over the pieces, and its ends
@@ -93,21 +92,23 @@ pub reached_gap : (text : List ℕ) (tokens : List Token) (place : Place) (taken
     → Reaches text tokens place → place.at < length text → piece_at text place ≡ Gap taken
     → Reaches text tokens (past text place (Gap taken))
 reached_gap text tokens place taken reaches within stands = record {
-    pieces = reaches.pieces ++ Gap taken ∷ [];
-    cut = cut_push text first_place reaches.pieces place (Gap taken) reaches.cut within stands tt;
-    spelled = reaches.spelled
-        ∙ ap (λ ts. edge first_place ∷ ts)
-            (sym (tokens_push_gap text first_place reaches.pieces place taken reaches.cut)) }
+  pieces = reaches.pieces ++ Gap taken ∷ [];
+  cut = cut_push text first_place reaches.pieces place (Gap taken) reaches.cut within stands tt;
+  spelled = reaches.spelled
+      ∙ ap (λ ts. edge first_place ∷ ts)
+      (sym (tokens_push_gap text first_place reaches.pieces place taken reaches.cut));
+}
 
 pub reached_word : (text : List ℕ) (tokens : List Token) (place : Place) (kind : TokenKind) (taken : ℕ)
     → Reaches text tokens place → place.at < length text → piece_at text place ≡ Word kind taken
     → Reaches text (tokens ++ token_at place kind taken ∷ []) (past text place (Word kind taken))
 reached_word text tokens place kind taken reaches within stands = record {
-    pieces = reaches.pieces ++ Word kind taken ∷ [];
-    cut = cut_push text first_place reaches.pieces place (Word kind taken) reaches.cut within stands tt;
-    spelled = ap (λ ts. ts ++ token_at place kind taken ∷ []) reaches.spelled
-        ∙ ap (λ ts. edge first_place ∷ ts)
-            (sym (tokens_push_word text first_place reaches.pieces place kind taken reaches.cut)) }
+  pieces = reaches.pieces ++ Word kind taken ∷ [];
+  cut = cut_push text first_place reaches.pieces place (Word kind taken) reaches.cut within stands tt;
+  spelled = ap (λ ts. ts ++ token_at place kind taken ∷ []) reaches.spelled
+      ∙ ap (λ ts. edge first_place ∷ ts)
+      (sym (tokens_push_word text first_place reaches.pieces place kind taken reaches.cut));
+}
 
 pub reached_whole : (text : List ℕ) (tokens : List Token) (place : Place) → Reaches text tokens place
     → place.at ≡ length text → Tokenizes text (tokens ++ edge place ∷ [])
@@ -118,4 +119,10 @@ pub reached_fault : (text : List ℕ) (tokens : List Token) (place : Place) (fau
     → Reaches text tokens place → place.at < length text → piece_at text place ≡ Fault fault
     → FaultsAt text fault place.line
 reached_fault text tokens place fault reaches within stands = record {
-    before = tokens; last = place; reaches = reaches; within = within; faulty = stands; line_is = refl }
+  before = tokens;
+  last = place;
+  reaches = reaches;
+  within = within;
+  faulty = stands;
+  line_is = refl;
+}

@@ -4,3 +4,5 @@ pub mod Within
 pub mod Cutting
 pub mod LineLemmas
 pub mod Unique
+pub mod Spelled
+pub mod Laid

@@ -1,5 +1,5 @@
 -- The steps of a string's reader.
-use Rattle.std.proofs.Common.{◌≡◌, ◌≢◌, ℕ, ◌+◌, ◌<◌, ◌≤◌, Bool, true, false, eqb, List, [], ◌∷◌, ◌++◌, Option, Some, None, length, get_or, drop, refl, sym, ap, ◌∙◌, arith, append_assoc, append-nil}
+use Rattle.std.proofs.Common.{◌≡◌, ◌≢◌, ℕ, ◌+◌, ◌<◌, ◌≤◌, true, false, eqb, List, [], ◌∷◌, ◌++◌, Option, Some, None, length, get_or, drop, refl, sym, ap, ◌∙◌, arith, append_assoc, append-nil}
 use Rattle.std.proofs.lemmas.Bool.Decides.{nat_tests}
 use Rattle.std.proofs.lemmas.List.{at_drop_more, at_drop_all, get_or-drop}
 use Rattle.vb_lex.specs.Characters.{quote, is_line_end}
@@ -50,7 +50,7 @@ ended c (d ∷ text) plain ends = rw (plain, ends) refl
 pub step_other : (value text : List ℕ) (at : ℕ) → at < length text → get_or text at 0 ≢ quote
     → is_line_end (get_or text at 0) ≡ false
     → behind_front (value ++ get_or text at 0 ∷ []) (at + 1) (quoted (drop (at + 1) text))
-        ≡ behind_front value at (quoted (drop at text))
+    ≡ behind_front value at (quoted (drop at text))
 step_other value text at within plain stays =
     sym (behind_front-behind_front value (get_or text at 0 ∷ []) at 1 (quoted (drop (at + 1) text)))
     ∙ ap (behind_front value at) (sym (at_drop_more quoted text at 0 within ∙ other (get_or text at 0) (drop (at + 1) text) (differs (get_or text at 0) plain) stays))
@@ -58,13 +58,13 @@ step_other value text at within plain stays =
 pub step_double : (value text : List ℕ) (at : ℕ) → at < length text → at + 1 < length text
     → get_or text at 0 ≡ quote → get_or text (at + 1) 0 ≡ quote
     → behind_front (value ++ get_or text at 0 ∷ []) (at + 1 + 1) (quoted (drop (at + 1 + 1) text))
-        ≡ behind_front value at (quoted (drop at text))
+    ≡ behind_front value at (quoted (drop at text))
 step_double value text at within more first second =
     let places : at + 1 + 1 ≡ at + 2 = omega arith in
     let here : quoted (drop at text) ≡ behind_front (quote ∷ []) 2 (quoted (drop (at + 1 + 1) text)) =
-        at_drop_more quoted text at 0 within
-        ∙ at_drop_more (λ t. quoted (get_or text at 0 ∷ t)) text (at + 1) 0 more
-        ∙ double (get_or text at 0) (get_or text (at + 1) 0) (drop (at + 1 + 1) text) (same (get_or text at 0) first) (same (get_or text (at + 1) 0) second) in
+    at_drop_more quoted text at 0 within
+    ∙ at_drop_more (λ t. quoted (get_or text at 0 ∷ t)) text (at + 1) 0 more
+    ∙ double (get_or text at 0) (get_or text (at + 1) 0) (drop (at + 1 + 1) text) (same (get_or text at 0) first) (same (get_or text (at + 1) 0) second) in
     ap (λ c. behind_front (value ++ c ∷ []) (at + 1 + 1) (quoted (drop (at + 1 + 1) text))) first
     ∙ ap (λ n. behind_front (value ++ quote ∷ []) n (quoted (drop (at + 1 + 1) text))) places
     ∙ sym (behind_front-behind_front value (quote ∷ []) at 2 (quoted (drop (at + 1 + 1) text)))
@@ -75,7 +75,7 @@ pub at_close : (value text : List ℕ) (at : ℕ) → at < length text → get_o
     → behind_front value at (quoted (drop at text)) ≡ Some (value, at + 1)
 at_close value text at within first second =
     let next : get_or (drop (at + 1) text) 0 0 ≡ get_or text (at + 1) 0 =
-        get_or-drop (at + 1) text 0 0 ∙ ap (λ n. get_or text n 0) (omega arith) in
+    get_or-drop (at + 1) text 0 0 ∙ ap (λ n. get_or text n 0) (omega arith) in
     let apart : eqb (get_or (drop (at + 1) text) 0 0) quote ≡ false = rw next (differs (get_or text (at + 1) 0) second) in
     ap (behind_front value at) (at_drop_more quoted text at 0 within ∙ close (get_or text at 0) (drop (at + 1) text) (same (get_or text at 0) first) apart)
     ∙ ap (λ t. Some (t, at + 1)) (append-nil value)

@@ -1,5 +1,5 @@
 -- A text has one list of tokens at most, or one fault.
-use Rattle.std.proofs.Common.{◌≡◌, ◌≢◌, ℕ, ◌<◌, List, [], ◌∷◌, ◌++◌, Ok, Err, Result, IfOk, length, drop, refl, sym, ap, ◌∙◌, subst, arith}
+use Rattle.std.proofs.Common.{◌≡◌, ℕ, ◌<◌, List, [], ◌∷◌, ◌++◌, Ok, Err, Result, IfOk, length, refl, sym, ap, ◌∙◌, subst, arith}
 use Rattle.vb_value.specs.Outcome.{Answers}
 use Rattle.vb_value.specs.declared.token.Token.{Token}
 use Rattle.vb_lex.specs.declared.fault.LexFault.{LexFault}
@@ -49,14 +49,14 @@ pub tokens_one : (text : List ℕ) (tokens others : List Token) → Tokenizes te
     → tokens ≡ others
 tokens_one text tokens others one two =
     let same = reaches_one text one.before two.before one.last two.last one.reaches two.reaches
-        (stops_whole text one.last one.whole) (stops_whole text two.last two.whole) in
+    (stops_whole text one.last one.whole) (stops_whole text two.last two.whole) in
     one.spelled ∙ ap (λ ts. ts ++ edge one.last ∷ []) same.0 ∙ ap (λ p. two.before ++ edge p ∷ []) same.1 ∙ sym two.spelled
 
 pub fault_one : (text : List ℕ) (fault other : LexFault) (line number : ℕ) → FaultsAt text fault line
     → FaultsAt text other number → (fault ≡ other) × (line ≡ number)
 fault_one text fault other line number one two =
     let same = reaches_one text one.before two.before one.last two.last one.reaches two.reaches
-        (stops_fault text one.last fault one.faulty) (stops_fault text two.last other two.faulty) in
+    (stops_fault text one.last fault one.faulty) (stops_fault text two.last other two.faulty) in
     let faults : Fault fault ≡ Fault other = sym one.faulty ∙ ap (λ p. piece_at text p) same.1 ∙ two.faulty in
     (cc, one.line_is ∙ ap (λ (p : Place). p.line) same.1 ∙ sym two.line_is)
 
@@ -64,7 +64,7 @@ pub tokens_or_fault : (text : List ℕ) (tokens : List Token) (fault : LexFault)
     → FaultsAt text fault line → ⊥
 tokens_or_fault text tokens fault line one two =
     let same = reaches_one text one.before two.before one.last two.last one.reaches two.reaches
-        (stops_whole text one.last one.whole) (stops_fault text two.last fault two.faulty) in
+    (stops_whole text one.last one.whole) (stops_fault text two.last fault two.faulty) in
     let at = ap (λ (p : Place). p.at) same.1 in
     let whole = one.whole in
     let within = two.within in

@@ -1,6 +1,5 @@
 -- A piece takes at least one character of its text, and no more than there are.
-use Rattle.std.proofs.Common.{◌≡◌, ◌≢◌, ℕ, ◌+◌, ◌-◌, ◌<◌, ◌≤◌, Bool, true, false, cond, eqb, ltb, ◌||◌, ◌&&◌, List, [], ◌∷◌, Option, Some, None, length, get_or, drop, take, refl, sym, ap, ◌∙◌, inl, inr, arith, rules, zero, suc, if◌then◌else◌}
-use Rattle.std.proofs.lemmas.Grind.{common_steps}
+use Rattle.std.proofs.Common.{◌≡◌, ◌≢◌, ℕ, ◌+◌, ◌<◌, ◌≤◌, Bool, true, false, List, [], ◌∷◌, Option, Some, None, length, get_or, drop, refl, arith, rules, zero, suc, if◌then◌else◌}
 use Rattle.std.specs.Char.{is_ascii_alphabetic}
 use Rattle.std.specs.List.{prefix_len}
 use Rattle.std.proofs.lemmas.Bool.Decides.{nat_tests}
@@ -9,11 +8,11 @@ use Rattle.std.proofs.lemmas.List.Sums.{prefix_len-le-length}
 use Rattle.vb_value.specs.declared.token.TokenKind.TheVariants.{LineEnd}
 use Rattle.vb_lex.specs.declared.place.Behind.{Behind}
 use Rattle.vb_lex.specs.declared.piece.Piece.{Piece}
-use Rattle.vb_lex.specs.declared.piece.Piece.TheVariants.{Gap, Word, Fault}
-use Rattle.vb_lex.specs.Characters.{ampersand, apostrophe, carriage_return, close_bracket, is_blank, is_bracketed, is_decimal, is_hexadecimal, is_line_end, is_name_part, is_octal, is_on_line, line_feed, open_bracket, point, quote}
+use Rattle.vb_lex.specs.declared.piece.Piece.TheVariants.{Gap, Word}
+use Rattle.vb_lex.specs.Characters.{is_blank, is_bracketed, is_decimal, is_hexadecimal, is_line_end, is_name_part, is_octal, is_on_line, quote}
 use Rattle.vb_lex.specs.Gaps.{blank_length, line_end_length, line_length, underscore_length}
 use Rattle.vb_lex.specs.Names.{bracketed, named}
-use Rattle.vb_lex.specs.Numbers.{ampersand_word, based, based_kind, decimal, decimal_kind, is_spoilt}
+use Rattle.vb_lex.specs.Numbers.{ampersand_word, based, decimal, decimal_kind}
 use Rattle.vb_lex.specs.Strings.{behind_front, quoted, string, string_word}
 use Rattle.vb_lex.specs.Symbols.{beside, greater_word, less_word, one_character, point_word, symbol}
 use Rattle.vb_lex.specs.Spans.{IsWithin}
@@ -73,7 +72,7 @@ named_within before c text is =
     grind (arith, chosen)
 
 -- what stands at a place with a character other than NUL
-within_at : (text : List ℕ) (at : ℕ) → get_or text at 0 ≢ 0 → at < length text
+pub within_at : (text : List ℕ) (at : ℕ) → get_or text at 0 ≢ 0 → at < length text
 within_at [] zero read = absurd (read refl)
 within_at [] (suc at) read = absurd (read refl)
 within_at (c ∷ text) zero read = omega arith
@@ -187,10 +186,10 @@ unfolding piece
 piece_within before [] long = absurd (omega arith)
 piece_within before (c ∷ text) long =
     picked (c ∷ text) (is_blank c) (is_line_end c) (is_ascii_alphabetic c) (is_decimal c)
-        (Gap (blank_length (c ∷ text))) (Word LineEnd (line_end_length (c ∷ text))) (named before (c ∷ text))
-        (decimal (c ∷ text)) (marked before (c ∷ text))
-        (λ _. blank_within c text)
-        (λ ends. (line_end_moves c text ends, line_end_within (c ∷ text)))
-        (named_within before c text)
-        (decimal_within c text)
-        (λ plain. marked_within before c text (on_line c plain))
+    (Gap (blank_length (c ∷ text))) (Word LineEnd (line_end_length (c ∷ text))) (named before (c ∷ text))
+    (decimal (c ∷ text)) (marked before (c ∷ text))
+    (λ _. blank_within c text)
+    (λ ends. (line_end_moves c text ends, line_end_within (c ∷ text)))
+    (named_within before c text)
+    (decimal_within c text)
+    (λ plain. marked_within before c text (on_line c plain))

@@ -1,6 +1,6 @@
 -- What stands between the words of a script: blanks, what continues a line, and comments. And the ends
 -- of lines. Each is given by its number of characters at the front of a text.
-use Rattle.std.specs.Prelude.{ℕ, zero, suc, ◌+◌, Bool, not, ◌&&◌, ◌||◌, List, [], ◌∷◌, drop, if◌then◌else◌, ◌==◌, nat_lt, slice_index}
+use Rattle.std.specs.Prelude.{ℕ, ◌+◌, ◌&&◌, List, drop, if◌then◌else◌, ◌==◌, nat_lt, slice_index}
 use Rattle.std.specs.List.{prefix_len}
 use Rattle.vb_lex.specs.Characters.{line_feed, carriage_return, underscore, is_blank, is_on_line}
 

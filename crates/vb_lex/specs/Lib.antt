@@ -9,3 +9,4 @@ pub mod Lines
 pub mod Places
 pub mod Tokens
 pub mod Spans
+pub mod Spelling

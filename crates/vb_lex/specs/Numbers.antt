@@ -1,5 +1,5 @@
 -- Numbers: decimal digits, or `&H` and `&O` with digits of base 16 and 8.
-use Rattle.std.specs.Prelude.{ℕ, ◌+◌, Bool, ◌&&◌, ◌||◌, List, [], ◌∷◌, drop, take, pos, if◌then◌else◌, ◌==◌, nat_lt, nat_le, slice_index}
+use Rattle.std.specs.Prelude.{ℕ, ◌+◌, Bool, ◌&&◌, ◌||◌, List, drop, take, pos, if◌then◌else◌, ◌==◌, nat_lt, nat_le, slice_index}
 use Rattle.std.specs.Int.{w16, w32, cast_signed}
 use Rattle.std.specs.List.{prefix_len}
 use Rattle.std.specs.Char.{is_ascii_alphabetic}

@@ -35,5 +35,9 @@ pub fn blank_length(text: &[char]) -> usize
 {
     let used = 1 + underscore_length(&text[1..]);
     let ending = line_end_length(&text[used..]);
-    if used > 1 && ending > 0 { used + ending } else { 1 }
+    if used > 1 && ending > 0 {
+        used + ending
+    } else {
+        1
+    }
 }

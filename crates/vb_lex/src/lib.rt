@@ -13,7 +13,9 @@ mod piece;
 mod place;
 mod strings;
 mod symbols;
+#[cfg(test)]
+mod tests;
 
 pub use fault::{LexFault, LexStop};
-pub use laws::{one_fault, one_token_list, tokens_or_fault};
+pub use laws::{one_fault, one_token_list, tokens_in_order, tokens_or_fault};
 pub use lexer::lex;

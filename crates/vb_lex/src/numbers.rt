@@ -114,7 +114,11 @@ fn based(base: u64, class: Class, text: &[char]) -> Piece
     if is_spoilt(rest) {
         bad_number()
     } else {
-        based_kind(value(base, &digits[..count]), character(rest, 0) == '&', 2 + count)
+        based_kind(
+            value(base, &digits[..count]),
+            character(rest, 0) == '&',
+            2 + count,
+        )
     }
 }
 

@@ -1,4 +1,4 @@
-use Rattle.std.proofs.Common.{◌≡◌, ◌<◌, ◌≤◌, ◌+◌, ◌++◌, ◌∷◌, [], List, length, sym, ap, ◌∙◌, subst, arith}
+use Rattle.std.proofs.Common.{◌++◌, ◌∷◌, [], List, sym, ap, ◌∙◌, subst, arith}
 use Rattle.std.proofs.lemmas.List.{take_rest}
 use Rattle.vb_value.specs.declared.token.Token.{Token}
 use Rattle.vb_lex.specs.declared.piece.Piece.TheVariants.{Word}
@@ -35,7 +35,7 @@ returns-in-Gap-clause-next c =
     let stands = sym (simp take_rest at c.in_ok-length.ensures) ∙ c.in-Gap.is in
     let P : Place → Type 0 = λ p. Reaches c.args.text.now c.args.tokens.now p in
     subst P (sym c.past_gap.ensures)
-        (reached_gap c.args.text.now c.args.tokens.now c.args.place c.in-Gap.length c.requires.reached c.requires.within stands)
+    (reached_gap c.args.text.now c.args.tokens.now c.args.place c.in-Gap.length c.requires.reached c.requires.within stands)
 
 pub returns-in-Gap-clause-moves : goal.returns-in-Gap-clause-moves
 returns-in-Gap-clause-moves c =
@@ -56,9 +56,9 @@ returns-in_ok-push-in-Word-clause-next c =
     let stands = sym (simp take_rest at c.in_ok-length.ensures) ∙ c.in-Word.is in
     let pushed = c.in_ok-push-in-Word.ensures ∙ ap (λ (t : Token). c.args.tokens.now ++ t ∷ []) c.token.ensures in
     let next = reached_word c.args.text.now c.args.tokens.now c.args.place c.in-Word.kind c.in-Word.length
-        c.requires.reached c.requires.within stands in
+    c.requires.reached c.requires.within stands in
     let Behind : List Token → Type 0 =
-        λ ts. Reaches c.args.text.now ts (past c.args.text.now c.args.place (Word c.in-Word.kind c.in-Word.length)) in
+    λ ts. Reaches c.args.text.now ts (past c.args.text.now c.args.place (Word c.in-Word.kind c.in-Word.length)) in
     let At : Place → Type 0 = λ p. Reaches c.args.text.now c.push.new.self p in
     subst At (sym c.past_word-next.ensures) (subst Behind (sym pushed) next)
 
