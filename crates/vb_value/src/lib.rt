@@ -11,6 +11,7 @@ mod site_file;
 #[cfg(test)]
 mod tests;
 mod text;
+mod token;
 
 pub use boxed::Boxed;
 pub use bytes::Bytes;
@@ -19,3 +20,4 @@ pub use list::List;
 pub use memory::Memory;
 pub use site_file::{FaultKind, SiteFault, SiteFile};
 pub use text::{Text, Utf8Stop, fold};
+pub use token::{Keyword, Symbol, Token, TokenKind};

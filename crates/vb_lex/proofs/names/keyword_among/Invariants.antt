@@ -1,0 +1,11 @@
+use Rattle.std.proofs.Common.{◌≡◌, length, map}
+use Rattle.vb_lex.specs.Names.{keyword_among}
+use Rattle.vb_lex.proofs.names.keyword_among.Given as goal
+
+abbrev pub invariant-loop-table : goal.invariant-loop-table
+invariant-loop-table l =
+    keyword_among (map (λ entry. (entry.0.now, entry.1)) l.table) l.name
+    ≡ keyword_among (map (λ entry. (entry.0.now, entry.1)) l.initial.table) l.name
+
+abbrev pub decreases-loop-table : goal.decreases-loop-table
+decreases-loop-table l = length l.table

@@ -1,0 +1,12 @@
+pub mod Characters
+pub mod Gaps
+pub mod Names
+pub mod Numbers
+pub mod Strings
+pub mod Symbols
+pub mod Pieces
+pub mod Lines
+pub mod Places
+pub mod Tokens
+pub mod Spans
+pub mod Spelling

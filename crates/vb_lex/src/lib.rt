@@ -1,0 +1,21 @@
+//! The words of a script: the text of a VBScript page cut into tokens, or the first fault in it.
+#![tactic(auto)]
+
+mod characters;
+mod fault;
+mod gaps;
+mod laws;
+mod lexer;
+mod lines;
+mod names;
+mod numbers;
+mod piece;
+mod place;
+mod strings;
+mod symbols;
+#[cfg(test)]
+mod tests;
+
+pub use fault::{LexFault, LexStop};
+pub use laws::{one_fault, one_token_list, tokens_in_order, tokens_or_fault};
+pub use lexer::lex;
