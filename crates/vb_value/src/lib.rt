@@ -7,6 +7,7 @@ mod bytes;
 mod copied;
 mod list;
 mod memory;
+mod operator;
 mod site_file;
 #[cfg(test)]
 mod tests;
@@ -18,6 +19,7 @@ pub use bytes::Bytes;
 pub use copied::Copied;
 pub use list::List;
 pub use memory::Memory;
+pub use operator::{Op1, Op2};
 pub use site_file::{FaultKind, SiteFault, SiteFile};
 pub use text::{Text, Utf8Stop, fold};
 pub use token::{Keyword, Symbol, Token, TokenKind};

@@ -1,0 +1,117 @@
+//! The members of the objects that a page is given (ASP 3.0 object reference).
+
+/// A member of an object that a page is given. Where a member may be assigned to, the assigned value is the
+/// last argument.
+#[derive(Clone, Copy, Debug, PartialEq, Eq)]
+pub enum Member {
+    /// `Request(..)`: the first of the four collections that has the name.
+    Request(CollectionPart),
+    /// `Request.QueryString`
+    RequestQueryString(CollectionPart),
+    /// `Request.Form`
+    RequestForm(CollectionPart),
+    /// `Request.Cookies`
+    RequestCookies(CollectionPart),
+    /// `Request.ServerVariables`
+    RequestServerVariables(CollectionPart),
+    /// `Request.TotalBytes`
+    RequestTotalBytes,
+    /// `Response.Write`
+    ResponseWrite,
+    /// `Response.Clear`
+    ResponseClear,
+    /// `Response.End`
+    ResponseEnd,
+    /// `Response.Flush`
+    ResponseFlush,
+    /// `Response.Redirect`
+    ResponseRedirect,
+    /// `Response.Buffer`
+    ResponseBuffer,
+    /// `Response.ContentType`
+    ResponseContentType,
+    /// `Response.Charset`
+    ResponseCharset,
+    /// `Response.Status`
+    ResponseStatus,
+    /// `Response.AddHeader`
+    ResponseAddHeader,
+    /// `Response.CacheControl`
+    ResponseCacheControl,
+    /// `Response.Cookies(name)`, or with a second argument a pair in the cookie.
+    ResponseCookies,
+    /// `Response.Cookies(name).Path`
+    ResponseCookiePath,
+    /// `Response.Cookies(name).Domain`
+    ResponseCookieDomain,
+    /// `Response.Cookies(name).Secure`
+    ResponseCookieSecure,
+    /// `Response.IsClientConnected`
+    ResponseIsClientConnected,
+    /// `Server.HTMLEncode`
+    ServerHtmlEncode,
+    /// `Server.URLEncode`
+    ServerUrlEncode,
+    /// `Server.MapPath`
+    ServerMapPath,
+    /// `Server.CreateObject`
+    ServerCreateObject,
+    /// `Server.ScriptTimeout`
+    ServerScriptTimeout,
+    /// `Server.Execute`
+    ServerExecute,
+    /// `Server.Transfer`
+    ServerTransfer,
+    /// `Session(..)` and `Session.Contents`
+    SessionContents(ContentsPart),
+    /// `Session.SessionID`
+    SessionId,
+    /// `Session.Timeout`
+    SessionTimeout,
+    /// `Session.Abandon`
+    SessionAbandon,
+    /// `Application(..)` and `Application.Contents`
+    ApplicationContents(ContentsPart),
+    /// `Application.Lock`
+    ApplicationLock,
+    /// `Application.Unlock`
+    ApplicationUnlock,
+}
+
+/// What is asked of a collection of the request.
+#[derive(Clone, Copy, Debug, PartialEq, Eq)]
+pub enum CollectionPart {
+    /// The collection alone: its raw text.
+    Raw,
+    /// `(name)` or `.Item(name)`: the values of the name, joined.
+    Item,
+    /// `(name).Count`: how many values the name has.
+    ValueCount,
+    /// `(name)(index)`: one of the values, or by a text a pair of a cookie.
+    Value,
+    /// `(name).HasKeys`
+    HasKeys,
+    /// `.Count`: how many names there are.
+    Count,
+    /// `.Key(index)`: one of the names.
+    Key,
+    /// All the names, for a For Each.
+    Names,
+}
+
+/// What is asked of the entries of a session or of the application.
+#[derive(Clone, Copy, Debug, PartialEq, Eq)]
+pub enum ContentsPart {
+    /// `(name)`, or by a number the entry at that place.
+    Item,
+    /// `.Count`: how many entries there are.
+    Count,
+    /// `.Key(index)`: the name of an entry.
+    Key,
+    /// `.Remove(name)`
+    Remove,
+    /// `.RemoveAll`
+    RemoveAll,
+    /// All the names, for a For Each.
+    Names,
+}
