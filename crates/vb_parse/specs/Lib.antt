@@ -1,0 +1,4 @@
+pub mod Reader
+pub mod ReadExpressions
+pub mod Runs
+pub mod Outcome
