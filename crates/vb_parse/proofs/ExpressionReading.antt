@@ -25,7 +25,7 @@ use Rattle.vb_parse.specs.Reader as reader
 use Rattle.vb_parse.specs.ReadExpressions as spec
 use Rattle.vb_parse.proofs.Reading.{Reads, Lives, NoEmpty, reads_pure, reads_wider, reads_bind, reads_one, reads_choice, reads_both, reads_gate, reads_many, reads_word, reads_name, full_one, full_bind, full_word, token_of}
 
-pub reads_list_of : {p : Reader Expression} {r : Rule Expression} → Reads p r → Reads (spec.list_of p) (grammar.list_of r)
+pub reads_list_of : {p : Reader Expression} {r : Rule Expression} → Reads p r → Reads (spec.list_of p) (words.list_of r)
 reads_list_of {p} {r} reads =
     reads_bind reads (λ first. reads_bind
       (reads_many (reader.sees (kind.Symbol s.Comma)) (reads_bind (reads_word (kind.Symbol s.Comma)) (λ _. reads)) (full_bind _ _ (full_word (kind.Symbol s.Comma))) refl)

@@ -65,7 +65,7 @@ ListEnds rest = Ends 12 rest × (sees (kind.Symbol s.Comma) (next rest) ≡ fals
 comma_ends : (level : ℕ) {r : Rule Expression} (front rest : Tokens) (x : Expression) → rule.◌>>◌ (words.symbol s.Comma) r front x → Ends level (front ++ rest)
 comma_ends level front rest x h = ends_at 106 level refl refl refl front rest ((begins_bind (begins_word (kind.Symbol s.Comma))).head front x h)
 
-pub takes_list_of : {p : Reader Expression} {r : Rule Expression} → Reads p r → Takes p r (Ends 12) → Takes (spec.list_of p) (grammar.list_of r) ListEnds
+pub takes_list_of : {p : Reader Expression} {r : Rule Expression} → Reads p r → Takes p r (Ends 12) → Takes (spec.list_of p) (words.list_of r) ListEnds
 takes_list_of {p} {r} reads takes = takes_bind takes
     (λ first. takes_bind
       (takes_many (sees (kind.Symbol s.Comma)) (takes_bind (takes_one _ Any) (λ _. takes) (λ _ _ _ _ _ _. tt))
@@ -230,7 +230,7 @@ module _ (opens : Bool) (ip : spec.Inside) (ir : grammar.Inside) (inner : Inner 
   begins_group : Begins (λ n. n == 112) (grammar.group opens ir)
   begins_group = begins_where (begins_bind (begins_word (kind.Symbol s.Open)))
 
-  list_begins : (front rest : Tokens) (x : List Expression) → grammar.list_of ir.expression front x → sees (kind.Symbol s.Close) (next (front ++ rest)) ≡ false
+  list_begins : (front rest : Tokens) (x : List Expression) → words.list_of ir.expression front x → sees (kind.Symbol s.Close) (next (front ++ rest)) ≡ false
   list_begins front rest x h = sees_false tag_is_expression (kind.Symbol s.Close) front rest ((begins_bind taken.begins).head front x h) refl
 
   takes_group : Takes (spec.group opens ip) (grammar.group opens ir) Any

@@ -19,7 +19,7 @@ use Rattle.vb_syntax.specs.declared.expression.PathHead.TheVariants as head
 use Rattle.vb_syntax.specs.declared.expression.Step.{Step}
 use Rattle.vb_syntax.specs.declared.expression.Step.TheVariants as behind
 use Rattle.vb_syntax.specs.Rules.{Rule, pure, none, ◌>>=◌, ◌>>◌, ◌or◌, one, many, where_true}
-use Rattle.vb_syntax.specs.Words.{keyword, symbol, name_of, literal_of}
+use Rattle.vb_syntax.specs.Words.{keyword, symbol, list_of, name_of, literal_of}
 
 -- ---- operators
 
@@ -87,13 +87,6 @@ abbrev pub path_of : PathHead → List Step → Path
 path_of head steps = roll-Path (record { head = head; steps = steps })
 
 -- ---- rules
-
--- exprs = expr { "," expr }
-abbrev pub list_of : Rule Expression → Rule (List Expression)
-list_of expression = do
-  first ← expression
-  more ← many (symbol s.Comma >> expression)
-  pure (first ∷ more)
 
 -- an operator of the level, and its right operand
 abbrev pub turn : ℕ → Rule Expression → Rule Operation

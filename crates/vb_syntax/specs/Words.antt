@@ -1,17 +1,18 @@
 -- The words that the grammar quotes, and those that stand for themselves.
-use Rattle.std.specs.Prelude.{ℕ, ◌+◌, List, true, false, Option, Some, None, if◌then◌else◌, ◌==◌}
+use Rattle.std.specs.Prelude.{ℕ, ◌+◌, List, ◌∷◌, true, false, Option, Some, None, if◌then◌else◌, ◌==◌}
 use denote.Enum.Declared.{tag_of}
 use Rattle.vb_value.specs.declared.token.Keyword.{Keyword}
 use Rattle.vb_value.specs.declared.token.Keyword.TheVariants as k
 use Rattle.vb_value.specs.contracts.token.Keyword as keywords
 use Rattle.vb_value.specs.declared.token.Symbol.{Symbol}
+use Rattle.vb_value.specs.declared.token.Symbol.TheVariants as s
 use Rattle.vb_value.specs.contracts.token.Symbol as symbols
 use Rattle.vb_value.specs.declared.token.Token.{Token}
 use Rattle.vb_value.specs.declared.token.TokenKind.{TokenKind}
 use Rattle.vb_value.specs.declared.token.TokenKind.TheVariants as kind
 use Rattle.vb_syntax.specs.declared.expression.Literal.{Literal}
 use Rattle.vb_syntax.specs.declared.expression.Literal.TheVariants as literal
-use Rattle.vb_syntax.specs.Rules.{Rule, one}
+use Rattle.vb_syntax.specs.Rules.{Rule, pure, ◌>>=◌, ◌>>◌, one, many}
 
 -- A number for each kind of word: that of a keyword or a symbol is its place among the keywords or symbols.
 abbrev pub tag : TokenKind → ℕ
@@ -40,6 +41,13 @@ keyword quoted = word (kind.Keyword quoted)
 -- an operator or a mark of punctuation
 abbrev pub symbol : Symbol → Rule ℕ
 symbol quoted = word (kind.Symbol quoted)
+
+-- things with commas between: x { "," x }
+abbrev pub list_of : {A : Type 0} → Rule A → Rule (List A)
+list_of rule = do
+  first ← rule
+  more ← many (symbol s.Comma >> rule)
+  pure (first ∷ more)
 
 -- what a name is
 abbrev pub name_of_kind : TokenKind → Option (List ℕ)
