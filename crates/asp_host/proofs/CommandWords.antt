@@ -1,6 +1,9 @@
--- Command lines of three words, and the path among them.
-use Rattle.std.proofs.Common.{◌≡◌, ℕ, ◌++◌, List, [], ◌∷◌, length, get_or, codes, arith, sym, ◌∙◌, subst}
-use Rattle.std.proofs.lemmas.List.{append_cancel_right}
+-- Command lines of three words.
+use Rattle.std.proofs.Common.{◌≡◌, ℕ, ◌+◌, ◌-◌, List, [], ◌∷◌, length, take, drop, get_or, codes, arith, sym, ◌∙◌, ap, subst}
+use Rattle.std.specs.Char.{to_ascii_lowercase}
+use Rattle.std.proofs.Math.Seq.{take-append_seam, drop-append_seam}
+use Rattle.std.proofs.lemmas.List.{length-append, length-map}
+use Rattle.vb_value.specs.Folding.{folded}
 use Rattle.asp_host.specs.Words.{IsPagePath, IsStem}
 
 -- a list of three items
@@ -11,9 +14,3 @@ three_items (x ∷ []) a b c three first second third = absurd (omega (arith, th
 three_items (x ∷ y ∷ []) a b c three first second third = absurd (omega (arith, three))
 three_items (x ∷ y ∷ z ∷ []) a b c three first second third = cc
 three_items (x ∷ y ∷ z ∷ w ∷ rest) a b c three first second third = absurd (omega (arith, three))
-
--- the stem of a page's path is what stands before its end
-pub stem_named : (path stem : List ℕ) → path ≡ stem ++ codes ".asp" → IsPagePath path → IsStem stem
-stem_named path stem spelled page =
-    let same : page.stem ≡ stem = append_cancel_right _ _ (codes ".asp") (sym page.spelled ∙ spelled) in
-    subst IsStem same page.named

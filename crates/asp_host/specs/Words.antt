@@ -1,6 +1,7 @@
 -- The words of a command line that the host takes, each as its bytes.
 use Rattle.std.specs.Prelude.{◌≡◌, ℕ, ◌+◌, ◌^◌, ◌<◌, Bool, IsTrue, ◌||◌, ◌&&◌, ◌==◌, Some, List, [], ◌∷◌, ◌++◌, length, chars, codes, slice_get, slice_index, EachIndex}
 use Rattle.std.specs.Char.{is_ascii_alphanumeric}
+use Rattle.vb_value.specs.Folding.{folded}
 use Rattle.asp_host.specs.declared.words.Command.{Command}
 use Rattle.asp_host.specs.declared.words.Command.TheVariants.{Get}
 
@@ -17,11 +18,13 @@ pub record IsStem (stem : List ℕ) : Type 0 where
   pub rooted : slice_get stem 0 ≡ Some 47
   pub names : EachIndex stem (λ at. IsTrue (is_path_place (slice_index stem at) (slice_index stem (at + 1))))
 
--- the path of a page as a command names it: names, each with a slash before it, and then `.asp`
+-- the path of a page as a command names it: names, each with a slash before it, and then `.asp` in any ASCII case
 pub record IsPagePath (path : List ℕ) : Type 0 where
   pub stem : List ℕ
-  pub spelled : path ≡ stem ++ codes ".asp"
+  pub ending : List ℕ
+  pub spelled : path ≡ stem ++ ending
   pub named : IsStem stem
+  pub ends : folded ending ≡ codes ".asp"
   pub short : length path < 2 ^ 24
 
 -- the words are `get`, this word for the site, and this path of a page

@@ -6,6 +6,8 @@ mod load;
 mod page;
 mod site;
 mod status;
+#[cfg(test)]
+mod tests;
 mod words;
 
 pub use host::run_host;

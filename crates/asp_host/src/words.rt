@@ -8,6 +8,12 @@ use std::alloc::Global;
 use thiserror::Error;
 use vb_value::{Bytes, Memory, Text};
 
+/// What the path of a page ends in, in any ASCII case.
+const ENDING: &[u8; 4] = b".asp";
+
+/// A path has fewer bytes than this.
+const PATH_LIMIT: usize = 1 << 24;
+
 /// A command.
 #[derive(Debug, Drop)]
 pub enum Command {
@@ -71,10 +77,14 @@ fn get_words(words: &[String]) -> Option<(&str, &str)>
 fn is_page_path(path: &[u8]) -> bool
     ensures { IsTrue result ↔ spec.IsPagePath path.now }
 {
-    match path.strip_suffix(b".asp") {
-        Some(stem) => path.len() < 1 << 24 && is_stem(stem),
-        None => false,
+    if path.len() < ENDING.len() || path.len() >= PATH_LIMIT {
+        return false;
     }
+    let (stem, ending) = path.split_at(path.len() - ENDING.len());
+    if !ending.eq_ignore_ascii_case(ENDING) {
+        return false;
+    }
+    is_stem(stem)
 }
 
 fn is_stem(stem: &[u8]) -> bool

@@ -11,4 +11,4 @@ returns-in-Ok-clause-part g c = λ is. told (g.F.Folder.files c.args.folder.now)
     (λ files tells holds. (c.in-Ok.path, c.in-Ok.ensures.ok, holds)) (c.get.ensures.part is)
 
 pub returns-in-Err-Usage-clause-usage : goal.returns-in-Err-Usage-clause-usage
-returns-in-Err-Usage-clause-usage g c = ((λ _. c.in-Err-Usage.ensures.usage.0 (cc c.in-Err-Usage.is)), (λ _. refl))
+returns-in-Err-Usage-clause-usage g c = ((λ _. c.in-Err-Usage.ensures.usage.0 (cc)), (λ _. refl))
