@@ -1,5 +1,6 @@
 -- The tokens of a text stand in it one behind another, each on its line and with its text.
-use Rattle.std.proofs.Common.{◌≡◌, ℕ, ◌+◌, ◌-◌, ◌<◌, ◌≤◌, List, [], ◌∷◌, ◌++◌, length, drop, take, refl, sym, ap, ◌∙◌, subst, inl, arith, slice_range}
+use Rattle.std.proofs.Common.{◌≡◌, ℕ, ◌+◌, ◌-◌, ◌<◌, ◌≤◌, List, [], ◌∷◌, ◌++◌, length, drop, take, refl, sym, ap, ◌∙◌}
+use Rattle.std.proofs.Common.{subst, inl, arith, slice_range}
 use Rattle.std.proofs.lemmas.List.{length-drop}
 use Rattle.vb_value.specs.declared.token.Token.{Token}
 use Rattle.vb_value.specs.declared.token.TokenKind.{TokenKind}

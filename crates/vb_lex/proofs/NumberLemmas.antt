@@ -1,5 +1,6 @@
 -- The value of digits, up to a number past every value.
-use Rattle.std.proofs.Common.{◌≡◌, ℕ, ◌+◌, ◌*◌, ◌<◌, ◌≤◌, Bool, true, false, ltb, eqb, List, drop, length, sym, ◌∙◌, get_or, take, min, inl, inr, refl, arith}
+use Rattle.std.proofs.Common.{◌≡◌, ℕ, ◌+◌, ◌*◌, ◌<◌, ◌≤◌, Bool, true, false, ltb, eqb, List, drop, length, sym, ◌∙◌}
+use Rattle.std.proofs.Common.{get_or, take, min, inl, inr, refl, arith}
 use Rattle.std.specs.Char.{digit_value}
 use Rattle.std.specs.Str.Parse.{digits_value}
 use Rattle.std.proofs.Math.Nat.{mul-le-mul_left, mul-le-mul_right}

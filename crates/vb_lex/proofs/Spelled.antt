@@ -1,5 +1,7 @@
 -- Each word that stands in a text is written as it is to be.
-use Rattle.std.proofs.Common.{◌≡◌, ◌≢◌, ℕ, ◌+◌, ◌<◌, ◌⊎◌, Bool, true, false, cond, eqb, ltb, leb, ◌||◌, ◌&&◌, ◌==◌, codes, List, [], ◌∷◌, ◌++◌, Option, Some, None, pos, length, get_or, drop, take, refl, sym, ap, ◌∙◌, subst, inl, inr, arith, suc, if◌then◌else◌}
+use Rattle.std.proofs.Common.{◌≡◌, ◌≢◌, ℕ, ◌+◌, ◌<◌, ◌⊎◌, Bool, true, false, cond, eqb, ltb, leb, ◌||◌, ◌&&◌, ◌==◌}
+use Rattle.std.proofs.Common.{codes, List, [], ◌∷◌, ◌++◌, Option, Some, None, pos, length, get_or, drop, take, refl}
+use Rattle.std.proofs.Common.{sym, ap, ◌∙◌, subst, inl, inr, arith, suc, if◌then◌else◌}
 use Rattle.std.proofs.lemmas.Bool.{eqb-true, false≢true}
 use Rattle.std.proofs.lemmas.Bool.Decides.{nat_tests}
 use Rattle.std.proofs.lemmas.List.{take_more, append_assoc, get_or-drop}
@@ -18,7 +20,9 @@ use Rattle.vb_lex.specs.declared.piece.Piece.{Piece}
 use Rattle.vb_lex.specs.declared.piece.Piece.TheVariants.{Gap, Word, Fault}
 use Rattle.vb_lex.specs.declared.place.Behind.{Behind}
 use Rattle.vb_lex.specs.declared.place.Behind.TheVariants as behind
-use Rattle.vb_lex.specs.Characters.{ampersand, apostrophe, capital_h, capital_o, close_bracket, equal, greater, is_blank, is_bracketed, is_decimal, is_hexadecimal, is_line_end, is_name_part, is_octal, less, open_bracket, point, quote, small_h, small_o}
+use Rattle.vb_lex.specs.Characters.{ampersand, apostrophe, capital_h, capital_o, close_bracket, equal, greater}
+use Rattle.vb_lex.specs.Characters.{is_blank, is_bracketed, is_decimal, is_hexadecimal, is_line_end, is_name_part}
+use Rattle.vb_lex.specs.Characters.{is_octal, less, open_bracket, point, quote, small_h, small_o}
 use Rattle.vb_lex.specs.Gaps.{blank_length, line_end_length, line_length}
 use Rattle.vb_lex.specs.Names.{bracketed, is_behind_point, keyword, kind_of_name, named}
 use Rattle.vb_lex.specs.Numbers.{ampersand_word, based, based_kind, decimal, decimal_kind, is_spoilt}

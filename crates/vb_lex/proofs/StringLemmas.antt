@@ -1,5 +1,6 @@
 -- The steps of a string's reader.
-use Rattle.std.proofs.Common.{◌≡◌, ◌≢◌, ℕ, ◌+◌, ◌<◌, ◌≤◌, true, false, eqb, List, [], ◌∷◌, ◌++◌, Option, Some, None, length, get_or, drop, refl, sym, ap, ◌∙◌, arith, append_assoc, append-nil}
+use Rattle.std.proofs.Common.{◌≡◌, ◌≢◌, ℕ, ◌+◌, ◌<◌, ◌≤◌, true, false, eqb, List, [], ◌∷◌, ◌++◌, Option, Some, None}
+use Rattle.std.proofs.Common.{length, get_or, drop, refl, sym, ap, ◌∙◌, arith, append_assoc, append-nil}
 use Rattle.std.proofs.lemmas.Bool.Decides.{nat_tests}
 use Rattle.std.proofs.lemmas.List.{at_drop_more, at_drop_all, get_or-drop}
 use Rattle.vb_lex.specs.Characters.{quote, is_line_end}
@@ -21,11 +22,11 @@ differs c differ = grind (arith, nat_tests)
 same : (c : ℕ) → c ≡ quote → eqb c quote ≡ true
 same c e = grind (arith, nat_tests)
 
-not_quote : (c : ℕ) → is_line_end c ≡ true → eqb c quote ≡ false
+pub not_quote : (c : ℕ) → is_line_end c ≡ true → eqb c quote ≡ false
 not_quote c ends = grind (arith, nat_tests)
 
 -- a character that stands for itself
-other : (c : ℕ) (text : List ℕ) → eqb c quote ≡ false → is_line_end c ≡ false
+pub other : (c : ℕ) (text : List ℕ) → eqb c quote ≡ false → is_line_end c ≡ false
     → quoted (c ∷ text) ≡ behind_front (c ∷ []) 1 (quoted text)
 other c [] plain stays = rw plain refl
 other c (d ∷ text) plain stays = rw (plain, stays) refl
@@ -42,7 +43,7 @@ close c [] first second = rw first refl
 close c (d ∷ text) first second = rw (first, second) refl
 
 -- a line end
-ended : (c : ℕ) (text : List ℕ) → eqb c quote ≡ false → is_line_end c ≡ true → quoted (c ∷ text) ≡ None
+pub ended : (c : ℕ) (text : List ℕ) → eqb c quote ≡ false → is_line_end c ≡ true → quoted (c ∷ text) ≡ None
 ended c [] plain ends = rw plain refl
 ended c (d ∷ text) plain ends = rw (plain, ends) refl
 
@@ -88,3 +89,6 @@ at_line_end value text at within ends =
 pub at_end : (value text : List ℕ) (at : ℕ) → length text ≤ at
     → behind_front value at (quoted (drop at text)) ≡ None
 at_end value text at past = ap (behind_front value at) (at_drop_all quoted text at past)
+
+-- the steps of the loop
+pub ruleset string_steps = (step_other, step_double, at_close, at_line_end, at_end)

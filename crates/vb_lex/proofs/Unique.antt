@@ -1,5 +1,6 @@
 -- A text has one list of tokens at most, or one fault.
-use Rattle.std.proofs.Common.{◌≡◌, ℕ, ◌<◌, List, [], ◌∷◌, ◌++◌, Ok, Err, Result, IfOk, length, refl, sym, ap, ◌∙◌, subst, arith}
+use Rattle.std.proofs.Common.{◌≡◌, ℕ, ◌<◌, List, [], ◌∷◌, ◌++◌, Ok, Err, Result, IfOk, length, refl, sym, ap, ◌∙◌}
+use Rattle.std.proofs.Common.{subst, arith}
 use Rattle.vb_value.specs.Outcome.{Answers}
 use Rattle.vb_value.specs.declared.token.Token.{Token}
 use Rattle.vb_lex.specs.declared.fault.LexFault.{LexFault}
