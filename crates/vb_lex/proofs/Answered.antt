@@ -37,4 +37,5 @@ answer_from (suc left) text tokens place reaches within bound =
     ]
 
 pub answered : (text : List ℕ) → HasAnswer text
-answered text = answer_from (length text) text (edge first_place ∷ []) first_place (reached_first text) (omega arith) (omega arith)
+answered text = answer_from (length text) text (edge first_place ∷ []) first_place (reached_first text)
+    (omega arith) (omega arith)

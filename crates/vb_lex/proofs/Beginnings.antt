@@ -35,7 +35,8 @@ pub run_longest : (test : ℕ → Bool) (text : List ℕ) (count : ℕ) → coun
 run_longest test text zero within all = omega arith
 run_longest test [] (suc count) within all = absurd (omega arith)
 run_longest test (c ∷ text) (suc count) within all =
-    let rest = run_longest test text count (omega arith) (second_true (test c) (list_all test (take count text)) all) in
+    let rest = run_longest test text count (omega arith) (second_true (test c) (list_all test
+    (take count text)) all) in
     rw (first_true (test c) (list_all test (take count text)) all) (omega arith)
 
 -- a word that is a keyword has letters alone
@@ -69,12 +70,15 @@ among_letters (entry ∷ entries) name word all found =
     → (if b then Some entry.1 else keyword_among entries name) ≡ Some word
     → list_all is_ascii_alphabetic name ≡ true =
     elim [
-      | true ↦ λ same _. same_letters entry.0 name (first_true (has_letters entry) (list_all has_letters entries) all) same
-      | false ↦ λ _ more. among_letters entries name word (second_true (has_letters entry) (list_all has_letters entries) all) more
+      | true ↦ λ same _. same_letters entry.0 name (first_true (has_letters entry)
+          (list_all has_letters entries) all) same
+      | false ↦ λ _ more. among_letters entries name word (second_true (has_letters entry)
+          (list_all has_letters entries) all) more
     ] in
     go (str_eq_ignore_ascii_case entry.0 name) refl found
 
-pub keyword_letters : (name : List ℕ) (word : Keyword) → keyword name ≡ Some word → list_all is_ascii_alphabetic name ≡ true
+pub keyword_letters : (name : List ℕ) (word : Keyword) → keyword name ≡ Some word
+    → list_all is_ascii_alphabetic name ≡ true
 unfolding keyword
 keyword_letters name word found = among_letters (map (λ entry. (entry.0.now, entry.1)) KEYWORDS) name word refl found
 
@@ -105,7 +109,8 @@ pub has_value_begins : (c n : ℕ) (text : List ℕ) → HasValue (c ∷ text) n
 has_value_begins c n text (inl has) = ap head_of has.1.written
 has_value_begins c n text (inr has) = ap head_of has.1.written
 
-pub front_begins : (c n : ℕ) (text front : List ℕ) → c ∷ text ≡ front ++ ampersand ∷ [] → HasValue front n → c ≡ ampersand
+pub front_begins : (c n : ℕ) (text front : List ℕ) → c ∷ text ≡ front ++ ampersand ∷ [] → HasValue front n
+    → c ≡ ampersand
 front_begins c n text [] same has = ap head_of same
 front_begins c n text (d ∷ front) same has = ap head_of same ∙ has_value_begins d n front has
 
@@ -248,7 +253,9 @@ Has_letter _ = ⊥
 
 pub letter_only : (other : TokenKind) (c : ℕ) → is_ascii_alphabetic c ≡ true → Begins other c → Has_letter other
 letter_only (kind.Keyword w) c is begins_so = tt
-letter_only (kind.Symbol x) c is begins_so = (let mark = symbol_mark x in let same = begins_so in mark_clash_letter c (get_or (symbol_text x) 0 0) is mark same)
+letter_only (kind.Symbol x) c is begins_so =
+    (let mark = symbol_mark x in let same = begins_so in mark_clash_letter c (get_or
+    (symbol_text x) 0 0) is mark same)
 letter_only (kind.Name x false) c is begins_so = tt
 letter_only (kind.Name x true) c is begins_so = other_clash_letter_name_bracketed c is begins_so
 letter_only (kind.Integer v) c is begins_so = number_clash_letter c is begins_so
@@ -265,7 +272,9 @@ Has_decimal _ = ⊥
 
 pub decimal_only : (other : TokenKind) (c : ℕ) → is_decimal c ≡ true → Begins other c → Has_decimal other
 decimal_only (kind.Keyword w) c is begins_so = other_clash_decimal_keyword c is begins_so
-decimal_only (kind.Symbol x) c is begins_so = (let mark = symbol_mark x in let same = begins_so in mark_clash_decimal c (get_or (symbol_text x) 0 0) is mark same)
+decimal_only (kind.Symbol x) c is begins_so =
+    (let mark = symbol_mark x in let same = begins_so in mark_clash_decimal c (get_or
+    (symbol_text x) 0 0) is mark same)
 decimal_only (kind.Name x false) c is begins_so = other_clash_decimal_name c is begins_so
 decimal_only (kind.Name x true) c is begins_so = other_clash_decimal_name_bracketed c is begins_so
 decimal_only (kind.Integer v) c is begins_so = tt
@@ -281,7 +290,8 @@ Has_quote _ = ⊥
 
 pub quote_only : (other : TokenKind) (c : ℕ) → c ≡ quote → Begins other c → Has_quote other
 quote_only (kind.Keyword w) c is begins_so = other_clash_quote_keyword c is begins_so
-quote_only (kind.Symbol x) c is begins_so = (let mark = symbol_mark x in let same = begins_so in mark_clash_quote c (get_or (symbol_text x) 0 0) is mark same)
+quote_only (kind.Symbol x) c is begins_so =
+    (let mark = symbol_mark x in let same = begins_so in mark_clash_quote c (get_or (symbol_text x) 0 0) is mark same)
 quote_only (kind.Name x false) c is begins_so = other_clash_quote_name c is begins_so
 quote_only (kind.Name x true) c is begins_so = other_clash_quote_name_bracketed c is begins_so
 quote_only (kind.Integer v) c is begins_so = number_clash_quote c is begins_so
@@ -297,7 +307,9 @@ Has_bracket _ = ⊥
 
 pub bracket_only : (other : TokenKind) (c : ℕ) → c ≡ open_bracket → Begins other c → Has_bracket other
 bracket_only (kind.Keyword w) c is begins_so = other_clash_bracket_keyword c is begins_so
-bracket_only (kind.Symbol x) c is begins_so = (let mark = symbol_mark x in let same = begins_so in mark_clash_bracket c (get_or (symbol_text x) 0 0) is mark same)
+bracket_only (kind.Symbol x) c is begins_so =
+    (let mark = symbol_mark x in let same = begins_so in mark_clash_bracket c (get_or
+    (symbol_text x) 0 0) is mark same)
 bracket_only (kind.Name x false) c is begins_so = other_clash_bracket_name c is begins_so
 bracket_only (kind.Name x true) c is begins_so = tt
 bracket_only (kind.Integer v) c is begins_so = number_clash_bracket c is begins_so
@@ -313,7 +325,9 @@ Has_ending _ = ⊥
 
 pub ending_only : (other : TokenKind) (c : ℕ) → is_line_end c ≡ true → Begins other c → Has_ending other
 ending_only (kind.Keyword w) c is begins_so = other_clash_ending_keyword c is begins_so
-ending_only (kind.Symbol x) c is begins_so = (let mark = symbol_mark x in let same = begins_so in mark_clash_ending c (get_or (symbol_text x) 0 0) is mark same)
+ending_only (kind.Symbol x) c is begins_so =
+    (let mark = symbol_mark x in let same = begins_so in mark_clash_ending c (get_or
+    (symbol_text x) 0 0) is mark same)
 ending_only (kind.Name x false) c is begins_so = other_clash_ending_name c is begins_so
 ending_only (kind.Name x true) c is begins_so = other_clash_ending_name_bracketed c is begins_so
 ending_only (kind.Integer v) c is begins_so = number_clash_ending c is begins_so

@@ -123,7 +123,8 @@ line_end_longer c rest more moves below within (inr (inr (inr one))) =
 pub line_end_most : (c : ℕ) (rest : List ℕ) → is_line_end c ≡ true → IsMost c rest (line_end_length (c ∷ rest))
 line_end_most c rest is other more below within spelled =
     let has = ending_only other c is (begins other c (take more rest) spelled) in
-    line_end_longer c rest more (line_end_moves c rest is) below within (line_end_of other (c ∷ take more rest) has spelled)
+    line_end_longer c rest more (line_end_moves c rest is) below within (line_end_of other
+    (c ∷ take more rest) has spelled)
 
 -- names in brackets
 bracketed_of : (other : TokenKind) (text : List ℕ) → Has_bracket other → IsSpelled other text
@@ -151,7 +152,8 @@ front_of rest front last more within same =
     let parts = length_push front last in
     let count : more ≡ length front + 1 = omega (arith, sizes, parts) in
     let low : length front ≤ more = omega arith in
-    let cut : take (length front) (take more rest) ≡ take (length front) rest = take-take (length front) more rest low in
+    let cut : take (length front) (take more rest) ≡ take (length front) rest = take-take
+    (length front) more rest low in
     let front_is : take (length front) (take more rest) ≡ front =
     ap (λ t. take (length front) t) same ∙ take_at front (last ∷ []) (length front) refl in
     let read : get_or (take more rest) (length front) 0 ≡ get_or rest (length front) 0 =
@@ -166,7 +168,8 @@ bracketed_most c rest is other more below within spelled =
     let name = bracketed_of other (c ∷ take more rest) has spelled in
     let parts = front_of rest name.0 close_bracket more within (ap tail_of name.1) in
     let fits : length name.0 ≤ length rest = omega (arith, parts.0) in
-    let all : list_all is_bracketed (take (length name.0) rest) ≡ true = ap (list_all is_bracketed) parts.1 ∙ name.2 in
+    let all : list_all is_bracketed (take (length name.0) rest) ≡ true = ap (list_all is_bracketed) parts.1
+    ∙ name.2 in
     let most = run_longest is_bracketed rest (length name.0) fits all in
     omega (arith, parts.0)
 
@@ -206,7 +209,8 @@ closes_late (c ∷ value) more =
     let inner = closes_late value more in
     let text : List ℕ = doubled value ++ quote ∷ more in
     let plain : eqb c quote ≡ false → Counts (length (c ∷ doubled value) + 1) (quoted (c ∷ text)) =
-    λ differs. (let go : (b : Bool) → is_line_end c ≡ b → Counts (length (c ∷ doubled value) + 1) (quoted (c ∷ text)) =
+    λ differs. (let go : (b : Bool) → is_line_end c ≡ b → Counts (length (c ∷ doubled value) + 1) (quoted
+    (c ∷ text)) =
     elim [
       | true ↦ λ ends. counts_none (length (c ∷ doubled value) + 1) (quoted (c ∷ text)) (ended c text differs ends)
       | false ↦ λ stays.
@@ -261,7 +265,8 @@ no_number : (c : ℕ) → is_mark c ≡ true → c ≢ ampersand → (is_decimal
 no_number c is differs (inl digit) = mark_clash_decimal c c digit is refl
 no_number c is differs (inr same) = differs same
 
-symbol_of : (other : TokenKind) (c : ℕ) (text : List ℕ) → is_mark c ≡ true → c ≢ ampersand → IsSpelled other (c ∷ text)
+symbol_of : (other : TokenKind) (c : ℕ) (text : List ℕ) → is_mark c ≡ true → c ≢ ampersand → IsSpelled other
+    (c ∷ text)
     → (x : Symbol) × (c ∷ text ≡ symbol_text x)
 symbol_of (kind.Symbol x) c text is differs spelled = (x, spelled)
 symbol_of (kind.Keyword w) c text is differs spelled =
@@ -270,8 +275,10 @@ symbol_of (kind.Name x false) c text is differs spelled =
     absurd (mark_clash_letter c c (begins (kind.Name x false) c text spelled) is refl)
 symbol_of (kind.Name x true) c text is differs spelled =
     absurd (mark_clash_bracket c c (begins (kind.Name x true) c text spelled) is refl)
-symbol_of (kind.Integer v) c text is differs spelled = absurd (no_number c is differs (begins (kind.Integer v) c text spelled))
-symbol_of (kind.Long v) c text is differs spelled = absurd (no_number c is differs (begins (kind.Long v) c text spelled))
+symbol_of (kind.Integer v) c text is differs spelled = absurd (no_number c is differs (begins
+    (kind.Integer v) c text spelled))
+symbol_of (kind.Long v) c text is differs spelled = absurd (no_number c is differs (begins
+    (kind.Long v) c text spelled))
 symbol_of (kind.String x) c text is differs spelled =
     absurd (mark_clash_quote c c (begins (kind.String x) c text spelled) is refl)
 symbol_of kind.LineEnd c text is differs spelled =
@@ -286,8 +293,22 @@ IsPair c d = ((c ≡ less) × ((d ≡ equal) ⊎ (d ≡ greater))) ⊎ ((c ≡ g
 symbol_pair : (x : Symbol) (c : ℕ) (text : List ℕ) → c ∷ text ≡ symbol_text x → 0 < length text
     → (length text ≡ 1) × IsPair c (get_or text 0 0)
 symbol_pair s.Ampersand c text same long = absurd (omega (arith, ap length same))
-symbol_pair s.AtMost c text same long = (omega (arith, ap length same), inl (ap head_of same, inl (ap (λ t. get_or t 1 0) same)))
-symbol_pair s.AtLeast c text same long = (omega (arith, ap length same), inr (ap head_of same, ap (λ t. get_or t 1 0) same))
+symbol_pair s.AtMost c text same long = (
+  omega (arith, ap length same),
+  inl (
+    ap head_of same,
+    inl (ap
+        (λ t. get_or t 1 0) same),
+  ),
+)
+symbol_pair s.AtLeast c text same long = (
+  omega (arith, ap length same),
+  inr (
+    ap head_of same,
+    ap
+        (λ t. get_or t 1 0) same,
+  ),
+)
 symbol_pair s.Backslash c text same long = absurd (omega (arith, ap length same))
 symbol_pair s.Close c text same long = absurd (omega (arith, ap length same))
 symbol_pair s.Colon c text same long = absurd (omega (arith, ap length same))
@@ -296,7 +317,14 @@ symbol_pair s.Equal c text same long = absurd (omega (arith, ap length same))
 symbol_pair s.Greater c text same long = absurd (omega (arith, ap length same))
 symbol_pair s.Less c text same long = absurd (omega (arith, ap length same))
 symbol_pair s.Minus c text same long = absurd (omega (arith, ap length same))
-symbol_pair s.NotEqual c text same long = (omega (arith, ap length same), inl (ap head_of same, inr (ap (λ t. get_or t 1 0) same)))
+symbol_pair s.NotEqual c text same long = (
+  omega (arith, ap length same),
+  inl (
+    ap head_of same,
+    inr (ap
+        (λ t. get_or t 1 0) same),
+  ),
+)
 symbol_pair s.Open c text same long = absurd (omega (arith, ap length same))
 symbol_pair s.Plus c text same long = absurd (omega (arith, ap length same))
 symbol_pair s.Star c text same long = absurd (omega (arith, ap length same))
@@ -357,7 +385,8 @@ greater_alone c d is no_equal (inr pair) = let second = pair.1 in grind (arith, 
 greater_most : (c : ℕ) (rest : List ℕ) → is_mark c ≡ true → c ≢ ampersand → c ≡ greater
     → IsMostOf c rest (greater_word (get_or rest 0 0))
 greater_most c rest mark differs is =
-    pick (IsMostOf c rest) (eqb (get_or rest 0 0) equal) (Word (kind.Symbol s.AtLeast) 2) (Word (kind.Symbol s.Greater) 1)
+    pick (IsMostOf c rest) (eqb (get_or rest 0 0) equal) (Word (kind.Symbol s.AtLeast) 2) (Word
+    (kind.Symbol s.Greater) 1)
     (λ _. two_most c rest mark differs)
     (λ no_equal. one_most c rest mark differs (greater_alone c (get_or rest 0 0) is no_equal))
 
@@ -368,7 +397,8 @@ other_alone c d no_less no_greater (inr pair) = no_greater pair.0
 -- the entries of a table, each a word of one character or a fault
 abbrev AreSingle : List (ℕ × Piece) → Type 0
 AreSingle [] = Unit {0}
-AreSingle (entry ∷ entries) = ((c : ℕ) (rest : List ℕ) → IsMost c rest 1 → IsMostOf c rest entry.1) × AreSingle entries
+AreSingle (entry ∷ entries) = ((c : ℕ) (rest : List ℕ) → IsMost c rest 1 → IsMostOf c rest entry.1)
+    × AreSingle entries
 
 beside_most : (entries : List (ℕ × Piece)) (c character : ℕ) (rest : List ℕ) → AreSingle entries → IsMost c rest 1
     → IsMostOf c rest (beside entries character)

@@ -67,7 +67,8 @@ long_number (e ∷ front) text c value same has =
 number_of : (other : TokenKind) (c : ℕ) (text : List ℕ) → c ≡ ampersand → IsSpelled other (c ∷ text)
     → (text ≡ []) ⊎ IsNumber c text
 number_of (kind.Symbol x) c text is spelled = inl (symbol_alone x c text spelled is)
-number_of (kind.Integer v) c text is (inl spelled) = absurd (no_digit c is (decimal_begins c spelled.0 text spelled.1))
+number_of (kind.Integer v) c text is (inl spelled) = absurd (no_digit c is
+    (decimal_begins c spelled.0 text spelled.1))
 number_of (kind.Integer v) c text is (inr spelled) = inr (text, spelled.0, spelled.1, inl refl)
 number_of (kind.Long v) c text is (inl spelled) = absurd (no_digit c is (decimal_begins c spelled.0 text spelled.1))
 number_of (kind.Long v) c text is (inr (inl spelled)) = inr (text, spelled.0, spelled.1, inl refl)
@@ -107,7 +108,8 @@ long_most : (test : ℕ → Bool) (d : ℕ) (rest front : List ℕ) (more : ℕ)
     → (more ≤ 2 + prefix_len test rest)
     × (more ≡ 2 + prefix_len test rest → get_or rest (prefix_len test rest) 0 ≡ ampersand)
 long_most test d rest front more has within same =
-    let whole : take more (d ∷ rest) ≡ (has.0 ∷ has.1) ++ ampersand ∷ [] = same ∙ ap (λ t. t ++ ampersand ∷ []) has.2 in
+    let whole : take more (d ∷ rest) ≡ (has.0 ∷ has.1) ++ ampersand ∷ [] = same ∙ ap
+    (λ t. t ++ ampersand ∷ []) has.2 in
     let parts = front_of (d ∷ rest) (has.0 ∷ has.1) ampersand more within whole in
     let inside : take (length has.1) rest ≡ has.1 = ap tail_of parts.1 in
     let all : list_all test (take (length has.1) rest) ≡ true = ap (list_all test) inside ∙ has.4 in
@@ -199,7 +201,8 @@ digits_of_base : (test : ℕ → Bool) (capital small c : ℕ) (front digits : L
     → IsBased capital small test (c ∷ front) digits → HasDigits test front
 digits_of_base test capital small c front digits has = (has.letter, digits, ap tail_of has.written, has.some, has.all)
 
-letter_is : (capital small c : ℕ) (test : ℕ → Bool) (front digits : List ℕ) → IsBased capital small test (c ∷ front) digits
+letter_is : (capital small c : ℕ) (test : ℕ → Bool) (front digits : List ℕ) → IsBased capital small test
+    (c ∷ front) digits
     → (get_or front 0 0 ≡ capital) ⊎ (get_or front 0 0 ≡ small)
 letter_is capital small c test front digits has =
     let Either : ℕ → Type 0 = λ d. (d ≡ capital) ⊎ (d ≡ small) in
@@ -231,7 +234,8 @@ abbrev Shows : ℕ → ℕ → (ℕ → Bool) → List ℕ → Type 0
 Shows capital small test text =
     ((get_or text 0 0 ≡ capital) ⊎ (get_or text 0 0 ≡ small)) × (test (get_or text 1 0) ≡ true) × (2 ≤ length text)
 
-shows_digits : (capital small letter : ℕ) (test : ℕ → Bool) (digits more : List ℕ) → (letter ≡ capital) ⊎ (letter ≡ small)
+shows_digits : (capital small letter : ℕ) (test : ℕ → Bool) (digits more : List ℕ) → (letter ≡ capital) ⊎
+    (letter ≡ small)
     → 0 < length digits → list_all test digits ≡ true → Shows capital small test (letter ∷ digits ++ more)
 shows_digits capital small letter test [] more either some all = absurd (omega arith)
 shows_digits capital small letter test (e ∷ digits) more either some all =
@@ -243,7 +247,8 @@ shows_front : (capital small c : ℕ) (test : ℕ → Bool) (front digits text :
 shows_front capital small c test front digits text has (inl same) =
     let whole : has.letter ∷ digits ++ [] ≡ text =
     append-nil (has.letter ∷ digits) ∙ sym (same ∙ ap tail_of has.written) in
-    subst (Shows capital small test) whole (shows_digits capital small has.letter test digits [] has.either has.some has.all)
+    subst (Shows capital small test) whole
+    (shows_digits capital small has.letter test digits [] has.either has.some has.all)
 shows_front capital small c test front digits text has (inr same) =
     let whole : has.letter ∷ digits ++ ampersand ∷ [] ≡ text =
     sym (same ∙ ap (λ t. t ++ ampersand ∷ []) (ap tail_of has.written)) in

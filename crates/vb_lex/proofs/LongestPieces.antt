@@ -51,7 +51,8 @@ decimal_most_of c rest is =
     let size : ℕ = prefix_len is_decimal (c ∷ rest) in
     let value : ℕ = digits_value 10 (take size (c ∷ rest)) in
     let most = decimal_most c rest is in
-    pick (IsMostOf c rest) (is_spoilt (drop size (c ∷ rest))) (Fault BadNumber) (decimal_kind value size) (λ _. tt) (λ _.
+    pick (IsMostOf c rest) (is_spoilt (drop size (c ∷ rest))) (Fault BadNumber) (decimal_kind value size)
+    (λ _. tt) (λ _.
     pick (IsMostOf c rest) (leb value 32767) (Word (kind.Integer (pos value)) size)
     (if leb value 2147483647 then Word (kind.Long (pos value)) size else Fault BadNumber) (λ _. most) (λ _.
     pick (IsMostOf c rest) (leb value 2147483647) (Word (kind.Long (pos value)) size) (Fault BadNumber) (λ _. most)
@@ -138,7 +139,8 @@ longest_from text from (Gap n ∷ pieces) to cut = longest_from text (past text 
 longest_from text from (Word word n ∷ pieces) to cut =
     let size = length-drop from.at text in (
       λ _ other end longer within spelled.
-          word_longest from.behind (drop from.at text) word n (let some = cut.0 in omega arith) cut.1 other (end - from.at)
+          word_longest from.behind (drop from.at text) word n (let some = cut.0 in omega arith) cut.1 other
+          (end - from.at)
           (omega arith) (omega arith) spelled,
       longest_from text (past text from (Word word n)) pieces to cut.3,
     )

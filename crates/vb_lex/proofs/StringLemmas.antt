@@ -54,7 +54,8 @@ pub step_other : (value text : List ℕ) (at : ℕ) → at < length text → get
     ≡ behind_front value at (quoted (drop at text))
 step_other value text at within plain stays =
     sym (behind_front-behind_front value (get_or text at 0 ∷ []) at 1 (quoted (drop (at + 1) text)))
-    ∙ ap (behind_front value at) (sym (at_drop_more quoted text at 0 within ∙ other (get_or text at 0) (drop (at + 1) text) (differs (get_or text at 0) plain) stays))
+    ∙ ap (behind_front value at) (sym (at_drop_more quoted text at 0 within ∙ other (get_or text at 0) (drop
+    (at + 1) text) (differs (get_or text at 0) plain) stays))
 
 pub step_double : (value text : List ℕ) (at : ℕ) → at < length text → at + 1 < length text
     → get_or text at 0 ≡ quote → get_or text (at + 1) 0 ≡ quote
@@ -65,7 +66,8 @@ step_double value text at within more first second =
     let here : quoted (drop at text) ≡ behind_front (quote ∷ []) 2 (quoted (drop (at + 1 + 1) text)) =
     at_drop_more quoted text at 0 within
     ∙ at_drop_more (λ t. quoted (get_or text at 0 ∷ t)) text (at + 1) 0 more
-    ∙ double (get_or text at 0) (get_or text (at + 1) 0) (drop (at + 1 + 1) text) (same (get_or text at 0) first) (same (get_or text (at + 1) 0) second) in
+    ∙ double (get_or text at 0) (get_or text (at + 1) 0) (drop (at + 1 + 1) text) (same
+    (get_or text at 0) first) (same (get_or text (at + 1) 0) second) in
     ap (λ c. behind_front (value ++ c ∷ []) (at + 1 + 1) (quoted (drop (at + 1 + 1) text))) first
     ∙ ap (λ n. behind_front (value ++ quote ∷ []) n (quoted (drop (at + 1 + 1) text))) places
     ∙ sym (behind_front-behind_front value (quote ∷ []) at 2 (quoted (drop (at + 1 + 1) text)))
@@ -77,14 +79,17 @@ pub at_close : (value text : List ℕ) (at : ℕ) → at < length text → get_o
 at_close value text at within first second =
     let next : get_or (drop (at + 1) text) 0 0 ≡ get_or text (at + 1) 0 =
     get_or-drop (at + 1) text 0 0 ∙ ap (λ n. get_or text n 0) (omega arith) in
-    let apart : eqb (get_or (drop (at + 1) text) 0 0) quote ≡ false = rw next (differs (get_or text (at + 1) 0) second) in
-    ap (behind_front value at) (at_drop_more quoted text at 0 within ∙ close (get_or text at 0) (drop (at + 1) text) (same (get_or text at 0) first) apart)
+    let apart : eqb (get_or (drop (at + 1) text) 0 0) quote ≡ false = rw next (differs (get_or text
+    (at + 1) 0) second) in
+    ap (behind_front value at) (at_drop_more quoted text at 0 within ∙ close (get_or text at 0) (drop
+    (at + 1) text) (same (get_or text at 0) first) apart)
     ∙ ap (λ t. Some (t, at + 1)) (append-nil value)
 
 pub at_line_end : (value text : List ℕ) (at : ℕ) → at < length text → is_line_end (get_or text at 0) ≡ true
     → behind_front value at (quoted (drop at text)) ≡ None
 at_line_end value text at within ends =
-    ap (behind_front value at) (at_drop_more quoted text at 0 within ∙ ended (get_or text at 0) (drop (at + 1) text) (not_quote (get_or text at 0) ends) ends)
+    ap (behind_front value at) (at_drop_more quoted text at 0 within ∙ ended (get_or text at 0) (drop
+    (at + 1) text) (not_quote (get_or text at 0) ends) ends)
 
 pub at_end : (value text : List ℕ) (at : ℕ) → length text ≤ at
     → behind_front value at (quoted (drop at text)) ≡ None
