@@ -1,1 +1,7 @@
+mod Arrays
 mod Characters
+mod Digits
+mod Messages
+mod Points
+mod Ranges
+mod Rounding

@@ -14,3 +14,22 @@ pub enum VbFault {
     /// Memory ran out.
     Memory,
 }
+
+impl VbError {
+    /// A number that its kind does not hold.
+    pub const OVERFLOW: VbError = VbError { number: 6 };
+    /// A divisor of 0.
+    pub const DIVISION_BY_ZERO: VbError = VbError { number: 11 };
+    /// A value of another kind than the one that is wanted.
+    pub const TYPE_MISMATCH: VbError = VbError { number: 13 };
+    /// A text that is too long.
+    pub const OUT_OF_STRING_SPACE: VbError = VbError { number: 14 };
+    /// Nothing, where an object's value is wanted.
+    pub const OBJECT_NOT_SET: VbError = VbError { number: 91 };
+    /// Null, where a value is wanted.
+    pub const INVALID_USE_OF_NULL: VbError = VbError { number: 94 };
+    /// A value that is no object, where one is wanted.
+    pub const OBJECT_REQUIRED: VbError = VbError { number: 424 };
+    /// An object, where its value is wanted.
+    pub const UNSUPPORTED: VbError = VbError { number: 438 };
+}
