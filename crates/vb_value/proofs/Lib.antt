@@ -1,5 +1,6 @@
 mod Arrays
 mod Characters
+mod Decimals
 mod Digits
 mod Messages
 mod Points

@@ -1,11 +1,9 @@
 -- Texts that are numbers, and the texts of numbers. The profile writes numbers with digits alone: no
 -- exponent, no separator of thousands, no hexadecimal.
-use Rattle.std.specs.Prelude.{ℕ, ◌+◌, ◌*◌, ◌-◌, ◌/◌, ◌%◌, ◌^◌, Bool, false, not, ◌&&◌, ◌||◌, ◌==◌, if◌then◌else◌, ℤ, pos, neg_ℤ, List, [], ◌∷◌, ◌++◌, length, map, reverse, Result, Err, unsigned_abs}
-use Rattle.std.specs.Int.{is_negative}
+use Rattle.std.specs.Prelude.{ℕ, suc, ◌+◌, ◌*◌, ◌-◌, ◌/◌, ◌%◌, ◌^◌, Bool, false, not, ◌&&◌, ◌||◌, ◌==◌, if◌then◌else◌, ℤ, pos, negsuc, neg_ℤ, List, [], ◌∷◌, ◌++◌, length, map, reverse, Result, Err}
 use Rattle.std.specs.List.{before_first, after_first, list_all}
 use Rattle.std.specs.Char.{is_ascii_digit}
-use Rattle.std.specs.Int.Digits.{number_from_digits}
-use Rattle.std.specs.Fmt.{decimal}
+use Rattle.std.specs.Int.Digits.{number_from_digits, digits_of}
 use Rattle.vb_value.specs.declared.fault.VbError.{VbError}
 use Rattle.vb_value.specs.Errors.{type_mismatch}
 use Rattle.vb_value.specs.Numbers.{rounded, as_currency}
@@ -83,6 +81,15 @@ cur_of_text_of text =
 
 -- ---- writing
 
+-- the digits of a number, highest first and with no zero in front; `0` for 0
+abbrev pub decimal_text : ℕ → List ℕ
+decimal_text n = if n == 0 then 48 ∷ [] else map (λ digit. 48 + digit) (digits_of 10 n)
+
+-- a whole number, with `-` in front of a negative one
+abbrev pub whole_text : ℤ → List ℕ
+whole_text (pos n) = decimal_text n
+whole_text (negsuc n) = 45 ∷ decimal_text (suc n)
+
 -- four digits
 abbrev pub four_digits : ℕ → List ℕ
 four_digits n = (48 + n / 1000) ∷ (48 + n / 100 % 10) ∷ (48 + n / 10 % 10) ∷ (48 + n % 10) ∷ []
@@ -91,7 +98,11 @@ four_digits n = (48 + n / 1000) ∷ (48 + n / 100 % 10) ∷ (48 + n / 10 % 10) �
 abbrev pub decimals_text : ℕ → List ℕ
 decimals_text n = if n == 0 then [] else 46 ∷ without_last (λ c. c == 48) (four_digits n)
 
--- the text of a Currency: its whole part, and its decimals if it has any
+-- the text of a size in ten-thousandths: its whole part, and its decimals if it has any
+abbrev pub size_text : ℕ → List ℕ
+size_text size = decimal_text (size / 10000) ++ decimals_text (size % 10000)
+
+-- a Currency, with `-` in front of a negative one
 abbrev pub currency_text : ℤ → List ℕ
-currency_text amount = (if is_negative amount then 45 ∷ [] else [])
-    ++ decimal (unsigned_abs amount / 10000) ++ decimals_text (unsigned_abs amount % 10000)
+currency_text (pos size) = size_text size
+currency_text (negsuc less) = 45 ∷ size_text (suc less)

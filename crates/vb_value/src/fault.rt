@@ -1,4 +1,7 @@
 //! Errors of the language.
+ghost use Rattle.std.specs.Prelude.{◌≡◌};
+
+use crate::memory::Memory;
 
 /// An error of the language, by its number (VBScript 5.6, "VBScript Run-time Errors").
 #[derive(Clone, Copy, Debug, PartialEq, Eq)]
@@ -32,4 +35,24 @@ impl VbError {
     pub const OBJECT_REQUIRED: VbError = VbError { number: 424 };
     /// An object, where its value is wanted.
     pub const UNSUPPORTED: VbError = VbError { number: 438 };
+}
+
+impl From<Memory> for VbFault {
+    ghost use Rattle.vb_value.specs.declared.fault.VbFault.TheVariants.{Memory as OutOfMemory};
+
+    ghost from_gives = { λ _ fault. fault ≡ OutOfMemory };
+
+    fn from(_: Memory) -> VbFault {
+        VbFault::Memory
+    }
+}
+
+impl From<VbError> for VbFault {
+    ghost use Rattle.vb_value.specs.declared.fault.VbFault.TheVariants.{Error};
+
+    ghost from_gives = { λ error fault. fault ≡ Error error.number };
+
+    fn from(error: VbError) -> VbFault {
+        VbFault::Error(error.number)
+    }
 }
