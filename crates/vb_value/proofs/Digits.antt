@@ -89,6 +89,7 @@ half_cons first rest =
 pub half_none : (text : List ℕ) → text ≡ [] → nat_cmp (2 * number_of text) (10 ^ length text) ≡ Less
 unfolding number_of
 half_none text none = rw none refl
+
 pub half_empty : (text : List ℕ) → length text ≡ 0 → nat_cmp (2 * number_of text) (10 ^ length text) ≡ Less
 half_empty [] none = half_none [] refl
 half_empty (c ∷ text) none = absurd (omega arith)
@@ -123,9 +124,9 @@ decimals_rounded (a ∷ b ∷ []) = rounded_whole 100 (four_of (a ∷ b ∷ []))
 decimals_rounded (a ∷ b ∷ c ∷ []) = rounded_whole 1000 (four_of (a ∷ b ∷ c ∷ [])) _ (omega arith) (lit< tt)
 decimals_rounded (a ∷ b ∷ c ∷ d ∷ rest) =
     rounded_fine (10 ^ suc (suc (suc (suc (length rest))))) (10 ^ length rest) (four_of (a ∷ b ∷ c ∷ d ∷ rest)) (number_of rest) _
-        (ten_thousand (length rest))
-        (fine_parts (four_of (a ∷ b ∷ c ∷ d ∷ rest)) (10 ^ length rest) _ (number_of rest) _ (ten_thousand (length rest)) (number_four a b c d rest))
-        (number_below rest)
+    (ten_thousand (length rest))
+    (fine_parts (four_of (a ∷ b ∷ c ∷ d ∷ rest)) (10 ^ length rest) _ (number_of rest) _ (ten_thousand (length rest)) (number_four a b c d rest))
+    (number_below rest)
 
 -- no digits write 0
 pub size_none : (most : ℕ) → min (number_of []) most ≡ 0

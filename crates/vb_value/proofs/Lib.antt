@@ -3,6 +3,7 @@ mod Characters
 mod Decimals
 mod Digits
 mod Messages
+mod Plainness
 mod Points
 mod Ranges
 mod Rounding

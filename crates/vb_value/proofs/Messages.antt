@@ -25,7 +25,7 @@ ascii_beside : (number : ℕ) (entries : List (ℕ × List ℕ)) → list_all (�
 ascii_beside number [] all = ascii_text (codes "Unknown runtime error") refl
 ascii_beside number (entry ∷ entries) all =
     chosen (number == entry.0) entry.1 (text_beside number entries)
-        (ascii_text entry.1 (both _ _ all).0) (ascii_beside number entries (both _ _ all).1)
+    (ascii_text entry.1 (both _ _ all).0) (ascii_beside number entries (both _ _ all).1)
 
 -- the text of an error has as many characters as bytes
 pub one_byte_each : (number : ℤ) → chars (error_text_of number) ≡ error_text_of number

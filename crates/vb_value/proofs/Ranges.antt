@@ -21,5 +21,6 @@ or_else a b = grind arith
 -- two sizes from the most on overflow both
 pub same_currency : (minus : Bool) (a b : ℕ) → min a (10 ^ 19) ≡ min b (10 ^ 19) → as_currency (signed minus a) ≡ as_currency (signed minus b)
 same_currency minus a b same = elim (or_else a (10 ^ 19)) [
-    | inl below ↦ ap (λ n. as_currency (signed minus n)) (omega arith)
-    | inr large ↦ too_large minus a large ∙ sym (too_large minus b (omega arith)) ]
+  | inl below ↦ ap (λ n. as_currency (signed minus n)) (omega arith)
+  | inr large ↦ too_large minus a large ∙ sym (too_large minus b (omega arith))
+]

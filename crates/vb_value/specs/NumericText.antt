@@ -76,7 +76,7 @@ signed minus size = if minus then neg_ℤ (pos size) else pos size
 abbrev pub cur_of_text_of : List ℕ → Result ℤ VbError
 cur_of_text_of text =
     if is_numeral (whole_digits text) (decimal_digits text) then as_currency
-        (signed (has_minus (trimmed text)) (numeral_size (whole_digits text) (decimal_digits text)))
+    (signed (has_minus (trimmed text)) (numeral_size (whole_digits text) (decimal_digits text)))
     else Err type_mismatch
 
 -- ---- writing

@@ -6,9 +6,9 @@ ghost use Rattle.vb_value.specs.Outcome.{Answers};
 
 use crate::copied::Copied;
 use crate::fault::{VbError, VbFault};
-use crate::number::{Number, to_integer, to_long_range};
-use crate::numeric_text::cur_of_text;
+use crate::number::{Number, as_integer, as_long};
 use crate::number_text::{currency_text, whole_text};
+use crate::numeric_text::cur_of_text;
 use crate::text::Text;
 use crate::value::Value;
 use std::alloc::Global;
@@ -36,14 +36,14 @@ pub fn to_number(value: &Value) -> Result<Number, VbError>
 pub fn to_int(value: &Value) -> Result<i16, VbError>
     ensures { result ≡ to_int_of value.now }
 {
-    to_integer(to_number(value)?.whole() as i128)
+    as_integer(to_number(value)?.whole() as i128)
 }
 
 /// A value as a Long, half rounded to even. The errors are those of [`to_number`].
 pub fn to_long(value: &Value) -> Result<i32, VbError>
     ensures { result ≡ to_long_of value.now }
 {
-    to_long_range(to_number(value)?.whole() as i128)
+    as_long(to_number(value)?.whole() as i128)
 }
 
 /// A value as a Currency, in ten-thousandths. The errors are those of [`to_number`].

@@ -1,6 +1,6 @@
 //! Numbers of the language.
 ghost use Rattle.std.specs.Prelude.{◌≡◌, ◌^◌, ◌<◌, ◌≤◌, unsigned_abs};
-ghost use Rattle.vb_value.specs.Numbers.{amount_of, whole_of, rounded, int_rounded, as_integer, as_long, as_currency, whole_number, least_number};
+ghost use Rattle.vb_value.specs.Numbers as spec;
 
 use crate::fault::VbError;
 
@@ -19,7 +19,7 @@ pub enum Number {
 impl Number {
     /// So many ten-thousandths, as the first of Integer, Long and Currency that holds them.
     pub fn of_amount(amount: i64) -> Number
-        ensures { result ≡ least_number amount }
+        ensures { result ≡ spec.least_number amount }
     {
         if amount % 10_000 != 0 {
             return Number::Cur(amount);
@@ -32,7 +32,7 @@ impl Number {
 
     /// A whole number, as an Integer where that holds it, else a Long.
     pub fn of_whole(whole: i32) -> Number
-        ensures { result ≡ whole_number whole }
+        ensures { result ≡ spec.whole_number whole }
     {
         match i16::try_from(whole) {
             Ok(whole) => Number::Int(whole),
@@ -42,7 +42,7 @@ impl Number {
 
     /// The value in ten-thousandths.
     pub fn amount(self) -> i64
-        ensures { result ≡ amount_of self }
+        ensures { result ≡ spec.amount_of self }
     {
         match self {
             Number::Int(n) => n as i64 * 10_000,
@@ -54,12 +54,12 @@ impl Number {
     /// The value as a whole number, half rounded to even.
     #[tactic(auto, unfolding(crate::specs::Numbers::rounded))]
     pub fn whole(self) -> i64
-        ensures { result ≡ whole_of self }
+        ensures { result ≡ spec.whole_of self }
     {
         match self {
             Number::Int(n) => n as i64,
             Number::Long(n) => n as i64,
-            Number::Cur(n) => round_amount(n as i128) as i64,
+            Number::Cur(n) => whole_of_amount(n as i128) as i64,
         }
     }
 }
@@ -68,7 +68,7 @@ impl Number {
 #[tactic(auto, unfolding(crate::specs::Numbers::rounded))]
 fn round(count: u128) -> u128
     requires { count ≤ 2 ^ 127 }
-    ensures value { result ≡ rounded 10000 count }
+    ensures value { result ≡ spec.rounded 10000 count }
     ensures bound { result ≤ count }
 {
     let whole = count / UNIT;
@@ -84,30 +84,34 @@ fn round(count: u128) -> u128
 
 /// A number of ten-thousandths as a whole number, half rounded to even.
 #[tactic(auto, unfolding(crate::specs::Numbers::rounded))]
-pub fn round_amount(amount: i128) -> i128
-    ensures { result ≡ int_rounded 10000 amount }
+pub fn whole_of_amount(amount: i128) -> i128
+    ensures { result ≡ spec.int_rounded 10000 amount }
 {
     let size = round(amount.unsigned_abs());
-    if amount < 0 { -(size as i128) } else { size as i128 }
+    if amount < 0 {
+        -(size as i128)
+    } else {
+        size as i128
+    }
 }
 
 /// A whole number as an Integer; error 6 where it is none.
-pub fn to_integer(n: i128) -> Result<i16, VbError>
-    ensures { result ≡ as_integer n }
+pub fn as_integer(n: i128) -> Result<i16, VbError>
+    ensures { result ≡ spec.as_integer n }
 {
     i16::try_from(n).map_err(|_| VbError::OVERFLOW)
 }
 
 /// A whole number as a Long; error 6 where it is none.
-pub fn to_long_range(n: i128) -> Result<i32, VbError>
-    ensures { result ≡ as_long n }
+pub fn as_long(n: i128) -> Result<i32, VbError>
+    ensures { result ≡ spec.as_long n }
 {
     i32::try_from(n).map_err(|_| VbError::OVERFLOW)
 }
 
 /// A number of ten-thousandths as a Currency; error 6 where it is none.
-pub fn to_currency(n: i128) -> Result<i64, VbError>
-    ensures { result ≡ as_currency n }
+pub fn as_currency(n: i128) -> Result<i64, VbError>
+    ensures { result ≡ spec.as_currency n }
 {
     i64::try_from(n).map_err(|_| VbError::OVERFLOW)
 }

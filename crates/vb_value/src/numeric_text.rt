@@ -7,7 +7,7 @@ ghost use Rattle.vb_value.specs.Numbers.{rounded};
 ghost use Rattle.vb_value.specs.NumericText.{is_blank, without_first, without_last, trimmed, has_minus, unsigned, is_point, is_numeral, digit_of, number_of, numeral_size, signed, cur_of_text_of};
 
 use crate::fault::VbError;
-use crate::number::to_currency;
+use crate::number::as_currency;
 use crate::text::Text;
 use std::cmp::Ordering;
 
@@ -25,7 +25,7 @@ pub fn cur_of_text(text: &Text) -> Result<i64, VbError>
     if !is_numeral(whole, decimals) {
         return Err(VbError::TYPE_MISMATCH);
     }
-    to_currency(signed(has_minus(body), numeral_size(whole, decimals)))
+    as_currency(signed(has_minus(body), numeral_size(whole, decimals)))
 }
 
 /// The text without the blanks at its ends.
