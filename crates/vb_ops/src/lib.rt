@@ -10,3 +10,6 @@ mod operators;
 
 pub use comparison::compare;
 pub use operators::{apply1, apply2, truth};
+
+#[cfg(test)]
+mod tests;

@@ -46,3 +46,6 @@ pub use site_file::{FaultKind, SiteFault, SiteFile};
 pub use text::{Text, Utf8Stop, fold};
 pub use value::{Array, ObjNo, Value};
 pub use weighing::weight;
+
+#[cfg(test)]
+mod tests;
