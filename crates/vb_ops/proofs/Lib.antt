@@ -1,1 +1,2 @@
+mod Commuting
 mod Orders

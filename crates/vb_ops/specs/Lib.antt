@@ -4,3 +4,4 @@ pub mod Joining
 pub mod Comparison
 pub mod Logic
 pub mod Operators
+pub mod Laws

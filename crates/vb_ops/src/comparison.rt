@@ -69,13 +69,23 @@ fn against_nothing(text: &Text) -> Ordering
     }
 }
 
+/// A text without characters against a text.
+fn nothing_against(text: &Text) -> Ordering
+    ensures { result ≡ slice_cmp nat_cmp [] text.now }
+{
+    if text.is_empty() {
+        Ordering::Equal
+    } else {
+        Ordering::Less
+    }
+}
+
 /// Empty against a value.
 fn empty_order(value: &Value) -> Ordering
     ensures { result ≡ spec.empty_order value.now }
 {
     match value {
-        Value::Str(text) if text.is_empty() => Ordering::Equal,
-        Value::Str(_) => Ordering::Less,
+        Value::Str(text) => nothing_against(text),
         Value::Empty | Value::Null | Value::Bool(_) => amount_order(0, value),
         Value::Int(_) | Value::Long(_) | Value::Cur(_) => amount_order(0, value),
         Value::Arr(_) | Value::Obj(_) | Value::Nothing => amount_order(0, value),

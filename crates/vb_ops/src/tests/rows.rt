@@ -15,7 +15,10 @@ fn whole_numbers(rt: HostRuntime) -> Result<(), Fail> {
         (Op2::Divide, -32768, -1, 32768),
     ];
     for (op, a, b, long) in cases {
-        assert_eq!(rt; apply2(rt.alloc(), op, &Value::Int(a), &Value::Int(b))?, Value::Long(long));
+        assert_eq!(rt;
+            apply2(rt.alloc(), op, &Value::Int(a), &Value::Int(b))?,
+            Value::Long(long)
+        );
     }
     let integers = [
         (Op2::Divide, -7, 2, -3),
@@ -28,7 +31,10 @@ fn whole_numbers(rt: HostRuntime) -> Result<(), Fail> {
         (Op2::Imp, 12, 10, -5),
     ];
     for (op, a, b, integer) in integers {
-        assert_eq!(rt; apply2(rt.alloc(), op, &Value::Int(a), &Value::Int(b))?, Value::Int(integer));
+        assert_eq!(rt;
+            apply2(rt.alloc(), op, &Value::Int(a), &Value::Int(b))?,
+            Value::Int(integer)
+        );
     }
     Ok(())
 }
@@ -47,8 +53,14 @@ fn refusals(rt: HostRuntime) {
         let result = apply2(rt.alloc(), op, &Value::Long(a), &Value::Long(b));
         assert_eq!(rt; result, Err(VbFault::Error(number)));
     }
-    assert_eq!(rt; apply1(Op1::Minus, &Value::Long(-2147483648)), Err(VbFault::Error(6)));
-    assert_eq!(rt; apply1(Op1::Minus, &Value::Int(-32768)), Ok(Value::Long(32768)));
+    assert_eq!(rt;
+        apply1(Op1::Minus, &Value::Long(-2147483648)),
+        Err(VbFault::Error(6))
+    );
+    assert_eq!(rt;
+        apply1(Op1::Minus, &Value::Int(-32768)),
+        Ok(Value::Long(32768))
+    );
 }
 
 /// Currency, in ten-thousandths: exact, half to even, and the ends of its range.
@@ -70,10 +82,19 @@ fn currencies(rt: HostRuntime) {
         (Op2::Subtract, most, most, Ok(Value::Cur(0))),
     ];
     for (op, a, b, wanted) in cases {
-        assert_eq!(rt; apply2(rt.alloc(), op, &Value::Cur(a), &Value::Cur(b)), wanted);
+        assert_eq!(rt;
+            apply2(rt.alloc(), op, &Value::Cur(a), &Value::Cur(b)),
+            wanted
+        );
     }
-    assert_eq!(rt; apply1(Op1::Minus, &Value::Cur(most)), Ok(Value::Cur(-most)));
-    assert_eq!(rt; apply1(Op1::Minus, &Value::Cur(least)), Err(VbFault::Error(6)));
+    assert_eq!(rt;
+        apply1(Op1::Minus, &Value::Cur(most)),
+        Ok(Value::Cur(-most))
+    );
+    assert_eq!(rt;
+        apply1(Op1::Minus, &Value::Cur(least)),
+        Err(VbFault::Error(6))
+    );
 }
 
 /// Texts as operands.
@@ -83,13 +104,25 @@ fn texts(rt: HostRuntime) -> Result<(), Fail> {
     let three = text(rt.alloc(), "3")?;
     let nine = text(rt.alloc(), "9")?;
     let both = text(rt.alloc(), "23")?;
-    assert_eq!(rt; apply2(rt.alloc(), Op2::Add, &two, &Value::Int(3))?, Value::Int(5));
+    assert_eq!(rt;
+        apply2(rt.alloc(), Op2::Add, &two, &Value::Int(3))?,
+        Value::Int(5)
+    );
     assert_eq!(rt; apply2(rt.alloc(), Op2::Add, &two, &three)?, both);
     assert_eq!(rt; apply2(rt.alloc(), Op2::Add, &two, &Value::Empty)?, two);
-    assert_eq!(rt; apply2(rt.alloc(), Op2::Less, &Value::Int(10), &nine)?, Value::Bool(true));
-    assert_eq!(rt; apply2(rt.alloc(), Op2::Equal, &Value::Int(9), &nine)?, Value::Bool(false));
+    assert_eq!(rt;
+        apply2(rt.alloc(), Op2::Less, &Value::Int(10), &nine)?,
+        Value::Bool(true)
+    );
+    assert_eq!(rt;
+        apply2(rt.alloc(), Op2::Equal, &Value::Int(9), &nine)?,
+        Value::Bool(false)
+    );
     assert_eq!(rt; apply2(rt.alloc(), Op2::Join, &Value::Null, &two)?, two);
-    assert_eq!(rt; apply2(rt.alloc(), Op2::Join, &Value::Null, &Value::Null)?, Value::Null);
+    assert_eq!(rt;
+        apply2(rt.alloc(), Op2::Join, &Value::Null, &Value::Null)?,
+        Value::Null
+    );
     Ok(())
 }
 
@@ -101,13 +134,28 @@ fn nulls(rt: HostRuntime) -> Result<(), Fail> {
     let equal = apply2(rt.alloc(), Op2::Equal, &Value::Null, &Value::Null)?;
     assert_eq!(rt; truth(&equal).ok(), Some(false));
     assert_eq!(rt; apply2(rt.alloc(), Op2::And, &no, &Value::Null)?, no);
-    assert_eq!(rt; apply2(rt.alloc(), Op2::And, &yes, &Value::Null)?, Value::Null);
-    assert_eq!(rt; apply2(rt.alloc(), Op2::And, &Value::Null, &Value::Long(0))?, Value::Long(0));
-    assert_eq!(rt; apply2(rt.alloc(), Op2::Or, &Value::Int(-1), &Value::Null)?, Value::Int(-1));
+    assert_eq!(rt;
+        apply2(rt.alloc(), Op2::And, &yes, &Value::Null)?,
+        Value::Null
+    );
+    assert_eq!(rt;
+        apply2(rt.alloc(), Op2::And, &Value::Null, &Value::Long(0))?,
+        Value::Long(0)
+    );
+    assert_eq!(rt;
+        apply2(rt.alloc(), Op2::Or, &Value::Int(-1), &Value::Null)?,
+        Value::Int(-1)
+    );
     assert_eq!(rt; apply2(rt.alloc(), Op2::Imp, &Value::Null, &yes)?, yes);
-    assert_eq!(rt; apply2(rt.alloc(), Op2::Imp, &yes, &Value::Null)?, Value::Null);
+    assert_eq!(rt;
+        apply2(rt.alloc(), Op2::Imp, &yes, &Value::Null)?,
+        Value::Null
+    );
     assert_eq!(rt; apply2(rt.alloc(), Op2::Imp, &no, &Value::Null)?, yes);
-    assert_eq!(rt; apply2(rt.alloc(), Op2::Imp, &Value::Null, &no)?, Value::Null);
+    assert_eq!(rt;
+        apply2(rt.alloc(), Op2::Imp, &Value::Null, &no)?,
+        Value::Null
+    );
     Ok(())
 }
 
@@ -116,10 +164,22 @@ fn nulls(rt: HostRuntime) -> Result<(), Fail> {
 fn objects(rt: HostRuntime) -> Result<(), Fail> {
     let first = Value::Obj(ObjNo(1));
     let second = Value::Obj(ObjNo(2));
-    assert_eq!(rt; apply2(rt.alloc(), Op2::Is, &first, &first)?, Value::Bool(true));
-    assert_eq!(rt; apply2(rt.alloc(), Op2::Is, &first, &second)?, Value::Bool(false));
-    assert_eq!(rt; apply2(rt.alloc(), Op2::Is, &first, &Value::Nothing)?, Value::Bool(false));
-    assert_eq!(rt; apply2(rt.alloc(), Op2::Is, &Value::Nothing, &Value::Nothing)?, Value::Bool(true));
+    assert_eq!(rt;
+        apply2(rt.alloc(), Op2::Is, &first, &first)?,
+        Value::Bool(true)
+    );
+    assert_eq!(rt;
+        apply2(rt.alloc(), Op2::Is, &first, &second)?,
+        Value::Bool(false)
+    );
+    assert_eq!(rt;
+        apply2(rt.alloc(), Op2::Is, &first, &Value::Nothing)?,
+        Value::Bool(false)
+    );
+    assert_eq!(rt;
+        apply2(rt.alloc(), Op2::Is, &Value::Nothing, &Value::Nothing)?,
+        Value::Bool(true)
+    );
     let refused = apply2(rt.alloc(), Op2::Is, &Value::Empty, &first);
     assert_eq!(rt; refused, Err(VbFault::Error(424)));
     Ok(())
@@ -135,7 +195,13 @@ fn long_texts(rt: HostRuntime) -> Result<(), Fail> {
     let half = Value::Str(half);
     let whole = apply2(rt.alloc(), Op2::Join, &half, &half)?;
     let one = text(rt.alloc(), "y")?;
-    assert_eq!(rt; apply2(rt.alloc(), Op2::Join, &whole, &one), Err(VbFault::Error(14)));
-    assert_eq!(rt; apply2(rt.alloc(), Op2::Join, &whole, &Value::Empty)?, whole);
+    assert_eq!(rt;
+        apply2(rt.alloc(), Op2::Join, &whole, &one),
+        Err(VbFault::Error(14))
+    );
+    assert_eq!(rt;
+        apply2(rt.alloc(), Op2::Join, &whole, &Value::Empty)?,
+        whole
+    );
     Ok(())
 }
