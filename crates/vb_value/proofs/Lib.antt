@@ -3,7 +3,10 @@ mod Characters
 mod Decimals
 mod Digits
 mod Messages
+mod Nearest
 mod Plainness
 mod Points
 mod Ranges
+mod ReadBack
 mod Rounding
+mod Tests

@@ -1,6 +1,6 @@
 -- What a value is as a number, a text and a Boolean (VBScript 5.6, "Conversion Functions"), each in the
 -- order: Empty, Null, Boolean, Integer, Long, Currency, String, array, object, Nothing.
-use Rattle.std.specs.Prelude.{ℕ, Bool, true, false, not, if◌then◌else◌, ℤ, pos, negsuc, List, [], Option, Some, None, Result, Ok, Err, codes, nat_eq}
+use Rattle.std.specs.Prelude.{◌≡◌, ℕ, Bool, true, false, not, if◌then◌else◌, ℤ, pos, negsuc, List, [], Option, Some, None, Result, Ok, Err, codes, nat_eq}
 use Rattle.std.specs.Cmp.Lexicographic.{pointwise}
 use Rattle.vb_value.specs.declared.fault.VbError.{VbError}
 use Rattle.vb_value.specs.declared.number.Number.{Number}
@@ -77,3 +77,9 @@ to_str_of (Str text) = Ok text
 to_str_of (Arr' bounds fixed shape items) = Err type_mismatch
 to_str_of (Obj object) = Err unsupported
 to_str_of Nothing = Err object_not_set
+
+-- ---- laws
+
+-- the text of a Currency reads as that Currency
+abbrev pub ReadsBack : ℤ → Type 0
+ReadsBack amount = and_then (to_str_of (Cur amount)) cur_of_text_of ≡ Ok amount

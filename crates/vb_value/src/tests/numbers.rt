@@ -50,7 +50,10 @@ fn other_texts(rt: HostRuntime) -> Result<(), Fail> {
     ];
     for (text, number) in errors {
         let text = Text::from_str(rt.alloc(), text)?;
-        assert_eq!(rt; cur_of_text(&text).err().map(|error| error.number), Some(number));
+        assert_eq!(rt;
+            cur_of_text(&text).err().map(|error| error.number),
+            Some(number)
+        );
     }
     Ok(())
 }
@@ -89,9 +92,17 @@ fn halves(rt: HostRuntime) {
     for (amount, whole) in integers {
         assert_eq!(rt; to_int(&Value::Cur(amount)).ok(), whole);
     }
-    assert_eq!(rt; to_long(&Value::Cur(21474836475000)).err().map(|error| error.number), Some(6));
+    assert_eq!(rt;
+        to_long(&Value::Cur(21474836475000))
+            .err()
+            .map(|error| error.number),
+        Some(6)
+    );
     assert_eq!(rt; to_long(&Value::Cur(21474836465000)).ok(), Some(2147483646));
-    assert_eq!(rt; to_cur(&Value::Long(-2147483648)).ok(), Some(-21474836480000));
+    assert_eq!(rt;
+        to_cur(&Value::Long(-2147483648)).ok(),
+        Some(-21474836480000)
+    );
 }
 
 /// The texts of numbers.
