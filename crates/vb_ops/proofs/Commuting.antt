@@ -1,5 +1,6 @@
 -- Operators whose operands may change sides.
-use Rattle.std.proofs.Common.{◌≡◌, ℕ, Bool, true, false, ◌&&◌, ◌||◌, if◌then◌else◌, IsTrue, ℤ, pos, negsuc, ◌+ℤ◌, ◌*ℤ◌, ◌^◌, Result, Ok, Err, Some, None, refl, sym, ap, ◌∙◌}
+use Rattle.std.proofs.Common.{◌≡◌, ℕ, Bool, true, false, ◌&&◌, ◌||◌, if◌then◌else◌, IsTrue, ℤ, pos, negsuc}
+use Rattle.std.proofs.Common.{◌+ℤ◌, ◌*ℤ◌, ◌^◌, Result, Ok, Err, Some, None, refl, sym, ap, ◌∙◌}
 use Rattle.std.proofs.Math.IntN.{+ℤ_comm, *ℤ_comm}
 use Rattle.std.proofs.lemmas.Nat.{and_comm, or_comm, xor_comm}
 use Rattle.std.specs.Int.{Width, w16, w32, cast_signed, cast_unsigned}
@@ -8,22 +9,26 @@ use Rattle.vb_value.specs.declared.number.Number.{Number}
 use Rattle.vb_value.specs.declared.number.Number.TheVariants as number
 use Rattle.vb_value.specs.declared.operator.Op2.{Op2}
 use Rattle.vb_value.specs.declared.operator.Op2.TheVariants as operator
-use Rattle.vb_value.specs.declared.value.Value.{Value, Empty, Null, Bool as Boolean, Int, Long, Cur, Str, Arr', Obj, Nothing}
+use Rattle.vb_value.specs.declared.value.Value.{Value, Empty, Null, Bool as Boolean, Int, Long, Cur, Str, Arr'}
+use Rattle.vb_value.specs.declared.value.Value.{Obj, Nothing}
 use Rattle.vb_value.specs.Conversions.{to_number_of}
 use Rattle.vb_value.specs.Errors.{and_then, overflow}
 use Rattle.vb_value.specs.Numbers.{amount_of, int_rounded, is_within}
 use Rattle.vb_ops.specs.declared.logic.Bits.{Bits}
 use Rattle.vb_ops.specs.declared.logic.Bits.TheVariants as bits
 use Rattle.vb_ops.specs.Operands.{checked, is_null, number_value}
-use Rattle.vb_ops.specs.Arithmetic.{aligned, combined, sum_of, product_of, applied, on_numbers, integer_or_long, long, currency}
+use Rattle.vb_ops.specs.Arithmetic.{aligned, combined, sum_of, product_of, applied, on_numbers, integer_or_long}
+use Rattle.vb_ops.specs.Arithmetic.{long, currency}
 use Rattle.vb_ops.specs.Joining.{add_of, joined_values, is_text, is_empty}
-use Rattle.vb_ops.specs.Logic.{number_in as bits_number, bits_of, paired, merged, at_width, and_of, or_of, xor_of, eqv_of, not_of, differ, on_bits, bits_value}
+use Rattle.vb_ops.specs.Logic.{number_in as bits_number, bits_of, paired, merged, at_width, and_of, or_of}
+use Rattle.vb_ops.specs.Logic.{xor_of, eqv_of, not_of, differ, on_bits, bits_value}
 use Rattle.vb_ops.specs.Operators.{apply2_of, scalars_of, tests_objects}
 use Rattle.vb_ops.specs.Laws.{is_simple, Commutes}
 
 -- ---- numbers
 
-swapped_kinds : (whole amount : ℤ → ℤ → ℤ) → ((x y : ℤ) → whole x y ≡ whole y x) → ((x y : ℤ) → amount x y ≡ amount y x)
+swapped_kinds : (whole amount : ℤ → ℤ → ℤ) → ((x y : ℤ) → whole x y ≡ whole y x)
+    → ((x y : ℤ) → amount x y ≡ amount y x)
     → (a b : Number) → combined whole amount (aligned a b) ≡ combined whole amount (aligned b a)
 swapped_kinds whole amount w c (number.Int a) (number.Int b) = ap integer_or_long (w a b)
 swapped_kinds whole amount w c (number.Int a) (number.Long b) = ap long (w a b)
@@ -39,7 +44,9 @@ sums_swapped : (a b : Number) → sum_of a b ≡ sum_of b a
 sums_swapped = swapped_kinds (λ x y. x +ℤ y) (λ x y. x +ℤ y) +ℤ_comm +ℤ_comm
 
 products_swapped : (a b : Number) → product_of a b ≡ product_of b a
-products_swapped = swapped_kinds (λ x y. x *ℤ y) (λ x y. int_rounded 10000 (x *ℤ y)) *ℤ_comm (λ x y. ap (int_rounded 10000) (*ℤ_comm x y))
+products_swapped =
+    swapped_kinds (λ x y. x *ℤ y) (λ x y. int_rounded 10000 (x *ℤ y)) *ℤ_comm
+    (λ x y. ap (int_rounded 10000) (*ℤ_comm x y))
 
 -- the number of a simple value that is not Null
 pub number_in : Value → Number
@@ -70,8 +77,10 @@ known Nothing simple = absurd (cc)
 numbers_case : (operator : Number → Number → Result Number VbError) → ((x y : Number) → operator x y ≡ operator y x)
     → (no_a no_b : Bool) (first second : Result Number VbError) (x y : Number)
     → (no_a ≡ false → first ≡ Ok x) → (no_b ≡ false → second ≡ Ok y)
-    → and_then (if no_a || no_b then Ok None else and_then first (λ x. and_then second (λ y. Ok (Some (x, y))))) (applied operator)
-    ≡ and_then (if no_b || no_a then Ok None else and_then second (λ y. and_then first (λ x. Ok (Some (y, x))))) (applied operator)
+    → and_then (if no_a || no_b then Ok None else and_then first (λ x. and_then second (λ y. Ok (Some (x, y)))))
+        (applied operator)
+    ≡ and_then (if no_b || no_a then Ok None else and_then second (λ y. and_then first (λ x. Ok (Some (y, x)))))
+        (applied operator)
 numbers_case operator swaps true true first second x y f g = refl
 numbers_case operator swaps true false first second x y f g = refl
 numbers_case operator swaps false true first second x y f g = refl
@@ -81,25 +90,31 @@ numbers_case operator swaps false false first second x y f g =
     rw (is_x, is_y) (ap (λ r. and_then r (λ z. Ok (number_value z))) (swaps x y))
 
 -- an operator on numbers that may be swapped, at values
-swapped_numbers : (operator : Number → Number → Result Number VbError) → ((x y : Number) → operator x y ≡ operator y x)
+swapped_numbers : (operator : Number → Number → Result Number VbError)
+    → ((x y : Number) → operator x y ≡ operator y x)
     → (a b : Value) → IsTrue (is_simple a) → IsTrue (is_simple b) → on_numbers operator a b ≡ on_numbers operator b a
 swapped_numbers operator swaps a b simple_a simple_b =
     numbers_case operator swaps (is_null a) (is_null b) (to_number_of a) (to_number_of b) (number_in a) (number_in b)
     (known a simple_a).number (known b simple_b).number
 
 -- an operator on two simple values is what it gives of scalars
-scalars : (op : Op2) → tests_objects op ≡ false → (a b : Value) → IsTrue (is_simple a) → IsTrue (is_simple b) → apply2_of op a b ≡ scalars_of op a b
+scalars : (op : Op2) → tests_objects op ≡ false → (a b : Value) → IsTrue (is_simple a) → IsTrue (is_simple b)
+    → apply2_of op a b ≡ scalars_of op a b
 scalars op other a b simple_a simple_b = rw (other, (known a simple_a).fine, (known b simple_b).fine) refl
 
-swapped : (op : Op2) → tests_objects op ≡ false → ((a b : Value) → IsTrue (is_simple a) → IsTrue (is_simple b) → scalars_of op a b ≡ scalars_of op b a) → Commutes op
+swapped : (op : Op2) → tests_objects op ≡ false
+    → ((a b : Value) → IsTrue (is_simple a) → IsTrue (is_simple b) → scalars_of op a b ≡ scalars_of op b a)
+    → Commutes op
 swapped op other swaps a b simple_a simple_b =
-    scalars op other a b simple_a simple_b ∙ (swaps a b simple_a simple_b ∙ sym (scalars op other b a simple_b simple_a))
+    scalars op other a b simple_a simple_b ∙
+        (swaps a b simple_a simple_b ∙ sym (scalars op other b a simple_b simple_a))
 
 and_false : (b : Bool) → b && false ≡ false
 and_false true = refl
 and_false false = refl
 
-no_texts : (text_a text_b empty_a empty_b : Bool) → text_a ≡ false → text_b ≡ false → ((text_a && (text_b || empty_b)) || (empty_a && text_b)) ≡ false
+no_texts : (text_a text_b empty_a empty_b : Bool) → text_a ≡ false → text_b ≡ false
+    → ((text_a && (text_b || empty_b)) || (empty_a && text_b)) ≡ false
 no_texts text_a text_b empty_a empty_b no_a no_b = rw (no_a, no_b) (and_false empty_a)
 
 not_joined : (a b : Value) → IsTrue (is_simple a) → IsTrue (is_simple b) → add_of a b ≡ on_numbers sum_of a b
@@ -109,27 +124,34 @@ not_joined a b simple_a simple_b =
 
 pub sum_commutes : Commutes operator.Add
 sum_commutes = swapped operator.Add refl (λ a b simple_a simple_b.
-    not_joined a b simple_a simple_b ∙ (swapped_numbers sum_of sums_swapped a b simple_a simple_b ∙ sym (not_joined b a simple_b simple_a)))
+    not_joined a b simple_a simple_b ∙
+        (swapped_numbers sum_of sums_swapped a b simple_a simple_b ∙ sym (not_joined b a simple_b simple_a)))
 
 pub product_commutes : Commutes operator.Multiply
 product_commutes = swapped operator.Multiply refl (swapped_numbers product_of products_swapped)
 
 -- ---- bits
 
-width_swapped : (width : Width) (f : ℕ → ℕ → ℕ) → ((x y : ℕ) → f x y ≡ f y x) → (a b : ℤ) → at_width width f a b ≡ at_width width f b a
+width_swapped : (width : Width) (f : ℕ → ℕ → ℕ) → ((x y : ℕ) → f x y ≡ f y x) → (a b : ℤ)
+    → at_width width f a b ≡ at_width width f b a
 width_swapped width f swaps a b = ap (cast_signed width) (swaps (cast_unsigned width a) (cast_unsigned width b))
 
-pairs_swapped : (truths : Bool → Bool → Bool) (f : ℕ → ℕ → ℕ) (lone : Bits → Bits) → ((x y : Bool) → truths x y ≡ truths y x) → ((x y : ℕ) → f x y ≡ f y x)
+pairs_swapped : (truths : Bool → Bool → Bool) (f : ℕ → ℕ → ℕ) (lone : Bits → Bits)
+    → ((x y : Bool) → truths x y ≡ truths y x) → ((x y : ℕ) → f x y ≡ f y x)
     → (a b : Bits) → merged truths f lone (paired a b) ≡ merged truths f lone (paired b a)
 pairs_swapped truths f lone t c (bits.Truth a) (bits.Truth b) = ap bits.Truth (t a b)
-pairs_swapped truths f lone t c (bits.Truth a) (bits.Integer b) = ap bits.Integer (width_swapped w16 f c (bits_number (bits.Truth a)) b)
-pairs_swapped truths f lone t c (bits.Truth a) (bits.Long b) = ap bits.Long (width_swapped w32 f c (bits_number (bits.Truth a)) b)
+pairs_swapped truths f lone t c (bits.Truth a) (bits.Integer b) =
+    ap bits.Integer (width_swapped w16 f c (bits_number (bits.Truth a)) b)
+pairs_swapped truths f lone t c (bits.Truth a) (bits.Long b) =
+    ap bits.Long (width_swapped w32 f c (bits_number (bits.Truth a)) b)
 pairs_swapped truths f lone t c (bits.Truth a) bits.Unknown = refl
-pairs_swapped truths f lone t c (bits.Integer a) (bits.Truth b) = ap bits.Integer (width_swapped w16 f c a (bits_number (bits.Truth b)))
+pairs_swapped truths f lone t c (bits.Integer a) (bits.Truth b) =
+    ap bits.Integer (width_swapped w16 f c a (bits_number (bits.Truth b)))
 pairs_swapped truths f lone t c (bits.Integer a) (bits.Integer b) = ap bits.Integer (width_swapped w16 f c a b)
 pairs_swapped truths f lone t c (bits.Integer a) (bits.Long b) = ap bits.Long (width_swapped w32 f c a b)
 pairs_swapped truths f lone t c (bits.Integer a) bits.Unknown = refl
-pairs_swapped truths f lone t c (bits.Long a) (bits.Truth b) = ap bits.Long (width_swapped w32 f c a (bits_number (bits.Truth b)))
+pairs_swapped truths f lone t c (bits.Long a) (bits.Truth b) =
+    ap bits.Long (width_swapped w32 f c a (bits_number (bits.Truth b)))
 pairs_swapped truths f lone t c (bits.Long a) (bits.Integer b) = ap bits.Long (width_swapped w32 f c a b)
 pairs_swapped truths f lone t c (bits.Long a) (bits.Long b) = ap bits.Long (width_swapped w32 f c a b)
 pairs_swapped truths f lone t c (bits.Long a) bits.Unknown = refl
@@ -156,7 +178,8 @@ differ_swapped true false = refl
 differ_swapped false true = refl
 differ_swapped false false = refl
 
-refused_long : (fits : Bool) (z : ℤ) (e : VbError) → and_then (if fits then Ok z else Err overflow) (λ n. Ok (bits.Long n)) ≡ Err e → e ≡ overflow
+refused_long : (fits : Bool) (z : ℤ) (e : VbError)
+    → and_then (if fits then Ok z else Err overflow) (λ n. Ok (bits.Long n)) ≡ Err e → e ≡ overflow
 refused_long true z e is = absurd (cc)
 refused_long false z e is = cc
 
@@ -172,9 +195,11 @@ only_overflow (Arr' bounds fixed shape items) simple e is = absurd (cc)
 only_overflow (Obj object) simple e is = absurd (cc)
 only_overflow Nothing simple e is = absurd (cc)
 
-bits_case : (operator : Bits → Bits → Bits) → ((x y : Bits) → operator x y ≡ operator y x) → (first second : Result Bits VbError)
+bits_case : (operator : Bits → Bits → Bits) → ((x y : Bits) → operator x y ≡ operator y x)
+    → (first second : Result Bits VbError)
     → ((e : VbError) → first ≡ Err e → e ≡ overflow) → ((e : VbError) → second ≡ Err e → e ≡ overflow)
-    → and_then first (λ x. and_then second (λ y. Ok (bits_value (operator x y)))) ≡ and_then second (λ y. and_then first (λ x. Ok (bits_value (operator y x))))
+    → and_then first (λ x. and_then second (λ y. Ok (bits_value (operator x y))))
+    ≡ and_then second (λ y. and_then first (λ x. Ok (bits_value (operator y x))))
 bits_case operator swaps (Ok x) (Ok y) f g = ap (λ z. Ok (bits_value z)) (swaps x y)
 bits_case operator swaps (Ok x) (Err e) f g = refl
 bits_case operator swaps (Err e) (Ok y) f g = refl

@@ -1,6 +1,7 @@
 -- `+`, `-`, `*`, `\` and `Mod` of numbers (VBScript 5.6, "Arithmetic Operators"). Each result is exact and its
 -- range is tested last; out of range is Overflow.
-use Rattle.std.specs.Prelude.{◌||◌, if◌then◌else◌, ◌^◌, ℤ, pos, ◌+ℤ◌, ◌-ℤ◌, ◌*ℤ◌, int_div, int_rem, Option, Some, None, Result, Ok, Err}
+use Rattle.std.specs.Prelude.{◌||◌, if◌then◌else◌, ◌^◌, ℤ, pos, ◌+ℤ◌, ◌-ℤ◌, ◌*ℤ◌, int_div, int_rem, Option}
+use Rattle.std.specs.Prelude.{Some, None, Result, Ok, Err}
 use Rattle.vb_value.specs.declared.fault.VbError.{VbError}
 use Rattle.vb_value.specs.declared.number.Number.{Number}
 use Rattle.vb_value.specs.declared.number.Number.TheVariants.{Int, Long, Cur}

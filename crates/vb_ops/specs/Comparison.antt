@@ -1,6 +1,7 @@
 -- `=`, `<>`, `<`, `>`, `<=`, `>=` and `Is` (VBScript 5.6, "Comparison Operators"). That a number is less than any
 -- String is the profile's.
-use Rattle.std.specs.Prelude.{ℕ, Bool, true, false, ◌||◌, ◌==◌, if◌then◌else◌, ℤ, pos, negsuc, ◌*ℤ◌, List, [], Option, Some, None, Result, Ok, Err}
+use Rattle.std.specs.Prelude.{ℕ, Bool, true, false, ◌||◌, ◌==◌, if◌then◌else◌, ℤ, pos, negsuc, ◌*ℤ◌, List, []}
+use Rattle.std.specs.Prelude.{Option, Some, None, Result, Ok, Err}
 use Rattle.std.specs.declared.cmp.Ordering.{Ordering}
 use Rattle.std.specs.declared.cmp.Ordering.TheVariants.{Less, Equal, Greater}
 use Rattle.std.specs.Ordering.{nat_cmp, int_cmp}
@@ -9,7 +10,8 @@ use Rattle.vb_value.specs.declared.fault.VbError.{VbError}
 use Rattle.vb_value.specs.declared.operator.Op2.{Op2}
 use Rattle.vb_value.specs.declared.operator.Op2.TheVariants as operator
 use Rattle.vb_value.specs.declared.value.ObjNo.{ObjNo}
-use Rattle.vb_value.specs.declared.value.Value.{Value, Empty, Null, Bool as Boolean, Int, Long, Cur, Str, Obj, Nothing}
+use Rattle.vb_value.specs.declared.value.Value.{Value, Empty, Null, Bool as Boolean, Int, Long, Cur, Str, Obj}
+use Rattle.vb_value.specs.declared.value.Value.{Nothing}
 use Rattle.vb_value.specs.Errors.{and_then, object_required}
 use Rattle.vb_ops.specs.Operands.{checked, is_null}
 

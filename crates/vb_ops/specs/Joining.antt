@@ -1,5 +1,6 @@
 -- `&`, and `+` between texts (VBScript 5.6, "Concatenation Operators"). A text has 1,048,576 characters at most.
-use Rattle.std.specs.Prelude.{ℕ, ◌+◌, Bool, true, false, ◌&&◌, ◌||◌, nat_le, if◌then◌else◌, List, [], ◌++◌, length, Result, Ok, Err}
+use Rattle.std.specs.Prelude.{ℕ, ◌+◌, Bool, true, false, ◌&&◌, ◌||◌, nat_le, if◌then◌else◌, List, [], ◌++◌}
+use Rattle.std.specs.Prelude.{length, Result, Ok, Err}
 use Rattle.vb_value.specs.declared.fault.VbError.{VbError}
 use Rattle.vb_value.specs.declared.value.Value.{Value, Empty, Null, Str}
 use Rattle.vb_value.specs.Conversions.{to_str_of}

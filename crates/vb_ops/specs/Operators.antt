@@ -4,7 +4,8 @@ use Rattle.vb_value.specs.declared.fault.VbError.{VbError}
 use Rattle.vb_value.specs.declared.operator.Op1.{Op1}
 use Rattle.vb_value.specs.declared.operator.Op1.TheVariants as operator1
 use Rattle.vb_value.specs.declared.operator.Op2.{Op2}
-use Rattle.vb_value.specs.declared.operator.Op2.TheVariants.{Multiply, Divide, Modulo, Add, Subtract, Join, Is, And, Or, Xor, Eqv, Imp}
+use Rattle.vb_value.specs.declared.operator.Op2.TheVariants.{Multiply, Divide, Modulo, Add, Subtract, Join, Is}
+use Rattle.vb_value.specs.declared.operator.Op2.TheVariants.{And, Or, Xor, Eqv, Imp}
 use Rattle.vb_value.specs.declared.value.Value.{Value, Null}
 use Rattle.vb_value.specs.Conversions.{to_number_of, to_bool_of}
 use Rattle.vb_value.specs.Errors.{and_then}

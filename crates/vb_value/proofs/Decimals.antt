@@ -1,5 +1,6 @@
 -- What std writes of a number is its digits.
-use Rattle.std.proofs.Common.{◌≡◌, ℕ, zero, suc, ◌+◌, ◌^◌, ◌<◌, ◌==◌, Bool, false, if◌then◌else◌, List, [], ◌∷◌, ℤ, pos, negsuc, map, sym, ap, ◌∙◌, arith}
+use Rattle.std.proofs.Common.{◌≡◌, ℕ, zero, suc, ◌+◌, ◌^◌, ◌<◌, ◌==◌, Bool, false, if◌then◌else◌, List, [], ◌∷◌}
+use Rattle.std.proofs.Common.{ℤ, pos, negsuc, map, sym, ap, ◌∙◌, arith}
 use Rattle.std.specs.Fmt.{decimal, signed_decimal}
 use Rattle.std.specs.Str.{chars}
 use Rattle.std.specs.Int.Digits.{digits_of}
@@ -19,7 +20,8 @@ decimal_is (suc n) small =
 
 -- its characters
 pub decimal_characters : (n : ℕ) (text : List ℕ) → n < 2 ^ 64 → text ≡ decimal n → chars text ≡ decimal_text n
-decimal_characters n text small is = ap chars is ∙ (chars-IsAscii (decimal n) (IsAscii-decimal n small) ∙ decimal_is n small)
+decimal_characters n text small is =
+    ap chars is ∙ (chars-IsAscii (decimal n) (IsAscii-decimal n small) ∙ decimal_is n small)
 
 -- the same of a signed number
 pub signed_is : (z : ℤ) → mag z < 2 ^ 63 → signed_decimal z ≡ whole_text z
@@ -28,4 +30,5 @@ signed_is (negsuc n) small = ap (λ text. 45 ∷ text) (decimal_is (suc n) (omeg
 
 -- its characters
 pub whole_characters : (z : ℤ) (text : List ℕ) → mag z < 2 ^ 63 → text ≡ signed_decimal z → chars text ≡ whole_text z
-whole_characters z text small is = ap chars is ∙ (chars-IsAscii (signed_decimal z) (IsAscii-signed z small) ∙ signed_is z small)
+whole_characters z text small is =
+    ap chars is ∙ (chars-IsAscii (signed_decimal z) (IsAscii-signed z small) ∙ signed_is z small)

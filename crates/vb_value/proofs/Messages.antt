@@ -1,5 +1,6 @@
 -- The texts of errors are ASCII.
-use Rattle.std.proofs.Common.{◌≡◌, ℕ, nat_lt, Bool, true, false, ◌&&◌, ℤ, pos, negsuc, List, [], ◌∷◌, codes, if◌then◌else◌, ◌==◌, refl, arith}
+use Rattle.std.proofs.Common.{◌≡◌, ℕ, nat_lt, Bool, true, false, ◌&&◌, ℤ, pos, negsuc, List, [], ◌∷◌, codes}
+use Rattle.std.proofs.Common.{if◌then◌else◌, ◌==◌, refl, arith}
 use Rattle.std.specs.List.{list_all}
 use Rattle.std.specs.Str.{IsAscii, chars}
 use Rattle.std.proofs.lemmas.Str.{chars-IsAscii}
@@ -21,7 +22,8 @@ both : (a b : Bool) → a && b ≡ true → (a ≡ true) × (b ≡ true)
 both true b all = (refl, all)
 both false b all = absurd (cc)
 
-ascii_beside : (number : ℕ) (entries : List (ℕ × List ℕ)) → list_all (λ entry. is_ascii entry.1) entries ≡ true → IsAscii (text_beside number entries)
+ascii_beside : (number : ℕ) (entries : List (ℕ × List ℕ)) → list_all (λ entry. is_ascii entry.1) entries ≡ true
+    → IsAscii (text_beside number entries)
 ascii_beside number [] all = ascii_text (codes "Unknown runtime error") refl
 ascii_beside number (entry ∷ entries) all =
     chosen (number == entry.0) entry.1 (text_beside number entries)

@@ -1,5 +1,6 @@
 -- The ranges of the kinds of numbers.
-use Rattle.std.proofs.Common.{◌≡◌, ℕ, zero, suc, ◌^◌, ◌<◌, ◌≤◌, nat_lt, Bool, true, false, if◌then◌else◌, pos, Ok, Err, ◌⊎◌, inl, inr, min, refl, sym, ap, ◌∙◌, arith}
+use Rattle.std.proofs.Common.{◌≡◌, ℕ, zero, suc, ◌^◌, ◌<◌, ◌≤◌, nat_lt, Bool, true, false, if◌then◌else◌, pos}
+use Rattle.std.proofs.Common.{Ok, Err, ◌⊎◌, inl, inr, min, refl, sym, ap, ◌∙◌, arith}
 use Rattle.std.proofs.lemmas.Bool.Decides.{nat_tests}
 use Rattle.vb_value.specs.Errors.{overflow}
 use Rattle.vb_value.specs.Numbers.{as_currency}
@@ -19,7 +20,8 @@ or_else : (a b : ℕ) → (a < b) ⊎ (b ≤ a)
 or_else a b = grind arith
 
 -- two sizes from the most on overflow both
-pub same_currency : (minus : Bool) (a b : ℕ) → min a (10 ^ 19) ≡ min b (10 ^ 19) → as_currency (signed minus a) ≡ as_currency (signed minus b)
+pub same_currency : (minus : Bool) (a b : ℕ) → min a (10 ^ 19) ≡ min b (10 ^ 19)
+    → as_currency (signed minus a) ≡ as_currency (signed minus b)
 same_currency minus a b same = elim (or_else a (10 ^ 19)) [
   | inl below ↦ ap (λ n. as_currency (signed minus n)) (omega arith)
   | inr large ↦ too_large minus a large ∙ sym (too_large minus b (omega arith))

@@ -24,7 +24,8 @@ tested_is : (unit quotient rest : ℕ) → tested unit quotient rest ≡ rounded
 tested_is unit quotient rest = grind (arith, nat_tests)
 
 -- a count, by its quotient and its rest
-pub rounded_is : (unit quotient rest count : ℕ) → count ≡ quotient * unit + rest → rest < unit → rounded unit count ≡ rounded_by (nat_cmp (2 * rest) unit) quotient
+pub rounded_is : (unit quotient rest count : ℕ) → count ≡ quotient * unit + rest → rest < unit
+    → rounded unit count ≡ rounded_by (nat_cmp (2 * rest) unit) quotient
 unfolding rounded
 rounded_is unit quotient rest count is below =
     let whole : count / unit ≡ quotient = rw is (div-mul-add quotient unit rest below) in
@@ -35,7 +36,9 @@ coarse : (unit fine rest : ℕ) → unit ≡ fine * 10000 → nat_cmp (2 * (rest
 coarse unit fine rest is = grind (arith, nat_tests)
 
 -- the same in a unit of a ten-thousandth
-pub rounded_fine : (unit fine quotient rest count : ℕ) → unit ≡ fine * 10000 → count ≡ quotient * unit + rest * 10000 → rest < fine → rounded unit count ≡ rounded_by (nat_cmp (2 * rest) fine) quotient
+pub rounded_fine : (unit fine quotient rest count : ℕ) → unit ≡ fine * 10000
+    → count ≡ quotient * unit + rest * 10000 → rest < fine
+    → rounded unit count ≡ rounded_by (nat_cmp (2 * rest) fine) quotient
 rounded_fine unit fine quotient rest count is parts below =
     rounded_is unit quotient (rest * 10000) count parts (omega arith)
     ∙ ap (λ order. rounded_by order quotient) (coarse unit fine rest is)
@@ -48,13 +51,15 @@ pub rounded_whole : (unit quotient count : ℕ) → count ≡ quotient * unit �
 rounded_whole unit quotient count is some =
     rounded_is unit quotient 0 count (omega arith) some ∙ nothing_left unit quotient some
 
-even_by : (half quotient : ℕ) (order : Ordering) → rounded_by order (half * 2 + quotient) ≡ half * 2 + rounded_by order quotient
+even_by : (half quotient : ℕ) (order : Ordering)
+    → rounded_by order (half * 2 + quotient) ≡ half * 2 + rounded_by order quotient
 even_by half quotient Less = refl
 even_by half quotient Equal = omega (arith, mul-add-mod_self_right half 2 quotient)
 even_by half quotient Greater = grind arith
 
 -- an even number of whole units beside a count
-pub rounded_even : (unit half count : ℕ) → 0 < unit → rounded unit (half * 2 * unit + count) ≡ half * 2 + rounded unit count
+pub rounded_even : (unit half count : ℕ) → 0 < unit
+    → rounded unit (half * 2 * unit + count) ≡ half * 2 + rounded unit count
 rounded_even unit half count wide =
     let whole : count ≡ count / unit * unit + count % unit = sym (div-add-mod' count unit) in
     let below : count % unit < unit = mod_below count unit wide in

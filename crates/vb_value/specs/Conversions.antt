@@ -1,11 +1,13 @@
 -- What a value is as a number, a text and a Boolean (VBScript 5.6, "Conversion Functions"), each in the
 -- order: Empty, Null, Boolean, Integer, Long, Currency, String, array, object, Nothing.
-use Rattle.std.specs.Prelude.{◌≡◌, ℕ, Bool, true, false, not, if◌then◌else◌, ℤ, pos, negsuc, List, [], Option, Some, None, Result, Ok, Err, codes, nat_eq}
+use Rattle.std.specs.Prelude.{◌≡◌, ℕ, Bool, true, false, not, if◌then◌else◌, ℤ, pos, negsuc, List, [], Option}
+use Rattle.std.specs.Prelude.{Some, None, Result, Ok, Err, codes, nat_eq}
 use Rattle.std.specs.Cmp.Lexicographic.{pointwise}
 use Rattle.vb_value.specs.declared.fault.VbError.{VbError}
 use Rattle.vb_value.specs.declared.number.Number.{Number}
 use Rattle.vb_value.specs.declared.number.Number.TheVariants as number
-use Rattle.vb_value.specs.declared.value.Value.{Value, Empty, Null, Bool as Boolean, Int, Long, Cur, Str, Arr', Obj, Nothing}
+use Rattle.vb_value.specs.declared.value.Value.{Value, Empty, Null, Bool as Boolean, Int, Long, Cur, Str, Arr'}
+use Rattle.vb_value.specs.declared.value.Value.{Obj, Nothing}
 use Rattle.vb_value.specs.Errors.{type_mismatch, unsupported, object_not_set, invalid_use_of_null, and_then}
 use Rattle.vb_value.specs.Folding.{folded}
 use Rattle.vb_value.specs.Numbers.{amount_of, whole_of, as_integer, as_long, is_zero, least_number}

@@ -1,6 +1,7 @@
 -- The numbers of the language: Integer has 16 bits, Long 32, and Currency 64 that count ten-thousandths
 -- (VBScript 5.6, "VBScript Data Types"). Each result is computed exactly, and its range is tested last.
-use Rattle.std.specs.Prelude.{◌≡◌, ◌<◌, ◌≤◌, ℕ, suc, ◌+◌, ◌*◌, ◌/◌, ◌%◌, ◌^◌, Bool, nat_lt, ◌==◌, ◌&&◌, false, if◌then◌else◌, ℤ, pos, negsuc, ◌*ℤ◌, neg_ℤ, int_div, int_rem, Result, Ok, Err}
+use Rattle.std.specs.Prelude.{◌≡◌, ◌<◌, ◌≤◌, ℕ, suc, ◌+◌, ◌*◌, ◌/◌, ◌%◌, ◌^◌, Bool, nat_lt, ◌==◌, ◌&&◌, false}
+use Rattle.std.specs.Prelude.{if◌then◌else◌, ℤ, pos, negsuc, ◌*ℤ◌, neg_ℤ, int_div, int_rem, Result, Ok, Err}
 use Rattle.vb_value.specs.declared.fault.VbError.{VbError}
 use Rattle.vb_value.specs.declared.number.Number.{Number}
 use Rattle.vb_value.specs.declared.number.Number.TheVariants.{Int, Long, Cur}

@@ -1,5 +1,6 @@
 -- Sound values: those that calls are given and give.
-use Rattle.std.specs.Prelude.{ℕ, ◌+◌, ◌*◌, ◌^◌, Bool, true, ◌&&◌, ◌==◌, nat_lt, nat_le, ℤ, pos, negsuc, List, [], ◌∷◌, length, IsTrue, int_le}
+use Rattle.std.specs.Prelude.{ℕ, ◌+◌, ◌*◌, ◌^◌, Bool, true, ◌&&◌, ◌==◌, nat_lt, nat_le, ℤ, pos, negsuc, List}
+use Rattle.std.specs.Prelude.{[], ◌∷◌, length, IsTrue, int_le}
 use Rattle.std.specs.List.{list_all}
 use Rattle.vb_value.specs.declared.value.Value.{Value}
 use Rattle.vb_value.specs.declared.value.Value.TheOpen.{Value-F, Array-F}

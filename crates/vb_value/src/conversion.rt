@@ -1,6 +1,7 @@
 //! What a value is as a number, a Boolean and a text.
 ghost use Rattle.std.specs.Prelude.{◌≡◌};
-ghost use Rattle.vb_value.specs.Conversions.{to_number_of, to_int_of, to_long_of, to_cur_of, to_bool_of, to_str_of, named_truth, says};
+ghost use Rattle.vb_value.specs.Conversions.{to_number_of, to_int_of, to_long_of, to_cur_of, to_bool_of};
+ghost use Rattle.vb_value.specs.Conversions.{to_str_of, named_truth, says};
 ghost use Rattle.vb_value.specs.Errors.{told};
 ghost use Rattle.vb_value.specs.Outcome.{Answers};
 

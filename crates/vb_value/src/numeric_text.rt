@@ -4,7 +4,9 @@ ghost use Rattle.std.specs.Ordering.{nat_cmp};
 ghost use Rattle.std.specs.List.{before_first, after_first, position, position_or_len, list_all};
 ghost use Rattle.std.specs.Char.{is_ascii_digit};
 ghost use Rattle.vb_value.specs.Numbers.{rounded};
-ghost use Rattle.vb_value.specs.NumericText.{is_blank, without_first, without_last, trimmed, has_minus, unsigned, is_point, is_numeral, digit_of, number_of, numeral_size, signed, cur_of_text_of};
+ghost use Rattle.vb_value.specs.NumericText.{is_blank, without_first, without_last, trimmed, has_minus};
+ghost use Rattle.vb_value.specs.NumericText.{unsigned, is_point, is_numeral, digit_of, number_of, numeral_size};
+ghost use Rattle.vb_value.specs.NumericText.{signed, cur_of_text_of};
 
 use crate::fault::VbError;
 use crate::number::as_currency;

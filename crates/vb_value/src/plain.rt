@@ -17,7 +17,7 @@ pub fn is_plain(value: &Value) -> bool
 }
 
 /// The same, for arrays that nest so deep at most.
-#[tactic(auto, using(crate::proofs::Plainness::shallow_array, crate::proofs::Plainness::all_more, crate::proofs::Plainness::plain_tried))]
+#[tactic(auto, using(crate::proofs::Plainness::plain_arrays))]
 fn is_plain_within(value: &Value, depth: u32) -> bool
     ensures { result ≡ (not (has_reference value.now) && nat_le (depth_of value.now) depth) }
 {
