@@ -9,9 +9,9 @@ use Rattle.vb_value.specs.Weight.{weight_of, value_weight, array_weight}
 -- a fold over an array is one step on the folds over its items
 pub fold-Arr : (A B : Type 0) (step : Value-F A B → A) (each : Array-F A B → B) (array : Array)
     → fold-Value A B step each (Arr array) ≡ step
-        (Value-F.Arr
-        (each (record
-        { bounds = array.bounds; fixed = array.fixed; items = map (fold-Value A B step each) array.items })))
+    (Value-F.Arr
+    (each (record
+    { bounds = array.bounds; fixed = array.fixed; items = map (fold-Value A B step each) array.items })))
 fold-Arr A B step each array =
     ap (fold-Value A B step each) (sym (rolls-Arr array))
     ∙ fold-roll-Value A B step each (Value-F.Arr array)

@@ -37,12 +37,12 @@ after_is : (n : ℕ) (values : List ℕ)
 after_is n [] = grind arith
 after_is n (d ∷ values) =
     let first : number_from_digits_after 10 (n * 10 + d) values
-        ≡ (n * 10 + d) * 10 ^ length values + number_from_digits_after 10 0 values = after_is
-        (n * 10 + d) values in
+    ≡ (n * 10 + d) * 10 ^ length values + number_from_digits_after 10 0 values = after_is
+    (n * 10 + d) values in
     let alone : number_from_digits_after 10 (0 + d) values
-        ≡ (0 + d) * 10 ^ length values + number_from_digits_after 10 0 values = after_is (0 + d) values in
+    ≡ (0 + d) * 10 ^ length values + number_from_digits_after 10 0 values = after_is (0 + d) values in
     let spread_is : (n * 10 + d) * 10 ^ length values ≡ n * 10 ^ suc (length values) + d * 10 ^ length values =
-        spread n d (10 ^ length values) (10 ^ suc (length values)) (pow-suc 10 (length values)) in
+    spread n d (10 ^ length values) (10 ^ suc (length values)) (pow-suc 10 (length values)) in
     first ∙ (rw spread_is (rw alone (grind arith)))
 
 -- the first digit of some, and the rest
@@ -86,7 +86,7 @@ nought_all (c ∷ text) =
     let rest : list_all (λ c'. digit_of c' == 0) text ≡ (number_of text == 0) = nought_all text in
     ap (λ b. (digit_of c == 0) && b) rest
     ∙ (nought_step (digit_of c) (10 ^ length text) (number_of text) some ∙ ap (λ n. n == 0)
-        (sym (number_cons c text)))
+    (sym (number_cons c text)))
 
 half_cases : (digit power rest whole : ℕ) → digit < 10 → rest < power → whole ≡ power * 10
     → nat_cmp (2 * (digit * power + rest)) whole
@@ -103,7 +103,7 @@ pub half_cons : (first : ℕ) (rest : List ℕ) → nat_cmp (2 * number_of (firs
 half_cons first rest =
     ap (λ n. nat_cmp (2 * n) (10 ^ length (first ∷ rest))) (number_cons first rest)
     ∙ half_cases (digit_of first) (10 ^ length rest) (number_of rest) (10 ^ suc (length rest))
-        (digit_below first) (number_below rest) (pow-suc 10 (length rest))
+    (digit_below first) (number_below rest) (pow-suc 10 (length rest))
 
 -- no decimals are less than one half
 pub half_none : (text : List ℕ) → text ≡ [] → nat_cmp (2 * number_of text) (10 ^ length text) ≡ Less
@@ -150,10 +150,10 @@ decimals_rounded (a ∷ b ∷ []) = rounded_whole 100 (four_of (a ∷ b ∷ []))
 decimals_rounded (a ∷ b ∷ c ∷ []) = rounded_whole 1000 (four_of (a ∷ b ∷ c ∷ [])) _ (omega arith) (lit< tt)
 decimals_rounded (a ∷ b ∷ c ∷ d ∷ rest) =
     rounded_fine (10 ^ suc (suc (suc (suc (length rest))))) (10 ^ length rest) (four_of (a ∷ b ∷ c ∷ d ∷ rest))
-        (number_of rest) _
+    (number_of rest) _
     (ten_thousand (length rest))
     (fine_parts (four_of (a ∷ b ∷ c ∷ d ∷ rest)) (10 ^ length rest) _ (number_of rest) _
-        (ten_thousand (length rest)) (number_four a b c d rest))
+    (ten_thousand (length rest)) (number_four a b c d rest))
     (number_below rest)
 
 -- no digits write 0

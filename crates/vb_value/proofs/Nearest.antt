@@ -13,15 +13,25 @@ spread_one q unit = grind arith
 
 less : (unit q rest count : ℕ) → count ≡ q * unit + rest → 2 * rest < unit → IsNearest unit count q
 less unit q rest count is below =
-    record { low = omega arith; high = omega arith; even_low = λ e. absurd (omega arith); even_high = λ e. absurd
-    (omega arith) }
+    record {
+      low = omega arith;
+      high = omega arith;
+      even_low = λ e. absurd (omega arith);
+      even_high = λ e. absurd
+          (omega arith);
+    }
 
 more : (unit q rest count : ℕ) → count ≡ q * unit + rest → rest < unit → unit < 2 * rest
     → IsNearest unit count (q + 1)
 more unit q rest count is small above =
     let spread : (q + 1) * unit ≡ q * unit + unit = spread_one q unit in
-    record { low = omega arith; high = omega arith; even_low = λ e. absurd (omega arith); even_high = λ e. absurd
-        (omega arith) }
+    record {
+      low = omega arith;
+      high = omega arith;
+      even_low = λ e. absurd (omega arith);
+      even_high = λ e. absurd
+          (omega arith);
+    }
 
 tie_even : (unit q rest count : ℕ) → count ≡ q * unit + rest → 2 * rest ≡ unit → q % 2 ≡ 0 → IsNearest unit count q
 tie_even unit q rest count is half even =

@@ -26,7 +26,7 @@ fold_most : (most : ℕ) (numbers : List ℕ) → fold max most numbers ≡ max 
 fold_most most [] = grind arith
 fold_most most (n ∷ numbers) =
     let first : fold max (max most n) numbers ≡ max (max most n) (fold max 0 numbers) =
-        fold_most (max most n) numbers in
+    fold_most (max most n) numbers in
     let alone : fold max (max 0 n) numbers ≡ max (max 0 n) (fold max 0 numbers) = fold_most (max 0 n) numbers in
     first ∙ rw alone (omega arith)
 
@@ -49,10 +49,10 @@ each depth [] = grind (arith, nat_tests)
 each depth (item ∷ items) =
     ap (λ rest. is_plain_to depth item && rest) (each depth items)
     ∙ (step (has_reference item) (list_any (λ refers. refers) (map has_reference items)) (depth_of item)
-        (greatest (map depth_of items)) depth
+    (greatest (map depth_of items)) depth
     ∙ ap (λ n. not
-        (has_reference item || list_any (λ refers. refers) (map has_reference items)) && nat_le n depth)
-        (sym (deepest (depth_of item) (map depth_of items))))
+    (has_reference item || list_any (λ refers. refers) (map has_reference items)) && nat_le n depth)
+    (sym (deepest (depth_of item) (map depth_of items))))
 
 deeper : (d depth : ℕ) → nat_le (1 + d) (depth + 1) ≡ nat_le d depth
 deeper d depth = grind (arith, nat_tests)

@@ -57,7 +57,7 @@ some_written : (n : ℕ) → 0 < n → Written n (map (λ d. 48 + d) (digits_of 
 some_written n some =
     let below : AllBelowBase 10 (digits_of 10 n) = all_below_base_digits_of 10 n (omega arith) in
     let number : number_of (map (λ d. 48 + d) (digits_of 10 n)) ≡ n =
-        number_back (digits_of 10 n) below ∙ number_digits_of 10 n (omega arith) in
+    number_back (digits_of 10 n) below ∙ number_digits_of 10 n (omega arith) in
     record { digits = all_digits (digits_of 10 n) below; number = number; filled = filled_from _ (omega arith) }
 
 written : (n : ℕ) → Written n (decimal_text n)
@@ -75,7 +75,7 @@ written (suc n) =
 kept : Bool → Bool → Bool → Bool → ℕ → ℕ → ℕ → ℕ → List ℕ
 kept za zb zc zd a b c d =
     reverse (if zd then (if zc then (if zb then (if za then [] else a ∷ []) else b ∷ a ∷ []) else c ∷ b ∷ a ∷ [])
-        else d ∷ c ∷ b ∷ a ∷ [])
+    else d ∷ c ∷ b ∷ a ∷ [])
 
 trail_by : (za zb zc zd : Bool) (a b c d : ℕ) → (za ≡ true → a ≡ 48) → (zb ≡ true → b ≡ 48)
     → (zc ≡ true → c ≡ 48) → (zd ≡ true → d ≡ 48)
@@ -191,7 +191,7 @@ split_some : (whole decimals : List ℕ) → list_all is_ascii_digit whole ≡ t
     → Parts whole decimals (whole ++ 46 ∷ decimals)
 split_some whole decimals digits others =
     let place : position_or_len is_point (whole ++ 46 ∷ decimals) ≡ length whole =
-        place_at is_point whole 46 decimals (no_points whole digits) refl in
+    place_at is_point whole 46 decimals (no_points whole digits) refl in
     record {
       before = ap (λ n. take n (whole ++ 46 ∷ decimals)) place ∙ take-append_seam whole (46 ∷ decimals);
       behind = ap (λ n. drop (n + 1) (whole ++ 46 ∷ decimals)) place ∙ drop-append-add whole (46 ∷ decimals) 1;
@@ -258,7 +258,7 @@ positive size =
     let trim : trimmed (size_text size) ≡ size_text size = none_both is_blank (size_text size) it.parts.unblank in
     read (size_text size) _ _ false size
     (ap (λ text. before_first is_point (unsigned text)) trim ∙
-        (ap (before_first is_point) it.sign.0 ∙ it.parts.before))
+    (ap (before_first is_point) it.sign.0 ∙ it.parts.before))
     (ap (λ text. after_first is_point (unsigned text)) trim ∙ (ap (after_first is_point) it.sign.0 ∙ it.parts.behind))
     (ap has_minus trim ∙ it.sign.1) it.numeral it.size_is
 
@@ -266,7 +266,7 @@ negative : (less : ℕ) → cur_of_text_of (45 ∷ size_text (suc less)) ≡ as_
 negative less =
     let it = size_reads (suc less) in
     let trim : trimmed (45 ∷ size_text (suc less)) ≡ 45 ∷ size_text (suc less) =
-        none_both is_blank (45 ∷ size_text (suc less)) (joined _ _ refl it.parts.unblank) in
+    none_both is_blank (45 ∷ size_text (suc less)) (joined _ _ refl it.parts.unblank) in
     read (45 ∷ size_text (suc less)) _ _ true (suc less)
     (ap (λ text. before_first is_point (unsigned text)) trim ∙ it.parts.before)
     (ap (λ text. after_first is_point (unsigned text)) trim ∙ it.parts.behind)

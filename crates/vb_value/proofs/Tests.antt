@@ -36,7 +36,7 @@ all_reverse p [] all = refl
 all_reverse p (c ∷ items) all =
     let parts = both (p c) (list_all p items) all in
     rw (reverse-append (c ∷ []) items)
-        (all_append p (reverse items) (c ∷ []) (all_reverse p items parts.1) (joined (p c) true parts.0 refl))
+    (all_append p (reverse items) (c ∷ []) (all_reverse p items parts.1) (joined (p c) true parts.0 refl))
 
 dropped : (b : Bool) (test p : ℕ → Bool) (c : ℕ) (items : List ℕ) → list_all p (c ∷ items) ≡ true
     → list_all p (without_first test items) ≡ true
@@ -62,20 +62,20 @@ none_first : (test : ℕ → Bool) (items : List ℕ) → list_all (λ c. not (t
 none_first test [] none = refl
 none_first test (c ∷ items) none =
     ap (λ (b : Bool). if b then without_first test items else c ∷ items)
-        (negated (test c) (both (not (test c)) (list_all (λ c. not (test c)) items) none).0)
+    (negated (test c) (both (not (test c)) (list_all (λ c. not (test c)) items) none).0)
 
 reverse_twice : (items : List ℕ) → reverse (reverse items) ≡ items
 reverse_twice [] = refl
 reverse_twice (c ∷ items) =
     ap reverse (reverse-append (c ∷ []) items) ∙
-        (reverse-append (reverse items) (c ∷ []) ∙ ap (λ rest. c ∷ rest) (reverse_twice items))
+    (reverse-append (reverse items) (c ∷ []) ∙ ap (λ rest. c ∷ rest) (reverse_twice items))
 
 pub none_both : (test : ℕ → Bool) (items : List ℕ) → list_all (λ c. not (test c)) items ≡ true
     → without_last test (without_first test items) ≡ items
 none_both test items none =
     ap (without_last test) (none_first test items none)
     ∙ (ap reverse (none_first test (reverse items) (all_reverse (λ c. not (test c)) items none))
-        ∙ reverse_twice items)
+    ∙ reverse_twice items)
 
 -- the place of the first item that passes
 pub place_none : (test : ℕ → Bool) (items : List ℕ) → list_all (λ c. not (test c)) items ≡ true
