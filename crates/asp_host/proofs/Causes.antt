@@ -3,8 +3,14 @@ use Rattle.std.proofs.Common.{◌≡◌, ℕ, ◌^◌, ◌<◌, ◌≤◌, Optio
 use Rattle.asp_io.specs.Faults.{HasCause}
 
 -- a call in which nothing failed
-pub quiet : {T E : Type 0} (fault : E) (count : ℕ) (result : Result T E) → ¬ (result ≡ Err fault) → HasCause fault count count result
-quiet fault count result other = record { later = omega arith; within = λ small. small; failed = λ is. absurd (other is) }
+pub quiet : {T E : Type 0} (fault : E) (count : ℕ) (result : Result T E) → ¬ (result ≡ Err fault)
+    → HasCause fault count count result
+quiet fault count result other = record {
+  later = omega arith;
+  within = λ small. small;
+  failed =
+      λ is. absurd (other is);
+}
 
 -- a fault that is handed on as another
 pub handed_on : {T U E F : Type 0} (fault : E) (told : F) (old new : ℕ) (result : Result T E) (answer : Result U F)
@@ -13,12 +19,14 @@ handed_on fault told old new result answer from cause =
     record { later = cause.later; within = cause.within; failed = λ is. cause.failed (from is) }
 
 -- what is told of a folder that tells its files, from what is told
-pub told : {A : Type 0} (given : Option A) (P Q : A → Type 0) → ((all : A) → given ≡ Some all → P all → Q all) → IfSome given P → IfSome given Q
+pub told : {A : Type 0} (given : Option A) (P Q : A → Type 0) → ((all : A) → given ≡ Some all → P all → Q all)
+    → IfSome given P → IfSome given Q
 told None P Q from is = tt
 told (Some all) P Q from is = from all refl is
 
 -- what is told of a folder from nothing that was told
-pub told_anew : {A : Type 0} (given : Option A) (Q : A → Type 0) → ((all : A) → given ≡ Some all → Q all) → IfSome given Q
+pub told_anew : {A : Type 0} (given : Option A) (Q : A → Type 0) → ((all : A) → given ≡ Some all → Q all)
+    → IfSome given Q
 told_anew None Q from = tt
 told_anew (Some all) Q from = from all refl
 

@@ -1,5 +1,7 @@
 -- The files of a folder, each under its path, and what is read of them.
-use Rattle.std.proofs.Common.{◌≡◌, ◌≢◌, inl, inr, ℕ, zero, suc, ◌<◌, ◌≤◌, List, [], ◌∷◌, Bool, true, false, Some, option_map, map, length, take, get_or, nat_eq, arith, refl, sym, ◌∙◌, ap, subst}
+use Rattle.std.proofs.Common.{◌≡◌, ◌≢◌, inl, inr, ℕ, zero, suc, ◌<◌, ◌≤◌, List, [], ◌∷◌, Bool, true, false}
+use Rattle.std.proofs.Common.{Some, option_map, map, length, take, get_or, nat_eq, arith, refl, sym, ◌∙◌, ap}
+use Rattle.std.proofs.Common.{subst}
 use Rattle.std.specs.Cmp.Lexicographic.{pointwise}
 use Rattle.std.specs.List.{AllPairs, Contains, find}
 use Rattle.std.specs.Str.{bytes_eq}
@@ -31,7 +33,8 @@ unread_page bytes shown page = subst (λ (read : List ℕ). IsPageText read show
 -- ---- the file at a path
 
 -- the paths of the files behind the first are apart, too
-others_apart : (file : SiteFile) (files : List SiteFile) → AllPairs (λ path other. path ≢ other) (map path_of (file ∷ files))
+others_apart : (file : SiteFile) (files : List SiteFile)
+    → AllPairs (λ path other. path ≢ other) (map path_of (file ∷ files))
     → AllPairs (λ path other. path ≢ other) (map path_of files)
 others_apart file files apart i j d less within = apart (suc i) (suc j) d (omega arith) (omega arith)
 
@@ -52,7 +55,8 @@ first_passed file files path apart =
       | false ↦ λ _. refl
     ] in
     let is : bytes_eq path file.path ≡ false = missed (bytes_eq path file.path) refl in
-    ap (option_map (λ (one : SiteFile). one.bytes)) (passed_over (λ (one : SiteFile). pointwise nat_eq path one.path) file files is)
+    ap (option_map (λ (one : SiteFile). one.bytes)) (passed_over
+    (λ (one : SiteFile). pointwise nat_eq path one.path) file files is)
 
 -- a file is found under its path, where no two files have one path
 pub found_file : (files : List SiteFile) (file : SiteFile) → AllPairs (λ path other. path ≢ other) (map path_of files)
@@ -62,13 +66,15 @@ found_file (first ∷ files) file apart zero within is =
     subst (λ (one : SiteFile). bytes_of (first ∷ files) one.path ≡ Some one.bytes) is (first_found first files)
 found_file (first ∷ files) file apart (suc at) within is =
     let within_rest : at < length files = omega arith in
-    let other : first.path ≢ file.path = λ same. apart 0 (suc at) file.path (omega arith) (rw (length-map files path_of) (omega arith))
+    let other : first.path ≢ file.path =
+    λ same. apart 0 (suc at) file.path (omega arith) (rw (length-map files path_of) (omega arith))
     (same ∙ sym (get_or-map path_of files at file file.path within_rest ∙ ap path_of is)) in
     first_passed first files file.path other ∙ found_file files file (others_apart first files apart) at within_rest is
 
 -- the file at a path has the bytes that are read there
 read_file : (files : List SiteFile) (path read : List ℕ) → AreSitePaths (map path_of files)
-    → option_map (take 65537) (bytes_of files path) ≡ Some read → (file : SiteFile) → Contains files file → file.path ≡ path
+    → option_map (take 65537) (bytes_of files path) ≡ Some read → (file : SiteFile) → Contains files file
+    → file.path ≡ path
     → take 65537 file.bytes ≡ read
 read_file files path read paths is file there same =
     let found : bytes_of files path ≡ Some file.bytes =
@@ -78,15 +84,18 @@ read_file files path read paths is file there same =
 
 -- the file at a path shows what is read of it shows
 pub shows_at : (files : List SiteFile) (path read text : List ℕ) → AreSitePaths (map path_of files)
-    → option_map (take 65537) (bytes_of files path) ≡ Some read → ¬ (IsGlobal path) → IsPageText read text → ShowsAt files path text
+    → option_map (take 65537) (bytes_of files path) ≡ Some read → ¬ (IsGlobal path) → IsPageText read text
+    → ShowsAt files path text
 shows_at files path read text paths is other page file there same = (
   (λ global. other (subst IsGlobal same global)),
-  read_page file.bytes text (subst (λ (bytes : List ℕ). IsPageText bytes text) (sym (read_file files path read paths is file there same)) page),
+  read_page file.bytes text (subst
+      (λ (bytes : List ℕ). IsPageText bytes text) (sym (read_file files path read paths is file there same)) page),
 )
 
 -- the file at a path is refused, where what is read of it shows nothing
 pub refused_at : (files : List SiteFile) (path read : List ℕ) → AreSitePaths (map path_of files)
-    → option_map (take 65537) (bytes_of files path) ≡ Some read → ((text : List ℕ) → ¬ (IsPageText read text)) → IsRefusedAt files path
+    → option_map (take 65537) (bytes_of files path) ≡ Some read → ((text : List ℕ) → ¬ (IsPageText read text))
+    → IsRefusedAt files path
 refused_at files path read paths is none file there same = inr (λ shown page.
     none shown (subst (λ (bytes : List ℕ). IsPageText bytes shown) (read_file files path read paths is file there same)
     (unread_page file.bytes shown page)))

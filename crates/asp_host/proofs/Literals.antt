@@ -32,11 +32,13 @@ unfolding chars
 write_characters = refl
 
 -- the place of a fault
-pub place_characters : (line : ℕ) (kind : FaultKind) → line < 2 ^ 32 → chars (place_text line kind) ≡ place_text line kind
+pub place_characters : (line : ℕ) (kind : FaultKind) → line < 2 ^ 32
+    → chars (place_text line kind) ≡ place_text line kind
 place_characters line NotYet fits =
     let before : IsAscii (codes ":") = IsAscii-from_all (codes ":") (search rules) in
     let between : IsAscii (codes ": ") = IsAscii-from_all (codes ": ") (search rules) in
     let after : IsAscii (codes "NotYet") = IsAscii-from_all (codes "NotYet") (search rules) in
     let digits : IsAscii (decimal line) = IsAscii-decimal line (omega arith) in
     chars-IsAscii _ (IsAscii-append (codes ":" ++ decimal line ++ codes ": ") (codes "NotYet")
-    (IsAscii-append (codes ":" ++ decimal line) (codes ": ") (IsAscii-append (codes ":") (decimal line) before digits) between) after)
+    (IsAscii-append (codes ":" ++ decimal line) (codes ": ") (IsAscii-append (codes ":")
+    (decimal line) before digits) between) after)

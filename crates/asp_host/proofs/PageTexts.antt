@@ -1,5 +1,6 @@
 -- What pieces show together, piece by piece.
-use Rattle.std.proofs.Common.{◌≡◌, ℕ, ◌+◌, ◌<◌, List, [], ◌∷◌, ◌++◌, length, get_or, take, refl, sym, ◌∙◌, ap, subst, append_assoc, append-nil, arith, zero, suc, Result, Ok, Err}
+use Rattle.std.proofs.Common.{◌≡◌, ℕ, ◌+◌, ◌<◌, List, [], ◌∷◌, ◌++◌, length, get_or, take, refl, sym, ◌∙◌, ap}
+use Rattle.std.proofs.Common.{subst, append_assoc, append-nil, arith, zero, suc, Result, Ok, Err}
 use Rattle.std.proofs.lemmas.List.{take_more}
 use Rattle.page_read.specs.declared.fragment.Fragment.{Fragment}
 use Rattle.vb_value.specs.declared.site_file.FaultKind.{FaultKind}
@@ -31,16 +32,20 @@ shown_next pieces at piece shown text new within is together shows made =
 
 -- where pieces show a text, each of them does
 pub shown_each : (pieces : List Fragment) (shown : List ℕ) (at : ℕ) (piece : Fragment)
-    → ShowTogether pieces shown → at < length pieces → piece ≡ get_or pieces at piece → (text : List ℕ) × Shows piece text
+    → ShowTogether pieces shown → at < length pieces → piece ≡ get_or pieces at piece
+    → (text : List ℕ) × Shows piece text
 shown_each [] shown at piece together within is = absurd (omega arith)
-shown_each (first ∷ pieces) shown zero piece together within is = (together.0, subst (λ one. Shows one together.0) (sym is) together.2)
-shown_each (first ∷ pieces) shown (suc at) piece together within is = shown_each pieces together.1 at piece together.3 (omega arith) is
+shown_each (first ∷ pieces) shown zero piece together within is =
+    (together.0, subst (λ one. Shows one together.0) (sym is) together.2)
+shown_each (first ∷ pieces) shown (suc at) piece together within is =
+    shown_each pieces together.1 at piece together.3 (omega arith) is
 
 -- ---- refusals
 
 -- a fault that is handed on by a call that gives something else
 pub fault_passed : (A B : Type 0) (stop : PageStop) (P Q : FaultKind → ℕ → Type 0)
-    → ((kind : FaultKind) (line : ℕ) → P kind line → Q kind line) → IfFault {T = A} (Err stop) P → IfFault {T = B} (Err stop) Q
+    → ((kind : FaultKind) (line : ℕ) → P kind line → Q kind line) → IfFault {T = A} (Err stop) P
+    → IfFault {T = B} (Err stop) Q
 fault_passed A B (Fault kind line) P Q weaker held = weaker kind line held
 fault_passed A B Memory P Q weaker held = tt
 
@@ -52,7 +57,8 @@ fault_weaker (Err (Fault kind line)) P Q weaker held = weaker kind line held
 fault_weaker (Err Memory) P Q weaker held = tt
 
 -- pieces of which one shows nothing show nothing together
-pub none_together : (pieces : List Fragment) (at : ℕ) (piece : Fragment) → at < length pieces → piece ≡ get_or pieces at piece
+pub none_together : (pieces : List Fragment) (at : ℕ) (piece : Fragment) → at < length pieces
+    → piece ≡ get_or pieces at piece
     → ((text : List ℕ) → ¬ (Shows piece text)) → (shown : List ℕ) → ¬ (ShowTogether pieces shown)
 none_together pieces at piece within is none shown together =
     let shows = shown_each pieces shown at piece together within is in none shows.0 shows.1

@@ -1,5 +1,6 @@
 -- What the map has picked once one more name was looked at.
-use Rattle.std.proofs.Common.{◌≡◌, inl, inr, ℕ, List, [], ◌∷◌, ◌++◌, Bool, true, false, Option, Some, None, MatchOption, cond, refl, sym, ◌∙◌, ap, subst}
+use Rattle.std.proofs.Common.{◌≡◌, inl, inr, ℕ, List, [], ◌∷◌, ◌++◌, Bool, true, false, Option, Some, None}
+use Rattle.std.proofs.Common.{MatchOption, cond, refl, sym, ◌∙◌, ap, subst}
 use Rattle.std.specs.BTreeMap.{BTreeMap, get, Updates, is_at}
 use Rattle.std.specs.List.{Contains}
 use Rattle.std.specs.Ordering.{is_eq}
@@ -38,7 +39,8 @@ still_first names name key path later (chosen, at_key) = (
       | inl old ↦ chosen.first each old same before
       | inr new ↦
           let same_fold : folded name ≡ folded path = ap folded new ∙ same in
-          later (subst IsSiteFold (sym same_fold) chosen.named) (same_fold ∙ at_key) (subst (λ one. IsBefore one path) (sym new) before)
+          later (subst IsSiteFold (sym same_fold) chosen.named) (same_fold
+          ∙ at_key) (subst (λ one. IsBefore one path) (sym new) before)
     ];
   },
   at_key,
@@ -63,8 +65,10 @@ skipped names name picked other has key = still_picked names name key (get compa
 pub kept : (names : Names) (name : List ℕ) (picked : Picks) → ¬ (ComesFirst picked (folded name) name)
     → HasPicked names picked → HasPicked (names ++ name ∷ []) picked
 kept names name picked late has key = still_picked names name key (get compared picked key)
-    (λ none site same. late (subst (λ found. MatchOption found (Unit {0}) (IsBefore name)) (sym (ap (get compared picked) same ∙ none)) tt))
-    (λ path found site same before. late (subst (λ one. MatchOption one (Unit {0}) (IsBefore name)) (sym (ap (get compared picked) same ∙ found)) before))
+    (λ none site same. late (subst
+    (λ found. MatchOption found (Unit {0}) (IsBefore name)) (sym (ap (get compared picked) same ∙ none)) tt))
+    (λ path found site same before. late (subst
+    (λ one. MatchOption one (Unit {0}) (IsBefore name)) (sym (ap (get compared picked) same ∙ found)) before))
     (has key)
 
 -- ---- a name that comes first
@@ -91,7 +95,8 @@ new_first names name picked site first has = (
     there = Contains-push names name;
     named = site;
     first = λ other there same before. elim (Contains-push_cases names name other there) [
-      | inl old ↦ before_first names name other (get compared picked (folded name)) (has (folded name)) first old site same before
+      | inl old ↦ before_first names name other (get compared picked (folded name)) (has
+          (folded name)) first old site same before
       | inr new ↦ not_before_itself name (subst (λ one. IsBefore one name) (sym new) before)
     ];
   },
@@ -112,13 +117,15 @@ misses name key same miss =
     cc
 
 -- the name is put under its folded path
-pub put_first : (names : Names) (name : List ℕ) (picked new : Picks) → IsSiteName name → ComesFirst picked (folded name) name
+pub put_first : (names : Names) (name : List ℕ) (picked new : Picks) → IsSiteName name
+    → ComesFirst picked (folded name) name
     → Updates compared picked new (folded name) (Some name)
     → HasPicked names picked → HasPicked (names ++ name ∷ []) new
 put_first names name picked new site first updates has key =
     let Goal : Option (List ℕ) → Type 0 =
     λ found. MatchOption found (HasNone (names ++ name ∷ []) key) (IsFirstWith (names ++ name ∷ []) key) in
-    let at_key : (hit : Bool) → is_at (compared (folded name)) key ≡ hit → Goal (cond hit (Some name) (get compared picked key)) = elim [
+    let at_key : (hit : Bool) → is_at (compared (folded name)) key ≡ hit
+    → Goal (cond hit (Some name) (get compared picked key)) = elim [
       | true ↦ λ hit.
           let same : folded name ≡ key = tells_apart exact_bytes (folded name) key hit in
           subst (λ k. IsFirstWith (names ++ name ∷ []) k name) same (new_first names name picked site first has)

@@ -1,5 +1,7 @@
 -- What was read, path by path.
-use Rattle.std.proofs.Common.{◌≡◌, inl, inr, ℕ, ◌+◌, ◌<◌, List, [], ◌∷◌, ◌++◌, Bool, true, false, Option, Some, None, IfSome, MatchOption, length, take, drop, get_or, refl, sym, ◌∙◌, ap, subst, suc, drop-cons, add-one}
+use Rattle.std.proofs.Common.{◌≡◌, inl, inr, ℕ, ◌+◌, ◌<◌, List, [], ◌∷◌, ◌++◌, Bool, true, false, Option, Some}
+use Rattle.std.proofs.Common.{None, IfSome, MatchOption, length, take, drop, get_or, refl, sym, ◌∙◌, ap, subst}
+use Rattle.std.proofs.Common.{suc, drop-cons, add-one}
 use Rattle.std.specs.Str.{bytes_eq}
 use Rattle.std.proofs.lemmas.List.{take_more, take-append-drop}
 use Rattle.std.proofs.lemmas.List.Elements.{All-push, Contains-push, Contains-append_left}
@@ -8,7 +10,8 @@ use Rattle.vb_value.specs.declared.site_file.SiteFile.{SiteFile}
 use Rattle.vb_value.specs.Folding.{folded}
 use Rattle.asp_host.specs.declared.load.LoadStop.{LoadStop}
 use Rattle.asp_host.specs.declared.load.LoadStop.TheVariants.{Refused, ReadFault, Memory}
-use Rattle.asp_host.specs.Reading.{HasRead, HasFound, HasNotFound, IsAcceptedAt, IsRefusedAt, ShowsAt, StopsAtPath, StopsReading, Takes}
+use Rattle.asp_host.specs.Reading.{HasRead, HasFound, HasNotFound, IsAcceptedAt, IsRefusedAt, ShowsAt}
+use Rattle.asp_host.specs.Reading.{StopsAtPath, StopsReading, Takes}
 
 -- a file that shows something is not refused
 accepted_at : (files : List SiteFile) (path text : List ℕ) → ShowsAt files path text → IsAcceptedAt files path
@@ -21,7 +24,8 @@ accepted_at files path text shows file there same refused = elim refused [
 still_not_found : (files : List SiteFile) (paths : List (List ℕ)) (path wanted : List ℕ) (found : Option (List ℕ))
     → ¬ (folded path ≡ folded wanted) → MatchOption found (HasNotFound paths wanted) (HasFound files paths wanted)
     → MatchOption found (HasNotFound (paths ++ path ∷ []) wanted) (HasFound files (paths ++ path ∷ []) wanted)
-still_not_found files paths path wanted None other none = All-push (λ one. ¬ (folded one ≡ folded wanted)) paths path none other
+still_not_found files paths path wanted None other none =
+    All-push (λ one. ¬ (folded one ≡ folded wanted)) paths path none other
 still_not_found files paths path wanted (Some text) other found = record {
   path = found.path;
   there = Contains-append_left paths (path ∷ []) found.path found.there;
@@ -53,8 +57,10 @@ read_more files paths path wanted old new read takes =
     }
 
 -- the path at a place, after those before it
-pub read_next : (files : List SiteFile) (paths : List (List ℕ)) (at : ℕ) (path wanted : List ℕ) (old new : Option (List ℕ))
-    → at < length paths → path ≡ get_or paths at path → HasRead files (take at paths) wanted old → Takes files path wanted old new
+pub read_next : (files : List SiteFile) (paths : List (List ℕ)) (at : ℕ) (path wanted : List ℕ) (old new : Option
+    (List ℕ))
+    → at < length paths → path ≡ get_or paths at path → HasRead files (take at paths) wanted old
+    → Takes files path wanted old new
     → HasRead files (take (at + 1) paths) wanted new
 read_next files paths at path wanted old new within is read takes =
     let longer : take (at + 1) paths ≡ take at paths ++ path ∷ [] =
@@ -70,9 +76,11 @@ cut_at paths at path within is =
     sym (take-append-drop at paths) ∙ ap (λ (back : List (List ℕ)). take at paths ++ back) rest
 
 -- a refusal at the path at a place
-pub stops_reading : (given : Option (List SiteFile)) (paths : List (List ℕ)) (at : ℕ) (path wanted : List ℕ) (found : Option (List ℕ))
+pub stops_reading : (given : Option (List SiteFile)) (paths : List (List ℕ)) (at : ℕ) (path wanted : List ℕ)
+    (found : Option (List ℕ))
     (stop : LoadStop) → at < length paths → path ≡ get_or paths at path
-    → IfSome given (λ files. HasRead files (take at paths) wanted found) → StopsAtPath given path stop → StopsReading given paths stop
+    → IfSome given (λ files. HasRead files (take at paths) wanted found) → StopsAtPath given path stop
+    → StopsReading given paths stop
 stops_reading None paths at path wanted found (Refused told) within is read stops = tt
 stops_reading (Some files) paths at path wanted found (Refused told) within is read stops = record {
   before = take at paths;

@@ -15,7 +15,8 @@ IsFirstWith names key path = IsChosen names path × (folded path ≡ key)
 
 -- under each folded path, the map has the chosen of the names
 abbrev pub HasPicked : List (List ℕ) → BTreeMap (List ℕ) (List ℕ) → Type 0
-HasPicked names picked = (key : List ℕ) → MatchOption (get compared picked key) (HasNone names key) (IsFirstWith names key)
+HasPicked names picked = (key : List ℕ)
+    → MatchOption (get compared picked key) (HasNone names key) (IsFirstWith names key)
 
 -- the map has nothing under this folded path, or something that comes after the name
 abbrev pub ComesFirst : BTreeMap (List ℕ) (List ℕ) → List ℕ → List ℕ → Type 0

@@ -39,7 +39,8 @@ pub record HasFound (files : List SiteFile) (paths : List (List ℕ)) (wanted te
   pub shows : ShowsAt files path text
 
 -- the files at the paths are not refused, and that at the wanted path, if one of them is, shows the text that was found
-pub record HasRead (files : List SiteFile) (paths : List (List ℕ)) (wanted : List ℕ) (found : Option (List ℕ)) : Type 0 where
+pub record HasRead (files : List SiteFile) (paths : List (List ℕ)) (wanted : List ℕ) (found : Option
+    (List ℕ)) : Type 0 where
   pub accepted : All (IsAcceptedAt files) paths
   pub found_is : MatchOption found (HasNotFound paths wanted) (HasFound files paths wanted)
 

@@ -74,7 +74,8 @@ IsAccepted files = (file : SiteFile) → IsSiteFile files file → ¬ (IsRefused
 pub record IsFirstRefused (files : List SiteFile) (file : SiteFile) : Type 0 where
   pub of_site : IsSiteFile files file
   pub refused : IsRefused file
-  pub first : (other : SiteFile) → IsSiteFile files other → IsRefused other → ¬ (IsBefore (folded other.path) (folded file.path))
+  pub first : (other : SiteFile) → IsSiteFile files other → IsRefused other
+      → ¬ (IsBefore (folded other.path) (folded file.path))
 
 -- the file of the site at a path
 pub record IsFileAt (files : List SiteFile) (path : List ℕ) (file : SiteFile) : Type 0 where

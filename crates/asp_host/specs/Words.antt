@@ -1,5 +1,6 @@
 -- The words of a command line that the host takes, each as its bytes.
-use Rattle.std.specs.Prelude.{◌≡◌, ℕ, ◌+◌, ◌^◌, ◌<◌, Bool, IsTrue, ◌||◌, ◌&&◌, ◌==◌, Some, List, [], ◌∷◌, ◌++◌, length, chars, codes, slice_get, slice_index, EachIndex}
+use Rattle.std.specs.Prelude.{◌≡◌, ℕ, ◌+◌, ◌^◌, ◌<◌, Bool, IsTrue, ◌||◌, ◌&&◌, ◌==◌, Some, List, [], ◌∷◌, ◌++◌}
+use Rattle.std.specs.Prelude.{length, chars, codes, slice_get, slice_index, EachIndex}
 use Rattle.std.specs.Char.{is_ascii_alphanumeric}
 use Rattle.vb_value.specs.Folding.{folded}
 use Rattle.asp_host.specs.declared.words.Command.{Command}

@@ -85,10 +85,13 @@ fn command_path(command: Command) -> Text
 
 /// Writes what the page at the path shows.
 fn get<F: Folder, K: Sink>(alloc: Global, path: &Text, folder: &mut F, sink: &mut K) -> Status
-    ensures ok { result ≡ Status.Ok → IfSome (F.files folder.old) (spec.HoldsText path.now (K.held sink.old) (K.held sink.new)) }
-    ensures part { result ≡ Status.WriteFault → IfSome (F.files folder.old) (spec.HoldsSome path.now (K.held sink.old) (K.held sink.new)) }
+    ensures ok { result ≡ Status.Ok → IfSome (F.files folder.old)
+        (spec.HoldsText path.now (K.held sink.old) (K.held sink.new)) }
+    ensures part { result ≡ Status.WriteFault → IfSome (F.files folder.old)
+        (spec.HoldsSome path.now (K.held sink.old) (K.held sink.new)) }
     ensures usage { ¬ (result ≡ Status.Usage) }
-    ensures site_refused { spec.IfRefused result (λ fault. IfSome (F.files folder.old) (spec.IsRefusalAt path.now fault)) }
+    ensures site_refused { spec.IfRefused result (λ fault. IfSome (F.files folder.old)
+        (spec.IsRefusalAt path.now fault)) }
     ensures read_fault { result ≡ Status.ReadFault → HasRisen (F.faults folder.old) (F.faults folder.new) }
     ensures write_fault { result ≡ Status.WriteFault → HasRisen (K.faults sink.old) (K.faults sink.new) }
     ensures quiet { result ≢ Status.Ok → result ≢ Status.WriteFault → K.held sink.new ≡ K.held sink.old }

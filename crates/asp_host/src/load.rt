@@ -117,7 +117,8 @@ fn found_text<F: Folder>(
     wanted: &Text,
 ) -> Result<Option<Text>, LoadStop>
     requires { ForSome (F.files folder.old) (λ files. AreSitePaths (map path_of files) × All (HasFile files) paths.now) }
-    ensures ok { IfOk result (λ found. IfSome (F.files folder.old) (λ files. reading.HasRead files paths.now wanted.now found)) }
+    ensures ok { IfOk result (λ found. IfSome (F.files folder.old) (λ files.
+        reading.HasRead files paths.now wanted.now found)) }
     ensures refused { IfErr result (reading.StopsReading (F.files folder.old) paths.now) }
     ensures same { F.files folder.new ≡ F.files folder.old }
     ensures cause { HasCause LoadStop.ReadFault (F.faults folder.old) (F.faults folder.new) result }
@@ -140,7 +141,8 @@ fn take_text<F: Folder>(
     found: &mut Option<Text>,
 ) -> Result<(), LoadStop>
     requires { ForSome (F.files folder.old) (λ files. AreSitePaths (map path_of files) × HasFile files path.now) }
-    ensures ok { OnOk result (IfSome (F.files folder.old) (λ files. reading.Takes files path.now wanted.now found.old found.new)) }
+    ensures ok { OnOk result (IfSome (F.files folder.old) (λ files.
+        reading.Takes files path.now wanted.now found.old found.new)) }
     ensures refused { IfErr result (reading.StopsAtPath (F.files folder.old) path.now) }
     ensures same { F.files folder.new ≡ F.files folder.old }
     ensures cause { HasCause LoadStop.ReadFault (F.faults folder.old) (F.faults folder.new) result }

@@ -39,7 +39,8 @@ fn picked_paths(alloc: Global, picked: BTreeMap<Text, Text>) -> Result<List<Text
 
 /// Keeps the name, where it is the first with its folded path.
 fn pick(alloc: Global, picked: &mut BTreeMap<Text, Text>, name: &Text) -> Result<(), Memory>
-    ensures { OnOk result ((names : Items (Items ℕ)) → HasPicked names picked.old → HasPicked (names ++ name.now ∷ []) picked.new) }
+    ensures { OnOk result ((names : Items (Items ℕ)) → HasPicked names picked.old
+        → HasPicked (names ++ name.now ∷ []) picked.new) }
 {
     let folded = fold(alloc, name)?;
     if !is_site_name(folded.as_slice()) {

@@ -10,11 +10,14 @@ found_text-requires g c = λ files tells.
 
 pub returns-in-Err-clause-refused : goal.returns-in-Err-clause-refused
 returns-in-Err-clause-refused g c =
-    stops_loading (g.F.Folder.files c.args.folder.now) c.args.paths.now c.args.wanted.now c.in-Err.stop c.requires c.in-Err.ensures.refused
+    stops_loading (g.F.Folder.files c.args.folder.now) c.args.paths.now c.args.wanted.now c.in-Err.stop c.requires
+    c.in-Err.ensures.refused
 
 pub returns-in-Some-clause-ok : goal.returns-in-Some-clause-ok
 returns-in-Some-clause-ok g c =
     let given = g.F.Folder.files c.args.folder.now in
-    let read = subst (λ (found : Option (List ℕ)). IfSome given (λ files. HasRead files c.args.paths.now c.args.wanted.now found))
+    let read = subst (λ (found : Option (List ℕ)). IfSome given
+    (λ files. HasRead files c.args.paths.now c.args.wanted.now found))
     c.in-Some.is c.in-Ok.ensures.ok in
-    told given _ _ (λ files tells has. found_answer files c.args.paths.now c.args.wanted.now c.in-Some.text (c.requires files tells).chosen has) read
+    told given _ _ (λ files tells has. found_answer files c.args.paths.now c.args.wanted.now c.in-Some.text
+    (c.requires files tells).chosen has) read

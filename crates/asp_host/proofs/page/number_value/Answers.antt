@@ -9,4 +9,5 @@ returns-then-value-gt-GREATEST c =
     let at = c.loop-digit.digit-index in
     let read = get_or_read digits at c.digit-item.result c.loop-digit-test.true c.digit-item.is 0 in
     let more = value_more digits at c.loop-digit-test.true in
-    too_great digits (at + 1) (omega (arith, read, more, c.saturating_sub.ensures, c.if-value-gt-GREATEST.true, c.loop-digit.invariant.value))
+    too_great digits (at + 1) (omega
+    (arith, read, more, c.saturating_sub.ensures, c.if-value-gt-GREATEST.true, c.loop-digit.invariant.value))

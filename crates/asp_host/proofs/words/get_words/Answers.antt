@@ -9,5 +9,6 @@ returns-in-len3 c =
     c.get-item.is c.site-item.is c.path-item.is in
     record {
       words_are = rw items (search rules);
-      page = subst IsPagePath (c.as_bytes.ensures.value ∙ sym c.as_str-in-len3-2.ensures.value) (c.if-is_page_path.ensures.0 refl);
+      page = subst IsPagePath (c.as_bytes.ensures.value
+          ∙ sym c.as_str-in-len3-2.ensures.value) (c.if-is_page_path.ensures.0 refl);
     }
