@@ -9,4 +9,4 @@ mod Points
 mod Ranges
 mod ReadBack
 mod Rounding
-mod Tests
+mod AllPass

@@ -20,7 +20,7 @@ use Rattle.vb_value.specs.NumericText.{decimals_text, size_text}
 use Rattle.vb_value.specs.Conversions.{ReadsBack}
 use Rattle.vb_value.proofs.Rounding.{rounded_by}
 use Rattle.vb_value.proofs.Digits.{numeral_parts, decimals_rounded, half_short, four_of}
-use Rattle.vb_value.proofs.Tests.{both, weaker, all_append, all_without_last, none_both, place_none, place_at, joined}
+use Rattle.vb_value.proofs.AllPass.{both, weaker, all_append, all_without_last, none_both, place_none, place_at, joined}
 
 -- ---- digits
 
