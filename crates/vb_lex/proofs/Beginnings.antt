@@ -1,7 +1,8 @@
 -- How each kind of word begins, and what its front has to be made of.
-use Rattle.std.proofs.Common.{◌≡◌, ℕ, ◌≤◌, ◌⊎◌, Bool, true, false, eqb, ◌==◌}
-use Rattle.std.proofs.Common.{◌&&◌, ◌||◌, not, List, [], ◌∷◌, ◌++◌, map, Some, length, get_or}
+use Rattle.std.proofs.Common.{◌≡◌, ℕ, ◌≤◌, Bool, true, false, eqb, ◌==◌}
+use Rattle.std.proofs.Common.{◌&&◌, List, [], ◌∷◌, ◌++◌, map, Some, length, get_or}
 use Rattle.std.proofs.Common.{take, refl, ap, ◌∙◌, inl, inr, arith, zero, suc, if◌then◌else◌}
+use Rattle.std.proofs.Common.{subst, sym}
 use Rattle.std.proofs.lemmas.Bool.{false≢true}
 use Rattle.std.proofs.lemmas.Bool.Decides.{nat_tests}
 use Rattle.std.specs.Char.{is_ascii_alphabetic, to_ascii_lowercase}
@@ -17,7 +18,7 @@ use Rattle.vb_lex.specs.Characters.{ampersand}
 use Rattle.vb_lex.specs.Characters.{is_decimal, is_line_end, is_name_part}
 use Rattle.vb_lex.specs.Characters.{open_bracket, quote}
 use Rattle.vb_lex.specs.Names.{keyword, keyword_among}
-use Rattle.vb_lex.specs.Spelling.{HasValue, IsDecimal, IsSpelled, symbol_text}
+use Rattle.vb_lex.specs.Spelling.{HasValue, IsDecimal, IsLineEnd, IsSpelled, symbol_text}
 use Rattle.vb_lex.proofs.StringLemmas.{other}
 
 -- two tests that both pass
@@ -89,18 +90,65 @@ letters_parts (c ∷ name) all =
     let is = first_true (is_ascii_alphabetic c) (list_all is_ascii_alphabetic name) all in grind (arith, nat_tests) in
     rw (part, letters_parts name (second_true (is_ascii_alphabetic c) (list_all is_ascii_alphabetic name) all)) refl
 
--- the first character of each kind of word
-abbrev pub Begins : TokenKind → ℕ → Type 0
-Begins (kind.Keyword w) c = is_ascii_alphabetic c ≡ true
-Begins (kind.Symbol x) c = c ≡ get_or (symbol_text x) 0 0
-Begins (kind.Name x false) c = is_ascii_alphabetic c ≡ true
-Begins (kind.Name x true) c = c ≡ open_bracket
-Begins (kind.Integer v) c = (is_decimal c ≡ true) ⊎ (c ≡ ampersand)
-Begins (kind.Long v) c = (is_decimal c ≡ true) ⊎ (c ≡ ampersand)
-Begins (kind.String x) c = c ≡ quote
-Begins kind.LineEnd c = is_line_end c ≡ true
-Begins (kind.PageText x) c = ⊥
-Begins kind.PageWrite c = ⊥
+-- what a word begins with
+pub data Beginning : Type 0 where
+  Letter Digit Ending Quoted Bracket Mark : Beginning
+
+-- what a character begins
+abbrev pub beginning : ℕ → Beginning
+beginning c =
+    if is_ascii_alphabetic c then Letter
+    else (if is_decimal c then Digit
+    else (if is_line_end c then Ending
+    else (if eqb c quote then Quoted
+    else (if eqb c open_bracket then Bracket else Mark))))
+
+-- what each kind of word may begin with
+abbrev pub Begins : TokenKind → Beginning → Type 0
+Begins (kind.Keyword w) Letter = Unit {0}
+Begins (kind.Name x false) Letter = Unit {0}
+Begins (kind.Name x true) Bracket = Unit {0}
+Begins (kind.Symbol x) Mark = Unit {0}
+Begins (kind.Integer v) Digit = Unit {0}
+Begins (kind.Integer v) Mark = Unit {0}
+Begins (kind.Long v) Digit = Unit {0}
+Begins (kind.Long v) Mark = Unit {0}
+Begins (kind.String x) Quoted = Unit {0}
+Begins kind.LineEnd Ending = Unit {0}
+Begins _ _ = ⊥
+
+pub letter_begins : (c : ℕ) → is_ascii_alphabetic c ≡ true → beginning c ≡ Letter
+letter_begins c is = rw is refl
+
+pub digit_begins : (c : ℕ) → is_decimal c ≡ true → beginning c ≡ Digit
+digit_begins c is =
+    let no_letter : is_ascii_alphabetic c ≡ false = grind (arith, nat_tests) in
+    rw (no_letter, is) refl
+
+pub ending_begins : (c : ℕ) → is_line_end c ≡ true → beginning c ≡ Ending
+ending_begins c is =
+    let no_letter : is_ascii_alphabetic c ≡ false = grind (arith, nat_tests) in
+    let no_digit : is_decimal c ≡ false = grind (arith, nat_tests) in
+    rw (no_letter, no_digit, is) refl
+
+symbol_begins : (x : Symbol) → beginning (get_or (symbol_text x) 0 0) ≡ Mark
+symbol_begins s.Ampersand = refl
+symbol_begins s.AtMost = refl
+symbol_begins s.AtLeast = refl
+symbol_begins s.Backslash = refl
+symbol_begins s.Close = refl
+symbol_begins s.Colon = refl
+symbol_begins s.Comma = refl
+symbol_begins s.Equal = refl
+symbol_begins s.Greater = refl
+symbol_begins s.Less = refl
+symbol_begins s.Minus = refl
+symbol_begins s.NotEqual = refl
+symbol_begins s.Open = refl
+symbol_begins s.Plus = refl
+symbol_begins s.Star = refl
+symbol_begins s.PathPoint = refl
+symbol_begins s.WithPoint = refl
 
 abbrev pub head_of : List ℕ → ℕ
 head_of text = get_or text 0 0
@@ -117,222 +165,41 @@ front_begins c n text (d ∷ front) same has = ap head_of same ∙ has_value_beg
 pub decimal_begins : (c n : ℕ) (text : List ℕ) → IsDecimal (c ∷ text) n → is_decimal c ≡ true
 decimal_begins c n text is = first_true (is_decimal c) (list_all is_decimal text) is.1
 
-pub begins : (word : TokenKind) (c : ℕ) (text : List ℕ) → IsSpelled word (c ∷ text) → Begins word c
+-- the word may begin so, by what its first character is
+begins_by : (word : TokenKind) (c : ℕ) (first : Beginning) → beginning c ≡ first → Begins word first
+    → Begins word (beginning c)
+begins_by word c first same begins_so = subst (Begins word) (sym same) begins_so
+
+line_end_begins : (c : ℕ) (text : List ℕ) → IsLineEnd (c ∷ text) → is_line_end c ≡ true
+line_end_begins c text (inl is) = cc
+line_end_begins c text (inr (inl is)) = let first = ap head_of is in grind (arith, nat_tests)
+line_end_begins c text (inr (inr (inl is))) = let first = ap head_of is in grind (arith, nat_tests)
+line_end_begins c text (inr (inr (inr is))) = let first = ap head_of is in grind (arith, nat_tests)
+
+pub begins : (word : TokenKind) (c : ℕ) (text : List ℕ) → IsSpelled word (c ∷ text) → Begins word (beginning c)
 begins (kind.Keyword w) c text is =
-    first_true (is_ascii_alphabetic c) (list_all is_ascii_alphabetic text) (keyword_letters (c ∷ text) w is)
-begins (kind.Symbol x) c text is = ap head_of is
-begins (kind.Name x false) c text is = is.1
-begins (kind.Name x true) c text is = ap head_of is.0
-begins (kind.Integer v) c text (inl is) = inl (decimal_begins c is.0 text is.1)
-begins (kind.Integer v) c text (inr is) = inr (has_value_begins c is.0 text is.1)
-begins (kind.Long v) c text (inl is) = inl (decimal_begins c is.0 text is.1)
-begins (kind.Long v) c text (inr (inl is)) = inr (has_value_begins c is.0 text is.1)
-begins (kind.Long v) c text (inr (inr is)) = inr (front_begins c is.1 text is.0 is.2 is.3)
-begins (kind.String x) c text is = ap head_of is
-begins kind.LineEnd c text (inl is) = cc
-begins kind.LineEnd c text (inr (inl is)) = let e = ap head_of is in grind (arith, nat_tests)
-begins kind.LineEnd c text (inr (inr (inl is))) = let e = ap head_of is in grind (arith, nat_tests)
-begins kind.LineEnd c text (inr (inr (inr is))) = let e = ap head_of is in grind (arith, nat_tests)
-begins (kind.PageText x) c text is = is
-begins kind.PageWrite c text is = is
+    let first = first_true (is_ascii_alphabetic c) (list_all is_ascii_alphabetic text) (keyword_letters (c ∷ text) w is) in
+    begins_by (kind.Keyword w) c Letter (letter_begins c first) tt
+begins (kind.Symbol x) c text is =
+    begins_by (kind.Symbol x) c Mark (ap beginning (ap head_of is) ∙ symbol_begins x) tt
+begins (kind.Name x false) c text is = begins_by (kind.Name x false) c Letter (letter_begins c is.1) tt
+begins (kind.Name x true) c text is = begins_by (kind.Name x true) c Bracket (ap beginning (ap head_of is.0)) tt
+begins (kind.Integer v) c text (inl is) =
+    begins_by (kind.Integer v) c Digit (digit_begins c (decimal_begins c is.0 text is.1)) tt
+begins (kind.Integer v) c text (inr is) =
+    begins_by (kind.Integer v) c Mark (ap beginning (has_value_begins c is.0 text is.1)) tt
+begins (kind.Long v) c text (inl is) =
+    begins_by (kind.Long v) c Digit (digit_begins c (decimal_begins c is.0 text is.1)) tt
+begins (kind.Long v) c text (inr (inl is)) =
+    begins_by (kind.Long v) c Mark (ap beginning (has_value_begins c is.0 text is.1)) tt
+begins (kind.Long v) c text (inr (inr is)) =
+    begins_by (kind.Long v) c Mark (ap beginning (front_begins c is.1 text is.0 is.2 is.3)) tt
+begins (kind.String x) c text is = begins_by (kind.String x) c Quoted (ap beginning (ap head_of is)) tt
+begins kind.LineEnd c text is = begins_by kind.LineEnd c Ending (ending_begins c (line_end_begins c text is)) tt
+begins (kind.PageText x) c text is = absurd is
+begins kind.PageWrite c text is = absurd is
 
--- a mark is none of the other first characters
-abbrev pub is_mark : ℕ → Bool
-is_mark c = not (is_ascii_alphabetic c || is_decimal c || is_line_end c || eqb c quote || eqb c open_bracket)
-
-pub symbol_mark : (x : Symbol) → is_mark (get_or (symbol_text x) 0 0) ≡ true
-symbol_mark s.Ampersand = refl
-symbol_mark s.AtMost = refl
-symbol_mark s.AtLeast = refl
-symbol_mark s.Backslash = refl
-symbol_mark s.Close = refl
-symbol_mark s.Colon = refl
-symbol_mark s.Comma = refl
-symbol_mark s.Equal = refl
-symbol_mark s.Greater = refl
-symbol_mark s.Less = refl
-symbol_mark s.Minus = refl
-symbol_mark s.NotEqual = refl
-symbol_mark s.Open = refl
-symbol_mark s.Plus = refl
-symbol_mark s.Star = refl
-symbol_mark s.PathPoint = refl
-symbol_mark s.WithPoint = refl
-
-pub mark_clash_letter : (c d : ℕ) → is_ascii_alphabetic c ≡ true → is_mark d ≡ true → c ≡ d → ⊥
-mark_clash_letter c d is mark same = grind (arith, nat_tests)
-
-pub number_clash_letter : (c : ℕ) → is_ascii_alphabetic c ≡ true → (is_decimal c ≡ true) ⊎ (c ≡ ampersand) → ⊥
-number_clash_letter c is number = grind (arith, nat_tests)
-
-pub other_clash_letter_name_bracketed : (c : ℕ) → is_ascii_alphabetic c ≡ true → c ≡ open_bracket → ⊥
-other_clash_letter_name_bracketed c is other = grind (arith, nat_tests)
-
-pub other_clash_letter_string : (c : ℕ) → is_ascii_alphabetic c ≡ true → c ≡ quote → ⊥
-other_clash_letter_string c is other = grind (arith, nat_tests)
-
-pub other_clash_letter_lineend : (c : ℕ) → is_ascii_alphabetic c ≡ true → is_line_end c ≡ true → ⊥
-other_clash_letter_lineend c is other = grind (arith, nat_tests)
-
-pub mark_clash_decimal : (c d : ℕ) → is_decimal c ≡ true → is_mark d ≡ true → c ≡ d → ⊥
-mark_clash_decimal c d is mark same = grind (arith, nat_tests)
-
-pub other_clash_decimal_keyword : (c : ℕ) → is_decimal c ≡ true → is_ascii_alphabetic c ≡ true → ⊥
-other_clash_decimal_keyword c is other = grind (arith, nat_tests)
-
-pub other_clash_decimal_name : (c : ℕ) → is_decimal c ≡ true → is_ascii_alphabetic c ≡ true → ⊥
-other_clash_decimal_name c is other = grind (arith, nat_tests)
-
-pub other_clash_decimal_name_bracketed : (c : ℕ) → is_decimal c ≡ true → c ≡ open_bracket → ⊥
-other_clash_decimal_name_bracketed c is other = grind (arith, nat_tests)
-
-pub other_clash_decimal_string : (c : ℕ) → is_decimal c ≡ true → c ≡ quote → ⊥
-other_clash_decimal_string c is other = grind (arith, nat_tests)
-
-pub other_clash_decimal_lineend : (c : ℕ) → is_decimal c ≡ true → is_line_end c ≡ true → ⊥
-other_clash_decimal_lineend c is other = grind (arith, nat_tests)
-
-pub mark_clash_quote : (c d : ℕ) → c ≡ quote → is_mark d ≡ true → c ≡ d → ⊥
-mark_clash_quote c d is mark same = grind (arith, nat_tests)
-
-pub number_clash_quote : (c : ℕ) → c ≡ quote → (is_decimal c ≡ true) ⊎ (c ≡ ampersand) → ⊥
-number_clash_quote c is number = grind (arith, nat_tests)
-
-pub other_clash_quote_keyword : (c : ℕ) → c ≡ quote → is_ascii_alphabetic c ≡ true → ⊥
-other_clash_quote_keyword c is other = grind (arith, nat_tests)
-
-pub other_clash_quote_name : (c : ℕ) → c ≡ quote → is_ascii_alphabetic c ≡ true → ⊥
-other_clash_quote_name c is other = grind (arith, nat_tests)
-
-pub other_clash_quote_name_bracketed : (c : ℕ) → c ≡ quote → c ≡ open_bracket → ⊥
-other_clash_quote_name_bracketed c is other = grind (arith, nat_tests)
-
-pub other_clash_quote_lineend : (c : ℕ) → c ≡ quote → is_line_end c ≡ true → ⊥
-other_clash_quote_lineend c is other = grind (arith, nat_tests)
-
-pub mark_clash_bracket : (c d : ℕ) → c ≡ open_bracket → is_mark d ≡ true → c ≡ d → ⊥
-mark_clash_bracket c d is mark same = grind (arith, nat_tests)
-
-pub number_clash_bracket : (c : ℕ) → c ≡ open_bracket → (is_decimal c ≡ true) ⊎ (c ≡ ampersand) → ⊥
-number_clash_bracket c is number = grind (arith, nat_tests)
-
-pub other_clash_bracket_keyword : (c : ℕ) → c ≡ open_bracket → is_ascii_alphabetic c ≡ true → ⊥
-other_clash_bracket_keyword c is other = grind (arith, nat_tests)
-
-pub other_clash_bracket_name : (c : ℕ) → c ≡ open_bracket → is_ascii_alphabetic c ≡ true → ⊥
-other_clash_bracket_name c is other = grind (arith, nat_tests)
-
-pub other_clash_bracket_string : (c : ℕ) → c ≡ open_bracket → c ≡ quote → ⊥
-other_clash_bracket_string c is other = grind (arith, nat_tests)
-
-pub other_clash_bracket_lineend : (c : ℕ) → c ≡ open_bracket → is_line_end c ≡ true → ⊥
-other_clash_bracket_lineend c is other = grind (arith, nat_tests)
-
-pub mark_clash_ending : (c d : ℕ) → is_line_end c ≡ true → is_mark d ≡ true → c ≡ d → ⊥
-mark_clash_ending c d is mark same = grind (arith, nat_tests)
-
-pub number_clash_ending : (c : ℕ) → is_line_end c ≡ true → (is_decimal c ≡ true) ⊎ (c ≡ ampersand) → ⊥
-number_clash_ending c is number = grind (arith, nat_tests)
-
-pub other_clash_ending_keyword : (c : ℕ) → is_line_end c ≡ true → is_ascii_alphabetic c ≡ true → ⊥
-other_clash_ending_keyword c is other = grind (arith, nat_tests)
-
-pub other_clash_ending_name : (c : ℕ) → is_line_end c ≡ true → is_ascii_alphabetic c ≡ true → ⊥
-other_clash_ending_name c is other = grind (arith, nat_tests)
-
-pub other_clash_ending_name_bracketed : (c : ℕ) → is_line_end c ≡ true → c ≡ open_bracket → ⊥
-other_clash_ending_name_bracketed c is other = grind (arith, nat_tests)
-
-pub other_clash_ending_string : (c : ℕ) → is_line_end c ≡ true → c ≡ quote → ⊥
-other_clash_ending_string c is other = grind (arith, nat_tests)
-
-abbrev pub Has_letter : TokenKind → Type 0
-Has_letter (kind.Keyword w) = Unit {0}
-Has_letter (kind.Name x false) = Unit {0}
-Has_letter _ = ⊥
-
-pub letter_only : (other : TokenKind) (c : ℕ) → is_ascii_alphabetic c ≡ true → Begins other c → Has_letter other
-letter_only (kind.Keyword w) c is begins_so = tt
-letter_only (kind.Symbol x) c is begins_so =
-    (let mark = symbol_mark x in let same = begins_so in mark_clash_letter c (get_or
-    (symbol_text x) 0 0) is mark same)
-letter_only (kind.Name x false) c is begins_so = tt
-letter_only (kind.Name x true) c is begins_so = other_clash_letter_name_bracketed c is begins_so
-letter_only (kind.Integer v) c is begins_so = number_clash_letter c is begins_so
-letter_only (kind.Long v) c is begins_so = number_clash_letter c is begins_so
-letter_only (kind.String x) c is begins_so = other_clash_letter_string c is begins_so
-letter_only kind.LineEnd c is begins_so = other_clash_letter_lineend c is begins_so
-letter_only (kind.PageText x) c is begins_so = begins_so
-letter_only kind.PageWrite c is begins_so = begins_so
-
-abbrev pub Has_decimal : TokenKind → Type 0
-Has_decimal (kind.Integer v) = Unit {0}
-Has_decimal (kind.Long v) = Unit {0}
-Has_decimal _ = ⊥
-
-pub decimal_only : (other : TokenKind) (c : ℕ) → is_decimal c ≡ true → Begins other c → Has_decimal other
-decimal_only (kind.Keyword w) c is begins_so = other_clash_decimal_keyword c is begins_so
-decimal_only (kind.Symbol x) c is begins_so =
-    (let mark = symbol_mark x in let same = begins_so in mark_clash_decimal c (get_or
-    (symbol_text x) 0 0) is mark same)
-decimal_only (kind.Name x false) c is begins_so = other_clash_decimal_name c is begins_so
-decimal_only (kind.Name x true) c is begins_so = other_clash_decimal_name_bracketed c is begins_so
-decimal_only (kind.Integer v) c is begins_so = tt
-decimal_only (kind.Long v) c is begins_so = tt
-decimal_only (kind.String x) c is begins_so = other_clash_decimal_string c is begins_so
-decimal_only kind.LineEnd c is begins_so = other_clash_decimal_lineend c is begins_so
-decimal_only (kind.PageText x) c is begins_so = begins_so
-decimal_only kind.PageWrite c is begins_so = begins_so
-
-abbrev pub Has_quote : TokenKind → Type 0
-Has_quote (kind.String x) = Unit {0}
-Has_quote _ = ⊥
-
-pub quote_only : (other : TokenKind) (c : ℕ) → c ≡ quote → Begins other c → Has_quote other
-quote_only (kind.Keyword w) c is begins_so = other_clash_quote_keyword c is begins_so
-quote_only (kind.Symbol x) c is begins_so =
-    (let mark = symbol_mark x in let same = begins_so in mark_clash_quote c (get_or (symbol_text x) 0 0) is mark same)
-quote_only (kind.Name x false) c is begins_so = other_clash_quote_name c is begins_so
-quote_only (kind.Name x true) c is begins_so = other_clash_quote_name_bracketed c is begins_so
-quote_only (kind.Integer v) c is begins_so = number_clash_quote c is begins_so
-quote_only (kind.Long v) c is begins_so = number_clash_quote c is begins_so
-quote_only (kind.String x) c is begins_so = tt
-quote_only kind.LineEnd c is begins_so = other_clash_quote_lineend c is begins_so
-quote_only (kind.PageText x) c is begins_so = begins_so
-quote_only kind.PageWrite c is begins_so = begins_so
-
-abbrev pub Has_bracket : TokenKind → Type 0
-Has_bracket (kind.Name x true) = Unit {0}
-Has_bracket _ = ⊥
-
-pub bracket_only : (other : TokenKind) (c : ℕ) → c ≡ open_bracket → Begins other c → Has_bracket other
-bracket_only (kind.Keyword w) c is begins_so = other_clash_bracket_keyword c is begins_so
-bracket_only (kind.Symbol x) c is begins_so =
-    (let mark = symbol_mark x in let same = begins_so in mark_clash_bracket c (get_or
-    (symbol_text x) 0 0) is mark same)
-bracket_only (kind.Name x false) c is begins_so = other_clash_bracket_name c is begins_so
-bracket_only (kind.Name x true) c is begins_so = tt
-bracket_only (kind.Integer v) c is begins_so = number_clash_bracket c is begins_so
-bracket_only (kind.Long v) c is begins_so = number_clash_bracket c is begins_so
-bracket_only (kind.String x) c is begins_so = other_clash_bracket_string c is begins_so
-bracket_only kind.LineEnd c is begins_so = other_clash_bracket_lineend c is begins_so
-bracket_only (kind.PageText x) c is begins_so = begins_so
-bracket_only kind.PageWrite c is begins_so = begins_so
-
-abbrev pub Has_ending : TokenKind → Type 0
-Has_ending kind.LineEnd = Unit {0}
-Has_ending _ = ⊥
-
-pub ending_only : (other : TokenKind) (c : ℕ) → is_line_end c ≡ true → Begins other c → Has_ending other
-ending_only (kind.Keyword w) c is begins_so = other_clash_ending_keyword c is begins_so
-ending_only (kind.Symbol x) c is begins_so =
-    (let mark = symbol_mark x in let same = begins_so in mark_clash_ending c (get_or
-    (symbol_text x) 0 0) is mark same)
-ending_only (kind.Name x false) c is begins_so = other_clash_ending_name c is begins_so
-ending_only (kind.Name x true) c is begins_so = other_clash_ending_name_bracketed c is begins_so
-ending_only (kind.Integer v) c is begins_so = number_clash_ending c is begins_so
-ending_only (kind.Long v) c is begins_so = number_clash_ending c is begins_so
-ending_only (kind.String x) c is begins_so = other_clash_ending_string c is begins_so
-ending_only kind.LineEnd c is begins_so = tt
-ending_only (kind.PageText x) c is begins_so = begins_so
-ending_only kind.PageWrite c is begins_so = begins_so
+-- the same, where it is known what the first character begins
+pub begins_with : (word : TokenKind) (c : ℕ) (text : List ℕ) (first : Beginning) → beginning c ≡ first
+    → IsSpelled word (c ∷ text) → Begins word first
+begins_with word c text first same spelled = subst (Begins word) same (begins word c text spelled)

@@ -22,12 +22,10 @@ use Rattle.vb_lex.specs.Symbols.{beside, greater_word, less_word, one_character,
 use Rattle.vb_lex.specs.Spelling.{IsLineEnd, IsSpelled, doubled, symbol_text}
 use Rattle.vb_lex.specs.Strings.{behind_front, quoted}
 use Rattle.vb_lex.proofs.StringLemmas.{ended, other}
+use Rattle.vb_lex.proofs.Beginnings.{Bracket, Digit, Ending, Letter, Mark, Quoted, Begins, beginning, begins_with}
+use Rattle.vb_lex.proofs.Beginnings.{decimal_begins, digit_begins, ending_begins, front_begins, has_value_begins}
+use Rattle.vb_lex.proofs.Beginnings.{head_of, keyword_letters, letter_begins, letters_parts, run_longest}
 use Rattle.vb_lex.proofs.Within.{line_end_moves}
-use Rattle.vb_lex.proofs.Beginnings.{run_longest, keyword_letters, letters_parts, has_value_begins, front_begins}
-use Rattle.vb_lex.proofs.Beginnings.{begins, mark_clash_letter, mark_clash_decimal, mark_clash_quote}
-use Rattle.vb_lex.proofs.Beginnings.{mark_clash_bracket, mark_clash_ending, letter_only, decimal_only, quote_only}
-use Rattle.vb_lex.proofs.Beginnings.{bracket_only, ending_only, head_of, is_mark, Has_letter, Has_decimal, Has_quote}
-use Rattle.vb_lex.proofs.Beginnings.{Has_bracket, Has_ending}
 
 -- No word that begins at a character goes on over more of what stands behind it than the word has there.
 abbrev pub IsMost : ℕ → List ℕ → ℕ → Type 0
@@ -35,7 +33,7 @@ IsMost c rest taken = (other : TokenKind) (more : ℕ) → taken ≤ more → mo
     → IsSpelled other (c ∷ take more rest) → ⊥
 
 -- names and keywords
-parts_of : (other : TokenKind) (text : List ℕ) → Has_letter other → IsSpelled other text
+parts_of : (other : TokenKind) (text : List ℕ) → Begins other Letter → IsSpelled other text
     → list_all is_name_part text ≡ true
 parts_of (kind.Keyword w) text has spelled = letters_parts text (keyword_letters text w spelled)
 parts_of (kind.Name x false) text has spelled = spelled.2
@@ -51,7 +49,7 @@ parts_of kind.PageWrite text has spelled = absurd has
 pub name_most : (c : ℕ) (rest : List ℕ) → is_ascii_alphabetic c ≡ true
     → IsMost c rest (prefix_len is_name_part (c ∷ rest))
 name_most c rest is other more below within spelled =
-    let has = letter_only other c is (begins other c (take more rest) spelled) in
+    let has = begins_with other c (take more rest) Letter (letter_begins c is) spelled in
     let most = run_longest is_name_part (c ∷ rest) (suc more) (omega arith)
     (parts_of other (c ∷ take more rest) has spelled) in
     omega arith
@@ -60,7 +58,7 @@ name_most c rest is other more below within spelled =
 decimal_no_mark : (c : ℕ) → is_decimal c ≡ true → c ≡ ampersand → ⊥
 decimal_no_mark c is same = grind (arith, nat_tests)
 
-digits_of : (other : TokenKind) (c : ℕ) (text : List ℕ) → is_decimal c ≡ true → Has_decimal other
+digits_of : (other : TokenKind) (c : ℕ) (text : List ℕ) → is_decimal c ≡ true → Begins other Digit
     → IsSpelled other (c ∷ text) → list_all is_decimal (c ∷ text) ≡ true
 digits_of (kind.Integer v) c text is has (inl spelled) = spelled.1.1
 digits_of (kind.Integer v) c text is has (inr spelled) =
@@ -71,7 +69,8 @@ digits_of (kind.Long v) c text is has (inr (inl spelled)) =
 digits_of (kind.Long v) c text is has (inr (inr spelled)) =
     absurd (decimal_no_mark c is (front_begins c spelled.1 text spelled.0 spelled.2 spelled.3))
 digits_of (kind.Keyword w) c text is has spelled = absurd has
-digits_of (kind.Name x b) c text is has spelled = absurd has
+digits_of (kind.Name x false) c text is has spelled = absurd has
+digits_of (kind.Name x true) c text is has spelled = absurd has
 digits_of (kind.Symbol x) c text is has spelled = absurd has
 digits_of (kind.String x) c text is has spelled = absurd has
 digits_of kind.LineEnd c text is has spelled = absurd has
@@ -80,7 +79,7 @@ digits_of kind.PageWrite c text is has spelled = absurd has
 
 pub decimal_most : (c : ℕ) (rest : List ℕ) → is_decimal c ≡ true → IsMost c rest (prefix_len is_decimal (c ∷ rest))
 decimal_most c rest is other more below within spelled =
-    let has = decimal_only other c is (begins other c (take more rest) spelled) in
+    let has = begins_with other c (take more rest) Digit (digit_begins c is) spelled in
     let most = run_longest is_decimal (c ∷ rest) (suc more) (omega arith)
     (digits_of other c (take more rest) is has spelled) in
     omega arith
@@ -89,10 +88,11 @@ decimal_most c rest is other more below within spelled =
 cr_lf : (c : ℕ) (rest : List ℕ) → c ≡ carriage_return → get_or rest 0 0 ≡ line_feed → line_end_length (c ∷ rest) ≡ 2
 cr_lf c rest first second = grind (arith, nat_tests)
 
-line_end_of : (other : TokenKind) (text : List ℕ) → Has_ending other → IsSpelled other text → IsLineEnd text
+line_end_of : (other : TokenKind) (text : List ℕ) → Begins other Ending → IsSpelled other text → IsLineEnd text
 line_end_of kind.LineEnd text has spelled = spelled
 line_end_of (kind.Keyword w) text has spelled = absurd has
-line_end_of (kind.Name x b) text has spelled = absurd has
+line_end_of (kind.Name x false) text has spelled = absurd has
+line_end_of (kind.Name x true) text has spelled = absurd has
 line_end_of (kind.Symbol x) text has spelled = absurd has
 line_end_of (kind.Integer x) text has spelled = absurd has
 line_end_of (kind.Long x) text has spelled = absurd has
@@ -122,12 +122,12 @@ line_end_longer c rest more moves below within (inr (inr (inr one))) =
 
 pub line_end_most : (c : ℕ) (rest : List ℕ) → is_line_end c ≡ true → IsMost c rest (line_end_length (c ∷ rest))
 line_end_most c rest is other more below within spelled =
-    let has = ending_only other c is (begins other c (take more rest) spelled) in
+    let has = begins_with other c (take more rest) Ending (ending_begins c is) spelled in
     line_end_longer c rest more (line_end_moves c rest is) below within (line_end_of other
     (c ∷ take more rest) has spelled)
 
 -- names in brackets
-bracketed_of : (other : TokenKind) (text : List ℕ) → Has_bracket other → IsSpelled other text
+bracketed_of : (other : TokenKind) (text : List ℕ) → Begins other Bracket → IsSpelled other text
     → (name : List ℕ) × (text ≡ open_bracket ∷ name ++ close_bracket ∷ []) × (list_all is_bracketed name ≡ true)
 bracketed_of (kind.Name x true) text has spelled = (x, spelled.0, spelled.1)
 bracketed_of (kind.Name x false) text has spelled = absurd has
@@ -164,7 +164,7 @@ front_of rest front last more within same =
 
 pub bracketed_most : (c : ℕ) (rest : List ℕ) → c ≡ open_bracket → IsMost c rest (prefix_len is_bracketed rest + 2)
 bracketed_most c rest is other more below within spelled =
-    let has = bracket_only other c is (begins other c (take more rest) spelled) in
+    let has = begins_with other c (take more rest) Bracket (ap beginning is) spelled in
     let name = bracketed_of other (c ∷ take more rest) has spelled in
     let parts = front_of rest name.0 close_bracket more within (ap tail_of name.1) in
     let fits : length name.0 ≤ length rest = omega (arith, parts.0) in
@@ -231,10 +231,11 @@ closes_late (c ∷ value) more =
     elim [ true ↦ λ _. pair | false ↦ λ differs. plain differs ] in
     go (eqb c quote) refl
 
-string_of : (other : TokenKind) (text : List ℕ) → Has_quote other → IsSpelled other text
+string_of : (other : TokenKind) (text : List ℕ) → Begins other Quoted → IsSpelled other text
     → (value : List ℕ) × (text ≡ quote ∷ doubled value ++ quote ∷ [])
 string_of (kind.String x) text has spelled = (x, spelled)
-string_of (kind.Name x b) text has spelled = absurd has
+string_of (kind.Name x false) text has spelled = absurd has
+string_of (kind.Name x true) text has spelled = absurd has
 string_of (kind.Keyword w) text has spelled = absurd has
 string_of (kind.Symbol x) text has spelled = absurd has
 string_of (kind.Integer x) text has spelled = absurd has
@@ -246,7 +247,7 @@ string_of kind.PageWrite text has spelled = absurd has
 pub string_most : (c : ℕ) (rest : List ℕ) (found : List ℕ × ℕ) → c ≡ quote → quoted rest ≡ Some found
     → IsMost c rest (1 + found.1)
 string_most c rest found is closed word more below within spelled =
-    let has = quote_only word c is (begins word c (take more rest) spelled) in
+    let has = begins_with word c (take more rest) Quoted (ap beginning is) spelled in
     let string_is = string_of word (c ∷ take more rest) has spelled in
     let front : List ℕ = doubled string_is.0 in
     let inside : take more rest ≡ front ++ quote ∷ [] = ap tail_of string_is.1 in
@@ -261,30 +262,29 @@ string_most c rest found is closed word more below within spelled =
     omega (arith, parts.0, here)
 
 -- marks
-no_number : (c : ℕ) → is_mark c ≡ true → c ≢ ampersand → (is_decimal c ≡ true) ⊎ (c ≡ ampersand) → ⊥
-no_number c is differs (inl digit) = mark_clash_decimal c c digit is refl
-no_number c is differs (inr same) = differs same
+no_digit : (c : ℕ) → beginning c ≡ Mark → is_decimal c ≡ true → ⊥
+no_digit c is digit = let other = digit_begins c digit in cc
 
-symbol_of : (other : TokenKind) (c : ℕ) (text : List ℕ) → is_mark c ≡ true → c ≢ ampersand → IsSpelled other
-    (c ∷ text)
-    → (x : Symbol) × (c ∷ text ≡ symbol_text x)
-symbol_of (kind.Symbol x) c text is differs spelled = (x, spelled)
-symbol_of (kind.Keyword w) c text is differs spelled =
-    absurd (mark_clash_letter c c (begins (kind.Keyword w) c text spelled) is refl)
-symbol_of (kind.Name x false) c text is differs spelled =
-    absurd (mark_clash_letter c c (begins (kind.Name x false) c text spelled) is refl)
-symbol_of (kind.Name x true) c text is differs spelled =
-    absurd (mark_clash_bracket c c (begins (kind.Name x true) c text spelled) is refl)
-symbol_of (kind.Integer v) c text is differs spelled = absurd (no_number c is differs (begins
-    (kind.Integer v) c text spelled))
-symbol_of (kind.Long v) c text is differs spelled = absurd (no_number c is differs (begins
-    (kind.Long v) c text spelled))
-symbol_of (kind.String x) c text is differs spelled =
-    absurd (mark_clash_quote c c (begins (kind.String x) c text spelled) is refl)
-symbol_of kind.LineEnd c text is differs spelled =
-    absurd (mark_clash_ending c c (begins kind.LineEnd c text spelled) is refl)
-symbol_of (kind.PageText x) c text is differs spelled = absurd spelled
-symbol_of kind.PageWrite c text is differs spelled = absurd spelled
+symbol_of : (other : TokenKind) (c : ℕ) (text : List ℕ) → beginning c ≡ Mark → c ≢ ampersand
+    → Begins other Mark → IsSpelled other (c ∷ text) → (x : Symbol) × (c ∷ text ≡ symbol_text x)
+symbol_of (kind.Symbol x) c text is differs begins_so spelled = (x, spelled)
+symbol_of (kind.Integer v) c text is differs begins_so (inl spelled) =
+    absurd (no_digit c is (decimal_begins c spelled.0 text spelled.1))
+symbol_of (kind.Integer v) c text is differs begins_so (inr spelled) =
+    absurd (differs (has_value_begins c spelled.0 text spelled.1))
+symbol_of (kind.Long v) c text is differs begins_so (inl spelled) =
+    absurd (no_digit c is (decimal_begins c spelled.0 text spelled.1))
+symbol_of (kind.Long v) c text is differs begins_so (inr (inl spelled)) =
+    absurd (differs (has_value_begins c spelled.0 text spelled.1))
+symbol_of (kind.Long v) c text is differs begins_so (inr (inr spelled)) =
+    absurd (differs (front_begins c spelled.1 text spelled.0 spelled.2 spelled.3))
+symbol_of (kind.Keyword w) c text is differs begins_so spelled = absurd begins_so
+symbol_of (kind.Name x false) c text is differs begins_so spelled = absurd begins_so
+symbol_of (kind.Name x true) c text is differs begins_so spelled = absurd begins_so
+symbol_of (kind.String x) c text is differs begins_so spelled = absurd begins_so
+symbol_of kind.LineEnd c text is differs begins_so spelled = absurd begins_so
+symbol_of (kind.PageText x) c text is differs begins_so spelled = absurd begins_so
+symbol_of kind.PageWrite c text is differs begins_so spelled = absurd begins_so
 
 -- the symbols of two characters
 abbrev IsPair : ℕ → ℕ → Type 0
@@ -331,11 +331,12 @@ symbol_pair s.Star c text same long = absurd (omega (arith, ap length same))
 symbol_pair s.PathPoint c text same long = absurd (omega (arith, ap length same))
 symbol_pair s.WithPoint c text same long = absurd (omega (arith, ap length same))
 
-pair_of : (c : ℕ) (rest : List ℕ) (word : TokenKind) (more : ℕ) → is_mark c ≡ true → c ≢ ampersand → 0 < more
+pair_of : (c : ℕ) (rest : List ℕ) (word : TokenKind) (more : ℕ) → beginning c ≡ Mark → c ≢ ampersand → 0 < more
     → more ≤ length rest → IsSpelled word (c ∷ take more rest) → (more ≡ 1) × IsPair c (get_or rest 0 0)
 pair_of c rest word more is differs some within spelled =
     let size : length (take more rest) ≡ more = length-take-le more rest within in
-    let symbol_is = symbol_of word c (take more rest) is differs spelled in
+    let symbol_is = symbol_of word c (take more rest) is differs
+    (begins_with word c (take more rest) Mark is spelled) spelled in
     let pair = symbol_pair symbol_is.0 c (take more rest) symbol_is.1 (omega arith) in
     let read : get_or (take more rest) 0 0 ≡ get_or rest 0 0 = get_or-take more rest 0 0 some in
     (omega (arith, pair.0), subst (IsPair c) read pair.1)
@@ -351,12 +352,12 @@ pick P true one two first second = first refl
 pick P false one two first second = second refl
 
 -- a symbol of two characters, and one of one character where no other of two begins so
-two_most : (c : ℕ) (rest : List ℕ) → is_mark c ≡ true → c ≢ ampersand → IsMost c rest 2
+two_most : (c : ℕ) (rest : List ℕ) → beginning c ≡ Mark → c ≢ ampersand → IsMost c rest 2
 two_most c rest is differs word more below within spelled =
     let pair = pair_of c rest word more is differs (omega arith) within spelled in
     omega (arith, pair.0)
 
-pub one_most : (c : ℕ) (rest : List ℕ) → is_mark c ≡ true → c ≢ ampersand → (IsPair c (get_or rest 0 0) → ⊥)
+pub one_most : (c : ℕ) (rest : List ℕ) → beginning c ≡ Mark → c ≢ ampersand → (IsPair c (get_or rest 0 0) → ⊥)
     → IsMost c rest 1
 one_most c rest is differs alone word more below within spelled =
     alone (pair_of c rest word more is differs (omega arith) within spelled).1
@@ -368,7 +369,7 @@ less_alone c d is no_greater no_equal (inl (pair)) = less_second d no_greater no
     less_second d no_greater no_equal second = grind (arith, nat_tests)
 less_alone c d is no_greater no_equal (inr pair) = omega (arith, pair.0)
 
-less_most : (c : ℕ) (rest : List ℕ) → is_mark c ≡ true → c ≢ ampersand → c ≡ less
+less_most : (c : ℕ) (rest : List ℕ) → beginning c ≡ Mark → c ≢ ampersand → c ≡ less
     → IsMostOf c rest (less_word (get_or rest 0 0))
 less_most c rest mark differs is =
     pick (IsMostOf c rest) (eqb (get_or rest 0 0) greater) (Word (kind.Symbol s.NotEqual) 2)
@@ -382,7 +383,7 @@ greater_alone : (c d : ℕ) → c ≡ greater → eqb d equal ≡ false → IsPa
 greater_alone c d is no_equal (inl pair) = omega (arith, pair.0)
 greater_alone c d is no_equal (inr pair) = let second = pair.1 in grind (arith, nat_tests)
 
-greater_most : (c : ℕ) (rest : List ℕ) → is_mark c ≡ true → c ≢ ampersand → c ≡ greater
+greater_most : (c : ℕ) (rest : List ℕ) → beginning c ≡ Mark → c ≢ ampersand → c ≡ greater
     → IsMostOf c rest (greater_word (get_or rest 0 0))
 greater_most c rest mark differs is =
     pick (IsMostOf c rest) (eqb (get_or rest 0 0) equal) (Word (kind.Symbol s.AtLeast) 2) (Word
@@ -443,7 +444,7 @@ one_character_single = (
   ),
 )
 
-pub symbol_most : (c : ℕ) (rest : List ℕ) → is_mark c ≡ true → c ≢ ampersand
+pub symbol_most : (c : ℕ) (rest : List ℕ) → beginning c ≡ Mark → c ≢ ampersand
     → IsMostOf c rest (symbol c (get_or rest 0 0))
 unfolding symbol
 symbol_most c rest mark differs =

@@ -18,8 +18,7 @@ use Rattle.vb_lex.specs.Characters.{ampersand, capital_h, capital_o, is_decimal,
 use Rattle.vb_lex.specs.Characters.{small_o}
 use Rattle.vb_lex.specs.Numbers.{ampersand_word, based, based_kind, is_spoilt}
 use Rattle.vb_lex.specs.Spelling.{HasValue, IsBased, IsSpelled, symbol_text}
-use Rattle.vb_lex.proofs.Beginnings.{begins, decimal_begins, first_true, head_of, is_mark, mark_clash_bracket}
-use Rattle.vb_lex.proofs.Beginnings.{mark_clash_ending, mark_clash_letter, mark_clash_quote, run_longest}
+use Rattle.vb_lex.proofs.Beginnings.{Mark, beginning, begins_with, decimal_begins, first_true, head_of, run_longest}
 use Rattle.vb_lex.proofs.Longest.{IsMost, IsMostOf, front_of, pick, tail_of}
 
 -- `&` as a whole word
@@ -50,9 +49,6 @@ IsNumber c text =
 no_digit : (c : ℕ) → c ≡ ampersand → is_decimal c ≡ true → ⊥
 no_digit c is digit = grind (arith, nat_tests)
 
-is_a_mark : (c : ℕ) → c ≡ ampersand → is_mark c ≡ true
-is_a_mark c is = let Mark : ℕ → Type 0 = λ d. is_mark d ≡ true in subst Mark (sym is) refl
-
 no_value : (value : ℕ) → HasValue [] value → ⊥
 no_value value (inl has) = let written = has.1.written in cc
 no_value value (inr has) = let written = has.1.written in cc
@@ -75,15 +71,15 @@ number_of (kind.Long v) c text is (inr (inl spelled)) = inr (text, spelled.0, sp
 number_of (kind.Long v) c text is (inr (inr spelled)) =
     inr (long_number spelled.0 text c spelled.1 spelled.2 spelled.3)
 number_of (kind.Keyword w) c text is spelled =
-    absurd (mark_clash_letter c c (begins (kind.Keyword w) c text spelled) (is_a_mark c is) refl)
+    absurd (begins_with (kind.Keyword w) c text Mark (ap beginning is) spelled)
 number_of (kind.Name x false) c text is spelled =
-    absurd (mark_clash_letter c c (begins (kind.Name x false) c text spelled) (is_a_mark c is) refl)
+    absurd (begins_with (kind.Name x false) c text Mark (ap beginning is) spelled)
 number_of (kind.Name x true) c text is spelled =
-    absurd (mark_clash_bracket c c (begins (kind.Name x true) c text spelled) (is_a_mark c is) refl)
+    absurd (begins_with (kind.Name x true) c text Mark (ap beginning is) spelled)
 number_of (kind.String x) c text is spelled =
-    absurd (mark_clash_quote c c (begins (kind.String x) c text spelled) (is_a_mark c is) refl)
+    absurd (begins_with (kind.String x) c text Mark (ap beginning is) spelled)
 number_of kind.LineEnd c text is spelled =
-    absurd (mark_clash_ending c c (begins kind.LineEnd c text spelled) (is_a_mark c is) refl)
+    absurd (begins_with kind.LineEnd c text Mark (ap beginning is) spelled)
 number_of (kind.PageText x) c text is spelled = absurd spelled
 number_of kind.PageWrite c text is spelled = absurd spelled
 

@@ -27,7 +27,7 @@ use Rattle.vb_lex.specs.Spelling.{AreLongest, IsSpelled}
 use Rattle.vb_lex.specs.Strings.{quoted, string, string_word}
 use Rattle.vb_lex.specs.Symbols.{point_kind, point_word, symbol}
 use Rattle.vb_lex.specs.Tokens.{IsCut, Tokenizes, edge, tokens_from}
-use Rattle.vb_lex.proofs.Beginnings.{is_mark}
+use Rattle.vb_lex.proofs.Beginnings.{Mark, beginning}
 use Rattle.vb_lex.proofs.Longest.{IsMost, IsMostOf, bracketed_most, decimal_most, line_end_most, name_most, one_most}
 use Rattle.vb_lex.proofs.Longest.{other_alone, pick, string_most, symbol_most}
 use Rattle.vb_lex.proofs.LongestNumbers.{ampersand_most}
@@ -72,19 +72,16 @@ string_most_of c rest is = go (quoted rest) refl
     go None closed = tt
     go (Some found) closed = string_most c rest found is closed
 
-point_mark : (c : ℕ) → c ≡ point → is_mark c ≡ true
-point_mark c is = let Mark : ℕ → Type 0 = λ d. is_mark d ≡ true in subst Mark (sym is) refl
-
 point_most : (before : Behind) (c : ℕ) (rest : List ℕ) → c ≡ point → IsMostOf c rest (point_word before (c ∷ rest))
 point_most before c rest is =
     pick (IsMostOf c rest) (is_decimal (get_or rest 0 0)) (Fault BadNumber) (Word (kind.Symbol (point_kind before)) 1)
     (λ _. tt)
-    (λ _. one_most c rest (point_mark c is) (λ same. omega (arith, same))
+    (λ _. one_most c rest (ap beginning is) (λ same. omega (arith, same))
     (other_alone c (get_or rest 0 0) (λ same. omega (arith, same)) (λ same. omega (arith, same))))
 
 -- a character that begins none of the other forms
 left_mark : (c : ℕ) → is_ascii_alphabetic c ≡ false → is_decimal c ≡ false → is_line_end c ≡ false
-    → eqb c quote ≡ false → eqb c open_bracket ≡ false → is_mark c ≡ true
+    → eqb c quote ≡ false → eqb c open_bracket ≡ false → beginning c ≡ Mark
 left_mark c a b d e f = rw (a, b, d, e, f) refl
 
 marked_most : (before : Behind) (c : ℕ) (rest : List ℕ) → is_ascii_alphabetic c ≡ false → is_decimal c ≡ false
