@@ -78,9 +78,9 @@ numbers_case : (operator : Number → Number → Result Number VbError) → ((x 
     → (no_a no_b : Bool) (first second : Result Number VbError) (x y : Number)
     → (no_a ≡ false → first ≡ Ok x) → (no_b ≡ false → second ≡ Ok y)
     → and_then (if no_a || no_b then Ok None else and_then first (λ x. and_then second (λ y. Ok (Some (x, y)))))
-        (applied operator)
+    (applied operator)
     ≡ and_then (if no_b || no_a then Ok None else and_then second (λ y. and_then first (λ x. Ok (Some (y, x)))))
-        (applied operator)
+    (applied operator)
 numbers_case operator swaps true true first second x y f g = refl
 numbers_case operator swaps true false first second x y f g = refl
 numbers_case operator swaps false true first second x y f g = refl
@@ -107,7 +107,7 @@ swapped : (op : Op2) → tests_objects op ≡ false
     → Commutes op
 swapped op other swaps a b simple_a simple_b =
     scalars op other a b simple_a simple_b ∙
-        (swaps a b simple_a simple_b ∙ sym (scalars op other b a simple_b simple_a))
+    (swaps a b simple_a simple_b ∙ sym (scalars op other b a simple_b simple_a))
 
 and_false : (b : Bool) → b && false ≡ false
 and_false true = refl
@@ -125,7 +125,7 @@ not_joined a b simple_a simple_b =
 pub sum_commutes : Commutes operator.Add
 sum_commutes = swapped operator.Add refl (λ a b simple_a simple_b.
     not_joined a b simple_a simple_b ∙
-        (swapped_numbers sum_of sums_swapped a b simple_a simple_b ∙ sym (not_joined b a simple_b simple_a)))
+    (swapped_numbers sum_of sums_swapped a b simple_a simple_b ∙ sym (not_joined b a simple_b simple_a)))
 
 pub product_commutes : Commutes operator.Multiply
 product_commutes = swapped operator.Multiply refl (swapped_numbers product_of products_swapped)
