@@ -1,7 +1,9 @@
 -- What a text begins with, in any ASCII case, and where.
-use Rattle.std.proofs.Common.{◌≡◌, ℕ, ◌+◌, ◌-◌, ◌<◌, ◌≤◌, List, [], codes, length, get_or, take, drop, sym, ◌∙◌, ap, subst, inl, inr, arith}
+use Rattle.std.proofs.Common.{◌≡◌, ℕ, ◌+◌, ◌-◌, ◌<◌, ◌≤◌, List, [], codes, length, get_or, take, drop, sym, ◌∙◌}
+use Rattle.std.proofs.Common.{ap, subst, inl, inr, arith}
 use Rattle.std.specs.Char.{to_ascii_lowercase}
-use Rattle.std.proofs.lemmas.List.{take_more_same, get_or-map, get_or_default, length-map, length-take, take-take, take-map, drop-take, drop_all}
+use Rattle.std.proofs.lemmas.List.{take_more_same, get_or-map, get_or_default, length-map, length-take}
+use Rattle.std.proofs.lemmas.List.{take-take, take-map, drop-take, drop_all}
 use Rattle.std.proofs.lemmas.Bool.{cases_lt}
 use Rattle.vb_value.specs.Folding.{folded}
 use Rattle.page_read.specs.Forms.{BeginsWith, HoldsNoClose}
@@ -40,7 +42,8 @@ no_close_before text at none before close =
           ap (λ (n : ℕ). drop before (take n text)) split ∙ drop-take before (at - before) text in
           none before less (begins_longer (codes "%>") (drop before text) (at - before) (subst P front close))
       | inr past ↦
-          let empty : drop before (take at text) ≡ [] = drop_all before (take at text) (omega (arith, length-take at text)) in
+          let empty : drop before (take at text) ≡ [] =
+          drop_all before (take at text) (omega (arith, length-take at text)) in
           let P : List ℕ → Type 0 = BeginsWith (codes "%>") in
           let nothing : take 2 (folded []) ≡ codes "%>" = subst P empty close in
           cc

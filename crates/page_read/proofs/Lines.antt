@@ -1,5 +1,6 @@
 -- Line ends, in a text of two parts.
-use Rattle.std.proofs.Common.{◌≡◌, ℕ, ◌+◌, Bool, false, not, ◌&&◌, ◌||◌, ◌==◌, if◌then◌else◌, List, [], ◌∷◌, ◌++◌, refl, ap, arith}
+use Rattle.std.proofs.Common.{◌≡◌, ℕ, ◌+◌, Bool, false, not, ◌&&◌, ◌||◌, ◌==◌, if◌then◌else◌, List, [], ◌∷◌}
+use Rattle.std.proofs.Common.{◌++◌, refl, ap, arith}
 use Rattle.page_read.specs.Forms.{begins_with_feed, ends_line, line_ends_in}
 
 -- before a part that begins with no line feed, a character ends a line as it does at the end

@@ -1,5 +1,6 @@
 -- The bytes of a page and its text.
-use Rattle.std.proofs.Common.{◌≡◌, ◌≢◌, ℕ, ◌<◌, ◌≤◌, ◌^◌, Bool, true, false, List, [], Ok, Err, Some, length, refl, sym, ◌∙◌, ap, subst, arith, if◌then◌else◌}
+use Rattle.std.proofs.Common.{◌≡◌, ◌≢◌, ℕ, ◌<◌, ◌≤◌, ◌^◌, Bool, true, false, List, [], Ok, Err, Some, length}
+use Rattle.std.proofs.Common.{refl, sym, ◌∙◌, ap, subst, arith, if◌then◌else◌}
 use Rattle.std.specs.Str.{chars, is_utf8, IsUtf8}
 use Rattle.std.specs.List.{slice_get}
 use Rattle.std.proofs.lemmas.Str.{encodes-chars, length-le-encodes, is_utf8-from_IsUtf8, IsUtf8-from_is_utf8}
@@ -16,7 +17,8 @@ utf8_decoded bytes is = rw (is_utf8-from_IsUtf8 bytes is) refl
 
 -- bytes that are not decoded belong to no pieces
 pub no_text : (bytes : List ℕ) (stop : Utf8Stop) → (stop ≢ NoRoomForText → decoded bytes ≡ Err stop)
-    → IfFault {T = List Fragment} (Err (stop_of_text stop)) (λ _ _. (pieces : List Fragment) → ¬ (IsFragmentsOf bytes pieces))
+    → IfFault {T = List Fragment} (Err (stop_of_text stop)) (λ _ _. (pieces : List Fragment)
+    → ¬ (IsFragmentsOf bytes pieces))
 no_text bytes NotUtf8 says =
     λ pieces is.
     let there = utf8_decoded bytes is.utf8 in

@@ -1,5 +1,6 @@
 -- The one list of pieces of a page, piece by piece.
-use Rattle.std.proofs.Common.{◌≡◌, ℕ, suc, ◌+◌, ◌⊎◌, false, List, [], ◌∷◌, ◌++◌, codes, length, get_or, take, drop, refl, sym, ◌∙◌, ap, subst, inl, inr, arith, append_assoc}
+use Rattle.std.proofs.Common.{◌≡◌, ℕ, suc, ◌+◌, ◌⊎◌, false, List, [], ◌∷◌, ◌++◌, codes, length, get_or, take}
+use Rattle.std.proofs.Common.{drop, refl, sym, ◌∙◌, ap, subst, inl, inr, arith, append_assoc}
 use Rattle.vb_value.specs.Folding.{folded}
 use Rattle.page_read.specs.declared.fragment.Fragment.{Fragment}
 use Rattle.page_read.specs.declared.fragment.Fragment.TheVariants.{Text, Write}

@@ -1,5 +1,6 @@
 -- What a term of a sum is cut into: one number and one rest.
-use Rattle.std.proofs.Common.{◌≡◌, get_or, ◌≢◌, ℕ, ◌+◌, ◌-◌, suc, ◌<◌, ◌≤◌, List, [], ◌∷◌, ◌++◌, length, take, drop, refl, sym, ◌∙◌, ap, subst, arith, inl, inr, append_assoc}
+use Rattle.std.proofs.Common.{◌≡◌, get_or, ◌≢◌, ℕ, ◌+◌, ◌-◌, suc, ◌<◌, ◌≤◌, List, [], ◌∷◌, ◌++◌, length, take}
+use Rattle.std.proofs.Common.{drop, refl, sym, ◌∙◌, ap, subst, arith, inl, inr, append_assoc}
 use Rattle.std.specs.List.{All}
 use Rattle.std.proofs.lemmas.List.Elements.{All-head, All-tail, All-more}
 use Rattle.std.proofs.lemmas.List.{take-append-drop, take_all, drop_all}
@@ -50,7 +51,8 @@ pub cut_unique : (b n a r b' n' a' r' : List ℕ) → All IsBlank b → All IsDi
     → b ++ (n ++ (a ++ r)) ≡ b' ++ (n' ++ (a' ++ r')) → (n ≡ n') × (r ≡ r')
 cut_unique b n a r b' n' a' r' blank_b digits_n blank_a stop_b stop_n stop_a blank_b' number blank_a' ends same =
     let first = front_unique IsBlank b b' _ _ blank_b blank_b' stop_b (number_not_blank n' (a' ++ r') number) same in
-    let second = front_unique IsDigit n n' _ _ digits_n number.1 stop_n (blanks_not_digit a' r' blank_a' ends) first.1 in
+    let second = front_unique IsDigit n n' _ _ digits_n number.1 stop_n
+    (blanks_not_digit a' r' blank_a' ends) first.1 in
     let third = front_unique IsBlank a a' _ _ blank_a blank_a' stop_a (end_not_blank r' ends) second.1 in
     (second.0, third.1)
 
@@ -71,7 +73,8 @@ term_unique text n r n' r' is ends is' ends' =
     let one = term_cut text n r is in
     let other = term_cut text n' r' is' in
     cut_unique is.before n is.after r is'.before n' is'.after r' is.blank_before is.digits.1 is.blank_after
-    (number_not_blank n (is.after ++ r) is.digits) (blanks_not_digit is.after r is.blank_after ends) (end_not_blank r ends)
+    (number_not_blank n (is.after ++ r) is.digits) (blanks_not_digit is.after r is.blank_after ends)
+    (end_not_blank r ends)
     is'.blank_before is'.digits is'.blank_after ends' cc
 
 -- a sum has one list of numbers
@@ -227,8 +230,12 @@ follows text rest after number numbers all read term ends are =
       | (n ∷ ns) ↦ λ same terms.
           let one = term_unique (43 ∷ rest) number after n terms.0 term ends terms.1 (terms_end terms.0 ns terms.2) in
           let P : List ℕ → Type 0 = λ r. AreTerms r ns in
-          let numbers_same : number ≡ n = one.0 in
-          (ns, same ∙ (ap (λ (m : List ℕ). numbers ++ m ∷ ns) (sym numbers_same) ∙ simp append_assoc), subst P (sym one.1) terms.2)
+          let numbers_same : number ≡ n = one.0 in (
+            ns,
+            same ∙ (ap (λ (m : List ℕ). numbers ++ m ∷ ns) (sym numbers_same)
+                ∙ simp append_assoc),
+            subst P (sym one.1) terms.2,
+          )
     ] in
     split left.0 left.1 left.2
 
@@ -246,7 +253,8 @@ read_more text rest more number numbers read term = record {
 
 -- one term more, before what follows it and is not empty
 pub read_next : (text rest after more number : List ℕ) (numbers : List (List ℕ)) → IsReadTo text rest numbers
-    → IsTerm (43 ∷ rest) number after → EndsTerm after → 0 < length after → more ≡ take (length after - 1) (drop 1 after)
+    → IsTerm (43 ∷ rest) number after → EndsTerm after → 0 < length after
+    → more ≡ take (length after - 1) (drop 1 after)
     → IsReadTo text more (numbers ++ number ∷ [])
 read_next text rest [] more number numbers read term ends filled is = absurd (omega arith)
 read_next text rest (c ∷ after) more number numbers read term ends filled is =

@@ -1,6 +1,7 @@
 -- Where plain text of a page ends: the words with which another form begins, the mark that closes one,
 -- and the ends of lines.
-use Rattle.std.specs.Prelude.{◌≡◌, ℕ, ◌+◌, ◌<◌, ◌⊎◌, Bool, false, not, ◌&&◌, ◌||◌, ◌==◌, if◌then◌else◌, List, [], ◌∷◌, length, take, drop, codes}
+use Rattle.std.specs.Prelude.{◌≡◌, ℕ, ◌+◌, ◌<◌, ◌⊎◌, Bool, false, not, ◌&&◌, ◌||◌, ◌==◌, if◌then◌else◌, List}
+use Rattle.std.specs.Prelude.{[], ◌∷◌, length, take, drop, codes}
 use Rattle.vb_value.specs.Folding.{folded}
 
 -- the text begins with the word, which has no capital letters, in any ASCII case

@@ -1,6 +1,7 @@
 -- What a page file is cut into: how each piece is spelled, what each must be where it stands, and which
 -- pieces belong to which bytes.
-use Rattle.std.specs.Prelude.{◌≡◌, ◌≢◌, ℕ, ◌+◌, ◌≤◌, List, [], ◌∷◌, ◌++◌, length, chars, codes, IsUtf8, slice_get, Result, Ok, Err, Some}
+use Rattle.std.specs.Prelude.{◌≡◌, ◌≢◌, ℕ, ◌+◌, ◌≤◌, List, [], ◌∷◌, ◌++◌, length, chars, codes, IsUtf8}
+use Rattle.std.specs.Prelude.{slice_get, Result, Ok, Err, Some}
 use Rattle.vb_value.specs.declared.site_file.FaultKind.{FaultKind}
 use Rattle.vb_value.specs.declared.site_file.FaultKind.TheVariants.{NotYet}
 use Rattle.vb_value.specs.declared.text.Utf8Stop.{Utf8Stop}

@@ -1,5 +1,6 @@
 //! The pieces of a page's text, one after another.
-ghost use Rattle.std.specs.Prelude.{◌≡◌, ◌≢◌, ◌+◌, ◌<◌, ◌≤◌, ◌^◌, ◌++◌, ℕ, List as Items, [], IfOk, IfSome, IfNone, codes, drop, length};
+ghost use Rattle.std.specs.Prelude.{◌≡◌, ◌≢◌, ◌+◌, ◌<◌, ◌≤◌, ◌^◌, ◌++◌, ℕ, List as Items, [], IfOk, IfSome};
+ghost use Rattle.std.specs.Prelude.{IfNone, codes, drop, length};
 ghost use Rattle.vb_value.specs.declared.site_file.FaultKind.TheVariants.{NotYet};
 ghost use Rattle.page_read.specs.declared.fragment.Fragment.{Fragment as Piece};
 ghost use Rattle.page_read.specs.Forms.{BeginsForm, HoldsNoClose};

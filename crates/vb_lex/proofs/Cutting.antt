@@ -1,5 +1,6 @@
 -- How a text is cut, one piece after another.
-use Rattle.std.proofs.Common.{◌≡◌, ℕ, ◌+◌, ◌<◌, ◌≤◌, List, [], ◌∷◌, ◌++◌, length, drop, refl, sym, ap, ◌∙◌, subst, arith}
+use Rattle.std.proofs.Common.{◌≡◌, ℕ, ◌+◌, ◌<◌, ◌≤◌, List, [], ◌∷◌, ◌++◌, length, drop, refl, sym, ap, ◌∙◌, subst}
+use Rattle.std.proofs.Common.{arith}
 use Rattle.std.proofs.lemmas.List.{length-drop}
 use Rattle.vb_value.specs.declared.token.Token.{Token}
 use Rattle.vb_value.specs.declared.token.TokenKind.{TokenKind}
@@ -9,9 +10,8 @@ use Rattle.vb_lex.specs.declared.piece.Piece.TheVariants.{Gap, Word, Fault}
 use Rattle.vb_lex.specs.declared.place.Place.{Place}
 use Rattle.vb_lex.specs.Lines.{line_at}
 use Rattle.vb_lex.specs.Places.{first_place, past, token_at}
-use Rattle.vb_lex.specs.Spans.{IsWithin}
 use Rattle.vb_lex.specs.Tokens.{FaultsAt, IsCut, IsTaken, Reaches, Tokenizes, edge, piece_at, tokens_from}
-use Rattle.vb_lex.proofs.Within.{piece_within}
+use Rattle.vb_lex.proofs.Within.{IsWithin, piece_within}
 
 -- one piece more
 cut_push : (text : List ℕ) (from : Place) (pieces : List Piece) (to : Place) (one : Piece)

@@ -1,5 +1,6 @@
 -- The tokens of a text stand in it one behind another, each on its line and with its text.
-use Rattle.std.proofs.Common.{◌≡◌, ℕ, ◌+◌, ◌-◌, ◌<◌, ◌≤◌, List, [], ◌∷◌, ◌++◌, length, drop, take, refl, sym, ap, ◌∙◌, subst, inl, arith, slice_range}
+use Rattle.std.proofs.Common.{◌≡◌, ℕ, ◌+◌, ◌-◌, ◌<◌, ◌≤◌, List, [], ◌∷◌, ◌++◌, length, drop, take, refl, sym, ap, ◌∙◌}
+use Rattle.std.proofs.Common.{subst, inl, arith, slice_range}
 use Rattle.std.proofs.lemmas.List.{length-drop}
 use Rattle.vb_value.specs.declared.token.Token.{Token}
 use Rattle.vb_value.specs.declared.token.TokenKind.{TokenKind}
@@ -28,7 +29,8 @@ word_spelled : (text : List ℕ) (place : Place) (word : TokenKind) (taken : ℕ
 word_spelled text place word taken within stands =
     let rest = length-drop place.at text in
     let right = piece_right place.behind (drop place.at text) (omega arith) in
-    let there : IsSpelled word (take taken (drop place.at text)) = subst (IsRight (drop place.at text)) stands right in
+    let there : IsSpelled word (take taken (drop place.at text)) = subst (IsRight
+    (drop place.at text)) stands right in
     let count : taken ≡ place.at + taken - place.at = omega arith in
     let P : ℕ → Type 0 = λ n. IsSpelled word (take n (drop place.at text)) in
     subst P count there
@@ -52,7 +54,8 @@ laid_from text from [] to same line within =
     subst P same (edge_laid text from line within)
 laid_from text from (Gap n ∷ pieces) to cut line within =
     let ends = gap_ends text from n cut.0 cut.1 in
-    laid_before text from.at (from.at + n) (tokens_from text (past text from (Gap n)) pieces ++ edge to ∷ []) (omega arith)
+    laid_before text from.at (from.at + n) (tokens_from text (past text from (Gap n)) pieces ++ edge to ∷ [])
+    (omega arith)
     (laid_from text (past text from (Gap n)) pieces to cut.3 refl ends.1)
 laid_from text from (Word word n ∷ pieces) to cut line within =
     let ends = word_ends text from word n cut.0 cut.1 in

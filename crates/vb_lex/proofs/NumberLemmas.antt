@@ -1,5 +1,6 @@
 -- The value of digits, up to a number past every value.
-use Rattle.std.proofs.Common.{◌≡◌, ℕ, ◌+◌, ◌*◌, ◌<◌, ◌≤◌, Bool, true, false, ltb, eqb, List, drop, length, sym, ◌∙◌, get_or, take, min, inl, inr, refl, arith}
+use Rattle.std.proofs.Common.{◌≡◌, ℕ, ◌+◌, ◌*◌, ◌<◌, ◌≤◌, Bool, true, false, ltb, eqb, List, drop, length, sym, ◌∙◌}
+use Rattle.std.proofs.Common.{get_or, take, min, inl, inr, refl, arith}
 use Rattle.std.specs.Char.{digit_value}
 use Rattle.std.specs.Str.Parse.{digits_value}
 use Rattle.std.proofs.Math.Nat.{mul-le-mul_left, mul-le-mul_right}
@@ -60,7 +61,9 @@ pub based_is : (base : ℕ) (test : ℕ → Bool) (text : List ℕ) (count value
 based_is base test text count value first result counted plain valued read done =
     let count_at : ℕ = prefix_len test (drop 2 text) in
     let spoilt : is_spoilt (drop (2 + count_at) text) ≡ false = rw (← counted) (sym plain) in
-    let cut = based_kind_cut (digits_value base (take count_at (drop 2 text))) (eqb (get_or (drop (2 + count_at) text) 0 0) 38) (2 + count_at) in
-    let same : based_kind value (eqb first 38) (2 + count) ≡ based_kind (digits_value base (take count_at (drop 2 text))) (eqb (get_or (drop (2 + count_at) text) 0 0) 38) (2 + count_at) =
+    let cut = based_kind_cut (digits_value base (take count_at (drop 2 text))) (eqb (get_or (drop
+    (2 + count_at) text) 0 0) 38) (2 + count_at) in
+    let same : based_kind value (eqb first 38) (2 + count) ≡ based_kind (digits_value base (take count_at
+    (drop 2 text))) (eqb (get_or (drop (2 + count_at) text) 0 0) 38) (2 + count_at) =
     rw (valued, read, counted) cut in
     rw spoilt (done ∙ same)

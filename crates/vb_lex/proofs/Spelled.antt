@@ -1,5 +1,7 @@
 -- Each word that stands in a text is written as it is to be.
-use Rattle.std.proofs.Common.{◌≡◌, ◌≢◌, ℕ, ◌+◌, ◌<◌, ◌⊎◌, Bool, true, false, cond, eqb, ltb, leb, ◌||◌, ◌&&◌, ◌==◌, codes, List, [], ◌∷◌, ◌++◌, Option, Some, None, pos, length, get_or, drop, take, refl, sym, ap, ◌∙◌, subst, inl, inr, arith, suc, if◌then◌else◌}
+use Rattle.std.proofs.Common.{◌≡◌, ◌≢◌, ℕ, ◌+◌, ◌<◌, ◌⊎◌, Bool, true, false, cond, eqb, ltb, leb, ◌||◌, ◌&&◌, ◌==◌}
+use Rattle.std.proofs.Common.{codes, List, [], ◌∷◌, ◌++◌, Option, Some, None, pos, length, get_or, drop, take, refl}
+use Rattle.std.proofs.Common.{sym, ap, ◌∙◌, subst, inl, inr, arith, suc, if◌then◌else◌}
 use Rattle.std.proofs.lemmas.Bool.{eqb-true, false≢true}
 use Rattle.std.proofs.lemmas.Bool.Decides.{nat_tests}
 use Rattle.std.proofs.lemmas.List.{take_more, append_assoc, get_or-drop}
@@ -18,7 +20,9 @@ use Rattle.vb_lex.specs.declared.piece.Piece.{Piece}
 use Rattle.vb_lex.specs.declared.piece.Piece.TheVariants.{Gap, Word, Fault}
 use Rattle.vb_lex.specs.declared.place.Behind.{Behind}
 use Rattle.vb_lex.specs.declared.place.Behind.TheVariants as behind
-use Rattle.vb_lex.specs.Characters.{ampersand, apostrophe, capital_h, capital_o, close_bracket, equal, greater, is_blank, is_bracketed, is_decimal, is_hexadecimal, is_line_end, is_name_part, is_octal, less, open_bracket, point, quote, small_h, small_o}
+use Rattle.vb_lex.specs.Characters.{ampersand, apostrophe, capital_h, capital_o, close_bracket, equal, greater}
+use Rattle.vb_lex.specs.Characters.{is_blank, is_bracketed, is_decimal, is_hexadecimal, is_line_end, is_name_part}
+use Rattle.vb_lex.specs.Characters.{is_octal, less, open_bracket, point, quote, small_h, small_o}
 use Rattle.vb_lex.specs.Gaps.{blank_length, line_end_length, line_length}
 use Rattle.vb_lex.specs.Names.{bracketed, is_behind_point, keyword, kind_of_name, named}
 use Rattle.vb_lex.specs.Numbers.{ampersand_word, based, based_kind, decimal, decimal_kind, is_spoilt}
@@ -94,7 +98,8 @@ named_right before c rest is =
     let passes = run_passes is_name_part text in
     let first : is_ascii_alphabetic (get_or name 0 0) ≡ true =
     ap (λ t. is_ascii_alphabetic (get_or t 0 0)) (run_first is_name_part c rest (letter_part c is)) ∙ is in
-    one_of_four (IsRight (c ∷ rest)) (ltb 255 size) (is_behind_point before) (str_eq_ignore_ascii_case (codes "rem") name)
+    one_of_four (IsRight (c ∷ rest)) (ltb 255 size) (is_behind_point before) (str_eq_ignore_ascii_case
+    (codes "rem") name)
     (Fault LongName) (Word (kind.Name name false) size) (Gap (line_length text))
     (Word (kind_of_name (keyword name) name) size)
     tt (plain_name name first passes) tt (name_or_keyword name (keyword name) first passes refl)
@@ -113,7 +118,8 @@ bracketed_right c text is =
     let place : 1 + prefix_len is_bracketed text ≡ suc (prefix_len is_bracketed text) = omega arith in
     let end : get_or text (prefix_len is_bracketed text) 0 ≡ close_bracket =
     sym (ap (λ n. get_or (c ∷ text) n 0) place) ∙ last in
-    let differs : get_or text (prefix_len is_bracketed text) 0 ≢ 0 = λ none. (let no : close_bracket ≡ 0 = sym end ∙ none in omega arith) in
+    let differs : get_or text (prefix_len is_bracketed text) 0 ≢ 0 = λ none.
+    (let no : close_bracket ≡ 0 = sym end ∙ none in omega arith) in
     let within = within_at text (prefix_len is_bracketed text) differs in
     let count : prefix_len is_bracketed text + 2 ≡ suc (prefix_len is_bracketed text + 1) = omega arith in
     let more = taken_more text (prefix_len is_bracketed text) within in (
@@ -151,7 +157,8 @@ quoted_right (c ∷ []) =
     go (eqb c quote) refl
 quoted_right (c ∷ d ∷ text) =
     let plain : eqb c quote ≡ false → IsQuoted (c ∷ d ∷ text) (behind_front (c ∷ []) 1 (quoted (d ∷ text))) =
-    λ differs. quoted_behind (c ∷ []) (c ∷ []) (d ∷ text) 1 (quoted (d ∷ text)) refl (rw differs refl) (quoted_right (d ∷ text)) in
+    λ differs. quoted_behind (c ∷ []) (c ∷ []) (d ∷ text) 1 (quoted (d ∷ text)) refl (rw differs refl)
+    (quoted_right (d ∷ text)) in
     let pair : eqb c quote ≡ true → eqb d quote ≡ true
     → IsQuoted (c ∷ d ∷ text) (behind_front (quote ∷ []) 2 (quoted text)) =
     λ first second. quoted_behind (quote ∷ []) (c ∷ d ∷ []) text 2 (quoted text) refl
@@ -159,7 +166,11 @@ quoted_right (c ∷ d ∷ text) =
     (quoted_right text) in
     let inner : (b : Bool) → eqb c quote ≡ true → eqb d quote ≡ b
     → IsQuoted (c ∷ d ∷ text) (if b then behind_front (quote ∷ []) 2 (quoted text) else Some ([], 1)) =
-    elim [ true ↦ λ first second. pair first second | false ↦ λ first _. ap (λ e. e ∷ []) (eqb-true c quote first) ] in
+    elim [
+      | true ↦ λ first second. pair first second
+      | false ↦ λ first _. ap (λ e. e ∷ [])
+          (eqb-true c quote first)
+    ] in
     let outer : (b : Bool) → eqb c quote ≡ false
     → IsQuoted (c ∷ d ∷ text) (if b then None else behind_front (c ∷ []) 1 (quoted (d ∷ text))) =
     elim [ true ↦ λ _. tt | false ↦ λ differs. plain differs ] in
@@ -241,7 +252,8 @@ long_taken c d count text is =
     let here : get_or (drop (2 + count) (c ∷ d ∷ text)) 0 0 ≡ get_or text count 0 =
     ap (λ t. get_or t 0 0) (rest_dropped c d count text) ∙ get_or-drop count text 0 0
     ∙ ap (λ n. get_or text n 0) (omega arith) in
-    let last : get_or text count 0 ≡ ampersand = sym here ∙ eqb-true (get_or (drop (2 + count) (c ∷ d ∷ text)) 0 0) ampersand is in
+    let last : get_or text count 0 ≡ ampersand = sym here ∙ eqb-true (get_or (drop (2 + count)
+    (c ∷ d ∷ text)) 0 0) ampersand is in
     let differs : get_or text count 0 ≢ 0 = λ none. (let no : ampersand ≡ 0 = sym last ∙ none in omega arith) in
     let more = taken_more text count (within_at text count differs) in
     ap (λ n. take n (c ∷ d ∷ text)) places
@@ -249,7 +261,8 @@ long_taken c d count text is =
 
 based_right : (base : ℕ) (test : ℕ → Bool) (c d : ℕ) (text : List ℕ)
     → test 0 ≡ false → test (get_or text 0 0) ≡ true
-    → ((digits : List ℕ) → 0 < length digits → list_all test digits ≡ true → HasValue (c ∷ d ∷ digits) (digits_value base digits))
+    → ((digits : List ℕ) → 0 < length digits → list_all test digits ≡ true → HasValue (c ∷ d ∷ digits)
+    (digits_value base digits))
     → IsRight (c ∷ d ∷ text) (based base test (c ∷ d ∷ text))
 based_right base test c d [] no_nul begins has = absurd (false≢true (sym no_nul ∙ begins))
 based_right base test c d (e ∷ rest) no_nul begins has =
@@ -286,12 +299,34 @@ ampersand_right c (d ∷ text) is =
     else Word (kind.Symbol s.Ampersand) 1)
     (λ h. based_right 16 is_hexadecimal c d text refl
     (second_true (eqb letter capital_h || eqb letter small_h) (is_hexadecimal digit) h) (λ digits some all.
-    inl (digits, record { letter = d; written = written digits; either = either d capital_h small_h (is_hexadecimal digit) h; some = some; all = all }, refl)))
+    inl (
+      digits,
+      record {
+        letter = d;
+        written = written digits;
+        either = either d capital_h small_h
+            (is_hexadecimal digit) h;
+        some = some;
+        all = all;
+      },
+      refl,
+    )))
     (λ _. chosen (IsRight (c ∷ d ∷ text)) ((eqb letter capital_o || eqb letter small_o) && is_octal digit)
     (based 8 is_octal (c ∷ d ∷ text)) (Word (kind.Symbol s.Ampersand) 1)
     (λ o. based_right 8 is_octal c d text refl
     (second_true (eqb letter capital_o || eqb letter small_o) (is_octal digit) o) (λ digits some all.
-    inr (digits, record { letter = d; written = written digits; either = either d capital_o small_o (is_octal digit) o; some = some; all = all }, refl)))
+    inr (
+      digits,
+      record {
+        letter = d;
+        written = written digits;
+        either = either d capital_o small_o
+            (is_octal digit) o;
+        some = some;
+        all = all;
+      },
+      refl,
+    )))
     (λ _. ap (λ e. e ∷ []) mark))
 
 -- marks

@@ -1,5 +1,6 @@
 -- A text has one list of tokens at most, or one fault.
-use Rattle.std.proofs.Common.{◌≡◌, ℕ, ◌<◌, List, [], ◌∷◌, ◌++◌, Ok, Err, Result, IfOk, length, refl, sym, ap, ◌∙◌, subst, arith}
+use Rattle.std.proofs.Common.{◌≡◌, ℕ, ◌<◌, List, [], ◌∷◌, ◌++◌, Ok, Err, Result, IfOk, length, refl, sym, ap, ◌∙◌}
+use Rattle.std.proofs.Common.{subst, arith}
 use Rattle.vb_value.specs.Outcome.{Answers}
 use Rattle.vb_value.specs.declared.token.Token.{Token}
 use Rattle.vb_lex.specs.declared.fault.LexFault.{LexFault}
@@ -18,7 +19,8 @@ Stops text place = place.at < length text → IsTaken (piece_at text place) → 
 stops_whole : (text : List ℕ) (place : Place) → place.at ≡ length text → Stops text place
 stops_whole text place whole within taken = omega arith
 
-stops_fault : (text : List ℕ) (place : Place) (fault : LexFault) → piece_at text place ≡ Fault fault → Stops text place
+stops_fault : (text : List ℕ) (place : Place) (fault : LexFault) → piece_at text place ≡ Fault fault
+    → Stops text place
 stops_fault text place fault faulty within taken = subst IsTaken faulty taken
 
 -- from one place on the text is cut in one way
@@ -35,7 +37,8 @@ cut_one text from (one ∷ pieces) [] to end cut other stops ends =
 cut_one text from (one ∷ pieces) (two ∷ others) to end cut other stops ends =
     let same : one ≡ two = sym cut.1 ∙ other.1 in
     let Rest : Piece → Type 0 = λ p. IsCut text (past text from p) others end in
-    let rest = cut_one text (past text from one) pieces others to end cut.3 (subst Rest (sym same) other.3) stops ends in
+    let rest = cut_one text (past text from one) pieces others to end cut.3 (subst Rest
+    (sym same) other.3) stops ends in
     (ap (λ p. p ∷ pieces) same ∙ ap (λ ps. two ∷ ps) rest.0, rest.1)
 
 reaches_one : (text : List ℕ) (tokens others : List Token) (to end : Place)
@@ -50,7 +53,8 @@ pub tokens_one : (text : List ℕ) (tokens others : List Token) → Tokenizes te
 tokens_one text tokens others one two =
     let same = reaches_one text one.before two.before one.last two.last one.reaches two.reaches
     (stops_whole text one.last one.whole) (stops_whole text two.last two.whole) in
-    one.spelled ∙ ap (λ ts. ts ++ edge one.last ∷ []) same.0 ∙ ap (λ p. two.before ++ edge p ∷ []) same.1 ∙ sym two.spelled
+    one.spelled ∙ ap (λ ts. ts ++ edge one.last ∷ []) same.0 ∙ ap (λ p. two.before ++ edge p ∷ []) same.1
+    ∙ sym two.spelled
 
 pub fault_one : (text : List ℕ) (fault other : LexFault) (line number : ℕ) → FaultsAt text fault line
     → FaultsAt text other number → (fault ≡ other) × (line ≡ number)

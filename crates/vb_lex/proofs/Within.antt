@@ -1,5 +1,6 @@
 -- A piece takes at least one character of its text, and no more than there are.
-use Rattle.std.proofs.Common.{◌≡◌, ◌≢◌, ℕ, ◌+◌, ◌<◌, ◌≤◌, Bool, true, false, List, [], ◌∷◌, Option, Some, None, length, get_or, drop, refl, arith, rules, zero, suc, if◌then◌else◌}
+use Rattle.std.proofs.Common.{◌≡◌, ◌≢◌, ℕ, ◌+◌, ◌<◌, ◌≤◌, Bool, true, false, List, [], ◌∷◌, Option, Some, None}
+use Rattle.std.proofs.Common.{length, get_or, drop, refl, arith, rules, zero, suc, if◌then◌else◌}
 use Rattle.std.specs.Char.{is_ascii_alphabetic}
 use Rattle.std.specs.List.{prefix_len}
 use Rattle.std.proofs.lemmas.Bool.Decides.{nat_tests}
@@ -8,15 +9,21 @@ use Rattle.std.proofs.lemmas.List.Sums.{prefix_len-le-length}
 use Rattle.vb_value.specs.declared.token.TokenKind.TheVariants.{LineEnd}
 use Rattle.vb_lex.specs.declared.place.Behind.{Behind}
 use Rattle.vb_lex.specs.declared.piece.Piece.{Piece}
-use Rattle.vb_lex.specs.declared.piece.Piece.TheVariants.{Gap, Word}
-use Rattle.vb_lex.specs.Characters.{is_blank, is_bracketed, is_decimal, is_hexadecimal, is_line_end, is_name_part, is_octal, is_on_line, quote}
+use Rattle.vb_lex.specs.declared.piece.Piece.TheVariants.{Gap, Word, Fault}
+use Rattle.vb_lex.specs.Characters.{is_blank, is_bracketed, is_decimal, is_hexadecimal, is_line_end, is_name_part}
+use Rattle.vb_lex.specs.Characters.{is_octal, is_on_line, quote}
 use Rattle.vb_lex.specs.Gaps.{blank_length, line_end_length, line_length, underscore_length}
 use Rattle.vb_lex.specs.Names.{bracketed, named}
 use Rattle.vb_lex.specs.Numbers.{ampersand_word, based, decimal, decimal_kind}
 use Rattle.vb_lex.specs.Strings.{behind_front, quoted, string, string_word}
 use Rattle.vb_lex.specs.Symbols.{beside, greater_word, less_word, one_character, point_word, symbol}
-use Rattle.vb_lex.specs.Spans.{IsWithin}
 use Rattle.vb_lex.specs.Pieces.{marked, piece}
+
+-- A piece takes at least one character of the text and no more than there are.
+abbrev pub IsWithin : List ℕ → Piece → Type 0
+IsWithin text (Gap taken) = (0 < taken) × (taken ≤ length text)
+IsWithin text (Word kind taken) = (0 < taken) × (taken ≤ length text)
+IsWithin text (Fault fault) = Unit {0}
 
 -- a line end
 line_end_within : (text : List ℕ) → line_end_length text ≤ length text
@@ -24,7 +31,7 @@ line_end_within [] = grind arith
 line_end_within (c ∷ []) = grind (arith, nat_tests)
 line_end_within (c ∷ d ∷ text) = grind (arith, nat_tests)
 
-line_end_moves : (c : ℕ) (text : List ℕ) → is_line_end c ≡ true → 0 < line_end_length (c ∷ text)
+pub line_end_moves : (c : ℕ) (text : List ℕ) → is_line_end c ≡ true → 0 < line_end_length (c ∷ text)
 line_end_moves c text ends = grind (arith, nat_tests)
 
 -- a run of a class

@@ -19,7 +19,7 @@ abbrev pub underscore_length : List ℕ → ℕ
 underscore_length text =
     if slice_index text 0 == underscore then 1 + prefix_len is_blank (drop 1 text) else 0
 
--- A blank, `_`, blanks and a line end continue the line. A blank of another kind stands for itself.
+-- A blank, `_`, blanks and a line end continue the line. Any other blank stands for itself.
 abbrev pub blank_length : List ℕ → ℕ
 blank_length text =
     let used = 1 + underscore_length (drop 1 text) in

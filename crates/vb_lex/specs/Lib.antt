@@ -8,5 +8,4 @@ pub mod Pieces
 pub mod Lines
 pub mod Places
 pub mod Tokens
-pub mod Spans
 pub mod Spelling

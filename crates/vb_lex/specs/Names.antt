@@ -1,5 +1,6 @@
 -- Names and keywords, and the comments that the word `Rem` begins.
-use Rattle.std.specs.Prelude.{ℕ, ◌+◌, Bool, true, false, List, [], ◌∷◌, drop, map, take, Option, Some, None, if◌then◌else◌, ◌==◌, nat_lt, slice_index, codes}
+use Rattle.std.specs.Prelude.{ℕ, ◌+◌, Bool, true, false, List, [], ◌∷◌, drop, map, take, Option, Some, None}
+use Rattle.std.specs.Prelude.{if◌then◌else◌, ◌==◌, nat_lt, slice_index, codes}
 use Rattle.std.specs.List.{prefix_len}
 use Rattle.std.specs.Str.{str_eq_ignore_ascii_case}
 use Rattle.vb_value.specs.declared.token.Keyword.{Keyword}

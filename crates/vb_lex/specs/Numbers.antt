@@ -1,5 +1,6 @@
 -- Numbers: decimal digits, or `&H` and `&O` with digits of base 16 and 8.
-use Rattle.std.specs.Prelude.{ℕ, ◌+◌, Bool, ◌&&◌, ◌||◌, List, drop, take, pos, if◌then◌else◌, ◌==◌, nat_lt, nat_le, slice_index}
+use Rattle.std.specs.Prelude.{ℕ, ◌+◌, Bool, ◌&&◌, ◌||◌, List, drop, take, pos, if◌then◌else◌, ◌==◌, nat_lt, nat_le}
+use Rattle.std.specs.Prelude.{slice_index}
 use Rattle.std.specs.Int.{w16, w32, cast_signed}
 use Rattle.std.specs.List.{prefix_len}
 use Rattle.std.specs.Char.{is_ascii_alphabetic}
@@ -9,7 +10,8 @@ use Rattle.vb_value.specs.declared.token.TokenKind.TheVariants.{Integer, Long, S
 use Rattle.vb_lex.specs.declared.fault.LexFault.TheVariants.{BadNumber}
 use Rattle.vb_lex.specs.declared.piece.Piece.{Piece}
 use Rattle.vb_lex.specs.declared.piece.Piece.TheVariants.{Word, Fault}
-use Rattle.vb_lex.specs.Characters.{ampersand, capital_h, capital_o, is_decimal, is_hexadecimal, is_octal, open_bracket, point, small_h, small_o}
+use Rattle.vb_lex.specs.Characters.{ampersand, capital_h, capital_o, is_decimal, is_hexadecimal, is_octal}
+use Rattle.vb_lex.specs.Characters.{open_bracket, point, small_h, small_o}
 
 -- A point or a name may not stand directly behind digits.
 abbrev pub is_spoilt : List ℕ → Bool

@@ -1,5 +1,6 @@
 -- How each word is written. A token's text, from its start to its end, is written so.
-use Rattle.std.specs.Prelude.{◌≡◌, ℕ, ◌<◌, ◌≤◌, ◌⊎◌, Bool, true, false, List, [], ◌∷◌, ◌++◌, length, Some, ℤ, pos, if◌then◌else◌, ◌==◌, codes, slice_index, slice_range}
+use Rattle.std.specs.Prelude.{◌≡◌, ℕ, ◌<◌, ◌≤◌, ◌⊎◌, Bool, true, false, List, [], ◌∷◌, ◌++◌, length, Some, ℤ, pos}
+use Rattle.std.specs.Prelude.{if◌then◌else◌, ◌==◌, codes, slice_index, slice_range}
 use Rattle.std.specs.Char.{is_ascii_alphabetic}
 use Rattle.std.specs.Int.{w16, w32, cast_signed}
 use Rattle.std.specs.List.{flat_map, list_all}
@@ -9,7 +10,9 @@ use Rattle.vb_value.specs.declared.token.Symbol.TheVariants as s
 use Rattle.vb_value.specs.declared.token.Token.{Token}
 use Rattle.vb_value.specs.declared.token.TokenKind.{TokenKind}
 use Rattle.vb_value.specs.declared.token.TokenKind.TheVariants as kind
-use Rattle.vb_lex.specs.Characters.{ampersand, capital_h, capital_o, carriage_return, close_bracket, is_bracketed, is_decimal, is_hexadecimal, is_name_part, is_octal, line_feed, open_bracket, quote, small_h, small_o}
+use Rattle.vb_lex.specs.Characters.{ampersand, capital_h, capital_o, carriage_return, close_bracket, is_bracketed}
+use Rattle.vb_lex.specs.Characters.{is_decimal, is_hexadecimal, is_name_part, is_octal, line_feed, open_bracket}
+use Rattle.vb_lex.specs.Characters.{quote, small_h, small_o}
 use Rattle.vb_lex.specs.Lines.{line_at}
 use Rattle.vb_lex.specs.Names.{keyword}
 
@@ -97,3 +100,11 @@ IsLaid text from (token ∷ tokens) =
     (from ≤ token.start) × (token.start ≤ token.end) × (token.end ≤ length text)
     × (token.line ≡ line_at text token.start)
     × IsSpelled token.kind (slice_range text token.start token.end) × IsLaid text token.end tokens
+
+-- No longer front of what is left at a token's start is a word. The two edges have no characters.
+abbrev pub AreLongest : List ℕ → List Token → Type 0
+AreLongest text [] = Unit {0}
+AreLongest text (token ∷ tokens) =
+    (token.start < token.end → (other : TokenKind) (end : ℕ) → token.end < end → end ≤ length text
+    → IsSpelled other (slice_range text token.start end) → ⊥)
+    × AreLongest text tokens

@@ -1,6 +1,6 @@
 -- The words of a script: a text is cut into pieces, each the longest word or gap at its place, and the
 -- words among them are its tokens, between two line ends, which the edges of the text are.
-use Rattle.std.specs.Prelude.{◌≡◌, ℕ, ◌<◌, List, [], ◌∷◌, ◌++◌, drop, length, Result, Err}
+use Rattle.std.specs.Prelude.{◌≡◌, ℕ, ◌<◌, ◌⊎◌, List, [], ◌∷◌, ◌++◌, drop, length, Result, Err}
 use Rattle.vb_value.specs.declared.token.Token.{Token}
 use Rattle.vb_value.specs.declared.token.TokenKind.TheVariants.{LineEnd}
 use Rattle.vb_lex.specs.declared.fault.LexFault.{LexFault}
@@ -61,6 +61,11 @@ pub record FaultsAt (text : List ℕ) (fault : LexFault) (line : ℕ) : Type 0 w
   pub within : last.at < length text
   pub faulty : piece_at text last ≡ Fault fault
   pub line_is : line ≡ last.line
+
+-- The text has tokens, or a fault.
+abbrev pub HasAnswer : List ℕ → Type 0
+HasAnswer text =
+    ((tokens : List Token) × Tokenizes text tokens) ⊎ ((fault : LexFault) × (line : ℕ) × FaultsAt text fault line)
 
 -- a fact of the fault that a call answered, and of its line
 abbrev pub OnFault : {T : Type 0} → Result T LexStop → (LexFault → ℕ → Type 0) → Type 0

@@ -13,7 +13,7 @@ pub enum LexFault {
     OpenBracket,
     /// A name of more than 255 characters.
     LongName,
-    /// A number that is too great, or that a point, a letter or a `[` stands directly beside.
+    /// A number that is too great, that has a point directly beside it, or a name directly behind it.
     BadNumber,
     /// A `#`, which begins a date.
     DateLiteral,

@@ -2,8 +2,8 @@
 ghost use Rattle.std.specs.Prelude.{◌≡◌, ℕ, List};
 ghost use Rattle.vb_value.specs.declared.token.Token.{Token};
 ghost use Rattle.vb_lex.specs.declared.fault.LexFault.{LexFault};
-ghost use Rattle.vb_lex.specs.Spelling.{IsLaid};
-ghost use Rattle.vb_lex.specs.Tokens.{FaultsAt, Tokenizes};
+ghost use Rattle.vb_lex.specs.Spelling.{AreLongest, IsLaid};
+ghost use Rattle.vb_lex.specs.Tokens.{FaultsAt, HasAnswer, Tokenizes};
 
 /// A text has at most one list of tokens.
 pub fn one_token_list()
@@ -26,4 +26,14 @@ pub fn tokens_or_fault()
 /// The tokens of a text stand in it one behind another, each with its text from its start to its end.
 pub fn tokens_in_order()
     ensures { (text : List ℕ) (tokens : List Token) → Tokenizes text tokens → IsLaid text 0 tokens }
+{}
+
+/// Each token is the longest word that stands at its place.
+pub fn longest_words()
+    ensures { (text : List ℕ) (tokens : List Token) → Tokenizes text tokens → AreLongest text tokens }
+{}
+
+/// Each text has tokens or a fault.
+pub fn some_answer()
+    ensures { (text : List ℕ) → HasAnswer text }
 {}

@@ -58,7 +58,7 @@ fn piece(alloc: Global, behind: Behind, text: &[char]) -> Result<Piece, Memory>
     marked(alloc, behind, text)
 }
 
-#[tactic(auto, using(crate::proofs::Cutting::reached_gap, crate::proofs::Cutting::reached_word, crate::proofs::Cutting::reached_fault, crate::proofs::Cutting::reached_line, crate::proofs::Cutting::gap_ends, crate::proofs::Cutting::word_ends))]
+#[tactic(auto, using(crate::proofs::Cutting::reached_fault))]
 fn step(
     alloc: Global,
     text: &[char],

@@ -17,5 +17,7 @@ mod symbols;
 mod tests;
 
 pub use fault::{LexFault, LexStop};
-pub use laws::{one_fault, one_token_list, tokens_in_order, tokens_or_fault};
+pub use laws::{
+    longest_words, one_fault, one_token_list, some_answer, tokens_in_order, tokens_or_fault,
+};
 pub use lexer::lex;

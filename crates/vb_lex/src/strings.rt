@@ -9,7 +9,7 @@ use crate::piece::Piece;
 use std::alloc::Global;
 use vb_value::{Memory, Text, TokenKind};
 
-#[tactic(auto, using(crate::proofs::StringLemmas::step_other, crate::proofs::StringLemmas::step_double, crate::proofs::StringLemmas::at_close, crate::proofs::StringLemmas::at_line_end, crate::proofs::StringLemmas::at_end))]
+#[tactic(auto, using(crate::proofs::StringLemmas::string_steps))]
 fn quoted(alloc: Global, text: &[char]) -> Result<Option<(Text, usize)>, Memory>
     ensures value { Gives result (spec.quoted text.now) }
     ensures within { IfOk result (λ found. IfSome found (λ string. string.1 ≤ length text.now)) }

@@ -1,5 +1,6 @@
 -- The characters of a text, and the bytes that encode them.
-use Rattle.std.proofs.Common.{◌≡◌, ℕ, ◌+◌, ◌<◌, List, ◌++◌, Bool, true, false, Ok, Err, length, get_or, take, refl, ◌∙◌, ap, append-nil, if◌then◌else◌}
+use Rattle.std.proofs.Common.{◌≡◌, ℕ, ◌+◌, ◌<◌, List, ◌++◌, Bool, true, false, Ok, Err, length, get_or, take}
+use Rattle.std.proofs.Common.{refl, ◌∙◌, ap, append-nil, if◌then◌else◌}
 use Rattle.std.specs.Str.{chars, is_utf8, IsUtf8, encode_utf8_all}
 use Rattle.std.specs.Char.{encode_utf8}
 use Rattle.std.proofs.lemmas.List.{take_more}
@@ -8,7 +9,8 @@ use Rattle.vb_value.specs.declared.text.Utf8Stop.TheVariants.{NotUtf8}
 use Rattle.vb_value.specs.Decoding.{decoded}
 
 -- what `chars` and `collect` give of a text
-pub collected : (characters bytes : List ℕ) → IsUtf8 bytes → encode_utf8_all characters ≡ bytes → characters ≡ chars bytes
+pub collected : (characters bytes : List ℕ) → IsUtf8 bytes → encode_utf8_all characters ≡ bytes
+    → characters ≡ chars bytes
 collected characters bytes = chars_from_encodes characters bytes
 
 -- one character more, and its bytes

@@ -1,1 +1,12 @@
+mod Arrays
 mod Characters
+mod Decimals
+mod Digits
+mod Messages
+mod Nearest
+mod Plainness
+mod Points
+mod Ranges
+mod ReadBack
+mod Rounding
+mod AllPass

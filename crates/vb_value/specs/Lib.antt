@@ -1,4 +1,12 @@
 pub mod Outcome
 pub mod Decoding
 pub mod Folding
+pub mod Errors
+pub mod ErrorText
+pub mod Numbers
+pub mod NumericText
+pub mod Conversions
+pub mod Weight
+pub mod Plain
+pub mod Sound
 pub mod formers

@@ -1,25 +1,55 @@
 //! The base of every crate: lists, texts and boxes that contracts see as what they hold, the want of
-//! memory, and the files of a site with their faults.
+//! memory, the values of the language with their conversions, the words of a script, and the files of a site
+//! with their faults.
 #![tactic(auto)]
 
+mod application;
 mod boxed;
 mod bytes;
+mod conversion;
 mod copied;
+mod copying;
+mod error_texts;
+mod fault;
+mod function;
+mod laws;
+mod limit;
 mod list;
 mod memory;
+mod number;
+mod number_text;
+mod numeric_text;
 mod operator;
+mod plain;
+mod session;
 mod site_file;
 #[cfg(test)]
 mod tests;
 mod text;
 mod token;
+mod value;
+mod weighing;
 
+pub use application::{AppCall, AppReply};
 pub use boxed::Boxed;
 pub use bytes::Bytes;
+pub use conversion::{named_truth, to_bool, to_cur, to_int, to_long, to_number, to_str};
 pub use copied::Copied;
+pub use copying::{copy, copy_array};
+pub use error_texts::error_text;
+pub use fault::{VbError, VbFault};
+pub use function::{PlainFn, StrFn};
+pub use laws::{currency_reads_back, rounding_is_nearest};
+pub use limit::LimitKind;
 pub use list::List;
 pub use memory::Memory;
+pub use number::{Number, as_currency, as_integer, as_long, whole_of_amount};
+pub use numeric_text::cur_of_text;
 pub use operator::{Op1, Op2};
+pub use plain::is_plain;
+pub use session::{Pair, SessDict};
 pub use site_file::{FaultKind, SiteFault, SiteFile};
 pub use text::{Text, Utf8Stop, fold};
 pub use token::{Keyword, Symbol, Token, TokenKind};
+pub use value::{Array, ObjNo, Value};
+pub use weighing::weight;

@@ -50,6 +50,18 @@ fn answer(alloc: Global, source: &str) -> Result<String, Fail> {
 }
 
 #[test]
+fn keywords(rt: HostRuntime) -> Result<(), Fail> {
+    // Each is told by its own name.
+    let all = "And ByRef ByVal Call Case Class Const Dim Do Each Else ElseIf \
+        Empty End Eqv Erase Exit False For Function Get GoTo If Imp \
+        In Is Let Loop Me Mod New Next Not Nothing Null On \
+        Option Or Preserve Private Public ReDim Resume Select Set Sub Then To \
+        True Until Wend While With Xor";
+    assert_eq!(rt; answer(rt.alloc(), all)?.as_str(), all);
+    Ok(())
+}
+
+#[test]
 fn names_and_keywords(rt: HostRuntime) -> Result<(), Fail> {
     let cases = [
         ("", ""),

@@ -48,17 +48,22 @@ module _ (From To : RattleType) (change : From.Denot → To.Denot) where
   unfolding part_of
   box_places alike = record {
     mir_same = λ i. (box_row (one_value From (alike.mir_same i) (λ _. ftrue) (λ _ _. nothing) gnil)).mir;
-    own_same = λ b i. (box_row (one_value From (alike.mir_same i) (alike.own_same b.value i) (alike.shr_same b.value i) gnil)).own_val (holding b tt);
-    shr_same = λ b i. (box_row (one_value From (alike.mir_same i) (alike.own_same b.value i) (alike.shr_same b.value i) gnil)).shr_at (holding b tt);
+    own_same = λ b i. (box_row (one_value From (alike.mir_same i) (alike.own_same b.value i)
+        (alike.shr_same b.value i) gnil)).own_val (holding b tt);
+    shr_same = λ b i. (box_row (one_value From (alike.mir_same i) (alike.own_same b.value i)
+        (alike.shr_same b.value i) gnil)).shr_at (holding b tt);
   }
 
-  pub the_places : Alike From To change → Alike (declared.the_row From) (declared.the_row To) ((the_former this).map From.Denot To.Denot change)
+  pub the_places : Alike From To change
+      → Alike (declared.the_row From) (declared.the_row To) ((the_former this).map From.Denot To.Denot change)
   the_places alike = view_places the_fields this view (λ X Y k u. refl) (λ X u. refl)
       From.Denot To.Denot change (declared.the_row From).coded (declared.the_row To).coded
       (invariant From.Denot) (invariant To.Denot) (λ u p q. refl) (λ u p q. refl) (λ u e. tt) (λ u e. tt)
       (over (inside.the_row From)) (over (inside.the_row To))
-      (struct_places (inside.the_type From) (inside.the_type To) ((λ b. holding b (change b.value)), tt) _ (λ d. refl) refl
+      (struct_places (inside.the_type From) (inside.the_type To) ((λ b. holding b (change b.value)), tt) _
+      (λ d. refl) refl
       (laid _ _ _ (box_places alike), tt))
 
-  pub the_codes_placed : Recodes From To change → Recodes (declared.the_row From) (declared.the_row To) ((the_former this).map From.Denot To.Denot change)
+  pub the_codes_placed : Recodes From To change
+      → Recodes (declared.the_row From) (declared.the_row To) ((the_former this).map From.Denot To.Denot change)
   the_codes_placed recodes held = recodes held

@@ -35,15 +35,20 @@ the_empty = Core.[]
 abbrev pub the_items : (X : Type 0) → Core.List X → Core.List X
 the_items X items = items
 
-pub the_items_listed : (X : Type 0) (items : Core.List X) → listed _ (children (the_former this) X items) ≡ the_items X items
+pub the_items_listed : (X : Type 0) (items : Core.List X)
+    → listed _ (children (the_former this) X items) ≡ the_items X items
 the_items_listed X items = list-listed X items
 
 -- the one field, which is a `Vec`
 abbrev the_fields : Former {0}
-the_fields = via (vec.the_former this Global) Inside (λ X a. a.items) (λ X v. record { items = v }) (λ X a. refl) (λ X v. refl)
+the_fields = via (vec.the_former this Global) Inside (λ X a. a.items) (λ X v. record {
+  items =
+      v;
+}) (λ X a. refl) (λ X v. refl)
 
 module _ (From To : RattleType) (change : From.Denot → To.Denot) where
-  pub the_places : Alike From To change → Alike (declared.the_row From) (declared.the_row To) ((the_former this).map From.Denot To.Denot change)
+  pub the_places : Alike From To change
+      → Alike (declared.the_row From) (declared.the_row To) ((the_former this).map From.Denot To.Denot change)
   the_places alike = view_places the_fields (list this) view (λ X Y k u. refl) (λ X u. refl)
       From.Denot To.Denot change (declared.the_row From).coded (declared.the_row To).coded
       (invariant From.Denot) (invariant To.Denot) (λ u p q. refl) (λ u p q. refl) (λ u e. tt) (λ u e. tt)
@@ -51,5 +56,7 @@ module _ (From To : RattleType) (change : From.Denot → To.Denot) where
       (struct_places (inside.the_type From) (inside.the_type To) (vec.mapped change, tt) _ (λ d. refl) refl
       (laid _ _ _ (vec.the_places global.the_row ghosts From To change alike), tt))
 
-  pub the_codes_placed : Recodes From To change → Recodes (declared.the_row From) (declared.the_row To) ((the_former this).map From.Denot To.Denot change)
-  the_codes_placed recodes items = sym (code_map From.coded.code To.coded.code change (λ item. sym (recodes item)) items)
+  pub the_codes_placed : Recodes From To change
+      → Recodes (declared.the_row From) (declared.the_row To) ((the_former this).map From.Denot To.Denot change)
+  the_codes_placed recodes items =
+      sym (code_map From.coded.code To.coded.code change (λ item. sym (recodes item)) items)

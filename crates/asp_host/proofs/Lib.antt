@@ -1,0 +1,10 @@
+mod CommandWords
+mod Literals
+mod PageTexts
+mod PageValues
+mod Picked
+mod ChosenPaths
+mod Causes
+mod Files
+mod ReadPaths
+mod Answering

@@ -1,0 +1,38 @@
+-- How a command ended, as the number and the text that the program gives for it.
+use Rattle.std.specs.Prelude.{ℕ, List, [], ◌++◌, codes}
+use Rattle.std.specs.Fmt.{decimal}
+use Rattle.vb_value.specs.declared.site_file.SiteFault.{SiteFault}
+use Rattle.vb_value.specs.declared.site_file.FaultKind.{FaultKind}
+use Rattle.vb_value.specs.declared.site_file.FaultKind.TheVariants.{NotYet}
+use Rattle.asp_host.specs.declared.status.Status.{Status}
+use Rattle.asp_host.specs.declared.status.Status.TheVariants.{Ok, Memory, Usage, SiteRefused, ReadFault, WriteFault}
+
+-- the exit status of the program
+abbrev pub code_of : Status → ℕ
+code_of Ok = 0
+code_of Memory = 1
+code_of Usage = 2
+code_of (SiteRefused fault) = 3
+code_of ReadFault = 4
+code_of WriteFault = 5
+
+-- the name of what is wrong with a file
+abbrev pub kind_text_of : FaultKind → List ℕ
+kind_text_of NotYet = codes "NotYet"
+
+-- the line and the kind of a fault
+abbrev pub place_text : ℕ → FaultKind → List ℕ
+place_text line kind = codes ":" ++ decimal line ++ codes ": " ++ kind_text_of kind
+
+-- the path, the line and the kind of a fault
+abbrev pub fault_text_of : SiteFault → List ℕ
+fault_text_of fault = fault.path ++ place_text fault.line fault.kind
+
+-- what the program says of the end, without a line end
+abbrev pub text_of : Status → List ℕ
+text_of Ok = []
+text_of Memory = codes "out of memory"
+text_of Usage = codes "usage: get SITE PATH, check SITE, replay SITE, serve SITE --requests N, gen N"
+text_of (SiteRefused fault) = fault_text_of fault
+text_of ReadFault = codes "read fault"
+text_of WriteFault = codes "write fault"

@@ -1,0 +1,117 @@
+//! What a page shows.
+ghost use Rattle.std.specs.Prelude.{◌≡◌, ◌++◌, ℕ, List as Items, IfOk, MatchOption, OnOk, sum_by};
+ghost use Rattle.std.specs.Fmt.{decimal};
+ghost use Rattle.vb_value.specs.declared.site_file.FaultKind.TheVariants.{NotYet};
+ghost use Rattle.page_read.specs.Fragments.{IfFault};
+ghost use Rattle.asp_host.specs.Page as spec;
+
+use page_read::{Fragment, PageStop, SumStop, fragments, sum_numbers};
+use std::alloc::Global;
+use vb_value::{FaultKind, Memory, Text};
+
+/// How many numbers a sum may have.
+const MOST_NUMBERS: usize = 1000;
+
+/// How many digits a number may have.
+const MOST_DIGITS: usize = 5;
+
+/// The greatest number of a sum, which is that of 16 bits with a sign.
+const GREATEST: u32 = 32767;
+
+/// The fault of a page that holds more than this host runs.
+const NOT_YET: PageStop = PageStop::Fault {
+    kind: FaultKind::NotYet,
+    line: 0,
+};
+
+/// The text that a page file with these bytes shows.
+pub fn page_text(alloc: Global, bytes: &[u8]) -> Result<Text, PageStop>
+    ensures ok { IfOk result (spec.IsPageText bytes.now) }
+    ensures fault { IfFault result (λ kind line. (kind ≡ NotYet) × (line ≡ 0)) }
+    ensures no_text { IfFault result (λ _ _. (shown : Items ℕ) → ¬ (spec.IsPageText bytes.now shown)) }
+{
+    let pieces = fragments(alloc, bytes)?;
+    shown_text(alloc, pieces.as_slice())
+}
+
+fn shown_text(alloc: Global, pieces: &[Fragment]) -> Result<Text, PageStop>
+    ensures ok { IfOk result (spec.ShowTogether pieces.now) }
+    ensures fault { IfFault result (λ kind line. (kind ≡ NotYet) × (line ≡ 0)) }
+    ensures no_text { IfFault result (λ _ _. (shown : Items ℕ) → ¬ (spec.ShowTogether pieces.now shown)) }
+{
+    let mut shown = Text::new(alloc);
+    for piece in pieces {
+        if let Err(stop) = push_shown(alloc, piece, &mut shown) {
+            return Err(stop);
+        }
+    }
+    Ok(shown)
+}
+
+/// Adds what the piece shows.
+fn push_shown(alloc: Global, piece: &Fragment, shown: &mut Text) -> Result<(), PageStop>
+    ensures ok { OnOk result ((text : Items ℕ) × spec.Shows piece.now text × (shown.new ≡ shown.old ++ text)) }
+    ensures fault { IfFault result (λ kind line. (kind ≡ NotYet) × (line ≡ 0)) }
+    ensures no_text { IfFault result (λ _ _. (text : Items ℕ) → ¬ (spec.Shows piece.now text)) }
+{
+    match piece {
+        Fragment::Text(text) => Ok(shown.append_slice(text.as_slice())?),
+        Fragment::Write { text, line: _ } => push_value(alloc, text.as_slice(), shown),
+    }
+}
+
+/// Adds the value of the sum.
+fn push_value(alloc: Global, sum: &[char], shown: &mut Text) -> Result<(), PageStop>
+    ensures ok { OnOk result ((text : Items ℕ) × spec.IsSumText sum.now text × (shown.new ≡ shown.old ++ text)) }
+    ensures fault { IfFault result (λ kind line. (kind ≡ NotYet) × (line ≡ 0)) }
+    ensures no_text { IfFault result (λ _ _. (text : Items ℕ) → ¬ (spec.IsSumText sum.now text)) }
+{
+    let numbers = match sum_numbers(alloc, sum) {
+        Ok(numbers) => numbers,
+        Err(SumStop::NoSum) => return Err(NOT_YET),
+        Err(SumStop::Memory) => return Err(PageStop::Memory),
+    };
+    let Some(value) = sum_value(numbers.as_slice()) else {
+        return Err(NOT_YET);
+    };
+    push_decimal(alloc, value, shown)?;
+    Ok(())
+}
+
+fn push_decimal(alloc: Global, value: u32, shown: &mut Text) -> Result<(), Memory>
+    ensures { OnOk result (shown.new ≡ shown.old ++ decimal value) }
+{
+    let digits = value.to_string(alloc)?;
+    shown.push_str(digits.as_str())
+}
+
+fn sum_value(numbers: &[Text]) -> Option<u32>
+    ensures { MatchOption result (¬ (spec.IsBounded numbers.now))
+        (λ value. spec.IsBounded numbers.now × (value ≡ sum_by spec.value_of numbers.now)) }
+{
+    if numbers.len() > MOST_NUMBERS {
+        return None;
+    }
+    let mut total = 0u32;
+    for number in numbers {
+        total += number_value(number.as_slice())?;
+    }
+    Some(total)
+}
+
+fn number_value(digits: &[char]) -> Option<u32>
+    ensures { MatchOption result (¬ (spec.IsSmall digits.now))
+        (λ value. spec.IsSmall digits.now × (value ≡ spec.value_of digits.now)) }
+{
+    if digits.len() > MOST_DIGITS {
+        return None;
+    }
+    let mut value = 0u32;
+    for digit in digits {
+        value = value * 10 + (*digit as u32).saturating_sub(48);
+        if value > GREATEST {
+            return None;
+        }
+    }
+    Some(value)
+}

@@ -1,0 +1,79 @@
+//! How a command ended.
+ghost use Rattle.std.specs.Prelude.{◌≡◌, IfOk};
+ghost use Rattle.std.specs.String.{string_bytes};
+ghost use Rattle.vb_value.specs.Outcome.{Gives};
+ghost use Rattle.asp_host.specs.Status.{code_of, fault_text_of, kind_text_of, place_text, text_of};
+
+use std::alloc::Global;
+use vb_value::{Copied, FaultKind, Memory, SiteFault, Text};
+
+const USAGE: &str = "usage: get SITE PATH, check SITE, replay SITE, serve SITE --requests N, gen N";
+
+/// How a command ended.
+#[derive(Debug, Drop)]
+pub enum Status {
+    /// The command did all of its work.
+    Ok,
+    /// Memory ran out.
+    Memory,
+    /// The words are those of no command.
+    Usage,
+    /// The folder is no site that this host runs, for this fault.
+    SiteRefused(SiteFault),
+    /// The folder failed.
+    ReadFault,
+    /// The sink failed.
+    WriteFault,
+}
+
+/// The exit status of the program, 0 where the command did all of its work.
+pub fn status_code(status: &Status) -> u8
+    ensures { result ≡ code_of status.now }
+{
+    match status {
+        Status::Ok => 0,
+        Status::Memory => 1,
+        Status::Usage => 2,
+        Status::SiteRefused(_) => 3,
+        Status::ReadFault => 4,
+        Status::WriteFault => 5,
+    }
+}
+
+/// What the program says of the end, in one line without its end. It is empty where there is nothing to say.
+pub fn status_text(alloc: Global, status: &Status) -> Result<Text, Memory>
+    ensures { Gives result (text_of status.now) }
+{
+    match status {
+        Status::Ok => Ok(Text::new(alloc)),
+        Status::SiteRefused(fault) => fault_text(alloc, fault),
+        Status::Memory => Text::from_str(alloc, "out of memory"),
+        Status::Usage => Text::from_str(alloc, USAGE),
+        Status::ReadFault => Text::from_str(alloc, "read fault"),
+        Status::WriteFault => Text::from_str(alloc, "write fault"),
+    }
+}
+
+fn fault_text(alloc: Global, fault: &SiteFault) -> Result<Text, Memory>
+    ensures { Gives result (fault_text_of fault.now) }
+{
+    let place = place_string(alloc, fault.line, fault.kind)?;
+    let mut text = fault.path.copy()?;
+    text.push_str(place.as_str())?;
+    Ok(text)
+}
+
+fn place_string(alloc: Global, line: u32, kind: FaultKind) -> Result<String, Memory>
+    ensures { IfOk result (λ place. string_bytes place ≡ place_text line kind) }
+{
+    let kind = kind_text(kind);
+    Ok(format!(in alloc; ":{line}: {kind}")?)
+}
+
+fn kind_text(kind: FaultKind) -> &'static str
+    ensures { result.now ≡ kind_text_of kind }
+{
+    match kind {
+        FaultKind::NotYet => "NotYet",
+    }
+}

@@ -1,0 +1,37 @@
+//! What the program itself prints.
+
+use asp_host::Status;
+use vb_value::Text;
+
+/// What `--help` prints.
+pub const HELP: &str = "Runs classic ASP pages.
+
+usage:
+  classic_asp get SITE PATH   writes what the page at PATH of the folder SITE shows
+  classic_asp --help          writes this text
+  classic_asp --version       writes the program's name and version
+
+exit status: 0 done, 1 out of memory, 2 usage, 3 the site is refused, 4 read fault, 5 write fault";
+
+/// What `--version` prints.
+pub const VERSION: &str = "classic_asp 0.1.0";
+
+/// Writes a text and a line end to standard output.
+pub fn print_line<R: Print>(rt: &R, text: &str) -> Status {
+    match rt.println(text) {
+        Ok(()) => Status::Ok,
+        Err(_) => Status::WriteFault,
+    }
+}
+
+/// Writes what there is to say, if there is something, and a line end to standard error.
+///
+/// Nothing is left to try where that fails.
+pub fn tell<R: Eprint + AllocGlobal>(rt: &R, text: &Text) {
+    if text.is_empty() {
+        return;
+    }
+    if let Ok(line) = text.to_string(rt.alloc()) {
+        let _ = rt.eprintln(line.as_str());
+    }
+}

@@ -1,0 +1,2 @@
+mod Commuting
+mod Orders

@@ -1,0 +1,45 @@
+-- `&`, and `+` between texts (VBScript 5.6, "Concatenation Operators"). A text has 1,048,576 characters at most.
+use Rattle.std.specs.Prelude.{ℕ, ◌+◌, Bool, true, false, ◌&&◌, ◌||◌, nat_le, if◌then◌else◌, List, [], ◌++◌}
+use Rattle.std.specs.Prelude.{length, Result, Ok, Err}
+use Rattle.vb_value.specs.declared.fault.VbError.{VbError}
+use Rattle.vb_value.specs.declared.value.Value.{Value, Empty, Null, Str}
+use Rattle.vb_value.specs.Conversions.{to_str_of}
+use Rattle.vb_value.specs.Errors.{and_then, out_of_string_space}
+use Rattle.vb_ops.specs.Operands.{is_null}
+use Rattle.vb_ops.specs.Arithmetic.{on_numbers, sum_of}
+
+-- two texts as one; Out of string space where that is too long
+abbrev pub joined : List ℕ → List ℕ → Result Value VbError
+joined first second =
+    if nat_le (length first + length second) 1048576 then Ok (Str (first ++ second))
+    else Err out_of_string_space
+
+-- the text of a value, none for Null
+abbrev pub text_of : Value → Result (List ℕ) VbError
+text_of value = if is_null value then Ok [] else to_str_of value
+
+-- two values joined as texts
+abbrev pub joined_values : Value → Value → Result Value VbError
+joined_values a b = and_then (text_of a) (λ first. and_then (text_of b) (λ second. joined first second))
+
+-- a & b: Null for two Nulls
+abbrev pub join_of : Value → Value → Result Value VbError
+join_of a b = if is_null a && is_null b then Ok Null else joined_values a b
+
+-- whether a value is a String
+abbrev pub is_text : Value → Bool
+is_text (Str text) = true
+is_text _ = false
+
+-- whether a value is Empty
+abbrev pub is_empty : Value → Bool
+is_empty Empty = true
+is_empty _ = false
+
+-- whether `+` joins its operands: two Strings, or a String and Empty
+abbrev pub joins : Value → Value → Bool
+joins a b = (is_text a && (is_text b || is_empty b)) || (is_empty a && is_text b)
+
+-- a + b: texts are joined, anything else is added
+abbrev pub add_of : Value → Value → Result Value VbError
+add_of a b = if joins a b then joined_values a b else on_numbers sum_of a b

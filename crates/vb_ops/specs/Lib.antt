@@ -1,0 +1,7 @@
+pub mod Operands
+pub mod Arithmetic
+pub mod Joining
+pub mod Comparison
+pub mod Logic
+pub mod Operators
+pub mod Laws

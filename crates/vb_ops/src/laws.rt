@@ -1,0 +1,29 @@
+//! Laws of the operators' definitions. The functions do nothing: their contracts are the laws.
+ghost use Rattle.vb_ops.specs.Laws.{Commutes, ComparesAmounts, ComparesTexts};
+ghost use Rattle.std.specs.Cmp.{IsTotalOrder};
+ghost use Rattle.std.specs.Cmp.Lexicographic.{slice_cmp};
+ghost use Rattle.std.specs.Ordering.{nat_cmp, int_cmp};
+
+use vb_value::Op2;
+
+/// The order of the operands of `+` and `*` does not matter where neither is a text or refused.
+pub fn sums_and_products_commute()
+    ensures sum { Commutes Op2.Add }
+    ensures product { Commutes Op2.Multiply }
+{}
+
+/// The order of the operands of `And`, `Or`, `Xor` and `Eqv` does not matter where neither is a text or refused.
+pub fn logic_commutes()
+    ensures and { Commutes Op2.And }
+    ensures or { Commutes Op2.Or }
+    ensures xor { Commutes Op2.Xor }
+    ensures eqv { Commutes Op2.Eqv }
+{}
+
+/// Numbers compare in the order of their values, and texts in that of their characters' numbers.
+pub fn comparison_is_an_order()
+    ensures amounts { ComparesAmounts }
+    ensures amount_order { IsTotalOrder int_cmp }
+    ensures texts { ComparesTexts }
+    ensures text_order { IsTotalOrder (slice_cmp nat_cmp) }
+{}

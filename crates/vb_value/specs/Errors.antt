@@ -1,0 +1,51 @@
+-- The errors of the language, by their numbers (VBScript 5.6, "VBScript Run-time Errors").
+use Rattle.std.specs.Prelude.{ℕ, pos, Result, Ok, Err}
+use Rattle.vb_value.specs.declared.fault.VbError.{VbError}
+use Rattle.vb_value.specs.declared.fault.VbFault.{VbFault}
+use Rattle.vb_value.specs.declared.fault.VbFault.TheVariants.{Error}
+
+-- the error of this number
+abbrev pub error : ℕ → VbError
+error number = record { number = pos number }
+
+-- Overflow
+abbrev pub overflow : VbError
+overflow = error 6
+
+-- Division by zero
+abbrev pub division_by_zero : VbError
+division_by_zero = error 11
+
+-- Type mismatch
+abbrev pub type_mismatch : VbError
+type_mismatch = error 13
+
+-- Out of string space
+abbrev pub out_of_string_space : VbError
+out_of_string_space = error 14
+
+-- Object variable not set
+abbrev pub object_not_set : VbError
+object_not_set = error 91
+
+-- Invalid use of Null
+abbrev pub invalid_use_of_null : VbError
+invalid_use_of_null = error 94
+
+-- Object required
+abbrev pub object_required : VbError
+object_required = error 424
+
+-- Object doesn't support this property or method
+abbrev pub unsupported : VbError
+unsupported = error 438
+
+-- an answer of the language, as a call gives it that may also want memory
+abbrev pub told : {T : Type 0} → Result T VbError → Result T VbFault
+told (Ok given) = Ok given
+told (Err refused) = Err (Error refused.number)
+
+-- what is made of the value that an answer has; an error stays
+abbrev pub and_then : {T U : Type 0} → Result T VbError → (T → Result U VbError) → Result U VbError
+and_then (Ok given) next = next given
+and_then (Err refused) next = Err refused

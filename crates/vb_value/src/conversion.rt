@@ -1,0 +1,122 @@
+//! What a value is as a number, a Boolean and a text.
+ghost use Rattle.std.specs.Prelude.{◌≡◌};
+ghost use Rattle.vb_value.specs.Conversions.{to_number_of, to_int_of, to_long_of, to_cur_of, to_bool_of};
+ghost use Rattle.vb_value.specs.Conversions.{to_str_of, named_truth, says};
+ghost use Rattle.vb_value.specs.Errors.{told};
+ghost use Rattle.vb_value.specs.Outcome.{Answers};
+
+use crate::copied::Copied;
+use crate::fault::{VbError, VbFault};
+use crate::number::{Number, as_integer, as_long};
+use crate::number_text::{currency_text, whole_text};
+use crate::numeric_text::cur_of_text;
+use crate::text::Text;
+use crate::value::Value;
+use std::alloc::Global;
+
+/// A value as a number, a text as the first of Integer, Long and Currency that holds it. Error 94 for Null, 13
+/// for an array and a text that is no number, 438 for an object, 91 for Nothing, 6 out of range.
+pub fn to_number(value: &Value) -> Result<Number, VbError>
+    ensures { result ≡ to_number_of value.now }
+{
+    match value {
+        Value::Empty => Ok(Number::Int(0)),
+        Value::Null => Err(VbError::INVALID_USE_OF_NULL),
+        Value::Bool(truth) => Ok(Number::Int(if *truth { -1 } else { 0 })),
+        Value::Int(n) => Ok(Number::Int(*n)),
+        Value::Long(n) => Ok(Number::Long(*n)),
+        Value::Cur(n) => Ok(Number::Cur(*n)),
+        Value::Str(text) => Ok(Number::of_amount(cur_of_text(text)?)),
+        Value::Arr(_) => Err(VbError::TYPE_MISMATCH),
+        Value::Obj(_) => Err(VbError::UNSUPPORTED),
+        Value::Nothing => Err(VbError::OBJECT_NOT_SET),
+    }
+}
+
+/// A value as an Integer, half rounded to even. The errors are those of [`to_number`].
+pub fn to_int(value: &Value) -> Result<i16, VbError>
+    ensures { result ≡ to_int_of value.now }
+{
+    as_integer(to_number(value)?.whole() as i128)
+}
+
+/// A value as a Long, half rounded to even. The errors are those of [`to_number`].
+pub fn to_long(value: &Value) -> Result<i32, VbError>
+    ensures { result ≡ to_long_of value.now }
+{
+    as_long(to_number(value)?.whole() as i128)
+}
+
+/// A value as a Currency, in ten-thousandths. The errors are those of [`to_number`].
+pub fn to_cur(value: &Value) -> Result<i64, VbError>
+    ensures { result ≡ to_cur_of value.now }
+{
+    Ok(to_number(value)?.amount())
+}
+
+/// A value as a Boolean: a text by its name, else a number by whether it is not 0. The errors are those of
+/// [`to_number`].
+pub fn to_bool(value: &Value) -> Result<bool, VbError>
+    ensures { result ≡ to_bool_of value.now }
+{
+    match value {
+        Value::Empty => Ok(false),
+        Value::Null => Err(VbError::INVALID_USE_OF_NULL),
+        Value::Bool(truth) => Ok(*truth),
+        Value::Int(n) => Ok(*n != 0),
+        Value::Long(n) => Ok(*n != 0),
+        Value::Cur(n) => Ok(*n != 0),
+        Value::Str(text) => match named_truth(text) {
+            Some(truth) => Ok(truth),
+            None => Ok(cur_of_text(text)? != 0),
+        },
+        Value::Arr(_) => Err(VbError::TYPE_MISMATCH),
+        Value::Obj(_) => Err(VbError::UNSUPPORTED),
+        Value::Nothing => Err(VbError::OBJECT_NOT_SET),
+    }
+}
+
+/// The Boolean whose name the text is, in any ASCII case.
+pub fn named_truth(text: &Text) -> Option<bool>
+    ensures { result ≡ named_truth text.now }
+{
+    if says(text.as_slice(), &['t', 'r', 'u', 'e']) {
+        Some(true)
+    } else if says(text.as_slice(), &['f', 'a', 'l', 's', 'e']) {
+        Some(false)
+    } else {
+        None
+    }
+}
+
+/// Whether the text is the word, but for ASCII case.
+fn says(text: &[char], word: &[char]) -> bool
+    ensures { result ≡ says text.now word.now }
+{
+    match (text, word) {
+        ([first, rest @ ..], [letter, others @ ..]) => {
+            first.to_ascii_lowercase() == *letter && says(rest, others)
+        }
+        ([], []) => true,
+        _ => false,
+    }
+}
+
+/// A value as a text. Error 94 for Null, 13 for an array, 438 for an object, 91 for Nothing.
+pub fn to_str(alloc: Global, value: &Value) -> Result<Text, VbFault>
+    ensures { Answers result VbFault.Memory (told (to_str_of value.now)) }
+{
+    match value {
+        Value::Empty => Ok(Text::new(alloc)),
+        Value::Null => Err(VbError::INVALID_USE_OF_NULL)?,
+        Value::Bool(true) => Ok(Text::from_slice(alloc, &['T', 'r', 'u', 'e'])?),
+        Value::Bool(false) => Ok(Text::from_slice(alloc, &['F', 'a', 'l', 's', 'e'])?),
+        Value::Int(n) => Ok(whole_text(alloc, *n as i64)?),
+        Value::Long(n) => Ok(whole_text(alloc, *n as i64)?),
+        Value::Cur(n) => Ok(currency_text(alloc, *n)?),
+        Value::Str(text) => Ok(text.copy()?),
+        Value::Arr(_) => Err(VbError::TYPE_MISMATCH)?,
+        Value::Obj(_) => Err(VbError::UNSUPPORTED)?,
+        Value::Nothing => Err(VbError::OBJECT_NOT_SET)?,
+    }
+}
