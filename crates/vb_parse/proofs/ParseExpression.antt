@@ -11,7 +11,7 @@ use Rattle.vb_parse.specs.ReadExpressions as spec
 use Rattle.vb_parse.specs.ReadExpressions.{whole_expression}
 use Rattle.vb_parse.proofs.ExpressionReading.{expressions_read}
 use Rattle.vb_parse.proofs.ExpressionTaking.{Ends, expressions_taken}
-use Rattle.vb_parse.proofs.Theorems.{Fits, fits, unique, sound, stops_at_fault, spelled_or_fault, spelled_no_fault, looser_reads, looser_further, looser_stops}
+use Rattle.vb_parse.proofs.Theorems.{Fits, fits, unique, sound, stops_at_fault, spelled_or_fault, spelled_no_fault, fault_unique, looser_reads, looser_further, looser_stops}
 
 abbrev reader_at : ℕ → Reader Expression
 reader_at depth = (spec.expressions depth).expression
@@ -81,3 +81,11 @@ pub fault_unexpected : (depth : ℕ) (tokens left : Tokens) (count line : ℕ) �
 fault_unexpected depth tokens left count line read leaves more at =
     let f : IsFault (SpellsExpression depth) tokens left = expression_stops depth tokens left read in
     record { left = left; fault = f; is_kind = no_deeper depth (suc depth) tokens left count f leaves more; in_line = at }
+
+-- ---- laws
+
+pub expression_faultless : (depth : ℕ) (tokens left : Tokens) (tree : Expression) → SpellsExpression depth tokens tree → IsFault (SpellsExpression depth) tokens left → ⊥
+expression_faultless depth tokens left tree = spelled_no_fault (SpellsExpression depth) tokens left tree
+
+pub one_fault : (depth : ℕ) (tokens left other : Tokens) → IsFault (SpellsExpression depth) tokens left → IsFault (SpellsExpression depth) tokens other → left ≡ other
+one_fault depth = fault_unique (SpellsExpression depth)

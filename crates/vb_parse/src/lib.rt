@@ -1,11 +1,13 @@
-//! The parser of the language: it gives the one tree that the words of a script spell, or the first word
-//! with which no tree goes on.
+//! Reading the words of a script: the one tree that they spell, or the first word with which none goes on.
 #![tactic(auto)]
 
 mod cursor;
 mod expression;
 mod fault;
+pub mod laws;
 mod parse;
+#[cfg(test)]
+mod tests;
 
 pub use fault::{ParseFault, ParseStop};
 pub use parse::parse_expression;
