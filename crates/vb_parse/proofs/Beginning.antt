@@ -22,11 +22,15 @@ HeadIn has front = (token : Token) × (back : Tokens) × (front ≡ token ∷ ba
 pub record Begins {A : Type 0} (has : ℕ → Bool) (r : Rule A) : Type 0 where
   pub head : (front : Tokens) (x : A) → r front x → HeadIn has front
 
-pub begins_wider : {A : Type 0} {f g : ℕ → Bool} {r : Rule A} → ((n : ℕ) → f n ≡ true → g n ≡ true) → Begins f r → Begins g r
+pub begins_wider : {A : Type 0} {f g : ℕ → Bool} {r : Rule A} → ((n : ℕ) → f n ≡ true → g n ≡ true)
+    → Begins f r → Begins g r
 begins_wider wider begins = record { head = λ front x h. let w = begins.head front x h in (w.0, w.1, w.2, wider _ w.3) }
 
 pub begins_bind : {A B : Type 0} {f : ℕ → Bool} {r : Rule A} {s : A → Rule B} → Begins f r → Begins f (rule.◌>>=◌ r s)
-begins_bind {A} {B} {f} {r} {s} begins = record { head = λ front x h. let w = begins.head h.front h.thing h.first_spells in (w.0, w.1 ++ h.back, h.split ∙ ap (λ t. t ++ h.back) w.2, w.3) }
+begins_bind {A} {B} {f} {r} {s} begins = record {
+  head = λ front x h. let w = begins.head h.front h.thing
+      h.first_spells in (w.0, w.1 ++ h.back, h.split ∙ ap (λ t. t ++ h.back) w.2, w.3);
+}
 
 pub begins_or : {A : Type 0} {f : ℕ → Bool} {r s : Rule A} → Begins f r → Begins f s → Begins f (rule.◌or◌ r s)
 begins_or {A} {f} {r} {s} a b = record { head = go }
@@ -35,13 +39,15 @@ begins_or {A} {f} {r} {s} a b = record { head = go }
     go front x (inl h) = a.head front x h
     go front x (inr h) = b.head front x h
 
-pub begins_where : {A : Type 0} {f : ℕ → Bool} {r : Rule A} {opens : Bool} → Begins f r → Begins f (rule.where_true opens r)
+pub begins_where : {A : Type 0} {f : ℕ → Bool} {r : Rule A} {opens : Bool} → Begins f r
+    → Begins f (rule.where_true opens r)
 begins_where begins = record { head = λ front x h. begins.head front x h.1 }
 
 line_of-tag : (n : ℕ) (token : Token) (line : ℕ) → line_of n token ≡ Some line → (tag token.kind == n) ≡ true
 line_of-tag n token line e = go (tag token.kind == n) refl e
   where
-    go : (b : Bool) → (tag token.kind == n) ≡ b → cond b (Some token.line) None ≡ Some line → (tag token.kind == n) ≡ true
+    go : (b : Bool) → (tag token.kind == n) ≡ b → cond b (Some token.line) None ≡ Some line
+        → (tag token.kind == n) ≡ true
     go true is _ = is
     go false _ e = absurd cc
 
@@ -66,10 +72,12 @@ differs f n m is not = go (n == m) refl
     go true e = let clash : true ≡ false = sym is ∙ ap f (eqb-true n m e) ∙ not in absurd cc
     go false e = e
 
-pub sees_true : (kind : TokenKind) (front rest : Tokens) → HeadIn (λ n. n == tag kind) front → sees kind (next (front ++ rest)) ≡ true
+pub sees_true : (kind : TokenKind) (front rest : Tokens) → HeadIn (λ n. n == tag kind) front
+    → sees kind (next (front ++ rest)) ≡ true
 sees_true kind front rest w = rw w.2 w.3
 
-pub sees_false : (f : ℕ → Bool) (kind : TokenKind) (front rest : Tokens) → HeadIn f front → f (tag kind) ≡ false → sees kind (next (front ++ rest)) ≡ false
+pub sees_false : (f : ℕ → Bool) (kind : TokenKind) (front rest : Tokens) → HeadIn f front
+    → f (tag kind) ≡ false → sees kind (next (front ++ rest)) ≡ false
 sees_false f kind front rest w not = rw w.2 (differs f (tag w.0.kind) (tag kind) w.3 not)
 
 -- ---- the numbers of some kinds of words
@@ -95,9 +103,11 @@ name_tag _ = refl
 -- the levels of the operators
 abbrev pub tag_level : ℕ → ℕ
 tag_level n =
-    if n == 114 then 1 else (if n == 103 then 2 else (if n == 29 then 3 else (if n == 113 || n == 110 then 4 else (if n == 100 then 5 else
+    if n == 114 then 1 else (if n == 103 then 2 else (if n == 29 then 3 else (if n == 113 || n == 110 then 4
+    else (if n == 100 then 5 else
     (if n == 107 || (n == 111 || (n == 109 || (n == 108 || (n == 101 || (n == 102 || n == 25))))) then 6 else
-    (if n == 0 then 8 else (if n == 37 then 9 else (if n == 53 then 10 else (if n == 14 then 11 else (if n == 23 then 12 else 0))))))))))
+    (if n == 0 then 8 else (if n == 37 then 9 else (if n == 53 then 10 else (if n == 14 then 11 else (if n ==
+    23 then 12 else 0))))))))))
 
 abbrev pub level_of : Option (ℕ × Op2) → ℕ
 level_of None = 0
@@ -111,11 +121,13 @@ level_tag (kind.Symbol _) = refl
 level_tag _ = refl
 
 -- no operator of a level that is another than the token's
-pub other_level : (level : ℕ) (found : Option (ℕ × Op2)) → (level_of found == level) ≡ false → is_some (at_level level found) ≡ false
+pub other_level : (level : ℕ) (found : Option (ℕ × Op2)) → (level_of found == level) ≡ false
+    → is_some (at_level level found) ≡ false
 other_level level None e = refl
 other_level level (Some found) e = rw e refl
 
-pub this_level : (level : ℕ) (found : Option (ℕ × Op2)) (o : Op2) → at_level level found ≡ Some o → level_of found ≡ level
+pub this_level : (level : ℕ) (found : Option (ℕ × Op2)) (o : Op2) → at_level level found ≡ Some o
+    → level_of found ≡ level
 this_level level None o e = absurd cc
 this_level level (Some found) o e = go (found.0 == level) refl e
   where

@@ -26,7 +26,8 @@ IsKind rules depth front left kind.TooDeep = WouldGoOn (rules (suc depth)) front
 IsKind rules depth front left kind.Unexpected = ¬ (WouldGoOn (rules (suc depth)) front left)
 
 -- The tokens have a fault of this kind in this line, where this many constructs may be open at one place.
-pub record HasFault {A : Type 0} (rules : ℕ → Rule A) (depth : ℕ) (tokens : Tokens) (kind : ParseFault) (line : ℕ) : Type 0 where
+pub record HasFault {A : Type 0} (rules : ℕ
+    → Rule A) (depth : ℕ) (tokens : Tokens) (kind : ParseFault) (line : ℕ) : Type 0 where
   pub left : Tokens
   pub fault : IsFault (rules depth) tokens left
   pub is_kind : IsKind rules depth fault.front left kind

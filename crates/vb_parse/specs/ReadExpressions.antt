@@ -57,8 +57,8 @@ goes_on_path token = sees (kind.Symbol s.PathPoint) token || sees (kind.Symbol s
 
 abbrev pub path_head : Reader PathHead
 path_head = case (passes name_of) (do name ← one name_of; pure (head.Name name))
-  (case (sees (kind.Keyword k.Me)) (do keyword k.Me; pure head.Me)
-  (do symbol s.WithPoint; name ← one name_of; pure (head.With name)))
+    (case (sees (kind.Keyword k.Me)) (do keyword k.Me; pure head.Me)
+    (do symbol s.WithPoint; name ← one name_of; pure (head.With name)))
 
 abbrev pub literal : Reader Expression
 literal = do found ← one literal_of; pure (e.Literal found)
@@ -91,8 +91,8 @@ module _ (opens : Bool) (inside : Inside) where
   -- behind a path
   abbrev pub step : Reader Step
   step = case (sees (kind.Symbol s.PathPoint))
-    (do symbol s.PathPoint; name ← one name_of; pure (behind.Member name))
-    (do arguments ← group; pure (behind.Group arguments))
+      (do symbol s.PathPoint; name ← one name_of; pure (behind.Member name))
+      (do arguments ← group; pure (behind.Group arguments))
 
   abbrev pub steps : Reader (List Step)
   steps = many goes_on_path step
@@ -112,8 +112,8 @@ module _ (opens : Bool) (inside : Inside) where
   -- prim, by the token that it begins with
   abbrev pub primary : Reader Expression
   primary = case sees_leaf leaf
-    (case (sees (kind.Symbol s.Open)) parenthesis
-    (case (sees (kind.Symbol s.Minus)) negative reference))
+      (case (sees (kind.Symbol s.Open)) parenthesis
+      (case (sees (kind.Symbol s.Minus)) negative reference))
 
   -- a `Not` and what it negates
   abbrev pub negated : Reader Expression

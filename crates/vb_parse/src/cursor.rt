@@ -186,7 +186,9 @@ impl<'a> Cursor<'a> {
     pub fn sees_leaf(&self) -> bool
         ensures { result ≡ sees_leaf (reader.next self.now.rest.now) }
     {
-        self.sees_literal() || self.sees_keyword(Keyword::Nothing) || self.sees_keyword(Keyword::New)
+        self.sees_literal()
+            || self.sees_keyword(Keyword::Nothing)
+            || self.sees_keyword(Keyword::New)
     }
 
     /// Takes a word of this kind, and answers its line.

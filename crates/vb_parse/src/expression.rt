@@ -18,7 +18,8 @@ const LAST_LEVEL: u32 = 12;
 
 #[cycle(expression)]
 fn group(alloc: Global, cursor: &mut Cursor<'_>, depth: u32) -> Result<List<Expression>, Stop>
-    ensures { Runs (spec.group (opens depth) (inside depth) cursor.old.rest.now) result cursor.new.rest.now }
+    ensures { Runs (spec.group (opens depth) (inside depth)
+        cursor.old.rest.now) result cursor.new.rest.now }
 {
     if depth == 0 {
         return Err(Stop::Fault);
@@ -35,7 +36,8 @@ fn group(alloc: Global, cursor: &mut Cursor<'_>, depth: u32) -> Result<List<Expr
 
 #[cycle(expression)]
 fn list(alloc: Global, cursor: &mut Cursor<'_>, depth: u32) -> Result<List<Expression>, Stop>
-    ensures { Runs (spec.list_of (spec.expressions depth).expression cursor.old.rest.now) result cursor.new.rest.now }
+    ensures { Runs (spec.list_of (spec.expressions depth).expression
+        cursor.old.rest.now) result cursor.new.rest.now }
 {
     let mut found = List::new(alloc);
     found.push(expression(alloc, cursor, depth)?)?;
@@ -48,7 +50,8 @@ fn list(alloc: Global, cursor: &mut Cursor<'_>, depth: u32) -> Result<List<Expre
 
 #[cycle(expression)]
 fn step(alloc: Global, cursor: &mut Cursor<'_>, depth: u32) -> Result<Step, Stop>
-    ensures { Runs (spec.step (opens depth) (inside depth) cursor.old.rest.now) result cursor.new.rest.now }
+    ensures { Runs (spec.step (opens depth) (inside depth)
+        cursor.old.rest.now) result cursor.new.rest.now }
 {
     if cursor.sees_symbol(Symbol::PathPoint) {
         cursor.symbol(Symbol::PathPoint)?;
@@ -60,7 +63,8 @@ fn step(alloc: Global, cursor: &mut Cursor<'_>, depth: u32) -> Result<Step, Stop
 
 #[cycle(expression)]
 fn steps(alloc: Global, cursor: &mut Cursor<'_>, depth: u32) -> Result<List<Step>, Stop>
-    ensures { Runs (spec.steps (opens depth) (inside depth) cursor.old.rest.now) result cursor.new.rest.now }
+    ensures { Runs (spec.steps (opens depth) (inside depth)
+        cursor.old.rest.now) result cursor.new.rest.now }
 {
     let mut found = List::new(alloc);
     while cursor.goes_on_path() {
@@ -85,7 +89,8 @@ fn path_head(cursor: &mut Cursor<'_>) -> Result<PathHead, Stop>
 
 #[cycle(expression)]
 fn path(alloc: Global, cursor: &mut Cursor<'_>, depth: u32) -> Result<Path, Stop>
-    ensures { Runs (spec.path (opens depth) (inside depth) cursor.old.rest.now) result cursor.new.rest.now }
+    ensures { Runs (spec.path (opens depth) (inside depth)
+        cursor.old.rest.now) result cursor.new.rest.now }
 {
     let head = path_head(cursor)?;
     let steps = steps(alloc, cursor, depth)?;
@@ -94,7 +99,8 @@ fn path(alloc: Global, cursor: &mut Cursor<'_>, depth: u32) -> Result<Path, Stop
 
 #[cycle(expression)]
 fn parenthesis(alloc: Global, cursor: &mut Cursor<'_>, depth: u32) -> Result<Expression, Stop>
-    ensures { Runs (spec.parenthesis (opens depth) (inside depth) cursor.old.rest.now) result cursor.new.rest.now }
+    ensures { Runs (spec.parenthesis (opens depth) (inside depth)
+        cursor.old.rest.now) result cursor.new.rest.now }
 {
     if depth == 0 {
         return Err(Stop::Fault);
@@ -107,7 +113,8 @@ fn parenthesis(alloc: Global, cursor: &mut Cursor<'_>, depth: u32) -> Result<Exp
 
 #[cycle(expression)]
 fn negative(alloc: Global, cursor: &mut Cursor<'_>, depth: u32) -> Result<Expression, Stop>
-    ensures { Runs (spec.negative (opens depth) (inside depth) cursor.old.rest.now) result cursor.new.rest.now }
+    ensures { Runs (spec.negative (opens depth) (inside depth)
+        cursor.old.rest.now) result cursor.new.rest.now }
 {
     if depth == 0 {
         return Err(Stop::Fault);
@@ -119,7 +126,8 @@ fn negative(alloc: Global, cursor: &mut Cursor<'_>, depth: u32) -> Result<Expres
 
 #[cycle(expression)]
 fn negated(alloc: Global, cursor: &mut Cursor<'_>, depth: u32) -> Result<Expression, Stop>
-    ensures { Runs (spec.negated (opens depth) (inside depth) cursor.old.rest.now) result cursor.new.rest.now }
+    ensures { Runs (spec.negated (opens depth) (inside depth)
+        cursor.old.rest.now) result cursor.new.rest.now }
 {
     if depth == 0 {
         return Err(Stop::Fault);
@@ -131,14 +139,16 @@ fn negated(alloc: Global, cursor: &mut Cursor<'_>, depth: u32) -> Result<Express
 
 #[cycle(expression)]
 fn minus_operand(alloc: Global, cursor: &mut Cursor<'_>, depth: u32) -> Result<Expression, Stop>
-    ensures { Runs ((spec.expressions depth).primary cursor.old.rest.now) result cursor.new.rest.now }
+    ensures { Runs ((spec.expressions depth).primary
+        cursor.old.rest.now) result cursor.new.rest.now }
 {
     primary(alloc, cursor, depth)
 }
 
 #[cycle(expression)]
 fn not_operand(alloc: Global, cursor: &mut Cursor<'_>, depth: u32) -> Result<Expression, Stop>
-    ensures { Runs ((spec.expressions depth).negated cursor.old.rest.now) result cursor.new.rest.now }
+    ensures { Runs ((spec.expressions depth).negated
+        cursor.old.rest.now) result cursor.new.rest.now }
 {
     operators(alloc, cursor, depth, NOT_LEVEL)
 }
@@ -162,7 +172,8 @@ fn leaf(cursor: &mut Cursor<'_>) -> Result<Expression, Stop>
 
 #[cycle(expression)]
 fn primary(alloc: Global, cursor: &mut Cursor<'_>, depth: u32) -> Result<Expression, Stop>
-    ensures { Runs (spec.primary (opens depth) (inside depth) cursor.old.rest.now) result cursor.new.rest.now }
+    ensures { Runs (spec.primary (opens depth) (inside depth)
+        cursor.old.rest.now) result cursor.new.rest.now }
 {
     if cursor.sees_leaf() {
         leaf(cursor)
@@ -177,10 +188,16 @@ fn primary(alloc: Global, cursor: &mut Cursor<'_>, depth: u32) -> Result<Express
 
 /// An operator of the level, and its right operand.
 #[cycle(expression)]
-fn operation(alloc: Global, cursor: &mut Cursor<'_>, depth: u32, level: u32) -> Result<Operation, Stop>
+fn operation(
+    alloc: Global,
+    cursor: &mut Cursor<'_>,
+    depth: u32,
+    level: u32,
+) -> Result<Operation, Stop>
     requires below { level < 12 }
     requires no_not { level ≢ 6 }
-    ensures { Runs (spec.turn (level + 1) (spec.operators (opens depth) (inside depth) level) cursor.old.rest.now) result cursor.new.rest.now }
+    ensures { Runs (spec.turn (level + 1) (spec.operators (opens depth) (inside depth) level)
+        cursor.old.rest.now) result cursor.new.rest.now }
 {
     let operator = cursor.operator(level + 1)?;
     let operand = operators(alloc, cursor, depth, level)?;
@@ -188,10 +205,16 @@ fn operation(alloc: Global, cursor: &mut Cursor<'_>, depth: u32, level: u32) -> 
 }
 
 #[cycle(expression)]
-fn operations(alloc: Global, cursor: &mut Cursor<'_>, depth: u32, level: u32) -> Result<List<Operation>, Stop>
+fn operations(
+    alloc: Global,
+    cursor: &mut Cursor<'_>,
+    depth: u32,
+    level: u32,
+) -> Result<List<Operation>, Stop>
     requires below { level < 12 }
     requires no_not { level ≢ 6 }
-    ensures { Runs (spec.turns (level + 1) (spec.operators (opens depth) (inside depth) level) cursor.old.rest.now) result cursor.new.rest.now }
+    ensures { Runs (spec.turns (level + 1) (spec.operators (opens depth) (inside depth) level)
+        cursor.old.rest.now) result cursor.new.rest.now }
 {
     let mut found = List::new(alloc);
     while cursor.sees_operator(level + 1) {
@@ -213,10 +236,16 @@ fn chain(alloc: Global, first: Expression, rest: List<Operation>) -> Result<Expr
 }
 
 #[cycle(expression)]
-fn chained(alloc: Global, cursor: &mut Cursor<'_>, depth: u32, level: u32) -> Result<Expression, Stop>
+fn chained(
+    alloc: Global,
+    cursor: &mut Cursor<'_>,
+    depth: u32,
+    level: u32,
+) -> Result<Expression, Stop>
     requires below { level < 12 }
     requires no_not { level ≢ 6 }
-    ensures { Runs (spec.chained (level + 1) (spec.operators (opens depth) (inside depth) level) cursor.old.rest.now) result cursor.new.rest.now }
+    ensures { Runs (spec.chained (level + 1) (spec.operators (opens depth) (inside depth) level)
+        cursor.old.rest.now) result cursor.new.rest.now }
 {
     let first = operators(alloc, cursor, depth, level)?;
     let rest = operations(alloc, cursor, depth, level)?;
@@ -225,9 +254,15 @@ fn chained(alloc: Global, cursor: &mut Cursor<'_>, depth: u32, level: u32) -> Re
 
 /// An expression with operators up to the level.
 #[cycle(expression)]
-fn operators(alloc: Global, cursor: &mut Cursor<'_>, depth: u32, level: u32) -> Result<Expression, Stop>
+fn operators(
+    alloc: Global,
+    cursor: &mut Cursor<'_>,
+    depth: u32,
+    level: u32,
+) -> Result<Expression, Stop>
     requires { level ≤ 12 }
-    ensures { Runs (spec.operators (opens depth) (inside depth) level cursor.old.rest.now) result cursor.new.rest.now }
+    ensures { Runs (spec.operators (opens depth) (inside depth) level
+        cursor.old.rest.now) result cursor.new.rest.now }
 {
     if level == 0 {
         primary(alloc, cursor, depth)
@@ -242,7 +277,8 @@ fn operators(alloc: Global, cursor: &mut Cursor<'_>, depth: u32, level: u32) -> 
 
 #[cycle(expression)]
 pub fn expression(alloc: Global, cursor: &mut Cursor<'_>, depth: u32) -> Result<Expression, Stop>
-    ensures { Runs ((spec.expressions depth).expression cursor.old.rest.now) result cursor.new.rest.now }
+    ensures { Runs ((spec.expressions depth).expression
+        cursor.old.rest.now) result cursor.new.rest.now }
 {
     operators(alloc, cursor, depth, LAST_LEVEL)
 }

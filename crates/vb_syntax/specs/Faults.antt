@@ -1,6 +1,5 @@
 -- Where a fault stands: at the first token with which nothing that the rule spells goes on.
-use Rattle.std.specs.Prelude.{◌≡◌, ℕ, suc, List, [], ◌∷◌, ◌++◌}
-use Rattle.vb_value.specs.declared.token.Token.{Token}
+use Rattle.std.specs.Prelude.{◌≡◌, ℕ, [], ◌∷◌, ◌++◌}
 use Rattle.vb_syntax.specs.Rules.{Tokens, Rule}
 
 -- these tokens are the beginning of something that the rule spells

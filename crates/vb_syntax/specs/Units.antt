@@ -1,5 +1,5 @@
 -- Procedures, classes and whole units: which token lists spell which of them, and which faults they have.
-use Rattle.std.specs.Prelude.{◌≡◌, ℕ, zero, suc, Bool, true, false, List, [], ◌∷◌, Option, Some, None, codes}
+use Rattle.std.specs.Prelude.{ℕ, zero, suc, Bool, true, false, List, [], codes}
 use Rattle.vb_value.specs.declared.token.Keyword.TheVariants as k
 use Rattle.vb_syntax.specs.declared.declaration.Access.{Access}
 use Rattle.vb_syntax.specs.declared.declaration.Access.TheVariants as access
@@ -20,9 +20,10 @@ use Rattle.vb_syntax.specs.declared.unit.Unit.{Unit as Script}
 use Rattle.vb_syntax.specs.Rules.{Tokens, Rule, pure, ◌>>=◌, ◌>>◌, ◌or◌, one, many}
 use Rattle.vb_syntax.specs.Words.{keyword, list_of, name_of}
 use Rattle.vb_syntax.specs.Declarations.{opened, with_access, declared, parameters}
-use Rattle.vb_syntax.specs.Statements.{Looser, Blocks, «end», blocks, quoted, loose_texts}
+use Rattle.vb_syntax.specs.SimpleStatements.{Looser, quoted}
+use Rattle.vb_syntax.specs.Statements.{Blocks, «end», blocks, loose_texts}
 use Rattle.vb_syntax.specs.Statements as s
-use Rattle.vb_syntax.specs.Faults.{IsFault, WouldGoOn}
+use Rattle.vb_syntax.specs.Faults.{WouldGoOn}
 
 module _ (looser : Looser) where
   -- block = { ( stmt | const ) end }
@@ -39,7 +40,14 @@ module _ (looser : Looser) where
     body ← block within
     keyword k.End
     keyword k.Sub
-    pure (record { line = first.0; access = first.1; kind = procedure_kind.Sub; name = name; parameters = given; body = body }))
+    pure (record {
+      line = first.0;
+      access = first.1;
+      kind = procedure_kind.Sub;
+      name = name;
+      parameters = given;
+      body = body;
+    }))
 
   -- [ "Public" | "Private" ] "Function" name [ params ] end block "End" "Function"
   abbrev pub function : ℕ → Rule Procedure
@@ -51,7 +59,14 @@ module _ (looser : Looser) where
     body ← block within
     keyword k.End
     keyword k.Function
-    pure (record { line = first.0; access = first.1; kind = procedure_kind.Function; name = name; parameters = given; body = body }))
+    pure (record {
+      line = first.0;
+      access = first.1;
+      kind = procedure_kind.Function;
+      name = name;
+      parameters = given;
+      body = body;
+    }))
 
   -- proc
   abbrev pub procedure : ℕ → Rule Procedure
@@ -74,7 +89,14 @@ module _ (looser : Looser) where
     body ← block within
     keyword k.End
     quoted (codes "property")
-    pure (record { line = first.0; access = first.1; kind = kind; name = name; parameters = given; body = body }))
+    pure (record {
+      line = first.0;
+      access = first.1;
+      kind = kind;
+      name = name;
+      parameters = given;
+      body = body;
+    }))
 
   -- "Dim" | "Public" | "Private", with its line
   abbrev pub field_access : Rule (ℕ × FieldAccess)
@@ -113,7 +135,8 @@ module _ (looser : Looser) where
 
   -- "Public" | "Private", with its line
   abbrev pub access_word : Rule (ℕ × Access)
-  access_word = (do line ← keyword k.Public; pure (line, access.Public)) or (do line ← keyword k.Private; pure (line, access.Private))
+  access_word = (do line ← keyword k.Public; pure (line, access.Public))
+      or (do line ← keyword k.Private; pure (line, access.Private))
 
   -- ( "Public" | "Private" ) decl { "," decl }
   abbrev pub variables : ℕ → Rule Item

@@ -12,5 +12,9 @@ mod unit;
 pub use declaration::{Access, Constant, ConstantValue, Declared, Parameter};
 pub use expression::{Expression, Literal, Operation, Path, PathHead, Step};
 pub use member::{CollectionPart, ContentsPart, Member};
-pub use statement::{Case, Condition, ElseIf, ExitKind, Repetition, Resized, Statement, StatementKind};
-pub use unit::{Class, ClassMember, FieldAccess, Item, Procedure, ProcedureKind, Property, PropertyKind, Unit};
+pub use statement::{
+    Case, Condition, ElseIf, ExitKind, Repetition, Resized, Statement, StatementKind,
+};
+pub use unit::{
+    Class, ClassMember, FieldAccess, Item, Procedure, ProcedureKind, Property, PropertyKind, Unit,
+};

@@ -56,19 +56,27 @@ abbrev pub decreases-negated : goal.decreases-negated
 decreases-negated l = l.depth * 70 + 5
 
 abbrev pub invariant-list-loop-alloc : goal.invariant-list-loop-alloc
-invariant-list-loop-alloc l = spec.list_of (spec.expressions l.fn.depth).expression l.fn.cursor.rest.now ≡ reader.and_then (reader.many (reader.sees (kind.Symbol s.Comma)) (spec.comma_and (spec.expressions l.fn.depth).expression) l.cursor.rest.now) (λ more. reader.pure (l.found ++ more))
+invariant-list-loop-alloc l = spec.list_of (spec.expressions l.fn.depth).expression l.fn.cursor.rest.now ≡
+    reader.and_then (reader.many (reader.sees (kind.Symbol s.Comma))
+    (spec.comma_and (spec.expressions l.fn.depth).expression) l.cursor.rest.now)
+    (λ more. reader.pure (l.found ++ more))
 
 abbrev pub decreases-list-loop-alloc : goal.decreases-list-loop-alloc
 decreases-list-loop-alloc l = length l.cursor.rest.now
 
 abbrev pub invariant-steps-loop-alloc : goal.invariant-steps-loop-alloc
-invariant-steps-loop-alloc l = spec.steps (opens l.fn.depth) (inside l.fn.depth) l.fn.cursor.rest.now ≡ reader.and_then (spec.steps (opens l.fn.depth) (inside l.fn.depth) l.cursor.rest.now) (λ more. reader.pure (l.found ++ more))
+invariant-steps-loop-alloc l = spec.steps (opens l.fn.depth)
+    (inside l.fn.depth) l.fn.cursor.rest.now ≡ reader.and_then (spec.steps (opens l.fn.depth)
+    (inside l.fn.depth) l.cursor.rest.now) (λ more. reader.pure (l.found ++ more))
 
 abbrev pub decreases-steps-loop-alloc : goal.decreases-steps-loop-alloc
 decreases-steps-loop-alloc l = length l.cursor.rest.now
 
 abbrev pub invariant-operations-loop-alloc : goal.invariant-operations-loop-alloc
-invariant-operations-loop-alloc l = spec.turns (l.fn.level + 1) (spec.operators (opens l.fn.depth) (inside l.fn.depth) l.fn.level) l.fn.cursor.rest.now ≡ reader.and_then (spec.turns (l.fn.level + 1) (spec.operators (opens l.fn.depth) (inside l.fn.depth) l.fn.level) l.cursor.rest.now) (λ more. reader.pure (l.found ++ more))
+invariant-operations-loop-alloc l = spec.turns (l.fn.level + 1) (spec.operators (opens l.fn.depth)
+    (inside l.fn.depth) l.fn.level) l.fn.cursor.rest.now ≡ reader.and_then (spec.turns (l.fn.level + 1)
+    (spec.operators (opens l.fn.depth) (inside l.fn.depth) l.fn.level) l.cursor.rest.now)
+    (λ more. reader.pure (l.found ++ more))
 
 abbrev pub decreases-operations-loop-alloc : goal.decreases-operations-loop-alloc
 decreases-operations-loop-alloc l = length l.cursor.rest.now
