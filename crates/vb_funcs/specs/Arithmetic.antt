@@ -1,6 +1,6 @@
 -- Abs, Int, Fix and Sgn (VBScript 5.6, "Math Functions"). Currency counts ten-thousandths. Each result is exact,
 -- and one out of its kind's range is Overflow.
-use Rattle.std.specs.Prelude.{suc, ◌+◌, ◌*◌, ◌/◌, ◌==◌, if◌then◌else◌, ℤ, pos, negsuc, neg_ℤ, ◌*ℤ◌, int_div}
+use Rattle.std.specs.Prelude.{◌+◌, ◌*◌, ◌/◌, ◌==◌, if◌then◌else◌, ℤ, pos, negsuc, neg_ℤ, ◌*ℤ◌, int_div}
 use Rattle.std.specs.Prelude.{unsigned_abs, List, Result, Ok}
 use Rattle.vb_value.specs.declared.fault.VbError.{VbError}
 use Rattle.vb_value.specs.declared.number.Number.{Number}

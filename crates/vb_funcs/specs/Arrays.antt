@@ -1,5 +1,5 @@
 -- Array, UBound and LBound (VBScript 5.6, "Array Handling"). The least index of each dimension is 0.
-use Rattle.std.specs.Prelude.{ℕ, ◌-◌, ◌==◌, Bool, false, if◌then◌else◌, ℤ, pos, negsuc, ◌-ℤ◌, List, [], ◌∷◌}
+use Rattle.std.specs.Prelude.{◌-◌, ◌==◌, false, if◌then◌else◌, ℤ, pos, negsuc, ◌-ℤ◌, List, [], ◌∷◌}
 use Rattle.std.specs.Prelude.{length, Option, Some, None, Result, Ok, Err, slice_get}
 use Rattle.vb_value.specs.declared.fault.VbError.{VbError}
 use Rattle.vb_value.specs.declared.value.Value.{Value, Arr', Long}

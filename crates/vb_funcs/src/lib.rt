@@ -12,3 +12,6 @@ mod type_names;
 
 pub use functions::call_func;
 pub use type_names::type_name;
+
+#[cfg(test)]
+mod tests;
