@@ -1,0 +1,8 @@
+pub mod Checks
+pub mod Arithmetic
+pub mod Converting
+pub mod Bases
+pub mod Testing
+pub mod Arrays
+pub mod Functions
+pub mod TypeNames

@@ -1,0 +1,28 @@
+//! What functions ask of their arguments.
+ghost use Rattle.std.specs.Prelude.{◌≡◌, MatchResult, Ok, Err};
+ghost use Rattle.vb_funcs.specs.Checks as spec;
+
+use vb_value::{Value, VbError};
+
+/// Another number of arguments than the function takes.
+pub const WRONG_NUMBER: VbError = VbError { number: 450 };
+
+/// The argument of a function that takes one; error 450 for another number of arguments.
+pub fn the_argument(args: &[Value]) -> Result<&Value, VbError>
+    ensures { MatchResult result (λ x. spec.the_argument args.now ≡ Ok x.now) (λ e. spec.the_argument args.now ≡ Err e) }
+{
+    match args {
+        [argument] => Ok(argument),
+        _ => Err(WRONG_NUMBER),
+    }
+}
+
+/// Whether the value is Null.
+pub fn is_null(value: &Value) -> bool
+    ensures { result ≡ spec.is_null value.now }
+{
+    match value {
+        Value::Null => true,
+        _ => false,
+    }
+}

@@ -1,0 +1,49 @@
+//! Values made another kind.
+ghost use Rattle.std.specs.Prelude.{◌≡◌};
+ghost use Rattle.vb_value.specs.Errors.{told};
+ghost use Rattle.vb_value.specs.Outcome.{Answers};
+ghost use Rattle.vb_funcs.specs.Converting as spec;
+
+use crate::checks::the_argument;
+use std::alloc::Global;
+use vb_value::{Value, VbError, VbFault, to_bool, to_cur, to_int, to_long, to_str};
+
+/// `CBool`.
+pub fn cbool(args: &[Value]) -> Result<Value, VbError>
+    ensures { result ≡ spec.cbool_of args.now }
+{
+    let x = the_argument(args)?;
+    Ok(Value::Bool(to_bool(x)?))
+}
+
+/// `CCur`.
+pub fn ccur(args: &[Value]) -> Result<Value, VbError>
+    ensures { result ≡ spec.ccur_of args.now }
+{
+    let x = the_argument(args)?;
+    Ok(Value::Cur(to_cur(x)?))
+}
+
+/// `CInt`.
+pub fn cint(args: &[Value]) -> Result<Value, VbError>
+    ensures { result ≡ spec.cint_of args.now }
+{
+    let x = the_argument(args)?;
+    Ok(Value::Int(to_int(x)?))
+}
+
+/// `CLng`.
+pub fn clng(args: &[Value]) -> Result<Value, VbError>
+    ensures { result ≡ spec.clng_of args.now }
+{
+    let x = the_argument(args)?;
+    Ok(Value::Long(to_long(x)?))
+}
+
+/// `CStr`.
+pub fn cstr(alloc: Global, args: &[Value]) -> Result<Value, VbFault>
+    ensures { Answers result VbFault.Memory (told (spec.cstr_of args.now)) }
+{
+    let x = the_argument(args)?;
+    Ok(Value::Str(to_str(alloc, x)?))
+}
