@@ -9,13 +9,14 @@ use Rattle.vb_value.specs.declared.number.Number.TheVariants as number
 use Rattle.vb_value.specs.declared.value.Value.{Value, Str}
 use Rattle.vb_value.specs.Conversions.{to_number_of}
 use Rattle.vb_value.specs.Errors.{and_then}
-use Rattle.vb_value.specs.Numbers.{as_long, whole_of}
+use Rattle.vb_value.specs.Numbers.{as_long, int_rounded}
 use Rattle.vb_funcs.specs.Checks.{of_one, null_or}
 
 -- the bits of a number
 abbrev pub bits_of : Number → Result ℕ VbError
 bits_of (number.Int n) = Ok (cast_unsigned w16 n)
-bits_of n = and_then (as_long (whole_of n)) (λ z. Ok (cast_unsigned w32 z))
+bits_of (number.Long n) = Ok (cast_unsigned w32 n)
+bits_of (number.Cur n) = and_then (as_long (int_rounded 10000 n)) (λ z. Ok (cast_unsigned w32 z))
 
 -- a digit: `0` to `9`, and from 10 on a capital letter
 abbrev pub digit_character : ℕ → ℕ

@@ -6,3 +6,4 @@ pub mod Testing
 pub mod Arrays
 pub mod Functions
 pub mod TypeNames
+pub mod Laws

@@ -1,5 +1,5 @@
 //! What functions ask of their arguments.
-ghost use Rattle.std.specs.Prelude.{◌≡◌, MatchResult, Ok, Err};
+ghost use Rattle.std.specs.Prelude.{◌≡◌, IfOk, IfErr, Ok, Err};
 ghost use Rattle.vb_funcs.specs.Checks as spec;
 
 use vb_value::{Value, VbError};
@@ -9,7 +9,8 @@ pub const WRONG_NUMBER: VbError = VbError { number: 450 };
 
 /// The argument of a function that takes one; error 450 for another number of arguments.
 pub fn the_argument(args: &[Value]) -> Result<&Value, VbError>
-    ensures { MatchResult result (λ x. spec.the_argument args.now ≡ Ok x.now) (λ e. spec.the_argument args.now ≡ Err e) }
+    ensures given { IfOk result (λ x. spec.the_argument args.now ≡ Ok x.now) }
+    ensures refused { IfErr result (λ e. spec.the_argument args.now ≡ Err e) }
 {
     match args {
         [argument] => Ok(argument),

@@ -7,10 +7,12 @@ mod bases;
 mod checks;
 mod converting;
 mod functions;
+mod laws;
 mod testing;
 mod type_names;
 
 pub use functions::call_func;
+pub use laws::{integers_read_back, longs_read_back};
 pub use type_names::type_name;
 
 #[cfg(test)]
