@@ -1,0 +1,29 @@
+-- What a function asks of its arguments before anything else. The order is the profile's: how many there are,
+-- then Null where that gives Null, then each argument's conversion from left to right, then what else a function
+-- asks.
+use Rattle.std.specs.Prelude.{Bool, true, false, if◌then◌else◌, List, [], ◌∷◌, Result, Ok, Err}
+use Rattle.vb_value.specs.declared.fault.VbError.{VbError}
+use Rattle.vb_value.specs.declared.value.Value.{Value, Null}
+use Rattle.vb_value.specs.Errors.{error, and_then}
+
+-- Wrong number of arguments
+abbrev pub wrong_number : VbError
+wrong_number = error 450
+
+-- the argument of a function that takes one
+abbrev pub the_argument : List Value → Result Value VbError
+the_argument (argument ∷ []) = Ok argument
+the_argument _ = Err wrong_number
+
+-- what a function of one argument gives
+abbrev pub of_one : (Value → Result Value VbError) → List Value → Result Value VbError
+of_one function arguments = and_then (the_argument arguments) function
+
+-- whether a value is Null
+abbrev pub is_null : Value → Bool
+is_null Null = true
+is_null _ = false
+
+-- Null for Null, and what a function gives for another value
+abbrev pub null_or : (Value → Result Value VbError) → Value → Result Value VbError
+null_or function value = if is_null value then Ok Null else function value

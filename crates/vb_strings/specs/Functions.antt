@@ -1,0 +1,43 @@
+-- What each function gives of a list of arguments (VBScript 5.6, "String Functions").
+use Rattle.std.specs.Prelude.{List, Result}
+use Rattle.vb_value.specs.declared.fault.VbError.{VbError}
+use Rattle.vb_value.specs.declared.function.StrFn.{StrFn}
+use Rattle.vb_value.specs.declared.function.StrFn.TheVariants.{Len, Left, Right, Mid, InStr, InStrRev, LCase}
+use Rattle.vb_value.specs.declared.function.StrFn.TheVariants.{UCase, Trim, LTrim, RTrim, Replace, Split, Join}
+use Rattle.vb_value.specs.declared.function.StrFn.TheVariants.{StrReverse, Space, String, StrComp, Asc, AscW}
+use Rattle.vb_value.specs.declared.function.StrFn.TheVariants.{Chr, ChrW}
+use Rattle.vb_value.specs.declared.value.Value.{Value}
+use Rattle.vb_strings.specs.Parts.{len_of, left_of, right_of, mid_of, trim_of, ltrim_of, rtrim_of}
+use Rattle.vb_strings.specs.Searching.{in_str_of, in_str_rev_of}
+use Rattle.vb_strings.specs.Letters.{lcase_of, ucase_of, str_reverse_of}
+use Rattle.vb_strings.specs.Replacing.{replace_of}
+use Rattle.vb_strings.specs.Splitting.{split_of}
+use Rattle.vb_strings.specs.Joining.{join_of}
+use Rattle.vb_strings.specs.Repeating.{space_of, string_of}
+use Rattle.vb_strings.specs.Comparing.{str_comp_of}
+use Rattle.vb_strings.specs.Characters.{asc_of, chr_of}
+
+-- what a function gives of its arguments
+abbrev pub call_string_of : StrFn → List Value → Result Value VbError
+call_string_of Len arguments = len_of arguments
+call_string_of Left arguments = left_of arguments
+call_string_of Right arguments = right_of arguments
+call_string_of Mid arguments = mid_of arguments
+call_string_of InStr arguments = in_str_of arguments
+call_string_of InStrRev arguments = in_str_rev_of arguments
+call_string_of LCase arguments = lcase_of arguments
+call_string_of UCase arguments = ucase_of arguments
+call_string_of Trim arguments = trim_of arguments
+call_string_of LTrim arguments = ltrim_of arguments
+call_string_of RTrim arguments = rtrim_of arguments
+call_string_of Replace arguments = replace_of arguments
+call_string_of Split arguments = split_of arguments
+call_string_of Join arguments = join_of arguments
+call_string_of StrReverse arguments = str_reverse_of arguments
+call_string_of Space arguments = space_of arguments
+call_string_of String arguments = string_of arguments
+call_string_of StrComp arguments = str_comp_of arguments
+call_string_of Asc arguments = asc_of arguments
+call_string_of AscW arguments = asc_of arguments
+call_string_of Chr arguments = chr_of arguments
+call_string_of ChrW arguments = chr_of arguments

@@ -1,0 +1,12 @@
+pub mod Checks
+pub mod Results
+pub mod Comparing
+pub mod Parts
+pub mod Letters
+pub mod Repeating
+pub mod Characters
+pub mod Searching
+pub mod Splitting
+pub mod Joining
+pub mod Replacing
+pub mod Functions

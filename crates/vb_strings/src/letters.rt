@@ -1,0 +1,51 @@
+//! Letters made small or capital, and characters from the last to the first.
+ghost use Rattle.std.specs.Prelude.{◌≡◌};
+ghost use Rattle.vb_value.specs.Errors.{told};
+ghost use Rattle.vb_value.specs.Outcome.{Answers, Gives};
+ghost use Rattle.vb_strings.specs.Letters as spec;
+
+use crate::checks::{is_null, the_argument};
+use std::alloc::Global;
+use vb_value::{List, Memory, Text, Value, VbFault, fold, to_str};
+
+/// `LCase`.
+pub fn lcase(alloc: Global, args: &[Value]) -> Result<Value, VbFault>
+    ensures { Answers result VbFault.Memory (told (spec.lcase_of args.now)) }
+{
+    let s = the_argument(args)?;
+    if is_null(s) {
+        return Ok(Value::Null);
+    }
+    let text = to_str(alloc, s)?;
+    Ok(Value::Str(fold(alloc, &text)?))
+}
+
+/// `UCase`.
+pub fn ucase(alloc: Global, args: &[Value]) -> Result<Value, VbFault>
+    ensures { Answers result VbFault.Memory (told (spec.ucase_of args.now)) }
+{
+    let s = the_argument(args)?;
+    if is_null(s) {
+        return Ok(Value::Null);
+    }
+    let text = to_str(alloc, s)?;
+    Ok(Value::Str(raised(alloc, &text)?))
+}
+
+/// The text with each of its letters a to z made capital.
+fn raised(alloc: Global, text: &Text) -> Result<Text, Memory>
+    ensures { Gives result (spec.raised text.now) }
+{
+    let characters = text.as_slice().iter();
+    Ok(List::from_vec(characters.map(|c| c.to_ascii_uppercase()).collect(alloc)?))
+}
+
+/// `StrReverse`.
+pub fn str_reverse(alloc: Global, args: &[Value]) -> Result<Value, VbFault>
+    ensures { Answers result VbFault.Memory (told (spec.str_reverse_of args.now)) }
+{
+    let s = the_argument(args)?;
+    let mut characters = to_str(alloc, s)?.into_vec();
+    characters.reverse();
+    Ok(Value::Str(List::from_vec(characters)))
+}

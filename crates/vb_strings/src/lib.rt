@@ -1,0 +1,20 @@
+//! The functions of the language on texts.
+#![tactic(auto)]
+
+mod characters;
+mod checks;
+mod comparing;
+mod functions;
+mod joining;
+mod letters;
+mod parts;
+mod repeating;
+mod replacing;
+mod results;
+mod searching;
+mod splitting;
+
+pub use functions::call_string;
+
+#[cfg(test)]
+mod tests;

@@ -1,0 +1,53 @@
+//! What numbers among the arguments count, and what answers hold.
+ghost use Rattle.std.specs.Prelude.{◌≡◌};
+ghost use Rattle.vb_strings.specs.Results as spec;
+
+use vb_value::{Value, VbError, as_long};
+
+/// How many characters a text has at most.
+pub const MOST_CHARACTERS: usize = 1_048_576;
+
+/// A number that the function does not take.
+pub const INVALID_CALL: VbError = VbError { number: 5 };
+
+/// A number of characters; error 5 below 0.
+pub fn count(number: i32) -> Result<usize, VbError>
+    ensures { result ≡ spec.count_of number }
+{
+    if number < 0 {
+        Err(INVALID_CALL)
+    } else {
+        Ok(number as usize)
+    }
+}
+
+/// How many characters stand before a place, which counts from 1; error 5 for a lesser one.
+pub fn before_place(place: i32) -> Result<usize, VbError>
+    ensures { result ≡ spec.before_place place }
+{
+    if place < 1 {
+        Err(INVALID_CALL)
+    } else {
+        Ok(place as usize - 1)
+    }
+}
+
+/// How many are wanted at most, all of them for -1; error 5 below that.
+pub fn most(all: usize, number: i32) -> Result<usize, VbError>
+    ensures { result ≡ spec.most_of all number }
+{
+    if number < -1 {
+        Err(INVALID_CALL)
+    } else if number < 0 {
+        Ok(all)
+    } else {
+        Ok(number as usize)
+    }
+}
+
+/// A count or a place as a Long; error 6 where it does not fit.
+pub fn long(n: usize) -> Result<Value, VbError>
+    ensures { result ≡ spec.long n }
+{
+    Ok(Value::Long(as_long(n as i128)?))
+}

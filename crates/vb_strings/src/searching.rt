@@ -1,0 +1,154 @@
+//! Places of one text in another.
+ghost use Rattle.std.specs.Prelude.{◌≡◌, ◌+◌, ◌≤◌, IfSome, length};
+ghost use Rattle.vb_value.specs.Errors.{told};
+ghost use Rattle.vb_value.specs.Outcome.{Answers};
+ghost use Rattle.vb_strings.specs.Searching as spec;
+
+use crate::checks::{WRONG_NUMBER, is_null};
+use crate::comparing::{Comparison, comparison_named, same};
+use crate::parts::{at_most, behind};
+use crate::results::{INVALID_CALL, before_place, long, most};
+use std::alloc::Global;
+use vb_value::{Value, VbError, VbFault, to_long, to_str};
+
+/// `InStr`.
+pub fn in_str(alloc: Global, args: &[Value]) -> Result<Value, VbFault>
+    ensures { Answers result VbFault.Memory (told (spec.in_str_of args.now)) }
+{
+    match args {
+        [a, b] => first_place(alloc, Ok(1), a, b, Ok(Comparison::Exact)),
+        [i, a, b] => first_place(alloc, to_long(i), a, b, Ok(Comparison::Exact)),
+        [i, a, b, given] => first_place(alloc, to_long(i), a, b, comparison_named(given)),
+        _ => Err(WRONG_NUMBER)?,
+    }
+}
+
+/// `InStr` with all its arguments.
+fn first_place(
+    alloc: Global,
+    from: Result<i32, VbError>,
+    a: &Value,
+    b: &Value,
+    comparison: Result<Comparison, VbError>,
+) -> Result<Value, VbFault>
+    ensures { Answers result VbFault.Memory (told (spec.in_str from a.now b.now comparison)) }
+{
+    if is_null(a) || is_null(b) {
+        return Ok(Value::Null);
+    }
+    let from = from?;
+    let text = to_str(alloc, a)?;
+    let pattern = to_str(alloc, b)?;
+    let comparison = comparison?;
+    let skipped = before_place(from)?;
+    let place = place_behind(comparison, skipped, text.as_slice(), pattern.as_slice());
+    Ok(long(place)?)
+}
+
+/// The first place of the pattern behind the skipped characters, 0 where there is none.
+fn place_behind(comparison: Comparison, skipped: usize, text: &[char], pattern: &[char]) -> usize
+    ensures { result ≡ spec.place_behind comparison skipped text.now pattern.now }
+{
+    match first_in(comparison, behind(text, skipped), pattern) {
+        Some(before) => skipped + before + 1,
+        None => 0,
+    }
+}
+
+/// `InStrRev`.
+pub fn in_str_rev(alloc: Global, args: &[Value]) -> Result<Value, VbFault>
+    ensures { Answers result VbFault.Memory (told (spec.in_str_rev_of args.now)) }
+{
+    match args {
+        [a, b] => last_place(alloc, a, b, Ok(-1), Ok(Comparison::Exact)),
+        [a, b, i] => last_place(alloc, a, b, to_long(i), Ok(Comparison::Exact)),
+        [a, b, i, given] => last_place(alloc, a, b, to_long(i), comparison_named(given)),
+        _ => Err(WRONG_NUMBER)?,
+    }
+}
+
+/// `InStrRev` with all its arguments.
+fn last_place(
+    alloc: Global,
+    a: &Value,
+    b: &Value,
+    from: Result<i32, VbError>,
+    comparison: Result<Comparison, VbError>,
+) -> Result<Value, VbFault>
+    ensures { Answers result VbFault.Memory (told (spec.in_str_rev a.now b.now from comparison)) }
+{
+    if is_null(a) || is_null(b) {
+        return Ok(Value::Null);
+    }
+    let text = to_str(alloc, a)?;
+    let pattern = to_str(alloc, b)?;
+    let from = from?;
+    let comparison = comparison?;
+    let last = end(text.as_slice(), from)?;
+    let place = place_up_to(comparison, last, text.as_slice(), pattern.as_slice());
+    Ok(long(place)?)
+}
+
+/// The place at which a search toward the front begins: that of the last character for -1.
+fn end(text: &[char], place: i32) -> Result<usize, VbError>
+    ensures { result ≡ spec.end_of text.now place }
+{
+    if place == 0 {
+        return Err(INVALID_CALL);
+    }
+    most(text.len(), place)
+}
+
+/// The last place of the pattern that ends at or before a place, 0 where there is none.
+fn place_up_to(comparison: Comparison, last: usize, text: &[char], pattern: &[char]) -> usize
+    ensures { result ≡ spec.place_up_to comparison last text.now pattern.now }
+{
+    if text.len() < last {
+        return 0;
+    }
+    match last_in(comparison, at_most(text, last), pattern) {
+        Some(before) => before + 1,
+        None => 0,
+    }
+}
+
+/// How many characters stand before the first place at which the pattern stands in the text.
+pub fn first_in(comparison: Comparison, text: &[char], pattern: &[char]) -> Option<usize>
+    ensures place { result ≡ spec.first_in comparison text.now pattern.now }
+    ensures within { IfSome result (λ before. before + length pattern.now ≤ length text.now) }
+{
+    for before in 0..text.len() {
+        if begins(comparison, &text[before..], pattern) {
+            return Some(before);
+        }
+    }
+    None
+}
+
+/// How many characters stand before the last place at which the pattern stands in the text.
+fn last_in(comparison: Comparison, text: &[char], pattern: &[char]) -> Option<usize>
+    ensures place { result ≡ spec.last_in comparison text.now pattern.now }
+    ensures within { IfSome result (λ before. before + length pattern.now ≤ length text.now) }
+{
+    for before in (0..text.len()).rev() {
+        if begins(comparison, &text[before..], pattern) {
+            return Some(before);
+        }
+    }
+    None
+}
+
+/// Whether the text begins with the pattern.
+fn begins(comparison: Comparison, text: &[char], pattern: &[char]) -> bool
+    ensures { result ≡ spec.begins comparison text.now pattern.now }
+{
+    let mut left = text;
+    let mut wanted = pattern;
+    while let ([character, rest @ ..], [letter, others @ ..]) = (left, wanted)
+        && same(comparison, *character, *letter)
+    {
+        left = rest;
+        wanted = others;
+    }
+    wanted.is_empty()
+}

@@ -1,0 +1,139 @@
+//! Texts cut at separators.
+ghost use Rattle.std.specs.Prelude.{◌≡◌, ◌∷◌, [], map};
+ghost use Rattle.vb_value.specs.declared.value.Value.{Str};
+ghost use Rattle.vb_value.specs.Errors.{told};
+ghost use Rattle.vb_value.specs.Outcome.{Answers, Gives};
+ghost use Rattle.vb_strings.specs.Splitting as spec;
+
+use crate::checks::WRONG_NUMBER;
+use crate::comparing::{Comparison, comparison_named};
+use crate::results::most;
+use crate::searching::first_in;
+use std::alloc::Global;
+use vb_value::{Array, List, Memory, Text, Value, VbError, VbFault, as_long, to_long, to_str};
+
+/// `Split`.
+pub fn split(alloc: Global, args: &[Value]) -> Result<Value, VbFault>
+    ensures { Answers result VbFault.Memory (told (spec.split_of args.now)) }
+{
+    match args {
+        [s] => split_at_spaces(alloc, s),
+        [s, d] => split_value(alloc, s, d, Ok(-1), Ok(Comparison::Exact)),
+        [s, d, n] => split_value(alloc, s, d, to_long(n), Ok(Comparison::Exact)),
+        [s, d, n, given] => split_value(alloc, s, d, to_long(n), comparison_named(given)),
+        _ => Err(WRONG_NUMBER)?,
+    }
+}
+
+/// `Split` where no separator is given.
+fn split_at_spaces(alloc: Global, s: &Value) -> Result<Value, VbFault>
+    ensures { Answers result VbFault.Memory (told (spec.split_of (s.now ∷ []))) }
+{
+    let space = one_space(alloc)?;
+    split_value(alloc, s, &space, Ok(-1), Ok(Comparison::Exact))
+}
+
+/// A space, the separator where none is given.
+pub fn one_space(alloc: Global) -> Result<Value, Memory>
+    ensures { Gives result spec.one_space }
+{
+    Ok(Value::Str(Text::from_slice(alloc, &[' '])?))
+}
+
+/// `Split` with all its arguments.
+fn split_value(
+    alloc: Global,
+    s: &Value,
+    d: &Value,
+    n: Result<i32, VbError>,
+    comparison: Result<Comparison, VbError>,
+) -> Result<Value, VbFault>
+    ensures { Answers result VbFault.Memory (told (spec.split_value s.now d.now n comparison)) }
+{
+    let text = to_str(alloc, s)?;
+    let separator = to_str(alloc, d)?;
+    let number = n?;
+    let comparison = comparison?;
+    array(alloc, split_text(alloc, comparison, &text, &separator, number)?)
+}
+
+/// At most so many parts of a text, all for -1.
+fn split_text(
+    alloc: Global,
+    comparison: Comparison,
+    text: &Text,
+    separator: &Text,
+    number: i32,
+) -> Result<List<Text>, VbFault>
+    ensures { Answers result VbFault.Memory (told (spec.split comparison text.now separator.now number)) }
+{
+    if text.is_empty() {
+        return Ok(List::new(alloc));
+    }
+    if separator.is_empty() {
+        return Ok(whole(alloc, text.as_slice())?);
+    }
+    let most = most(text.len() + 1, number)?;
+    if most == 0 {
+        return Ok(List::new(alloc));
+    }
+    Ok(parts(alloc, comparison, separator.as_slice(), most - 1, text.as_slice())?)
+}
+
+/// A text as one part.
+pub fn whole(alloc: Global, text: &[char]) -> Result<List<Text>, Memory>
+    ensures { Gives result (text.now ∷ []) }
+{
+    let mut parts = List::with_capacity(alloc, 1)?;
+    parts.push(Text::from_slice(alloc, text)?)?;
+    Ok(parts)
+}
+
+/// The parts of a text between the first so many of its separators.
+pub fn parts(
+    alloc: Global,
+    comparison: Comparison,
+    separator: &[char],
+    cuts: usize,
+    text: &[char],
+) -> Result<List<Text>, Memory>
+    ensures { Gives result (spec.parts comparison separator.now cuts text.now) }
+{
+    let mut parts = List::new(alloc);
+    let mut rest = text;
+    let mut left = cuts;
+    while 0 < left
+        && let Some(before) = first_in(comparison, rest, separator)
+    {
+        parts.push(Text::from_slice(alloc, &rest[..before])?)?;
+        rest = &rest[before + separator.len()..];
+        left -= 1;
+    }
+    parts.push(Text::from_slice(alloc, rest)?)?;
+    Ok(parts)
+}
+
+/// Texts as an array.
+fn array(alloc: Global, texts: List<Text>) -> Result<Value, VbFault>
+    ensures { Answers result VbFault.Memory (told (spec.array_of texts)) }
+{
+    let bound = as_long(texts.len() as i128 - 1)?;
+    let bounds = List::from_slice(alloc, &[bound])?;
+    let items = values(alloc, texts)?;
+    Ok(Value::Arr(Array {
+        bounds,
+        fixed: false,
+        items,
+    }))
+}
+
+/// Texts as values.
+fn values(alloc: Global, texts: List<Text>) -> Result<List<Value>, Memory>
+    ensures { Gives result (map Str texts) }
+{
+    let mut values = List::with_capacity(alloc, texts.len())?;
+    for text in texts.into_vec() {
+        values.push(Value::Str(text))?;
+    }
+    Ok(values)
+}
