@@ -32,7 +32,7 @@ most_parts comparison separator text most =
 
 -- the parts of a text: none of one without characters, one where the separator has none, and else at most as many
 -- as are wanted. All are one more than the text has characters at most.
-abbrev pub split : Comparison → List ℕ → List ℕ → ℤ → Result (List (List ℕ)) VbError
+unfoldable pub split : Comparison → List ℕ → List ℕ → ℤ → Result (List (List ℕ)) VbError
 split comparison text separator number =
     if length text == 0 then Ok []
     else if length separator == 0 then Ok (text ∷ [])
@@ -43,11 +43,15 @@ abbrev pub array_of : List (List ℕ) → Result Value VbError
 array_of texts = and_then (as_long (pos (length texts) -ℤ pos 1)) (λ bound.
     Ok (Arr (record { bounds = bound ∷ []; fixed = false; items = map Str texts })))
 
+-- the parts of a text as an array
+abbrev pub split_array : Comparison → List ℕ → List ℕ → ℤ → Result Value VbError
+split_array comparison text separator number = and_then (split comparison text separator number) array_of
+
 -- Split with all its arguments
 abbrev pub split_value : Value → Value → Result ℤ VbError → Result Comparison VbError → Result Value VbError
 split_value s d n comparison =
     and_then (to_str_of s) (λ text. and_then (to_str_of d) (λ separator. and_then n (λ number.
-    and_then comparison (λ chosen. and_then (split chosen text separator number) array_of))))
+    and_then comparison (λ chosen. split_array chosen text separator number))))
 
 -- the separator of Split and Join where none is given: one space
 abbrev pub one_space : Value

@@ -51,6 +51,7 @@ fn join_array(alloc: Global, array: &Array, separator: &Text) -> Result<Value, V
 }
 
 /// Values as texts.
+#[tactic(auto, using(crate::proofs::Items::texts_more, crate::proofs::Items::texts_stop))]
 fn texts(alloc: Global, values: &[Value]) -> Result<List<Text>, VbFault>
     ensures { Answers result VbFault.Memory (told (spec.texts_of values.now)) }
 {

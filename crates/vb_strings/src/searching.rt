@@ -113,12 +113,13 @@ fn place_up_to(comparison: Comparison, last: usize, text: &[char], pattern: &[ch
 }
 
 /// How many characters stand before the first place at which the pattern stands in the text.
+#[tactic(auto, using(crate::proofs::Places::first_found, crate::proofs::Places::none_found, crate::proofs::Places::fits))]
 pub fn first_in(comparison: Comparison, text: &[char], pattern: &[char]) -> Option<usize>
     ensures place { result ≡ spec.first_in comparison text.now pattern.now }
     ensures within { IfSome result (λ before. before + length pattern.now ≤ length text.now) }
 {
     for before in 0..text.len() {
-        if begins(comparison, &text[before..], pattern) {
+        if begins(comparison, behind(text, before), pattern) {
             return Some(before);
         }
     }
@@ -126,12 +127,15 @@ pub fn first_in(comparison: Comparison, text: &[char], pattern: &[char]) -> Opti
 }
 
 /// How many characters stand before the last place at which the pattern stands in the text.
+#[tactic(auto, using(crate::proofs::Places::last_found, crate::proofs::Places::none_left, crate::proofs::Places::fits))]
 fn last_in(comparison: Comparison, text: &[char], pattern: &[char]) -> Option<usize>
     ensures place { result ≡ spec.last_in comparison text.now pattern.now }
     ensures within { IfSome result (λ before. before + length pattern.now ≤ length text.now) }
 {
-    for before in (0..text.len()).rev() {
-        if begins(comparison, &text[before..], pattern) {
+    let mut before = text.len();
+    while 0 < before {
+        before -= 1;
+        if begins(comparison, behind(text, before), pattern) {
             return Some(before);
         }
     }
@@ -144,11 +148,15 @@ fn begins(comparison: Comparison, text: &[char], pattern: &[char]) -> bool
 {
     let mut left = text;
     let mut wanted = pattern;
-    while let ([character, rest @ ..], [letter, others @ ..]) = (left, wanted)
-        && same(comparison, *character, *letter)
-    {
+    while let [letter, others @ ..] = wanted {
+        let [character, rest @ ..] = left else {
+            return false;
+        };
+        if !same(comparison, *character, *letter) {
+            return false;
+        }
         left = rest;
         wanted = others;
     }
-    wanted.is_empty()
+    true
 }

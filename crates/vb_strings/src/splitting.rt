@@ -7,6 +7,7 @@ ghost use Rattle.vb_strings.specs.Splitting as spec;
 
 use crate::checks::WRONG_NUMBER;
 use crate::comparing::{Comparison, comparison_named};
+use crate::parts::{at_most, behind};
 use crate::results::most;
 use crate::searching::first_in;
 use std::alloc::Global;
@@ -54,10 +55,25 @@ fn split_value(
     let separator = to_str(alloc, d)?;
     let number = n?;
     let comparison = comparison?;
-    array(alloc, split_text(alloc, comparison, &text, &separator, number)?)
+    split_array(alloc, comparison, &text, &separator, number)
+}
+
+/// At most so many parts of a text as an array, all for -1.
+fn split_array(
+    alloc: Global,
+    comparison: Comparison,
+    text: &Text,
+    separator: &Text,
+    number: i32,
+) -> Result<Value, VbFault>
+    ensures { Answers result VbFault.Memory (told (spec.split_array comparison text.now separator.now number)) }
+{
+    let texts = split_text(alloc, comparison, text, separator, number)?;
+    array(alloc, texts)
 }
 
 /// At most so many parts of a text, all for -1.
+#[tactic(auto, unfolding(crate::specs::Splitting::split))]
 fn split_text(
     alloc: Global,
     comparison: Comparison,
@@ -73,7 +89,7 @@ fn split_text(
     if separator.is_empty() {
         return Ok(whole(alloc, text.as_slice())?);
     }
-    let most = most(text.len() + 1, number)?;
+    let most = most(text.as_slice().len() + 1, number)?;
     if most == 0 {
         return Ok(List::new(alloc));
     }
@@ -90,6 +106,7 @@ pub fn whole(alloc: Global, text: &[char]) -> Result<List<Text>, Memory>
 }
 
 /// The parts of a text between the first so many of its separators.
+#[tactic(auto, using(crate::proofs::Cuts::cut_more, crate::proofs::Cuts::cut_none, crate::proofs::Cuts::cut_nowhere))]
 pub fn parts(
     alloc: Global,
     comparison: Comparison,
@@ -105,8 +122,8 @@ pub fn parts(
     while 0 < left
         && let Some(before) = first_in(comparison, rest, separator)
     {
-        parts.push(Text::from_slice(alloc, &rest[..before])?)?;
-        rest = &rest[before + separator.len()..];
+        parts.push(Text::from_slice(alloc, at_most(rest, before))?)?;
+        rest = behind(rest, before + separator.len());
         left -= 1;
     }
     parts.push(Text::from_slice(alloc, rest)?)?;
