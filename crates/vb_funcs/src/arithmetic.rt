@@ -2,7 +2,10 @@
 ghost use Rattle.std.specs.Prelude.{◌≡◌};
 ghost use Rattle.vb_funcs.specs.Arithmetic as spec;
 
-use vb_value::{Number, Value, VbError, as_currency, as_long, is_null, number_value, the_argument, to_cur, to_number};
+use vb_value::{
+    Number, Value, VbError, as_currency, as_long, is_null, number_value, the_argument, to_cur,
+    to_number,
+};
 
 /// `Abs`.
 pub fn abs(args: &[Value]) -> Result<Value, VbError>

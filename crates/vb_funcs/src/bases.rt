@@ -6,7 +6,9 @@ ghost use Rattle.vb_value.specs.Outcome.{Answers, Gives};
 ghost use Rattle.vb_funcs.specs.Bases as spec;
 
 use std::alloc::Global;
-use vb_value::{Memory, Number, Text, Value, VbError, VbFault, as_long, is_null, the_argument, to_number};
+use vb_value::{
+    Memory, Number, Text, Value, VbError, VbFault, as_long, is_null, the_argument, to_number,
+};
 
 /// `Hex`.
 pub fn hex(alloc: Global, args: &[Value]) -> Result<Value, VbFault>

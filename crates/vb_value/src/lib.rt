@@ -35,7 +35,9 @@ pub use application::{AppCall, AppReply};
 pub use arguments::{is_null, the_argument};
 pub use boxed::Boxed;
 pub use bytes::Bytes;
-pub use conversion::{named_truth, number_value, to_bool, to_cur, to_int, to_long, to_number, to_str};
+pub use conversion::{
+    named_truth, number_value, to_bool, to_cur, to_int, to_long, to_number, to_str,
+};
 pub use copied::Copied;
 pub use copying::{copy, copy_array};
 pub use error_texts::error_text;
