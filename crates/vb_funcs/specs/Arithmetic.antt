@@ -6,16 +6,10 @@ use Rattle.vb_value.specs.declared.fault.VbError.{VbError}
 use Rattle.vb_value.specs.declared.number.Number.{Number}
 use Rattle.vb_value.specs.declared.number.Number.TheVariants as number
 use Rattle.vb_value.specs.declared.value.Value.{Value, Int, Long, Cur}
-use Rattle.vb_value.specs.Conversions.{to_number_of, to_cur_of}
+use Rattle.vb_value.specs.Conversions.{number_value, to_number_of, to_cur_of}
 use Rattle.vb_value.specs.Errors.{and_then}
 use Rattle.vb_value.specs.Numbers.{as_long, as_currency, whole_number}
-use Rattle.vb_funcs.specs.Checks.{of_one, null_or}
-
--- a number as a value
-abbrev pub number_value : Number → Value
-number_value (number.Int n) = Int n
-number_value (number.Long n) = Long n
-number_value (number.Cur n) = Cur n
+use Rattle.vb_value.specs.Arguments.{of_one, null_or}
 
 -- a Long of this value
 abbrev pub long : ℤ → Result Value VbError

@@ -5,8 +5,8 @@ use Rattle.vb_value.specs.declared.fault.VbError.{VbError}
 use Rattle.vb_value.specs.declared.value.Value.{Value, Arr', Long}
 use Rattle.vb_value.specs.declared.value.Value.TheViews.{Arr}
 use Rattle.vb_value.specs.Conversions.{to_long_of}
-use Rattle.vb_value.specs.Errors.{error, and_then, type_mismatch, invalid_use_of_null}
-use Rattle.vb_funcs.specs.Checks.{wrong_number, is_null}
+use Rattle.vb_value.specs.Errors.{error, wrong_number, and_then, type_mismatch, invalid_use_of_null}
+use Rattle.vb_value.specs.Arguments.{is_null}
 
 -- Array(..): an array of one dimension that is not fixed, with these values in order
 abbrev pub array_of : List Value → Value

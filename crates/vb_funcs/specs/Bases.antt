@@ -10,7 +10,7 @@ use Rattle.vb_value.specs.declared.value.Value.{Value, Str}
 use Rattle.vb_value.specs.Conversions.{to_number_of}
 use Rattle.vb_value.specs.Errors.{and_then}
 use Rattle.vb_value.specs.Numbers.{as_long, int_rounded}
-use Rattle.vb_funcs.specs.Checks.{of_one, null_or}
+use Rattle.vb_value.specs.Arguments.{of_one, null_or}
 
 -- the bits of a number
 abbrev pub bits_of : Number → Result ℕ VbError

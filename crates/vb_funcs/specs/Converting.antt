@@ -4,7 +4,7 @@ use Rattle.vb_value.specs.declared.fault.VbError.{VbError}
 use Rattle.vb_value.specs.declared.value.Value.{Value, Bool as Boolean, Int, Long, Cur, Str}
 use Rattle.vb_value.specs.Conversions.{to_bool_of, to_cur_of, to_int_of, to_long_of, to_str_of}
 use Rattle.vb_value.specs.Errors.{and_then}
-use Rattle.vb_funcs.specs.Checks.{of_one}
+use Rattle.vb_value.specs.Arguments.{of_one}
 
 -- CBool(x)
 abbrev pub cbool_of : List Value → Result Value VbError

@@ -1,11 +1,12 @@
 -- Laws of the functions, for readers to hold the definitions against.
-use Rattle.std.specs.Prelude.{◌≡◌, ℕ, ℤ, [], ◌∷◌, map, Option, Some, None, Result, Ok}
+use Rattle.std.specs.Prelude.{◌≡◌, ℕ, ℤ, pos, ◌*ℤ◌, ◌≤ℤ◌, [], ◌∷◌, map, Option, Some, None, Result, Ok}
 use Rattle.std.specs.Char.{digit_value}
 use Rattle.std.specs.Int.{Width, cast_signed}
 use Rattle.std.specs.Int.Digits.{number_from_digits}
 use Rattle.vb_value.specs.declared.fault.VbError.{VbError}
 use Rattle.vb_value.specs.declared.function.PlainFn.{PlainFn}
-use Rattle.vb_value.specs.declared.value.Value.{Value, Str}
+use Rattle.vb_value.specs.declared.function.PlainFn.TheVariants as function
+use Rattle.vb_value.specs.declared.value.Value.{Value, Cur, Str}
 use Rattle.vb_funcs.specs.Functions.{call_func_of}
 
 -- the number whose bits the digits of a text to a base are, for a number of so many bits; none where there
@@ -17,3 +18,14 @@ read width base _ = None
 -- a function writes a value to a base, so that it reads as a number of so many bits
 abbrev pub Writes : PlainFn → ℕ → Width → Value → ℤ → Type 0
 Writes f base width value n = read width base (call_func_of f (value ∷ [])) ≡ Some n
+
+-- floor is the greatest number of whole units, in ten-thousandths, that is at most z
+pub record IsFloor (z floor : ℤ) : Type 0 where
+  pub units : ℤ
+  pub whole : floor ≡ units *ℤ pos 10000
+  pub at_most : floor ≤ℤ z
+  pub greatest : (other : ℤ) → (other *ℤ pos 10000) ≤ℤ z → (other *ℤ pos 10000) ≤ℤ floor
+
+-- what Int gives of so many ten-thousandths is their floor
+abbrev pub Lowers : ℤ → Type 0
+Lowers z = (floor : ℤ) → call_func_of function.Int (Cur z ∷ []) ≡ Ok (Cur floor) → IsFloor z floor

@@ -1,4 +1,3 @@
-pub mod Checks
 pub mod Arithmetic
 pub mod Converting
 pub mod Bases

@@ -4,7 +4,7 @@ use Rattle.vb_value.specs.declared.fault.VbError.{VbError}
 use Rattle.vb_value.specs.declared.value.Value.{Value, Empty, Null, Bool as Boolean, Int, Long, Cur, Str, Arr'}
 use Rattle.vb_value.specs.declared.value.Value.{Obj, Nothing}
 use Rattle.vb_value.specs.NumericText.{cur_of_text_of}
-use Rattle.vb_funcs.specs.Checks.{of_one}
+use Rattle.vb_value.specs.Arguments.{of_one}
 
 -- what a test of one value gives
 abbrev pub tested : (Value → Bool) → List Value → Result Value VbError

@@ -2,8 +2,10 @@
 ghost use Rattle.std.specs.Prelude.{◌≡◌};
 ghost use Rattle.vb_funcs.specs.Arithmetic as spec;
 
-use crate::checks::{is_null, the_argument};
-use vb_value::{Number, Value, VbError, as_currency, as_long, to_cur, to_number};
+use vb_value::{
+    Number, Value, VbError, as_currency, as_long, is_null, number_value, the_argument, to_cur,
+    to_number,
+};
 
 /// `Abs`.
 pub fn abs(args: &[Value]) -> Result<Value, VbError>
@@ -44,17 +46,6 @@ pub fn sgn(args: &[Value]) -> Result<Value, VbError>
 {
     let x = the_argument(args)?;
     Ok(Value::Int(sign(to_cur(x)?)))
-}
-
-/// A number as a value.
-fn number_value(number: Number) -> Value
-    ensures { result ≡ spec.number_value number }
-{
-    match number {
-        Number::Int(n) => Value::Int(n),
-        Number::Long(n) => Value::Long(n),
-        Number::Cur(n) => Value::Cur(n),
-    }
 }
 
 /// The size of a number, of its kind; error 6 where that does not hold it.

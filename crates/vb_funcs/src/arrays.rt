@@ -3,9 +3,8 @@ ghost use Rattle.std.specs.Prelude.{◌≡◌, ◌≤◌, length};
 ghost use Rattle.vb_value.specs.Outcome.{Gives};
 ghost use Rattle.vb_funcs.specs.Arrays as spec;
 
-use crate::checks::{WRONG_NUMBER, is_null};
 use std::alloc::Global;
-use vb_value::{Array, List, Memory, Value, VbError, copy, to_long};
+use vb_value::{Array, List, Memory, Value, VbError, copy, is_null, to_long};
 
 /// A dimension that an array does not have.
 const OUT_OF_RANGE: VbError = VbError { number: 9 };
@@ -57,7 +56,7 @@ fn named_bound(args: &[Value]) -> Result<i32, VbError>
     match args {
         [value] => bound_of(value, Ok(1)),
         [value, dimension] => bound_of(value, to_long(dimension)),
-        _ => Err(WRONG_NUMBER),
+        _ => Err(VbError::WRONG_NUMBER),
     }
 }
 

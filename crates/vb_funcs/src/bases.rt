@@ -5,9 +5,10 @@ ghost use Rattle.vb_value.specs.Errors.{told};
 ghost use Rattle.vb_value.specs.Outcome.{Answers, Gives};
 ghost use Rattle.vb_funcs.specs.Bases as spec;
 
-use crate::checks::{is_null, the_argument};
 use std::alloc::Global;
-use vb_value::{Memory, Number, Text, Value, VbError, VbFault, as_long, to_number};
+use vb_value::{
+    Memory, Number, Text, Value, VbError, VbFault, as_long, is_null, the_argument, to_number,
+};
 
 /// `Hex`.
 pub fn hex(alloc: Global, args: &[Value]) -> Result<Value, VbFault>

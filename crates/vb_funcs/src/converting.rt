@@ -4,9 +4,8 @@ ghost use Rattle.vb_value.specs.Errors.{told};
 ghost use Rattle.vb_value.specs.Outcome.{Answers};
 ghost use Rattle.vb_funcs.specs.Converting as spec;
 
-use crate::checks::the_argument;
 use std::alloc::Global;
-use vb_value::{Value, VbError, VbFault, to_bool, to_cur, to_int, to_long, to_str};
+use vb_value::{Value, VbError, VbFault, the_argument, to_bool, to_cur, to_int, to_long, to_str};
 
 /// `CBool`.
 pub fn cbool(args: &[Value]) -> Result<Value, VbError>

@@ -7,11 +7,10 @@ ghost use Rattle.vb_funcs.specs.Functions as spec;
 use crate::arithmetic::{abs, fix, int, sgn};
 use crate::arrays::{array, lbound, ubound};
 use crate::bases::{hex, oct};
-use crate::checks::{is_null, the_argument};
 use crate::converting::{cbool, ccur, cint, clng, cstr};
 use crate::testing::{is_array, is_empty, is_numeric, is_object, var_type};
 use std::alloc::Global;
-use vb_value::{PlainFn, Value, VbFault};
+use vb_value::{PlainFn, Value, VbFault, is_null, the_argument};
 
 /// What a function gives of its arguments (VBScript 5.6, "Functions"). Errors: 450 for another number of arguments
 /// than it takes, 94 for Null, 13 for an array, a text that is no number and a bound of no array, 438 for an

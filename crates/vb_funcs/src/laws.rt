@@ -1,7 +1,7 @@
 //! Laws of the functions' definitions. The functions do nothing: their contracts are the laws.
 ghost use Rattle.std.specs.Int.{w16, w32};
 ghost use Rattle.vb_value.specs.declared.value.Value.{Int, Long};
-ghost use Rattle.vb_funcs.specs.Laws.{Writes};
+ghost use Rattle.vb_funcs.specs.Laws.{Lowers, Writes};
 
 use vb_value::PlainFn;
 
@@ -19,4 +19,11 @@ pub fn longs_read_back(n: i32)
     ensures oct { Writes PlainFn.Oct 8 w32 (Long n) n }
 {
     let _ = n;
+}
+
+/// What `Int` gives of a Currency is the greatest whole number that is at most as great.
+pub fn int_is_the_floor(amount: i64)
+    ensures { Lowers amount }
+{
+    let _ = amount;
 }

@@ -4,7 +4,6 @@
 mod arithmetic;
 mod arrays;
 mod bases;
-mod checks;
 mod converting;
 mod functions;
 mod laws;
@@ -12,7 +11,7 @@ mod testing;
 mod type_names;
 
 pub use functions::call_func;
-pub use laws::{integers_read_back, longs_read_back};
+pub use laws::{int_is_the_floor, integers_read_back, longs_read_back};
 pub use type_names::type_name;
 
 #[cfg(test)]

@@ -2,8 +2,7 @@
 ghost use Rattle.std.specs.Prelude.{◌≡◌};
 ghost use Rattle.vb_funcs.specs.Testing as spec;
 
-use crate::checks::the_argument;
-use vb_value::{Value, VbError, cur_of_text};
+use vb_value::{Value, VbError, cur_of_text, the_argument};
 
 /// Whether the value is an array.
 pub fn is_array(value: &Value) -> bool

@@ -16,7 +16,9 @@ use Rattle.vb_value.specs.Errors.{and_then, overflow}
 use Rattle.vb_value.specs.Numbers.{amount_of, int_rounded, is_within}
 use Rattle.vb_ops.specs.declared.logic.Bits.{Bits}
 use Rattle.vb_ops.specs.declared.logic.Bits.TheVariants as bits
-use Rattle.vb_ops.specs.Operands.{checked, is_null, number_value}
+use Rattle.vb_value.specs.Arguments.{is_null}
+use Rattle.vb_value.specs.Conversions.{number_value}
+use Rattle.vb_ops.specs.Operands.{checked}
 use Rattle.vb_ops.specs.Arithmetic.{aligned, combined, sum_of, product_of, applied, on_numbers, integer_or_long}
 use Rattle.vb_ops.specs.Arithmetic.{long, currency}
 use Rattle.vb_ops.specs.Joining.{add_of, joined_values, is_text, is_empty}

@@ -6,12 +6,12 @@ use Rattle.vb_value.specs.declared.fault.VbError.{VbError}
 use Rattle.vb_value.specs.declared.number.Number.{Number}
 use Rattle.vb_value.specs.declared.number.Number.TheVariants.{Int, Long, Cur}
 use Rattle.vb_value.specs.declared.value.Value.{Value, Null}
-use Rattle.vb_value.specs.Conversions.{to_number_of}
+use Rattle.vb_value.specs.Conversions.{number_value, to_number_of}
 use Rattle.vb_value.specs.Errors.{and_then, division_by_zero}
 use Rattle.vb_value.specs.Numbers.{int_rounded, is_within, is_zero, as_long, as_currency, amount_of, whole_of}
 use Rattle.vb_ops.specs.declared.arithmetic.NumberPair.{NumberPair}
 use Rattle.vb_ops.specs.declared.arithmetic.NumberPair.TheVariants.{Integers, Longs, Currencies}
-use Rattle.vb_ops.specs.Operands.{is_null, number_value}
+use Rattle.vb_value.specs.Arguments.{is_null}
 
 -- a Long of this value
 unfoldable pub long : ℤ → Result Number VbError

@@ -5,7 +5,7 @@ use Rattle.vb_value.specs.declared.fault.VbError.{VbError}
 use Rattle.vb_value.specs.declared.value.Value.{Value, Empty, Null, Str}
 use Rattle.vb_value.specs.Conversions.{to_str_of}
 use Rattle.vb_value.specs.Errors.{and_then, out_of_string_space}
-use Rattle.vb_ops.specs.Operands.{is_null}
+use Rattle.vb_value.specs.Arguments.{is_null}
 use Rattle.vb_ops.specs.Arithmetic.{on_numbers, sum_of}
 
 -- two texts as one; Out of string space where that is too long

@@ -7,9 +7,10 @@ use Rattle.vb_value.specs.declared.operator.Op2.{Op2}
 use Rattle.vb_value.specs.declared.operator.Op2.TheVariants.{Multiply, Divide, Modulo, Add, Subtract, Join, Is}
 use Rattle.vb_value.specs.declared.operator.Op2.TheVariants.{And, Or, Xor, Eqv, Imp}
 use Rattle.vb_value.specs.declared.value.Value.{Value, Null}
-use Rattle.vb_value.specs.Conversions.{to_number_of, to_bool_of}
+use Rattle.vb_value.specs.Conversions.{number_value, to_number_of, to_bool_of}
 use Rattle.vb_value.specs.Errors.{and_then}
-use Rattle.vb_ops.specs.Operands.{checked, is_null, number_value}
+use Rattle.vb_value.specs.Arguments.{is_null}
+use Rattle.vb_ops.specs.Operands.{checked}
 use Rattle.vb_ops.specs.Arithmetic.{difference_of, product_of, quotient_of, remainder_of, negative_of, on_numbers}
 use Rattle.vb_ops.specs.Joining.{join_of, add_of}
 use Rattle.vb_ops.specs.Comparison.{comparison_of, is_of}

@@ -2,9 +2,8 @@
 ghost use Rattle.std.specs.Prelude.{◌≡◌};
 ghost use Rattle.vb_ops.specs.Arithmetic as spec;
 
-use crate::operand::is_null;
 use vb_value::{
-    Number, Value, VbError, as_currency, as_integer, as_long, to_number, whole_of_amount,
+    Number, Value, VbError, as_currency, as_integer, as_long, is_null, to_number, whole_of_amount,
 };
 
 /// Two numbers of one kind.

@@ -4,9 +4,8 @@ ghost use Rattle.vb_value.specs.Errors.{told};
 ghost use Rattle.vb_value.specs.Outcome.{Answers};
 ghost use Rattle.vb_ops.specs.Joining as spec;
 
-use crate::operand::is_null;
 use std::alloc::Global;
-use vb_value::{Text, Value, VbError, VbFault, to_str};
+use vb_value::{Text, Value, VbError, VbFault, is_null, to_str};
 
 /// How many characters a text has at most.
 const MOST_CHARACTERS: usize = 1_048_576;

@@ -2,7 +2,7 @@
 ghost use Rattle.std.specs.Prelude.{◌≡◌};
 ghost use Rattle.vb_ops.specs.Operands as spec;
 
-use vb_value::{Number, Value, VbError};
+use vb_value::{Value, VbError};
 
 /// Error 13 for an array, 438 for an object, 91 for Nothing.
 pub fn check(value: &Value) -> Result<(), VbError>
@@ -14,26 +14,5 @@ pub fn check(value: &Value) -> Result<(), VbError>
         Value::Nothing => Err(VbError::OBJECT_NOT_SET),
         Value::Empty | Value::Null | Value::Bool(_) => Ok(()),
         Value::Int(_) | Value::Long(_) | Value::Cur(_) | Value::Str(_) => Ok(()),
-    }
-}
-
-/// Whether the value is Null.
-pub fn is_null(value: &Value) -> bool
-    ensures { result ≡ spec.is_null value.now }
-{
-    match value {
-        Value::Null => true,
-        _ => false,
-    }
-}
-
-/// A number as a value.
-pub fn number_value(number: Number) -> Value
-    ensures { result ≡ spec.number_value number }
-{
-    match number {
-        Number::Int(n) => Value::Int(n),
-        Number::Long(n) => Value::Long(n),
-        Number::Cur(n) => Value::Cur(n),
     }
 }

@@ -14,7 +14,7 @@ both false b all = absurd (cc)
 pub joined : (a b : Bool) → a ≡ true → b ≡ true → a && b ≡ true
 joined a b is_a is_b = rw (is_a, is_b) refl
 
-negated : (b : Bool) → not b ≡ true → b ≡ false
+pub negated : (b : Bool) → not b ≡ true → b ≡ false
 negated true fails = absurd (cc)
 negated false fails = refl
 
@@ -57,7 +57,7 @@ all_without_last test p items all =
     all_reverse p _ (all_without_first test p (reverse items) (all_reverse p items all))
 
 -- nothing is dropped where no item passes
-none_first : (test : ℕ → Bool) (items : List ℕ) → list_all (λ c. not (test c)) items ≡ true
+pub none_first : (test : ℕ → Bool) (items : List ℕ) → list_all (λ c. not (test c)) items ≡ true
     → without_first test items ≡ items
 none_first test [] none = refl
 none_first test (c ∷ items) none =

@@ -4,6 +4,8 @@ mod Decimals
 mod Digits
 mod Messages
 mod Nearest
+mod Numerals
+mod NumericTexts
 mod Plainness
 mod Points
 mod Ranges

@@ -13,6 +13,12 @@ use Rattle.vb_value.specs.Folding.{folded}
 use Rattle.vb_value.specs.Numbers.{amount_of, whole_of, as_integer, as_long, is_zero, least_number}
 use Rattle.vb_value.specs.NumericText.{cur_of_text_of, whole_text, currency_text}
 
+-- a number as a value
+abbrev pub number_value : Number → Value
+number_value (number.Int n) = Int n
+number_value (number.Long n) = Long n
+number_value (number.Cur n) = Cur n
+
 -- a value as a number; that of a text is the first of Integer, Long and Currency that holds it
 abbrev pub to_number_of : Value → Result Number VbError
 to_number_of Empty = Ok (number.Int (pos 0))

@@ -40,6 +40,10 @@ object_required = error 424
 abbrev pub unsupported : VbError
 unsupported = error 438
 
+-- Wrong number of arguments or invalid property assignment
+abbrev pub wrong_number : VbError
+wrong_number = error 450
+
 -- an answer of the language, as a call gives it that may also want memory
 abbrev pub told : {T : Type 0} → Result T VbError → Result T VbFault
 told (Ok given) = Ok given

@@ -6,6 +6,7 @@ pub mod ErrorText
 pub mod Numbers
 pub mod NumericText
 pub mod Conversions
+pub mod Arguments
 pub mod Weight
 pub mod Plain
 pub mod Sound

@@ -1,7 +1,7 @@
 //! What a value is as a number, a Boolean and a text.
 ghost use Rattle.std.specs.Prelude.{◌≡◌};
 ghost use Rattle.vb_value.specs.Conversions.{to_number_of, to_int_of, to_long_of, to_cur_of, to_bool_of};
-ghost use Rattle.vb_value.specs.Conversions.{to_str_of, named_truth, says};
+ghost use Rattle.vb_value.specs.Conversions.{number_value, to_str_of, named_truth, says};
 ghost use Rattle.vb_value.specs.Errors.{told};
 ghost use Rattle.vb_value.specs.Outcome.{Answers};
 
@@ -13,6 +13,17 @@ use crate::numeric_text::cur_of_text;
 use crate::text::Text;
 use crate::value::Value;
 use std::alloc::Global;
+
+/// A number as a value of its kind.
+pub fn number_value(number: Number) -> Value
+    ensures { result ≡ number_value number }
+{
+    match number {
+        Number::Int(n) => Value::Int(n),
+        Number::Long(n) => Value::Long(n),
+        Number::Cur(n) => Value::Cur(n),
+    }
+}
 
 /// A value as a number, a text as the first of Integer, Long and Currency that holds it. Error 94 for Null, 13
 /// for an array and a text that is no number, 438 for an object, 91 for Nothing, 6 out of range.

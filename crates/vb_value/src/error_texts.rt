@@ -7,8 +7,8 @@ use crate::memory::Memory;
 use crate::text::Text;
 use std::alloc::Global;
 
-#[tactic(auto, using(crate::proofs::Messages::one_byte_each))]
 /// The text of the error of a number, as `Err.Description` has it.
+#[tactic(auto, using(crate::proofs::Messages::one_byte_each))]
 pub fn error_text(alloc: Global, number: i32) -> Result<Text, Memory>
     ensures { Gives result (error_text_of number) }
 {

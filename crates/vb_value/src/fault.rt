@@ -35,6 +35,8 @@ impl VbError {
     pub const OBJECT_REQUIRED: VbError = VbError { number: 424 };
     /// An object, where its value is wanted.
     pub const UNSUPPORTED: VbError = VbError { number: 438 };
+    /// Another number of arguments than the function takes.
+    pub const WRONG_NUMBER: VbError = VbError { number: 450 };
 }
 
 impl From<Memory> for VbFault {

@@ -4,6 +4,7 @@
 #![tactic(auto)]
 
 mod application;
+mod arguments;
 mod boxed;
 mod bytes;
 mod conversion;
@@ -31,15 +32,18 @@ mod value;
 mod weighing;
 
 pub use application::{AppCall, AppReply};
+pub use arguments::{is_null, the_argument};
 pub use boxed::Boxed;
 pub use bytes::Bytes;
-pub use conversion::{named_truth, to_bool, to_cur, to_int, to_long, to_number, to_str};
+pub use conversion::{
+    named_truth, number_value, to_bool, to_cur, to_int, to_long, to_number, to_str,
+};
 pub use copied::Copied;
 pub use copying::{copy, copy_array};
 pub use error_texts::error_text;
 pub use fault::{VbError, VbFault};
 pub use function::{PlainFn, StrFn};
-pub use laws::{currency_reads_back, rounding_is_nearest};
+pub use laws::{currency_reads_back, numeric_texts_follow_the_grammar, rounding_is_nearest};
 pub use limit::LimitKind;
 pub use list::List;
 pub use memory::Memory;

@@ -4,9 +4,9 @@ ghost use Rattle.vb_value.specs.Weight.{weight_of};
 
 use crate::value::Value;
 
-#[tactic(auto, using(crate::proofs::Arrays::weight_arr))]
 /// The weight of a value: 32 and 4 a character for a text, 32 and its items for an array, 32 for another
 /// value. 2^64 - 1 stands for a greater one. It recurses once for each array inside another.
+#[tactic(auto, using(crate::proofs::Arrays::weight_arr))]
 pub fn weight(value: &Value) -> u64
     ensures { result ≡ min (weight_of value.now) (2 ^ 64 - 1) }
 {

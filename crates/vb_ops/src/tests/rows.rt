@@ -171,16 +171,38 @@ fn single_values(rt: HostRuntime) {
     assert!(rt; truth(&Value::Null).ok() == Some(false));
 }
 
-/// The longest text, and one that is too long.
+/// How many characters the longest text has.
+const MOST: usize = 1_048_576;
+
+/// The longest text, its first half of `x` and its second of `y`, or one of its halves.
+fn halves(alloc: Global, first: bool, second: bool) -> Result<Value, Fail> {
+    let mut text: Text = List::new(alloc);
+    if first {
+        push_half(&mut text, 'x')?;
+    }
+    if second {
+        push_half(&mut text, 'y')?;
+    }
+    Ok(Value::Str(text))
+}
+
+/// Adds half of the longest text's characters.
+fn push_half(text: &mut Text, c: char) -> Result<(), Fail> {
+    for _ in 0..MOST / 2 {
+        text.push(c)?;
+    }
+    Ok(())
+}
+
+/// The longest text, character by character, and one that is too long.
 #[test]
 fn long_texts(rt: HostRuntime) -> Result<(), Fail> {
-    let mut half: Text = List::new(rt.alloc());
-    for _ in 0..524288 {
-        half.push('x')?;
-    }
-    let half = Value::Str(half);
-    let whole = apply2(rt.alloc(), Op2::Join, &half, &half)?;
-    let longer = apply2(rt.alloc(), Op2::Join, &whole, &Value::Int(1));
+    let alloc = rt.alloc();
+    let first = halves(alloc, true, false)?;
+    let second = halves(alloc, false, true)?;
+    let whole = apply2(alloc, Op2::Join, &first, &second)?;
+    assert!(rt; whole == halves(alloc, true, true)?);
+    let longer = apply2(alloc, Op2::Join, &whole, &Value::Int(1));
     assert!(rt; longer == Err(VbFault::Error(14)));
     Ok(())
 }

@@ -1,11 +1,9 @@
 //! What functions ask of their arguments.
 ghost use Rattle.std.specs.Prelude.{◌≡◌, IfOk, IfErr, Ok, Err};
-ghost use Rattle.vb_funcs.specs.Checks as spec;
+ghost use Rattle.vb_value.specs.Arguments as spec;
 
-use vb_value::{Value, VbError};
-
-/// Another number of arguments than the function takes.
-pub const WRONG_NUMBER: VbError = VbError { number: 450 };
+use crate::fault::VbError;
+use crate::value::Value;
 
 /// The argument of a function that takes one; error 450 for another number of arguments.
 pub fn the_argument(args: &[Value]) -> Result<&Value, VbError>
@@ -14,7 +12,7 @@ pub fn the_argument(args: &[Value]) -> Result<&Value, VbError>
 {
     match args {
         [argument] => Ok(argument),
-        _ => Err(WRONG_NUMBER),
+        _ => Err(VbError::WRONG_NUMBER),
     }
 }
 

@@ -4,11 +4,7 @@
 use Rattle.std.specs.Prelude.{Bool, true, false, if◌then◌else◌, List, [], ◌∷◌, Result, Ok, Err}
 use Rattle.vb_value.specs.declared.fault.VbError.{VbError}
 use Rattle.vb_value.specs.declared.value.Value.{Value, Null}
-use Rattle.vb_value.specs.Errors.{error, and_then}
-
--- Wrong number of arguments
-abbrev pub wrong_number : VbError
-wrong_number = error 450
+use Rattle.vb_value.specs.Errors.{wrong_number, and_then}
 
 -- the argument of a function that takes one
 abbrev pub the_argument : List Value → Result Value VbError
