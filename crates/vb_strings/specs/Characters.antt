@@ -3,9 +3,9 @@ use Rattle.std.specs.Prelude.{ℕ, ◌-◌, nat_lt, if◌then◌else◌, ℤ, po
 use lib.Utf8.{scalar}
 use Rattle.vb_value.specs.declared.fault.VbError.{VbError}
 use Rattle.vb_value.specs.declared.value.Value.{Value, Int, Long, Str}
+use Rattle.vb_value.specs.Arguments.{of_one}
 use Rattle.vb_value.specs.Conversions.{to_long_of, to_str_of}
 use Rattle.vb_value.specs.Errors.{and_then}
-use Rattle.vb_strings.specs.Checks.{of_one}
 use Rattle.vb_strings.specs.Results.{invalid_call}
 use Rattle.vb_strings.specs.Repeating.{first_of}
 

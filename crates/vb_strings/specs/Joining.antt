@@ -5,9 +5,9 @@ use Rattle.vb_value.specs.declared.fault.VbError.{VbError}
 use Rattle.vb_value.specs.declared.value.Array.{Array}
 use Rattle.vb_value.specs.declared.value.Value.{Value, out-Value}
 use Rattle.vb_value.specs.declared.value.Value.TheOpen.{Value-F}
+use Rattle.vb_value.specs.Arguments.{is_null}
 use Rattle.vb_value.specs.Conversions.{to_str_of}
-use Rattle.vb_value.specs.Errors.{and_then, type_mismatch, invalid_use_of_null}
-use Rattle.vb_strings.specs.Checks.{wrong_number, is_null}
+use Rattle.vb_value.specs.Errors.{wrong_number, and_then, type_mismatch, invalid_use_of_null}
 use Rattle.vb_strings.specs.Results.{invalid_call, limited}
 use Rattle.vb_strings.specs.Splitting.{one_space}
 

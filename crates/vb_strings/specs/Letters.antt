@@ -3,8 +3,8 @@ use Rattle.std.specs.Prelude.{ℕ, List, map, reverse, Result}
 use Rattle.std.specs.Char.{to_ascii_uppercase}
 use Rattle.vb_value.specs.declared.fault.VbError.{VbError}
 use Rattle.vb_value.specs.declared.value.Value.{Value}
+use Rattle.vb_value.specs.Arguments.{of_one, null_or}
 use Rattle.vb_value.specs.Folding.{folded}
-use Rattle.vb_strings.specs.Checks.{of_one, null_or}
 use Rattle.vb_strings.specs.Parts.{changed}
 
 -- LCase(s)

@@ -1,5 +1,5 @@
-pub mod Checks
 pub mod Results
+pub mod Texts
 pub mod Comparing
 pub mod Parts
 pub mod Letters

@@ -3,10 +3,10 @@ use Rattle.std.specs.Prelude.{ℕ, ◌-◌, Bool, ◌==◌, List, [], ◌∷◌,
 use Rattle.std.specs.List.{prefix_len}
 use Rattle.vb_value.specs.declared.fault.VbError.{VbError}
 use Rattle.vb_value.specs.declared.value.Value.{Value, Str}
+use Rattle.vb_value.specs.Arguments.{of_one, null_or}
 use Rattle.vb_value.specs.Conversions.{to_long_of, to_str_of}
-use Rattle.vb_value.specs.Errors.{and_then}
+use Rattle.vb_value.specs.Errors.{wrong_number, and_then}
 use Rattle.vb_value.specs.NumericText.{without_first, without_last}
-use Rattle.vb_strings.specs.Checks.{wrong_number, of_one, null_or}
 use Rattle.vb_strings.specs.Results.{count_of, before_place, long}
 
 -- Len(s): the number of its characters

@@ -3,9 +3,9 @@ use Rattle.std.specs.Prelude.{ℕ, ◌%◌, ◌||◌, if◌then◌else◌, ℤ, 
 use Rattle.std.specs.Prelude.{Result, Ok, Err}
 use Rattle.vb_value.specs.declared.fault.VbError.{VbError}
 use Rattle.vb_value.specs.declared.value.Value.{Value, Null, Str}
+use Rattle.vb_value.specs.Arguments.{of_one, is_null}
 use Rattle.vb_value.specs.Conversions.{to_long_of}
-use Rattle.vb_value.specs.Errors.{and_then}
-use Rattle.vb_strings.specs.Checks.{wrong_number, of_one, is_null}
+use Rattle.vb_value.specs.Errors.{wrong_number, and_then}
 use Rattle.vb_strings.specs.Results.{invalid_call, count_of, limited}
 
 -- a character so many times

@@ -4,10 +4,9 @@ use Rattle.std.specs.Prelude.{Result, Ok, Err}
 use Rattle.vb_value.specs.declared.fault.VbError.{VbError}
 use Rattle.vb_value.specs.declared.value.Value.{Value}
 use Rattle.vb_value.specs.Conversions.{to_long_of, to_str_of}
-use Rattle.vb_value.specs.Errors.{and_then}
+use Rattle.vb_value.specs.Errors.{wrong_number, and_then}
 use Rattle.vb_strings.specs.declared.comparing.Comparison.{Comparison}
 use Rattle.vb_strings.specs.declared.comparing.Comparison.TheVariants.{Exact}
-use Rattle.vb_strings.specs.Checks.{wrong_number}
 use Rattle.vb_strings.specs.Comparing.{comparison_of}
 use Rattle.vb_strings.specs.Results.{before_place, most_of, limited}
 use Rattle.vb_strings.specs.Splitting.{parts}

@@ -4,11 +4,11 @@ use Rattle.std.specs.Prelude.{List, [], ◌∷◌, length, take, drop, reverse, 
 use Rattle.std.specs.List.{find, range_with_len}
 use Rattle.vb_value.specs.declared.fault.VbError.{VbError}
 use Rattle.vb_value.specs.declared.value.Value.{Value, Null}
+use Rattle.vb_value.specs.Arguments.{is_null}
 use Rattle.vb_value.specs.Conversions.{to_long_of, to_str_of}
-use Rattle.vb_value.specs.Errors.{and_then}
+use Rattle.vb_value.specs.Errors.{wrong_number, and_then}
 use Rattle.vb_strings.specs.declared.comparing.Comparison.{Comparison}
 use Rattle.vb_strings.specs.declared.comparing.Comparison.TheVariants.{Exact}
-use Rattle.vb_strings.specs.Checks.{wrong_number, is_null}
 use Rattle.vb_strings.specs.Comparing.{same, comparison_of}
 use Rattle.vb_strings.specs.Results.{invalid_call, before_place, most_of, long}
 
@@ -46,13 +46,17 @@ abbrev pub place_behind : Comparison → ℕ → List ℕ → List ℕ → ℕ
 place_behind comparison skipped text pattern =
     place_of skipped (first_in comparison (drop skipped text) pattern)
 
+-- a search of a text from a place on
+unfoldable pub search_from : Comparison → List ℕ → List ℕ → ℤ → Result Value VbError
+search_from comparison text pattern place =
+    and_then (before_place place) (λ skipped. long (place_behind comparison skipped text pattern))
+
 -- InStr with all its arguments; Null where a text is Null
 abbrev pub in_str : Result ℤ VbError → Value → Value → Result Comparison VbError → Result Value VbError
 in_str from a b comparison =
     if is_null a || is_null b then Ok Null
     else and_then from (λ place. and_then (to_str_of a) (λ text. and_then (to_str_of b) (λ pattern.
-    and_then comparison (λ chosen. and_then (before_place place) (λ skipped.
-    long (place_behind chosen skipped text pattern))))))
+    and_then comparison (λ chosen. search_from chosen text pattern place))))
 
 -- InStr([i,] a, b [, cmp]): from the first place where i is left out
 abbrev pub in_str_of : List Value → Result Value VbError
@@ -73,13 +77,17 @@ place_up_to comparison last text pattern =
     if nat_lt (length text) last then 0
     else place_of 0 (last_in comparison (take last text) pattern)
 
+-- a search of a text up to a place, toward the front
+unfoldable pub search_up_to : Comparison → List ℕ → List ℕ → ℤ → Result Value VbError
+search_up_to comparison text pattern place =
+    and_then (end_of text place) (λ last. long (place_up_to comparison last text pattern))
+
 -- InStrRev with all its arguments; Null where a text is Null
 abbrev pub in_str_rev : Value → Value → Result ℤ VbError → Result Comparison VbError → Result Value VbError
 in_str_rev a b from comparison =
     if is_null a || is_null b then Ok Null
     else and_then (to_str_of a) (λ text. and_then (to_str_of b) (λ pattern. and_then from (λ place.
-    and_then comparison (λ chosen. and_then (end_of text place) (λ last.
-    long (place_up_to chosen last text pattern))))))
+    and_then comparison (λ chosen. search_up_to chosen text pattern place))))
 
 -- InStrRev(a, b [, i [, cmp]]): from the end where i is left out
 abbrev pub in_str_rev_of : List Value → Result Value VbError

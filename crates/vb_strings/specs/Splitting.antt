@@ -5,11 +5,10 @@ use Rattle.vb_value.specs.declared.fault.VbError.{VbError}
 use Rattle.vb_value.specs.declared.value.Value.{Value, Str}
 use Rattle.vb_value.specs.declared.value.Value.TheViews.{Arr}
 use Rattle.vb_value.specs.Conversions.{to_long_of, to_str_of}
-use Rattle.vb_value.specs.Errors.{and_then}
+use Rattle.vb_value.specs.Errors.{wrong_number, and_then}
 use Rattle.vb_value.specs.Numbers.{as_long}
 use Rattle.vb_strings.specs.declared.comparing.Comparison.{Comparison}
 use Rattle.vb_strings.specs.declared.comparing.Comparison.TheVariants.{Exact}
-use Rattle.vb_strings.specs.Checks.{wrong_number}
 use Rattle.vb_strings.specs.Comparing.{comparison_of}
 use Rattle.vb_strings.specs.Results.{most_of}
 use Rattle.vb_strings.specs.Searching.{first_in}

@@ -4,18 +4,18 @@ ghost use Rattle.vb_value.specs.Errors.{told};
 ghost use Rattle.vb_value.specs.Outcome.{Answers};
 ghost use Rattle.vb_strings.specs.Characters as spec;
 
-use crate::checks::the_argument;
 use crate::repeating::first;
 use crate::results::INVALID_CALL;
+use crate::texts::as_text;
 use std::alloc::Global;
-use vb_value::{Text, Value, VbError, VbFault, to_long, to_str};
+use vb_value::{Text, Value, VbError, VbFault, the_argument, to_long};
 
 /// `Asc` and `AscW`.
 pub fn asc(alloc: Global, args: &[Value]) -> Result<Value, VbFault>
     ensures { Answers result VbFault.Memory (told (spec.asc_of args.now)) }
 {
     let s = the_argument(args)?;
-    let text = to_str(alloc, s)?;
+    let text = as_text(alloc, s)?;
     Ok(number(first(text.as_slice())?))
 }
 

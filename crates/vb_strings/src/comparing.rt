@@ -4,11 +4,11 @@ ghost use Rattle.vb_value.specs.Errors.{told};
 ghost use Rattle.vb_value.specs.Outcome.{Answers, Gives};
 ghost use Rattle.vb_strings.specs.Comparing as spec;
 
-use crate::checks::{WRONG_NUMBER, is_null};
 use crate::results::INVALID_CALL;
+use crate::texts::as_text;
 use std::alloc::Global;
 use std::cmp::Ordering;
-use vb_value::{Memory, Text, Value, VbError, VbFault, fold, to_long, to_str};
+use vb_value::{Memory, Text, Value, VbError, VbFault, fold, is_null, to_long};
 
 /// How the characters of texts are compared (VBScript 5.6, "Comparison Constants").
 #[derive(Clone, Copy, Debug, PartialEq, Eq)]
@@ -54,7 +54,7 @@ pub fn str_comp(alloc: Global, args: &[Value]) -> Result<Value, VbFault>
     match args {
         [a, b] => compared(alloc, a, b, Ok(Comparison::Exact)),
         [a, b, given] => compared(alloc, a, b, comparison_named(given)),
-        _ => Err(WRONG_NUMBER)?,
+        _ => Err(VbError::WRONG_NUMBER)?,
     }
 }
 
@@ -70,9 +70,9 @@ fn compared(
     if is_null(a) || is_null(b) {
         return Ok(Value::Null);
     }
-    let first = to_str(alloc, a)?;
-    let second = to_str(alloc, b)?;
-    let order = order(alloc, comparison?, &first, &second)?;
+    let first = as_text(alloc, a)?;
+    let second = as_text(alloc, b)?;
+    let order = order(alloc, comparison?, first.text(), second.text())?;
     Ok(Value::Int(sign(order)))
 }
 

@@ -5,11 +5,11 @@ ghost use Rattle.vb_value.specs.Outcome.{Answers, Gives};
 ghost use Rattle.vb_strings.specs.Joining as spec;
 ghost use Rattle.vb_strings.specs.Results.{limited};
 
-use crate::checks::{WRONG_NUMBER, is_null};
 use crate::results::{INVALID_CALL, MOST_CHARACTERS};
 use crate::splitting::one_space;
 use std::alloc::Global;
-use vb_value::{Array, List, Memory, Text, Value, VbError, VbFault, to_str};
+use crate::texts::as_text;
+use vb_value::{Array, List, Memory, Text, Value, VbError, VbFault, is_null, to_str};
 
 /// `Join`.
 pub fn join(alloc: Global, args: &[Value]) -> Result<Value, VbFault>
@@ -18,7 +18,7 @@ pub fn join(alloc: Global, args: &[Value]) -> Result<Value, VbFault>
     match args {
         [a] => join_value(alloc, a, &one_space(alloc)?),
         [a, d] => join_value(alloc, a, d),
-        _ => Err(WRONG_NUMBER)?,
+        _ => Err(VbError::WRONG_NUMBER)?,
     }
 }
 
@@ -30,9 +30,9 @@ fn join_value(alloc: Global, a: &Value, d: &Value) -> Result<Value, VbFault>
     if is_null(a) {
         return Err(VbError::INVALID_USE_OF_NULL)?;
     }
-    let separator = to_str(alloc, d)?;
+    let separator = as_text(alloc, d)?;
     match a {
-        Value::Arr(array) => join_array(alloc, array, &separator),
+        Value::Arr(array) => join_array(alloc, array, separator.as_slice()),
         Value::Empty | Value::Null | Value::Bool(_) => Err(VbError::TYPE_MISMATCH)?,
         Value::Int(_) | Value::Long(_) | Value::Cur(_) => Err(VbError::TYPE_MISMATCH)?,
         Value::Str(_) | Value::Obj(_) | Value::Nothing => Err(VbError::TYPE_MISMATCH)?,
@@ -40,14 +40,14 @@ fn join_value(alloc: Global, a: &Value, d: &Value) -> Result<Value, VbFault>
 }
 
 /// The items of an array of one dimension as one text.
-fn join_array(alloc: Global, array: &Array, separator: &Text) -> Result<Value, VbFault>
+fn join_array(alloc: Global, array: &Array, separator: &[char]) -> Result<Value, VbFault>
     ensures { Answers result VbFault.Memory (told (spec.join_items array.now.bounds array.now.items separator.now)) }
 {
     if array.bounds.len() != 1 {
         return Err(INVALID_CALL)?;
     }
     let texts = texts(alloc, array.items.as_slice())?;
-    joined(alloc, separator.as_slice(), texts.as_slice())
+    joined(alloc, separator, texts.as_slice())
 }
 
 /// Values as texts.

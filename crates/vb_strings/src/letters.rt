@@ -1,12 +1,12 @@
 //! Letters made small or capital, and characters from the last to the first.
-ghost use Rattle.std.specs.Prelude.{◌≡◌};
+ghost use Rattle.std.specs.Prelude.{◌≡◌, reverse};
 ghost use Rattle.vb_value.specs.Errors.{told};
 ghost use Rattle.vb_value.specs.Outcome.{Answers, Gives};
 ghost use Rattle.vb_strings.specs.Letters as spec;
 
-use crate::checks::{is_null, the_argument};
+use crate::texts::as_text;
 use std::alloc::Global;
-use vb_value::{List, Memory, Text, Value, VbFault, fold, to_str};
+use vb_value::{Copied, List, Memory, Text, Value, VbFault, fold, is_null, the_argument};
 
 /// `LCase`.
 pub fn lcase(alloc: Global, args: &[Value]) -> Result<Value, VbFault>
@@ -16,8 +16,8 @@ pub fn lcase(alloc: Global, args: &[Value]) -> Result<Value, VbFault>
     if is_null(s) {
         return Ok(Value::Null);
     }
-    let text = to_str(alloc, s)?;
-    Ok(Value::Str(fold(alloc, &text)?))
+    let text = as_text(alloc, s)?;
+    Ok(Value::Str(fold(alloc, text.text())?))
 }
 
 /// `UCase`.
@@ -28,8 +28,8 @@ pub fn ucase(alloc: Global, args: &[Value]) -> Result<Value, VbFault>
     if is_null(s) {
         return Ok(Value::Null);
     }
-    let text = to_str(alloc, s)?;
-    Ok(Value::Str(raised(alloc, &text)?))
+    let text = as_text(alloc, s)?;
+    Ok(Value::Str(raised(alloc, text.text())?))
 }
 
 /// The text with each of its letters a to z made capital.
@@ -45,7 +45,15 @@ pub fn str_reverse(alloc: Global, args: &[Value]) -> Result<Value, VbFault>
     ensures { Answers result VbFault.Memory (told (spec.str_reverse_of args.now)) }
 {
     let s = the_argument(args)?;
-    let mut characters = to_str(alloc, s)?.into_vec();
+    let text = as_text(alloc, s)?;
+    Ok(Value::Str(reversed(alloc, text.text())?))
+}
+
+/// The characters from the last to the first.
+fn reversed(alloc: Global, text: &Text) -> Result<Text, Memory>
+    ensures { Gives result (reverse text.now) }
+{
+    let mut characters = text.copy()?.into_vec();
     characters.reverse();
-    Ok(Value::Str(List::from_vec(characters)))
+    Ok(List::from_vec(characters))
 }

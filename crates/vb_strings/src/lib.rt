@@ -2,7 +2,6 @@
 #![tactic(auto)]
 
 mod characters;
-mod checks;
 mod comparing;
 mod functions;
 mod joining;
@@ -13,6 +12,7 @@ mod replacing;
 mod results;
 mod searching;
 mod splitting;
+mod texts;
 
 pub use functions::call_string;
 

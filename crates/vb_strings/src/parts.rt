@@ -5,10 +5,10 @@ ghost use Rattle.vb_value.specs.NumericText.{without_first, without_last};
 ghost use Rattle.vb_value.specs.Outcome.{Answers};
 ghost use Rattle.vb_strings.specs.Parts as spec;
 
-use crate::checks::{WRONG_NUMBER, is_null, the_argument};
 use crate::results::{before_place, count, long};
+use crate::texts::as_text;
 use std::alloc::Global;
-use vb_value::{Text, Value, VbFault, to_long, to_str};
+use vb_value::{Text, Value, VbError, VbFault, is_null, the_argument, to_long};
 
 /// `Len`.
 pub fn len(alloc: Global, args: &[Value]) -> Result<Value, VbFault>
@@ -18,7 +18,8 @@ pub fn len(alloc: Global, args: &[Value]) -> Result<Value, VbFault>
     if is_null(s) {
         return Ok(Value::Null);
     }
-    Ok(long(to_str(alloc, s)?.len())?)
+    let text = as_text(alloc, s)?;
+    Ok(long(text.text().len())?)
 }
 
 /// `Left`.
@@ -27,7 +28,7 @@ pub fn left(alloc: Global, args: &[Value]) -> Result<Value, VbFault>
 {
     match args {
         [s, n] => front(alloc, s, n),
-        _ => Err(WRONG_NUMBER)?,
+        _ => Err(VbError::WRONG_NUMBER)?,
     }
 }
 
@@ -38,10 +39,9 @@ fn front(alloc: Global, s: &Value, n: &Value) -> Result<Value, VbFault>
     if is_null(s) {
         return Ok(Value::Null);
     }
-    let mut text = to_str(alloc, s)?;
+    let text = as_text(alloc, s)?;
     let count = count(to_long(n)?)?;
-    text.truncate(count);
-    Ok(Value::Str(text))
+    Ok(Value::Str(Text::from_slice(alloc, at_most(text.as_slice(), count))?))
 }
 
 /// `Right`.
@@ -50,7 +50,7 @@ pub fn right(alloc: Global, args: &[Value]) -> Result<Value, VbFault>
 {
     match args {
         [s, n] => back(alloc, s, n),
-        _ => Err(WRONG_NUMBER)?,
+        _ => Err(VbError::WRONG_NUMBER)?,
     }
 }
 
@@ -61,10 +61,10 @@ fn back(alloc: Global, s: &Value, n: &Value) -> Result<Value, VbFault>
     if is_null(s) {
         return Ok(Value::Null);
     }
-    let text = to_str(alloc, s)?;
+    let text = as_text(alloc, s)?;
     let count = count(to_long(n)?)?;
-    let start = text.len().saturating_sub(count);
-    Ok(Value::Str(Text::from_slice(alloc, &text.as_slice()[start..])?))
+    let start = text.text().len().saturating_sub(count);
+    Ok(Value::Str(Text::from_slice(alloc, behind(text.as_slice(), start))?))
 }
 
 /// `Mid`.
@@ -74,7 +74,7 @@ pub fn mid(alloc: Global, args: &[Value]) -> Result<Value, VbFault>
     match args {
         [s, i] => rest(alloc, s, i),
         [s, i, n] => middle(alloc, s, i, n),
-        _ => Err(WRONG_NUMBER)?,
+        _ => Err(VbError::WRONG_NUMBER)?,
     }
 }
 
@@ -85,7 +85,7 @@ fn rest(alloc: Global, s: &Value, i: &Value) -> Result<Value, VbFault>
     if is_null(s) {
         return Ok(Value::Null);
     }
-    let text = to_str(alloc, s)?;
+    let text = as_text(alloc, s)?;
     let skipped = before_place(to_long(i)?)?;
     Ok(Value::Str(Text::from_slice(alloc, behind(text.as_slice(), skipped))?))
 }
@@ -97,7 +97,7 @@ fn middle(alloc: Global, s: &Value, i: &Value, n: &Value) -> Result<Value, VbFau
     if is_null(s) {
         return Ok(Value::Null);
     }
-    let text = to_str(alloc, s)?;
+    let text = as_text(alloc, s)?;
     let place = to_long(i)?;
     let number = to_long(n)?;
     let skipped = before_place(place)?;
@@ -136,7 +136,7 @@ pub fn ltrim(alloc: Global, args: &[Value]) -> Result<Value, VbFault>
     if is_null(s) {
         return Ok(Value::Null);
     }
-    let text = to_str(alloc, s)?;
+    let text = as_text(alloc, s)?;
     Ok(Value::Str(Text::from_slice(alloc, without_first_spaces(text.as_slice()))?))
 }
 
@@ -148,7 +148,7 @@ pub fn rtrim(alloc: Global, args: &[Value]) -> Result<Value, VbFault>
     if is_null(s) {
         return Ok(Value::Null);
     }
-    let text = to_str(alloc, s)?;
+    let text = as_text(alloc, s)?;
     Ok(Value::Str(Text::from_slice(alloc, without_last_spaces(text.as_slice()))?))
 }
 
@@ -160,7 +160,7 @@ pub fn trim(alloc: Global, args: &[Value]) -> Result<Value, VbFault>
     if is_null(s) {
         return Ok(Value::Null);
     }
-    let text = to_str(alloc, s)?;
+    let text = as_text(alloc, s)?;
     let trimmed = without_last_spaces(without_first_spaces(text.as_slice()));
     Ok(Value::Str(Text::from_slice(alloc, trimmed)?))
 }

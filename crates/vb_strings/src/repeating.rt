@@ -4,10 +4,9 @@ ghost use Rattle.vb_value.specs.Errors.{told};
 ghost use Rattle.vb_value.specs.Outcome.{Answers, Gives};
 ghost use Rattle.vb_strings.specs.Repeating as spec;
 
-use crate::checks::{WRONG_NUMBER, is_null, the_argument};
 use crate::results::{INVALID_CALL, MOST_CHARACTERS, count};
 use std::alloc::Global;
-use vb_value::{List, Memory, Text, Value, VbError, VbFault, to_long};
+use vb_value::{List, Memory, Text, Value, VbError, VbFault, is_null, the_argument, to_long};
 
 /// `Space`.
 pub fn space(alloc: Global, args: &[Value]) -> Result<Value, VbFault>
@@ -24,7 +23,7 @@ pub fn string(alloc: Global, args: &[Value]) -> Result<Value, VbFault>
     match args {
         [n, c] if is_null(n) || is_null(c) => Ok(Value::Null),
         [n, c] => filled(alloc, n, c),
-        _ => Err(WRONG_NUMBER)?,
+        _ => Err(VbError::WRONG_NUMBER)?,
     }
 }
 

@@ -4,14 +4,14 @@ ghost use Rattle.vb_value.specs.Errors.{told};
 ghost use Rattle.vb_value.specs.Outcome.{Answers, Gives};
 ghost use Rattle.vb_strings.specs.Replacing as spec;
 
-use crate::checks::WRONG_NUMBER;
 use crate::comparing::{Comparison, comparison_named};
 use crate::joining::joined;
 use crate::parts::behind;
 use crate::results::{before_place, most};
 use crate::splitting::{parts, whole};
+use crate::texts::as_text;
 use std::alloc::Global;
-use vb_value::{List, Memory, Text, Value, VbError, VbFault, to_long, to_str};
+use vb_value::{List, Memory, Text, Value, VbError, VbFault, to_long};
 
 /// The arguments of `Replace` that may be left out, each converted.
 #[derive(Clone, Copy)]
@@ -39,7 +39,7 @@ pub fn replace(alloc: Global, args: &[Value]) -> Result<Value, VbFault>
             let choices = choices_of(to_long(i), to_long(n), comparison_named(given));
             replace_value(alloc, s, a, b, choices)
         }
-        _ => Err(WRONG_NUMBER)?,
+        _ => Err(VbError::WRONG_NUMBER)?,
     }
 }
 
@@ -73,14 +73,14 @@ fn replace_value(
         Answers result VbFault.Memory (told answer)
     }
 {
-    let text = to_str(alloc, s)?;
-    let pattern = to_str(alloc, a)?;
-    let other = to_str(alloc, b)?;
+    let text = as_text(alloc, s)?;
+    let pattern = as_text(alloc, a)?;
+    let other = as_text(alloc, b)?;
     let place = choices.place?;
     let number = choices.number?;
     let comparison = choices.comparison?;
     let skipped = before_place(place)?;
-    let most = most(text.len(), number)?;
+    let most = most(text.text().len(), number)?;
     let text = behind(text.as_slice(), skipped);
     let parts = around(alloc, comparison, pattern.as_slice(), most, text)?;
     joined(alloc, other.as_slice(), parts.as_slice())

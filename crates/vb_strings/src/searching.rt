@@ -4,12 +4,12 @@ ghost use Rattle.vb_value.specs.Errors.{told};
 ghost use Rattle.vb_value.specs.Outcome.{Answers};
 ghost use Rattle.vb_strings.specs.Searching as spec;
 
-use crate::checks::{WRONG_NUMBER, is_null};
 use crate::comparing::{Comparison, comparison_named, same};
 use crate::parts::{at_most, behind};
 use crate::results::{INVALID_CALL, before_place, long, most};
+use crate::texts::as_text;
 use std::alloc::Global;
-use vb_value::{Value, VbError, VbFault, to_long, to_str};
+use vb_value::{Value, VbError, VbFault, is_null, to_long};
 
 /// `InStr`.
 pub fn in_str(alloc: Global, args: &[Value]) -> Result<Value, VbFault>
@@ -19,7 +19,7 @@ pub fn in_str(alloc: Global, args: &[Value]) -> Result<Value, VbFault>
         [a, b] => first_place(alloc, Ok(1), a, b, Ok(Comparison::Exact)),
         [i, a, b] => first_place(alloc, to_long(i), a, b, Ok(Comparison::Exact)),
         [i, a, b, given] => first_place(alloc, to_long(i), a, b, comparison_named(given)),
-        _ => Err(WRONG_NUMBER)?,
+        _ => Err(VbError::WRONG_NUMBER)?,
     }
 }
 
@@ -37,12 +37,24 @@ fn first_place(
         return Ok(Value::Null);
     }
     let from = from?;
-    let text = to_str(alloc, a)?;
-    let pattern = to_str(alloc, b)?;
+    let text = as_text(alloc, a)?;
+    let pattern = as_text(alloc, b)?;
     let comparison = comparison?;
-    let skipped = before_place(from)?;
-    let place = place_behind(comparison, skipped, text.as_slice(), pattern.as_slice());
-    Ok(long(place)?)
+    Ok(search_from(comparison, text.as_slice(), pattern.as_slice(), from)?)
+}
+
+/// A search of a text from a place on.
+#[tactic(auto, unfolding(crate::specs::Searching::search_from))]
+fn search_from(
+    comparison: Comparison,
+    text: &[char],
+    pattern: &[char],
+    place: i32,
+) -> Result<Value, VbError>
+    ensures { result ≡ spec.search_from comparison text.now pattern.now place }
+{
+    let skipped = before_place(place)?;
+    long(place_behind(comparison, skipped, text, pattern))
 }
 
 /// The first place of the pattern behind the skipped characters, 0 where there is none.
@@ -63,7 +75,7 @@ pub fn in_str_rev(alloc: Global, args: &[Value]) -> Result<Value, VbFault>
         [a, b] => last_place(alloc, a, b, Ok(-1), Ok(Comparison::Exact)),
         [a, b, i] => last_place(alloc, a, b, to_long(i), Ok(Comparison::Exact)),
         [a, b, i, given] => last_place(alloc, a, b, to_long(i), comparison_named(given)),
-        _ => Err(WRONG_NUMBER)?,
+        _ => Err(VbError::WRONG_NUMBER)?,
     }
 }
 
@@ -80,13 +92,25 @@ fn last_place(
     if is_null(a) || is_null(b) {
         return Ok(Value::Null);
     }
-    let text = to_str(alloc, a)?;
-    let pattern = to_str(alloc, b)?;
+    let text = as_text(alloc, a)?;
+    let pattern = as_text(alloc, b)?;
     let from = from?;
     let comparison = comparison?;
-    let last = end(text.as_slice(), from)?;
-    let place = place_up_to(comparison, last, text.as_slice(), pattern.as_slice());
-    Ok(long(place)?)
+    Ok(search_up_to(comparison, text.as_slice(), pattern.as_slice(), from)?)
+}
+
+/// A search of a text up to a place, toward the front.
+#[tactic(auto, unfolding(crate::specs::Searching::search_up_to))]
+fn search_up_to(
+    comparison: Comparison,
+    text: &[char],
+    pattern: &[char],
+    place: i32,
+) -> Result<Value, VbError>
+    ensures { result ≡ spec.search_up_to comparison text.now pattern.now place }
+{
+    let last = end(text, place)?;
+    long(place_up_to(comparison, last, text, pattern))
 }
 
 /// The place at which a search toward the front begins: that of the last character for -1.

@@ -5,13 +5,13 @@ ghost use Rattle.vb_value.specs.Errors.{told};
 ghost use Rattle.vb_value.specs.Outcome.{Answers, Gives};
 ghost use Rattle.vb_strings.specs.Splitting as spec;
 
-use crate::checks::WRONG_NUMBER;
 use crate::comparing::{Comparison, comparison_named};
 use crate::parts::{at_most, behind};
 use crate::results::most;
 use crate::searching::first_in;
+use crate::texts::as_text;
 use std::alloc::Global;
-use vb_value::{Array, List, Memory, Text, Value, VbError, VbFault, as_long, to_long, to_str};
+use vb_value::{Array, List, Memory, Text, Value, VbError, VbFault, as_long, to_long};
 
 /// `Split`.
 pub fn split(alloc: Global, args: &[Value]) -> Result<Value, VbFault>
@@ -22,7 +22,7 @@ pub fn split(alloc: Global, args: &[Value]) -> Result<Value, VbFault>
         [s, d] => split_value(alloc, s, d, Ok(-1), Ok(Comparison::Exact)),
         [s, d, n] => split_value(alloc, s, d, to_long(n), Ok(Comparison::Exact)),
         [s, d, n, given] => split_value(alloc, s, d, to_long(n), comparison_named(given)),
-        _ => Err(WRONG_NUMBER)?,
+        _ => Err(VbError::WRONG_NUMBER)?,
     }
 }
 
@@ -51,11 +51,11 @@ fn split_value(
 ) -> Result<Value, VbFault>
     ensures { Answers result VbFault.Memory (told (spec.split_value s.now d.now n comparison)) }
 {
-    let text = to_str(alloc, s)?;
-    let separator = to_str(alloc, d)?;
+    let text = as_text(alloc, s)?;
+    let separator = as_text(alloc, d)?;
     let number = n?;
     let comparison = comparison?;
-    split_array(alloc, comparison, &text, &separator, number)
+    split_array(alloc, comparison, text.text(), separator.text(), number)
 }
 
 /// At most so many parts of a text as an array, all for -1.
