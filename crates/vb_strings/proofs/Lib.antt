@@ -1,5 +1,9 @@
 pub mod Cuts
 pub mod Items
 pub mod Joins
+pub mod TextLaws
+pub mod SearchLaws
+pub mod SplitLaws
 pub mod Orders
 pub mod Places
+pub mod Rejoined

@@ -10,3 +10,4 @@ pub mod Splitting
 pub mod Joining
 pub mod Replacing
 pub mod Functions
+pub mod Laws

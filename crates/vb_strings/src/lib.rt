@@ -5,6 +5,7 @@ mod characters;
 mod comparing;
 mod functions;
 mod joining;
+mod laws;
 mod letters;
 mod parts;
 mod repeating;
@@ -15,6 +16,7 @@ mod splitting;
 mod texts;
 
 pub use functions::call_string;
+pub use laws::{parts_together, replaces_by_itself, reverses_twice, searches_agree, splits_and_joins};
 
 #[cfg(test)]
 mod tests;
