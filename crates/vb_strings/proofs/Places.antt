@@ -17,7 +17,7 @@ begins_fits comparison text [] is = omega arith
 begins_fits comparison [] (letter ∷ pattern) is = absurd (cc)
 begins_fits comparison (character ∷ text) (letter ∷ pattern) is =
     let rest : length pattern ≤ length text = begins_fits comparison text pattern
-        (and_parts (same comparison character letter) (begins comparison text pattern) is).1 in
+    (and_parts (same comparison character letter) (begins comparison text pattern) is).1 in
     omega arith
 
 -- what stands in a text ends in it
@@ -54,9 +54,9 @@ module _ (test : ℕ → Bool) (count : ℕ) where
   last_of_all i within behind is =
       let length_is : length (range_with_len 0 count) ≡ count = length-range_with_len 0 count in
       let reversed : length (reverse (range_with_len 0 count)) ≡ length (range_with_len 0 count) =
-          length-reverse (range_with_len 0 count) in
+      length-reverse (range_with_len 0 count) in
       let place : get_or (reverse (range_with_len 0 count)) (count - 1 - i) 0 ≡ i =
-          in_reverse (count - 1 - i) (omega arith) ∙ omega arith in
+      in_reverse (count - 1 - i) (omega arith) ∙ omega arith in
       found_at (find test) test Some None refl (λ _ _. refl) (reverse (range_with_len 0 count)) (count - 1 - i) 0
       (omega arith)
       (λ k below. ap test (in_reverse k (omega arith)) ∙ behind (count - 1 - k) (omega arith) (omega arith))
@@ -74,7 +74,7 @@ module _ (test : ℕ → Bool) (count : ℕ) where
   none_in_reverse none =
       let length_is : length (range_with_len 0 count) ≡ count = length-range_with_len 0 count in
       let reversed : length (reverse (range_with_len 0 count)) ≡ length (range_with_len 0 count) =
-          length-reverse (range_with_len 0 count) in
+      length-reverse (range_with_len 0 count) in
       found_nowhere (find test) test Some None refl (λ _ _. refl) (reverse (range_with_len 0 count)) 0
       (λ k below. ap test (in_reverse k (omega arith)) ∙ none (count - 1 - k) (omega arith))
 

@@ -16,9 +16,11 @@ found_passes : (test : ℕ → Bool) (numbers : List ℕ) (n : ℕ) → find tes
 found_passes test [] n is = absurd (cc)
 found_passes test (m ∷ numbers) n is =
     let split : (passes : Bool) → test m ≡ passes → cond passes (Some m) (find test numbers) ≡ Some n
-            → test n ≡ true =
-        elim [ true ↦ λ yes found. let same : m ≡ n = cc in ap test (sym same) ∙ yes
-             | false ↦ λ no found. found_passes test numbers n found ] in
+    → test n ≡ true =
+    elim [
+      | true ↦ λ yes found. let same : m ≡ n = cc in ap test (sym same) ∙ yes
+      | false ↦ λ no found. found_passes test numbers n found
+    ] in
     split (test m) refl is
 
 -- an exact beginning stands first in the text
@@ -28,7 +30,7 @@ exact_beginning text [] is = refl
 exact_beginning [] (letter ∷ pattern) is = absurd (cc)
 exact_beginning (character ∷ text) (letter ∷ pattern) is =
     let both : (same Exact character letter ≡ true) × (begins Exact text pattern ≡ true) =
-        and_parts (same Exact character letter) (begins Exact text pattern) is in
+    and_parts (same Exact character letter) (begins Exact text pattern) is in
     let one : character ≡ letter = eqb-true character letter both.0 in
     let rest : pattern ++ drop (length pattern) text ≡ text = exact_beginning text pattern both.1 in
     cc
@@ -38,7 +40,7 @@ around_first : (text separator : List ℕ) (before : ℕ) → first_in Exact tex
     → take before text ++ (separator ++ drop (before + length separator) text) ≡ text
 around_first text separator before is =
     let here : stands Exact text separator before ≡ true =
-        found_passes (stands Exact text separator) (places text) before is in
+    found_passes (stands Exact text separator) (places text) before is in
     ap (λ rest. take before text ++ (separator ++ rest)) (sym (drop-drop (length separator) before text))
     ∙ ap (λ rest. take before text ++ rest) (exact_beginning (drop before text) separator here)
     ∙ take-append-drop before text
@@ -49,8 +51,8 @@ pub some_part : (comparison : Comparison) (separator : List ℕ) (cuts : ℕ) (t
 some_part comparison separator zero text = omega arith
 some_part comparison separator (suc cuts) text =
     let split : (first : Option ℕ)
-            → 0 < length (cut (length separator) (parts comparison separator cuts) text first) =
-        elim [ None ↦ omega arith | Some before ↦ omega arith ] in
+    → 0 < length (cut (length separator) (parts comparison separator cuts) text first) =
+    elim [ None ↦ omega arith | Some before ↦ omega arith ] in
     split (first_in comparison text separator)
 
 -- a separator before each text is one before the joined texts
@@ -65,15 +67,16 @@ pub parts_joined : (separator : List ℕ) (cuts : ℕ) (text : List ℕ)
 parts_joined separator zero text = append-nil text
 parts_joined separator (suc cuts) text =
     let split : (first : Option ℕ) → first_in Exact text separator ≡ first
-            → joined separator (cut (length separator) (parts Exact separator cuts) text first) ≡ text =
-        elim
-        [ None ↦ λ is. append-nil text
-        | Some before ↦ λ is.
-            let rest : List ℕ = drop (before + length separator) text in
-            ap (λ more. take before text ++ more)
-            (behind_joined separator (parts Exact separator cuts rest) (some_part Exact separator cuts rest)
-            ∙ ap (λ more. separator ++ more) (parts_joined separator cuts rest))
-            ∙ around_first text separator before is ] in
+    → joined separator (cut (length separator) (parts Exact separator cuts) text first) ≡ text =
+    elim [
+      | None ↦ λ is. append-nil text
+      | Some before ↦ λ is.
+          let rest : List ℕ = drop (before + length separator) text in
+          ap (λ more. take before text ++ more)
+          (behind_joined separator (parts Exact separator cuts rest) (some_part Exact separator cuts rest)
+          ∙ ap (λ more. separator ++ more) (parts_joined separator cuts rest))
+          ∙ around_first text separator before is
+    ] in
     split (first_in Exact text separator) refl
 
 -- as many parts as cuts and one more, at most
@@ -82,12 +85,13 @@ pub few_parts : (comparison : Comparison) (separator : List ℕ) (cuts : ℕ) (t
 few_parts comparison separator zero text = omega arith
 few_parts comparison separator (suc cuts) text =
     let split : (first : Option ℕ)
-            → length (cut (length separator) (parts comparison separator cuts) text first) ≤ suc cuts + 1 =
-        elim
-        [ None ↦ omega arith
-        | Some before ↦
-            let rest : List ℕ = drop (before + length separator) text in
-            let fewer : length (parts comparison separator cuts rest) ≤ cuts + 1 =
-                few_parts comparison separator cuts rest in
-            omega arith ] in
+    → length (cut (length separator) (parts comparison separator cuts) text first) ≤ suc cuts + 1 =
+    elim [
+      | None ↦ omega arith
+      | Some before ↦
+          let rest : List ℕ = drop (before + length separator) text in
+          let fewer : length (parts comparison separator cuts rest) ≤ cuts + 1 =
+          few_parts comparison separator cuts rest in
+          omega arith
+    ] in
     split (first_in comparison text separator)

@@ -26,11 +26,12 @@ nowhere text (letter ∷ pattern) before is alone = cc
 -- a pattern that stands once stands before some character
 within_text : (text pattern : List ℕ) (before : ℕ) → StandsOnce text pattern before → before < length text
 within_text text pattern before once =
-    elim (cases_lt before (length text))
-    [ inl below ↦ below
-    | inr past ↦
-        absurd (nowhere text pattern before
-        (ap (λ rest. begins Exact rest pattern) (sym (drop_all before text past)) ∙ once.here) once.alone) ]
+    elim (cases_lt before (length text)) [
+      | inl below ↦ below
+      | inr past ↦
+          absurd (nowhere text pattern before
+          (ap (λ rest. begins Exact rest pattern) (sym (drop_all before text past)) ∙ once.here) once.alone)
+    ]
 
 -- it stands nowhere else
 not_elsewhere : (text pattern : List ℕ) (before other : ℕ) → StandsOnce text pattern before → (other ≡ before → ⊥)

@@ -1,6 +1,7 @@
 -- Texts that are split and joined, and texts in which a pattern is replaced by itself.
-use Rattle.std.proofs.Common.{◌≡◌, ℕ, zero, suc, ◌+◌, ◌-◌, ◌<◌, ◌≤◌, ◌^◌, Bool, true, false, if◌then◌else◌, ℤ, pos, negsuc}
-use Rattle.std.proofs.Common.{◌-ℤ◌, List, [], ◌∷◌, Result, Ok, map, length, refl, sym, ap, ◌∙◌, append-nil, arith, eqb, inl, inr, subst}
+use Rattle.std.proofs.Common.{◌≡◌, ℕ, zero, suc, ◌+◌, ◌-◌, ◌<◌, ◌≤◌, ◌^◌, Bool, true, false, if◌then◌else◌}
+use Rattle.std.proofs.Common.{ℤ, pos, negsuc, ◌-ℤ◌, List, [], ◌∷◌, Result, Ok, map, length, refl, sym, ap, ◌∙◌}
+use Rattle.std.proofs.Common.{append-nil, arith, eqb, inl, inr, subst}
 use Rattle.std.proofs.lemmas.Int.{ints}
 use Rattle.std.proofs.lemmas.Bool.{lt-ltb, le-leb, ne_eqb, eq-eqb, cases_lt}
 use Rattle.std.proofs.lemmas.List.{nil_from_length}
@@ -27,8 +28,8 @@ limited_fits text short = rw (le-leb (length text) 1048576 short) refl
 replaced_itself : (pattern : List ℕ) (most : ℕ) (text : List ℕ) → replaced Exact pattern pattern most text ≡ text
 replaced_itself pattern most text =
     let split : (none : Bool)
-            → joined pattern (if none then text ∷ [] else parts Exact pattern most text) ≡ text =
-        elim [ true ↦ append-nil text | false ↦ parts_joined pattern most text ] in
+    → joined pattern (if none then text ∷ [] else parts Exact pattern most text) ≡ text =
+    elim [ true ↦ append-nil text | false ↦ parts_joined pattern most text ] in
     split (eqb (length pattern) 0)
 
 pub replaces_by_itself : ReplacesByItself
@@ -93,7 +94,7 @@ some_rejoined : (text separator : List ℕ) → length text ≤ 1048576 → 0 < 
 some_rejoined text separator short some wide =
     let texts : List (List ℕ) = parts Exact separator (length text) text in
     let most : length (parts Exact separator (length text) text) ≤ length text + 1 =
-        few_parts Exact separator (length text) text in
+    few_parts Exact separator (length text) text in
     ap (rejoined separator) (split_all text separator some wide)
     ∙ some_joined texts separator (some_part Exact separator (length text) text) (omega arith)
     ∙ ap limited (parts_joined separator (length text) text)
@@ -105,9 +106,10 @@ nothing_rejoined separator =
 
 pub splits_and_joins : SplitsAndJoins
 splits_and_joins text separator short wide =
-    elim (cases_lt 0 (length text))
-    [ inl some ↦ some_rejoined text separator short some wide
-    | inr none ↦
-        let empty : text ≡ [] = nil_from_length text (omega arith) in
-        subst (λ (given : List ℕ). rejoined separator (split Exact given separator (negsuc 0)) ≡ Ok (Str given))
-        (sym empty) (nothing_rejoined separator) ]
+    elim (cases_lt 0 (length text)) [
+      | inl some ↦ some_rejoined text separator short some wide
+      | inr none ↦
+          let empty : text ≡ [] = nil_from_length text (omega arith) in
+          subst (λ (given : List ℕ). rejoined separator (split Exact given separator (negsuc 0)) ≡ Ok (Str given))
+          (sym empty) (nothing_rejoined separator)
+    ]

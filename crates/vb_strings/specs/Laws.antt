@@ -27,7 +27,8 @@ pub record StandsOnce (text pattern : List ℕ) (before : ℕ) : Type 0 where
   pub here : stands Exact text pattern before ≡ true
   pub alone : (other : ℕ) → stands Exact text pattern other ≡ true → other ≡ before
 
--- the place of a pattern that stands once in a text that is not too long is found from the front as well as from the end
+-- the place of a pattern that stands once, in a text that is not too long, is found from the front as well as from
+-- the end
 abbrev pub SearchesAgree : Type 0
 SearchesAgree = (text pattern : List ℕ) (before : ℕ) → length text ≤ 1048576 → StandsOnce text pattern before
     → (call_string_of InStr (Str text ∷ Str pattern ∷ []) ≡ Ok (Long (pos (before + 1))))

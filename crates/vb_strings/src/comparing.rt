@@ -78,12 +78,7 @@ fn compared(
 
 /// How two texts compare.
 #[tactic(auto, using(crate::proofs::Orders::exact_order))]
-fn order(
-    alloc: Global,
-    comparison: Comparison,
-    a: &Text,
-    b: &Text,
-) -> Result<Ordering, Memory>
+fn order(alloc: Global, comparison: Comparison, a: &Text, b: &Text) -> Result<Ordering, Memory>
     ensures { Gives result (spec.order_of comparison a.now b.now) }
 {
     match comparison {

@@ -7,8 +7,8 @@ ghost use Rattle.vb_strings.specs.Results.{limited};
 
 use crate::results::{INVALID_CALL, MOST_CHARACTERS};
 use crate::splitting::one_space;
-use std::alloc::Global;
 use crate::texts::as_text;
+use std::alloc::Global;
 use vb_value::{Array, List, Memory, Text, Value, VbError, VbFault, is_null, to_str};
 
 /// `Join`.
@@ -85,7 +85,9 @@ fn joined_length(separator: &[char], texts: &[Text]) -> usize
 {
     let mut length = 0usize;
     for text in texts {
-        length = length.saturating_add(separator.len()).saturating_add(text.len());
+        length = length
+            .saturating_add(separator.len())
+            .saturating_add(text.len());
     }
     length
 }

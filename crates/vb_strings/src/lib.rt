@@ -16,7 +16,9 @@ mod splitting;
 mod texts;
 
 pub use functions::call_string;
-pub use laws::{parts_together, replaces_by_itself, reverses_twice, searches_agree, splits_and_joins};
+pub use laws::{
+    parts_together, replaces_by_itself, reverses_twice, searches_agree, splits_and_joins,
+};
 
 #[cfg(test)]
 mod tests;

@@ -60,7 +60,9 @@ fn unit(value: &Value) -> Result<char, VbError>
 {
     match value {
         Value::Str(text) => first(text.as_slice()),
-        Value::Empty | Value::Null | Value::Bool(_) | Value::Int(_) => low_character(to_long(value)?),
+        Value::Empty | Value::Null | Value::Bool(_) | Value::Int(_) => low_character(to_long(
+            value,
+        )?),
         Value::Long(_) | Value::Cur(_) | Value::Arr(_) => low_character(to_long(value)?),
         Value::Obj(_) | Value::Nothing => low_character(to_long(value)?),
     }

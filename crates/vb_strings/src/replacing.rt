@@ -26,7 +26,13 @@ pub fn replace(alloc: Global, args: &[Value]) -> Result<Value, VbFault>
     ensures { Answers result VbFault.Memory (told (spec.replace_of args.now)) }
 {
     match args {
-        [s, a, b] => replace_value(alloc, s, a, b, choices_of(Ok(1), Ok(-1), Ok(Comparison::Exact))),
+        [s, a, b] => replace_value(
+            alloc,
+            s,
+            a,
+            b,
+            choices_of(Ok(1), Ok(-1), Ok(Comparison::Exact)),
+        ),
         [s, a, b, i] => {
             let choices = choices_of(to_long(i), Ok(-1), Ok(Comparison::Exact));
             replace_value(alloc, s, a, b, choices)
@@ -68,10 +74,8 @@ fn replace_value(
     b: &Value,
     choices: Choices,
 ) -> Result<Value, VbFault>
-    ensures {
-        let answer = spec.replace_value s.now a.now b.now choices.place choices.number choices.comparison in
-        Answers result VbFault.Memory (told answer)
-    }
+    ensures { let answer = spec.replace_value s.now a.now b.now choices.place choices.number choices.comparison in
+        Answers result VbFault.Memory (told answer) }
 {
     let text = as_text(alloc, s)?;
     let pattern = as_text(alloc, a)?;

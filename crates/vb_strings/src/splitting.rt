@@ -93,7 +93,13 @@ fn split_text(
     if most == 0 {
         return Ok(List::new(alloc));
     }
-    Ok(parts(alloc, comparison, separator.as_slice(), most - 1, text.as_slice())?)
+    Ok(parts(
+        alloc,
+        comparison,
+        separator.as_slice(),
+        most - 1,
+        text.as_slice(),
+    )?)
 }
 
 /// A text as one part.

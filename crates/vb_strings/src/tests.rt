@@ -1,5 +1,6 @@
 //! Tests, by topic. Each expected value is worked out by hand from the rules of the language.
 
+mod arguments;
 mod characters;
 mod parts;
 mod searching;

@@ -46,7 +46,11 @@ const COMPARED: [Row; 18] = [
     (StrFn::StrComp, &[Str("B"), Str("a"), Int(1)], Int(1)),
     (StrFn::StrComp, &[Str("ABC"), Str("abc"), Int(1)], Int(0)),
     (StrFn::StrComp, &[Str("ABC"), Str("abc"), Int(0)], Int(-1)),
-    (StrFn::StrComp, &[Str("\u{C9}"), Str("\u{E9}"), Int(1)], Int(-1)),
+    (
+        StrFn::StrComp,
+        &[Str("\u{C9}"), Str("\u{E9}"), Int(1)],
+        Int(-1),
+    ),
     (StrFn::StrComp, &[Str("["), Str("A"), Int(1)], Int(-1)),
     (StrFn::StrComp, &[Str("ab"), Str("abc")], Int(-1)),
     (StrFn::StrComp, &[Str(""), Empty], Int(0)),

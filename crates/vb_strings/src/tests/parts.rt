@@ -37,7 +37,11 @@ const PARTS: [Row; 31] = [
     (StrFn::Mid, &[Null, Int(0)], Null),
     (StrFn::Mid, &[Null, Int(1), Int(-1)], Null),
     (StrFn::Mid, &[Str("abc"), Int(1), Null], Error(94)),
-    (StrFn::Mid, &[Str("abc"), Long(2147483647), Long(2147483647)], Str("")),
+    (
+        StrFn::Mid,
+        &[Str("abc"), Long(2147483647), Long(2147483647)],
+        Str(""),
+    ),
 ];
 
 /// Letters, and spaces taken off.
