@@ -1,6 +1,6 @@
 -- Places of a pattern in a text.
-use Rattle.std.proofs.Common.{◌≡◌, ℕ, ◌+◌, ◌-◌, ◌<◌, ◌≤◌, Bool, true, false, ◌&&◌, List, [], ◌∷◌, Some, None}
-use Rattle.std.proofs.Common.{length, drop, get_or, reverse, refl, sym, ap, ◌∙◌, arith, length-drop}
+use Rattle.std.proofs.Common.{◌≡◌, ℕ, ◌+◌, ◌-◌, ◌<◌, ◌≤◌, Bool, true, false, List, [], ◌∷◌, Some, None}
+use Rattle.std.proofs.Common.{length, drop, get_or, reverse, refl, ap, ◌∙◌, arith, length-drop}
 use Rattle.std.specs.List.{find, range_with_len}
 use Rattle.std.proofs.lemmas.Bool.{and_parts}
 use Rattle.std.proofs.lemmas.List.{get_or-reverse, length-reverse}
@@ -8,7 +8,7 @@ use Rattle.std.proofs.lemmas.List.FromFn.{length-range_with_len, get_or-range_wi
 use Rattle.std.proofs.lemmas.List.Recursion.{found_at, found_nowhere}
 use Rattle.vb_strings.specs.declared.comparing.Comparison.{Comparison}
 use Rattle.vb_strings.specs.Comparing.{same}
-use Rattle.vb_strings.specs.Searching.{begins, stands, places, first_in, last_in}
+use Rattle.vb_strings.specs.Searching.{begins, stands, first_in, last_in}
 
 -- a text is as long as what it begins with
 begins_fits : (comparison : Comparison) (text pattern : List ℕ) → begins comparison text pattern ≡ true
@@ -80,16 +80,16 @@ module _ (test : ℕ → Bool) (count : ℕ) where
 
 module _ (comparison : Comparison) (text pattern : List ℕ) where
   -- the first place at which a pattern stands
-  pub first_found : (before : ℕ) → before < length text
+  pub first_is : (before : ℕ) → before < length text
       → ((k : ℕ) → k < before → stands comparison text pattern k ≡ false)
       → stands comparison text pattern before ≡ true → first_in comparison text pattern ≡ Some before
-  first_found before = first_of_all (stands comparison text pattern) (length text) before
+  first_is before = first_of_all (stands comparison text pattern) (length text) before
 
   -- the last one
-  pub last_found : (before : ℕ) → before < length text
+  pub last_is : (before : ℕ) → before < length text
       → ((k : ℕ) → before < k → k < length text → stands comparison text pattern k ≡ false)
       → stands comparison text pattern before ≡ true → last_in comparison text pattern ≡ Some before
-  last_found before = last_of_all (stands comparison text pattern) (length text) before
+  last_is before = last_of_all (stands comparison text pattern) (length text) before
 
   -- a pattern that stands nowhere has no first place and no last one
   pub none_found : ((k : ℕ) → k < length text → stands comparison text pattern k ≡ false)

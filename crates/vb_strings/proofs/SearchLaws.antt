@@ -1,14 +1,14 @@
 -- The place of a pattern that stands once.
-use Rattle.std.proofs.Common.{◌≡◌, ℕ, ◌+◌, ◌<◌, ◌≤◌, ◌^◌, Bool, true, false, List, [], ◌∷◌, Ok, Some, pos, negsuc}
-use Rattle.std.proofs.Common.{length, take, drop, refl, sym, ap, ◌∙◌, arith, inl, inr, ⊎_elim}
+use Rattle.std.proofs.Common.{◌≡◌, ℕ, ◌+◌, ◌<◌, ◌≤◌, ◌^◌, true, false, List, [], ◌∷◌, Ok, pos, negsuc}
+use Rattle.std.proofs.Common.{length, refl, sym, ap, ◌∙◌, arith, inl, inr}
 use Rattle.std.proofs.lemmas.Bool.{lt-ltb, le-ltb, false_from_ne_true, cases_lt}
 use Rattle.std.proofs.lemmas.List.{take_all, drop_all}
 use Rattle.vb_value.specs.declared.value.Value.{Long}
 use Rattle.vb_strings.specs.declared.comparing.Comparison.TheVariants.{Exact}
 use Rattle.vb_strings.specs.Laws.{SearchesAgree, StandsOnce}
 use Rattle.vb_strings.specs.Results.{long}
-use Rattle.vb_strings.specs.Searching.{begins, stands, first_in, last_in, place_of, search_from, search_up_to}
-use Rattle.vb_strings.proofs.Places.{first_found, last_found}
+use Rattle.vb_strings.specs.Searching.{begins, stands, last_in, place_of, search_from, search_up_to}
+use Rattle.vb_strings.proofs.Places.{first_is, last_is}
 
 -- a number that a Long holds
 long_fits : (n : ℕ) → n < 2 ^ 31 → long n ≡ Ok (Long (pos n))
@@ -46,7 +46,7 @@ from_front text pattern before short once =
     let within : before < length text = within_text text pattern before once in
     let place : 0 + before + 1 ≡ before + 1 = omega arith in
     ap (λ first. long (place_of 0 first))
-    (first_found Exact text pattern before within
+    (first_is Exact text pattern before within
     (λ k below. not_elsewhere text pattern before k once (λ same. omega arith)) once.here)
     ∙ ap long place
     ∙ long_fits (before + 1) (omega arith)
@@ -61,7 +61,7 @@ from_end text pattern before short once =
     rw (le-ltb (length text) (length text) all)
     (ap (λ front. long (place_of 0 (last_in Exact front pattern))) (take_all (length text) text all)
     ∙ ap (λ last. long (place_of 0 last))
-    (last_found Exact text pattern before within
+    (last_is Exact text pattern before within
     (λ k above below. not_elsewhere text pattern before k once (λ same. omega arith)) once.here)
     ∙ ap long place
     ∙ long_fits (before + 1) (omega arith))

@@ -3,10 +3,10 @@ use Rattle.std.proofs.Common.{◌≡◌, ℕ, zero, suc, ◌+◌, ◌-◌, ◌<�
 use Rattle.std.proofs.Common.{ℤ, pos, negsuc, ◌-ℤ◌, List, [], ◌∷◌, Result, Ok, map, length, refl, sym, ap, ◌∙◌}
 use Rattle.std.proofs.Common.{append-nil, arith, eqb, inl, inr, subst}
 use Rattle.std.proofs.lemmas.Int.{ints}
-use Rattle.std.proofs.lemmas.Bool.{lt-ltb, le-leb, ne_eqb, eq-eqb, cases_lt}
+use Rattle.std.proofs.lemmas.Bool.{lt-ltb, le-leb, ne_eqb, cases_lt}
 use Rattle.std.proofs.lemmas.List.{nil_from_length}
 use Rattle.vb_value.specs.declared.fault.VbError.{VbError}
-use Rattle.vb_value.specs.declared.function.StrFn.TheVariants.{Split, Join}
+use Rattle.vb_value.specs.declared.function.StrFn.TheVariants.{Join}
 use Rattle.vb_value.specs.declared.value.Value.{Value, Str}
 use Rattle.vb_value.specs.declared.value.Value.TheViews.{Arr, outs-Arr}
 use Rattle.vb_value.specs.Errors.{and_then}
@@ -17,7 +17,7 @@ use Rattle.vb_strings.specs.Joining.{join_level, joined, texts_of}
 use Rattle.vb_strings.specs.Laws.{SplitsAndJoins, ReplacesByItself}
 use Rattle.vb_strings.specs.Replacing.{replaced}
 use Rattle.vb_strings.specs.Results.{limited}
-use Rattle.vb_strings.specs.Splitting.{split, split_array, parts, array_of}
+use Rattle.vb_strings.specs.Splitting.{split, parts, array_of}
 use Rattle.vb_strings.proofs.Rejoined.{parts_joined, few_parts, some_part}
 
 -- a text that is not too long

@@ -2,10 +2,10 @@
 use Rattle.std.proofs.Common.{◌≡◌, ℕ, ◌+◌, ◌-◌, ◌<◌, ◌≤◌, ◌^◌, List, [], ◌∷◌, ◌++◌, Ok, pos, length, take, drop, refl}
 use Rattle.std.proofs.Common.{Result}
 use Rattle.std.proofs.Common.{sym, ap, ◌∙◌, append_assoc, arith}
-use Rattle.std.proofs.lemmas.Bool.{lt-ltb, le-leb, ne_eqb}
+use Rattle.std.proofs.lemmas.Bool.{lt-ltb, ne_eqb}
 use Rattle.std.proofs.lemmas.List.{reverse-reverse, take-append-drop, drop-drop}
 use Rattle.vb_value.specs.declared.fault.VbError.{VbError}
-use Rattle.vb_value.specs.declared.function.StrFn.TheVariants.{Left, Right, Mid, StrReverse}
+use Rattle.vb_value.specs.declared.function.StrFn.TheVariants.{Left, Right, Mid}
 use Rattle.vb_value.specs.declared.value.Value.{Value, Long, Str}
 use Rattle.vb_value.specs.Conversions.{to_long_of}
 use Rattle.vb_strings.specs.Functions.{call_string_of}

@@ -1,8 +1,7 @@
 -- Laws of the functions, for readers to hold the definitions against.
 use Rattle.std.specs.Prelude.{◌≡◌, ◌<◌, ◌≤◌, ℕ, ◌+◌, ◌-◌, true, pos, List, [], ◌∷◌, ◌++◌, length}
-use Rattle.std.specs.Prelude.{Result, Ok, Err}
+use Rattle.std.specs.Prelude.{Result, Ok}
 use Rattle.vb_value.specs.declared.fault.VbError.{VbError}
-use Rattle.vb_value.specs.declared.function.StrFn.{StrFn}
 use Rattle.vb_value.specs.declared.function.StrFn.TheVariants.{Left, Right, Mid, InStr, InStrRev, Replace, Split}
 use Rattle.vb_value.specs.declared.function.StrFn.TheVariants.{Join, StrReverse}
 use Rattle.vb_value.specs.declared.value.Value.{Value, Long, Str}

@@ -137,7 +137,7 @@ fn place_up_to(comparison: Comparison, last: usize, text: &[char], pattern: &[ch
 }
 
 /// How many characters stand before the first place at which the pattern stands in the text.
-#[tactic(auto, using(crate::proofs::Places::first_found, crate::proofs::Places::none_found, crate::proofs::Places::fits))]
+#[tactic(auto, using(crate::proofs::Places::first_is, crate::proofs::Places::none_found, crate::proofs::Places::fits))]
 pub fn first_in(comparison: Comparison, text: &[char], pattern: &[char]) -> Option<usize>
     ensures place { result ≡ spec.first_in comparison text.now pattern.now }
     ensures within { IfSome result (λ before. before + length pattern.now ≤ length text.now) }
@@ -151,7 +151,7 @@ pub fn first_in(comparison: Comparison, text: &[char], pattern: &[char]) -> Opti
 }
 
 /// How many characters stand before the last place at which the pattern stands in the text.
-#[tactic(auto, using(crate::proofs::Places::last_found, crate::proofs::Places::none_left, crate::proofs::Places::fits))]
+#[tactic(auto, using(crate::proofs::Places::last_is, crate::proofs::Places::none_left, crate::proofs::Places::fits))]
 fn last_in(comparison: Comparison, text: &[char], pattern: &[char]) -> Option<usize>
     ensures place { result ≡ spec.last_in comparison text.now pattern.now }
     ensures within { IfSome result (λ before. before + length pattern.now ≤ length text.now) }
