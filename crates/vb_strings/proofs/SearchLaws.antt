@@ -1,11 +1,14 @@
--- The place of a pattern that stands once.
-use Rattle.std.proofs.Common.{◌≡◌, ℕ, ◌+◌, ◌<◌, ◌≤◌, ◌^◌, true, false, List, [], ◌∷◌, Ok, pos, negsuc}
-use Rattle.std.proofs.Common.{length, refl, sym, ap, ◌∙◌, arith, inl, inr}
+-- The place of a pattern that stands once, and searches without case.
+use Rattle.std.proofs.Common.{◌≡◌, ℕ, ◌+◌, ◌<◌, ◌≤◌, ◌^◌, true, false, ◌&&◌, List, [], ◌∷◌, Ok, pos, negsuc}
+use Rattle.std.proofs.Common.{length, drop, refl, sym, ap, ◌∙◌, arith, inl, inr}
+use Rattle.std.specs.Char.{to_ascii_lowercase}
 use Rattle.std.proofs.lemmas.Bool.{lt-ltb, le-ltb, false_from_ne_true, cases_lt}
-use Rattle.std.proofs.lemmas.List.{take_all, drop_all}
+use Rattle.std.proofs.lemmas.List.{take_all, drop_all, drop-map}
 use Rattle.vb_value.specs.declared.value.Value.{Long}
-use Rattle.vb_strings.specs.declared.comparing.Comparison.TheVariants.{Exact}
-use Rattle.vb_strings.specs.Laws.{SearchesAgree, StandsOnce}
+use Rattle.vb_value.specs.Folding.{folded}
+use Rattle.vb_strings.specs.declared.comparing.Comparison.TheVariants.{Exact, AnyCase}
+use Rattle.vb_strings.specs.Comparing.{same}
+use Rattle.vb_strings.specs.Laws.{SearchesAgree, SearchesFolded, StandsOnce}
 use Rattle.vb_strings.specs.Results.{long}
 use Rattle.vb_strings.specs.Searching.{begins, stands, last_in, place_of, search_from, search_up_to}
 use Rattle.vb_strings.proofs.Places.{first_is, last_is}
@@ -70,3 +73,15 @@ pub searches_agree : SearchesAgree
 searches_agree text pattern before short once =
     let fits : length text < 2 ^ 31 = omega arith in
     (from_front text pattern before fits once, from_end text pattern before fits once)
+
+begins_folded : (text pattern : List ℕ)
+    → begins AnyCase text pattern ≡ begins Exact (folded text) (folded pattern)
+begins_folded text [] = refl
+begins_folded [] (letter ∷ pattern) = refl
+begins_folded (character ∷ text) (letter ∷ pattern) =
+    ap (λ rest. same AnyCase character letter && rest) (begins_folded text pattern)
+
+pub searches_folded : SearchesFolded
+searches_folded text pattern before =
+    begins_folded (drop before text) pattern
+    ∙ ap (λ rest. begins Exact rest (folded pattern)) (sym (drop-map to_ascii_lowercase before text))

@@ -6,7 +6,8 @@ use Rattle.vb_value.specs.declared.function.StrFn.TheVariants.{Left, Right, Mid,
 use Rattle.vb_value.specs.declared.function.StrFn.TheVariants.{Join, StrReverse}
 use Rattle.vb_value.specs.declared.value.Value.{Value, Long, Str}
 use Rattle.vb_value.specs.Errors.{and_then}
-use Rattle.vb_strings.specs.declared.comparing.Comparison.TheVariants.{Exact}
+use Rattle.vb_value.specs.Folding.{folded}
+use Rattle.vb_strings.specs.declared.comparing.Comparison.TheVariants.{Exact, AnyCase}
 use Rattle.vb_strings.specs.Functions.{call_string_of}
 use Rattle.vb_strings.specs.Searching.{stands}
 
@@ -32,6 +33,11 @@ abbrev pub SearchesAgree : Type 0
 SearchesAgree = (text pattern : List ℕ) (before : ℕ) → length text ≤ 1048576 → StandsOnce text pattern before
     → (call_string_of InStr (Str text ∷ Str pattern ∷ []) ≡ Ok (Long (pos (before + 1))))
     × (call_string_of InStrRev (Str text ∷ Str pattern ∷ []) ≡ Ok (Long (pos (before + 1))))
+
+-- without case, a pattern stands where its small letters stand in the text with small letters
+abbrev pub SearchesFolded : Type 0
+SearchesFolded = (text pattern : List ℕ) (before : ℕ)
+    → stands AnyCase text pattern before ≡ stands Exact (folded text) (folded pattern) before
 
 -- a text, reversed twice, is itself
 abbrev pub ReversesTwice : Type 0

@@ -16,6 +16,11 @@ pub fn searches_agree()
     ensures { spec.SearchesAgree }
 {}
 
+/// A search without case is one of texts with small letters.
+pub fn searches_folded()
+    ensures { spec.SearchesFolded }
+{}
+
 /// A text that is split and joined is itself.
 pub fn splits_and_joins()
     ensures { spec.SplitsAndJoins }

@@ -17,7 +17,8 @@ mod texts;
 
 pub use functions::call_string;
 pub use laws::{
-    parts_together, replaces_by_itself, reverses_twice, searches_agree, splits_and_joins,
+    parts_together, replaces_by_itself, reverses_twice, searches_agree, searches_folded,
+    splits_and_joins,
 };
 
 #[cfg(test)]
