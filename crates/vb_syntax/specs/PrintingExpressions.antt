@@ -5,10 +5,12 @@ use Rattle.vb_value.specs.declared.token.Keyword.TheVariants as k
 use Rattle.vb_value.specs.declared.token.Symbol.TheVariants as s
 use Rattle.vb_syntax.specs.declared.expression.Expression.{Expression}
 use Rattle.vb_syntax.specs.declared.expression.Expression.TheOpen.{Expression-F, Operation-F, Path-F, Step-F}
-use Rattle.vb_syntax.specs.declared.expression.Expression.TheFolds.{fold-Expression, fold-Path, fold-Step}
+use Rattle.vb_syntax.specs.declared.expression.Expression.TheFolds.{fold-Expression, fold-Operation, fold-Path, fold-Step}
+use Rattle.vb_syntax.specs.declared.expression.Operation.{Operation}
 use Rattle.vb_syntax.specs.declared.expression.Path.{Path}
 use Rattle.vb_syntax.specs.declared.expression.PathHead.{PathHead}
 use Rattle.vb_syntax.specs.declared.expression.PathHead.TheVariants as head
+use Rattle.vb_syntax.specs.declared.expression.Step.{Step}
 use Rattle.vb_syntax.specs.Rules.{Tokens}
 use Rattle.vb_syntax.specs.PrintingWords.{printed, keyword, symbol, name, listed, literal_word, operator_word}
 
@@ -50,4 +52,14 @@ expression_words line = fold-Expression Tokens Tokens Tokens Tokens
 -- the words of a path in a line
 abbrev pub path_words : ℕ → Path → Tokens
 path_words line = fold-Path Tokens Tokens Tokens Tokens
+    (expression_layer line) (step_layer line) (operation_layer line) (path_layer line)
+
+-- the words of a path's step in a line
+abbrev pub path_step_words : ℕ → Step → Tokens
+path_step_words line = fold-Step Tokens Tokens Tokens Tokens
+    (expression_layer line) (step_layer line) (operation_layer line) (path_layer line)
+
+-- the words of an operation in a line
+abbrev pub operation_words : ℕ → Operation → Tokens
+operation_words line = fold-Operation Tokens Tokens Tokens Tokens
     (expression_layer line) (step_layer line) (operation_layer line) (path_layer line)

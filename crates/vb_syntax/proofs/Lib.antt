@@ -1,0 +1,5 @@
+pub mod ExpressionWords
+pub mod Alike
+pub mod PrintedWords
+pub mod Prints
+pub mod ExpressionPrinting
