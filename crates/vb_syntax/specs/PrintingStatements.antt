@@ -15,7 +15,9 @@ use Rattle.vb_syntax.specs.declared.declaration.ConstantValue.TheVariants as val
 use Rattle.vb_syntax.specs.declared.declaration.Declared.{Declared}
 use Rattle.vb_syntax.specs.declared.expression.Expression.{Expression}
 use Rattle.vb_syntax.specs.declared.expression.Path.{Path, out-Path}
+use Rattle.vb_syntax.specs.declared.statement.Case.{Case}
 use Rattle.vb_syntax.specs.declared.statement.Condition.{Condition}
+use Rattle.vb_syntax.specs.declared.statement.ElseIf.{ElseIf}
 use Rattle.vb_syntax.specs.declared.statement.ExitKind.{ExitKind}
 use Rattle.vb_syntax.specs.declared.statement.ExitKind.TheVariants as exit
 use Rattle.vb_syntax.specs.declared.statement.Repetition.{Repetition}
@@ -23,7 +25,7 @@ use Rattle.vb_syntax.specs.declared.statement.Repetition.TheVariants as repetiti
 use Rattle.vb_syntax.specs.declared.statement.Resized.{Resized}
 use Rattle.vb_syntax.specs.declared.statement.Statement.{Statement}
 use Rattle.vb_syntax.specs.declared.statement.StatementKind.TheOpen.{StatementKind-F, Statement-F, ElseIf-F, Case-F}
-use Rattle.vb_syntax.specs.declared.statement.StatementKind.TheFolds.{fold-Statement}
+use Rattle.vb_syntax.specs.declared.statement.StatementKind.TheFolds.{fold-Case, fold-ElseIf, fold-Statement}
 use Rattle.vb_syntax.specs.Rules.{Tokens}
 use Rattle.vb_syntax.specs.SimpleStatements.{ends_in_group}
 use Rattle.vb_syntax.specs.PrintingWords.{printed, keyword, symbol, name, quoted, joined, listed, literal_word}
@@ -237,3 +239,13 @@ statement_words = fold-Statement (ℕ → Tokens) Tokens Tokens Tokens
 -- the words of statements, each with the end of a line behind it
 abbrev pub body_words : ℕ → List Statement → Tokens
 body_words line statements = block_words line (map statement_words statements)
+
+-- the words of an `ElseIf` part
+abbrev pub else_if_words : ElseIf → Tokens
+else_if_words = fold-ElseIf (ℕ → Tokens) Tokens Tokens Tokens
+    kind_layer case_layer else_if_layer statement_layer
+
+-- the words of a `Case` part
+abbrev pub case_words : Case → Tokens
+case_words = fold-Case (ℕ → Tokens) Tokens Tokens Tokens
+    kind_layer case_layer else_if_layer statement_layer
