@@ -155,73 +155,48 @@ again_word found = record {
   spelled = λ tokens line h. record { token = printed line found; alone = refl; passes = line_kept found line };
 }
 
--- a word whose line says nothing
-pub word_behind : {B : Type 0} {s : Rule B} {before : Tokens → Tokens} {whole : B → Tokens} (found : TokenKind)
-    (line : ℕ) → AgainTail s (λ tail. before (printed line found ∷ tail)) whole
-    → AgainTail (words.word found >> s) before whole
-word_behind {B} {s} {before} {whole} found line next = record { shows = go }
+-- what says nothing, by words that the rule spells
+pub behind : {A B : Type 0} {r : Rule A} {s : Rule B} {before : Tokens → Tokens} {whole : B → Tokens}
+    (shown : Tokens) (thing : A) → r shown thing → AgainTail s (λ tail. before (shown ++ tail)) whole
+    → AgainTail (r >> s) before whole
+behind {A} {B} {r} {s} {before} {whole} shown thing spells next = record { shows = go }
   where
-    go : (tokens : Tokens) (y : B) → (words.word found >> s) tokens y
-        → TailAgain (words.word found >> s) before whole y
+    go : (tokens : Tokens) (y : B) → (r >> s) tokens y → TailAgain (r >> s) before whole y
     go tokens y h = let rest = next.shows h.back y h.next_spells in record {
-      tail = printed line found ∷ rest.tail;
+      tail = shown ++ rest.tail;
       whole = rest.whole;
       spelled = record {
-        front = printed line found ∷ [];
+        front = shown;
         back = rest.tail;
-        thing = line;
+        thing = thing;
         split = refl;
-        first_spells = record { token = printed line found; alone = refl; passes = line_kept found line };
+        first_spells = spells;
         next_spells = rest.spelled;
       };
     }
+
+-- a word in a line is that word
+pub word_shown : (found : TokenKind) (line : ℕ) → words.word found (printed line found ∷ []) line
+word_shown found line = record { token = printed line found; alone = refl; passes = line_kept found line }
 
 pub again_keyword : {B : Type 0} {s : Rule B} {before : Tokens → Tokens} {whole : B → Tokens} (found : Keyword)
     (line : ℕ) → AgainTail s (λ tail. before (keyword line found ∷ tail)) whole
     → AgainTail (words.keyword found >> s) before whole
-again_keyword found line next = word_behind (kind.Keyword found) line next
+again_keyword found line next = behind (keyword line found ∷ []) line (word_shown (kind.Keyword found) line) next
 
 pub again_symbol : {B : Type 0} {s : Rule B} {before : Tokens → Tokens} {whole : B → Tokens} (found : Symbol)
     (line : ℕ) → AgainTail s (λ tail. before (symbol line found ∷ tail)) whole
     → AgainTail (words.symbol found >> s) before whole
-again_symbol found line next = word_behind (kind.Symbol found) line next
+again_symbol found line next = behind (symbol line found ∷ []) line (word_shown (kind.Symbol found) line) next
 
--- a word that is a name elsewhere
-pub again_quoted : (text shown : List ℕ) → str_eq_ignore_ascii_case text shown ≡ true
-    → Again (statements.quoted text) (λ line. quoted line shown ∷ [])
-again_quoted text shown same = record {
-  spelled = λ tokens line h. record {
-    token = quoted line shown;
-    alone = refl;
-    passes = ap (λ t. cond t (Some line) None) same;
-  };
+-- a word that is a name elsewhere is one of those that are read so
+pub quoted_shown : (text shown : List ℕ) → str_eq_ignore_ascii_case text shown ≡ true → (line : ℕ)
+    → statements.quoted text (quoted line shown ∷ []) line
+quoted_shown text shown same line = record {
+  token = quoted line shown;
+  alone = refl;
+  passes = ap (λ t. cond t (Some line) None) same;
 }
-
--- the same, where its line says nothing
-pub quoted_behind : {B : Type 0} {s : Rule B} {before : Tokens → Tokens} {whole : B → Tokens} (text shown : List ℕ)
-    → str_eq_ignore_ascii_case text shown ≡ true → (line : ℕ)
-    → AgainTail s (λ tail. before (quoted line shown ∷ tail)) whole
-    → AgainTail (statements.quoted text >> s) before whole
-quoted_behind {B} {s} {before} {whole} text shown same line next = record { shows = go }
-  where
-    go : (tokens : Tokens) (y : B) → (statements.quoted text >> s) tokens y
-        → TailAgain (statements.quoted text >> s) before whole y
-    go tokens y h = let rest = next.shows h.back y h.next_spells in record {
-      tail = quoted line shown ∷ rest.tail;
-      whole = rest.whole;
-      spelled = record {
-        front = quoted line shown ∷ [];
-        back = rest.tail;
-        thing = line;
-        split = refl;
-        first_spells = record {
-          token = quoted line shown;
-          alone = refl;
-          passes = ap (λ t. cond t (Some line) None) same;
-        };
-        next_spells = rest.spelled;
-      };
-    }
 
 -- ---- lists
 
@@ -230,3 +205,8 @@ pub again_listed : {A : Type 0} {r : Rule A} (line : ℕ) (print : A → Tokens)
 again_listed {A} {r} line print a = again (again_bind a (λ first. again_last
     (again_many print (λ x. symbol line s.Comma ∷ x) (again (again_symbol s.Comma line (tail_of a (λ x. refl)))))
     (λ more. refl)))
+
+-- [ x { "," x } ]
+pub again_some : {A : Type 0} {r : Rule A} (line : ℕ) (print : A → Tokens) → Again r print
+    → Again (pure [] or words.list_of r) (λ xs. listed line (map print xs))
+again_some {A} {r} line print a = again (again_or (again_pure refl) (tail_of (again_listed line print a) (λ xs. refl)))

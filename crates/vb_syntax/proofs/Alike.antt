@@ -78,9 +78,9 @@ empty (t ∷ tokens) e = absurd cc
 pub record Blind {A : Type 0} (r : Rule A) : Type 0 where
   pub moved : (tokens other : Tokens) (x : A) → kinds other ≡ kinds tokens → r tokens x → r other x
 
--- with words that are alike the rule spells something
-pub record Loose {A : Type 0} (r : Rule A) : Type 0 where
-  pub moved : (tokens other : Tokens) (x : A) → kinds other ≡ kinds tokens → r tokens x → (y : A) × r other y
+-- where the one rule spells something, the other does with words that are alike
+pub record Turns {A B : Type 0} (r : Rule A) (s : Rule B) : Type 0 where
+  pub moved : (tokens other : Tokens) (x : A) → kinds other ≡ kinds tokens → r tokens x → (y : B) × s other y
 
 pub blind_pure : {A : Type 0} (x : A) → Blind (pure x)
 blind_pure x = record { moved = λ tokens other y e h. (empty other (e ∙ ap kinds h.0), h.1) }
@@ -114,7 +114,7 @@ blind_bind {A} {B} {r} {s} first next = record { moved = go }
       next_spells = (next h.thing).moved h.back cut.after y cut.second h.next_spells;
     }
 
-pub blind_after : {A B : Type 0} {r : Rule A} {s : Rule B} → Loose r → Blind s → Blind (r >> s)
+pub blind_after : {A B : Type 0} {r : Rule A} {s : Rule B} → Turns r r → Blind s → Blind (r >> s)
 blind_after {A} {B} {r} {s} first next = record { moved = go }
   where
     go : (tokens other : Tokens) (y : B) → kinds other ≡ kinds tokens → (r >> s) tokens y → (r >> s) other y
@@ -171,10 +171,11 @@ line_moved number a b line e h = go (tag b.kind == number) refl h
     go true is h = ap (λ t. cond t (Some a.line) None) (ap (λ n. n == number) (same_tag a.kind b.kind e) ∙ is)
     go false is h = absurd cc
 
-pub loose_word : (found : TokenKind) → Loose (word found)
-loose_word found = record { moved = go }
+pub turns_word : (found : TokenKind) → Turns (word found) (word found)
+turns_word found = record { moved = go }
   where
-    go : (tokens other : Tokens) (x : ℕ) → kinds other ≡ kinds tokens → word found tokens x → (y : ℕ) × word found other y
+    go : (tokens other : Tokens) (x : ℕ) → kinds other ≡ kinds tokens → word found tokens x
+        → (y : ℕ) × word found other y
     go tokens other x e h = let w = alone h.token other (e ∙ ap kinds h.alone) in (w.token_of.line, record {
       token = w.token_of;
       alone = w.alone;
@@ -182,7 +183,54 @@ loose_word found = record { moved = go }
     })
 
 pub blind_keyword : {B : Type 0} {s : Rule B} (found : Keyword) → Blind s → Blind (keyword found >> s)
-blind_keyword found next = blind_after (loose_word (kind.Keyword found)) next
+blind_keyword found next = blind_after (turns_word (kind.Keyword found)) next
 
 pub blind_symbol : {B : Type 0} {s : Rule B} (found : Symbol) → Blind s → Blind (symbol found >> s)
-blind_symbol found next = blind_after (loose_word (kind.Symbol found)) next
+blind_symbol found next = blind_after (turns_word (kind.Symbol found)) next
+
+-- ---- rules that spell something
+
+pub turns : {A : Type 0} {r : Rule A} → Blind r → Turns r r
+turns blind = record { moved = λ tokens other x e h. (x, blind.moved tokens other x e h) }
+
+pub turns_one : {A B : Type 0} (r : Token → Option A) (s : Token → Option B) → ((a b : Token) (x : A)
+    → plain a.kind ≡ plain b.kind → r b ≡ Some x → (y : B) × (s a ≡ Some y)) → Turns (one r) (one s)
+turns_one {A} {B} r s passes = record { moved = go }
+  where
+    go : (tokens other : Tokens) (x : A) → kinds other ≡ kinds tokens → one r tokens x → (y : B) × one s other y
+    go tokens other x e h =
+        let w = alone h.token other (e ∙ ap kinds h.alone) in
+        let found = passes w.token_of h.token x w.same h.passes in (found.0, record {
+      token = w.token_of;
+      alone = w.alone;
+      passes = found.1;
+    })
+
+pub turns_pure : {A B : Type 0} (x : A) (y : B) → Turns (pure x) (pure y)
+turns_pure x y = record { moved = λ tokens other z e h. (y, (empty other (e ∙ ap kinds h.0), refl)) }
+
+pub turns_bind : {A B C D : Type 0} {r : Rule A} {q : Rule B} {s : A → Rule C} {t : B → Rule D} → Turns r q
+    → ((x : A) (y : B) → Turns (s x) (t y)) → Turns (r >>= s) (q >>= t)
+turns_bind {A} {B} {C} {D} {r} {q} {s} {t} first next = record { moved = go }
+  where
+    go : (tokens other : Tokens) (z : C) → kinds other ≡ kinds tokens → (r >>= s) tokens z
+        → (w : D) × (q >>= t) other w
+    go tokens other z e h =
+        let cut = parts h.front h.back other (e ∙ ap kinds h.split ∙ kinds-append h.front h.back) in
+        let found = first.moved h.front cut.before h.thing cut.first h.first_spells in
+        let rest = (next h.thing found.0).moved h.back cut.after z cut.second h.next_spells in (rest.0, record {
+      front = cut.before;
+      back = cut.after;
+      thing = found.0;
+      split = cut.split;
+      first_spells = found.1;
+      next_spells = rest.1;
+    })
+
+pub turns_or : {A B : Type 0} {r s : Rule A} {q t : Rule B} → Turns r q → Turns s t → Turns (r or s) (q or t)
+turns_or {A} {B} {r} {s} {q} {t} a b = record { moved = go }
+  where
+    go : (tokens other : Tokens) (x : A) → kinds other ≡ kinds tokens → (r or s) tokens x
+        → (y : B) × (q or t) other y
+    go tokens other x e (inl h) = let found = a.moved tokens other x e h in (found.0, inl found.1)
+    go tokens other x e (inr h) = let found = b.moved tokens other x e h in (found.0, inr found.1)

@@ -39,7 +39,7 @@ pub blind_of_kind : {A : Type 0} (f : TokenKind → Option A) → ((found : Toke
     → Blind (one (λ token. f token.kind))
 blind_of_kind f e = blind_one _ (λ a b same. sym (e a.kind) ∙ ap f same ∙ e b.kind)
 
-name-plain : (found : TokenKind) → name_of_kind (plain found) ≡ name_of_kind found
+pub name-plain : (found : TokenKind) → name_of_kind (plain found) ≡ name_of_kind found
 name-plain (kind.Name text bracketed) = refl
 name-plain found = refl
 
@@ -118,7 +118,7 @@ module _ (opens : Bool) (inside : Inside) (within : BlindInside inside) where
     expression = blind_operators grammar.last_level;
   }
 
-blind_closed : BlindInside closed
+pub blind_closed : BlindInside closed
 blind_closed = record { primary = blind_none; negated = blind_none; expression = blind_none }
 
 pub expressions_blind : (depth : ℕ) → BlindInside (expressions depth)
@@ -144,7 +144,7 @@ module _ (line : ℕ) where
       (prints_or (prints_keyword k.Me line (prints_pure refl))
       (prints_symbol s.WithPoint line (prints_last prints_name (λ text. refl)))))
 
-  prints_literal : Prints (one literal_of) (λ found. word_at line (literal_word found) ∷ [])
+  pub prints_literal : Prints (one literal_of) (λ found. word_at line (literal_word found) ∷ [])
   prints_literal = record { same = λ tokens found h. ap (λ l. l ∷ []) (literal_plain found) ∙ sym (kinds-literal tokens found h) }
 
   prints_operator : (level : ℕ) → Prints (one (operator_at level)) (λ found. word_at line (operator_word found) ∷ [])
@@ -162,7 +162,7 @@ module _ (line : ℕ) where
     pub expression : Prints inside.expression (expression_words line)
 
   module _ (opens : Bool) (inside : Inside) (within : PrintsInside inside) where
-    prints_step : Prints (grammar.step opens inside) (path_step_words line)
+    pub prints_step : Prints (grammar.step opens inside) (path_step_words line)
     prints_step = prints (prints_or
         (prints_symbol s.PathPoint line (prints_last prints_name (λ text. printed.words-member line text)))
         (prints_last prints_group (λ arguments. refl)))
@@ -218,7 +218,7 @@ module _ (line : ℕ) where
       expression = prints_operators grammar.last_level;
     }
 
-  prints_closed : PrintsInside closed
+  pub prints_closed : PrintsInside closed
   prints_closed = record { primary = prints_none; negated = prints_none; expression = prints_none }
 
   pub expressions_print : (depth : ℕ) → PrintsInside (expressions depth)

@@ -5,3 +5,5 @@ pub mod Prints
 pub mod ExpressionPrinting
 pub mod Again
 pub mod StatementWords
+pub mod SimplePrinting
+pub mod CallPrinting
