@@ -44,6 +44,9 @@ tail_of {A} {r} {print} {before} {whole} p e = record {
   shows = λ tokens x h. record { tail = print x; whole = e x; spelled = p.spelled tokens x h };
 }
 
+pub self : {A : Type 0} {r : Rule A} {print : A → Tokens} → Again r print → AgainTail r (λ tail. tail) print
+self p = tail_of p (λ x. refl)
+
 -- a rule that looks at no line and prints what is alike
 pub alike : {A : Type 0} {r : Rule A} {print : A → Tokens} → Blind r → Prints r print → Again r print
 alike {A} {r} {print} blind prints = record {
@@ -72,6 +75,27 @@ again_bind {A} {B} {r} {s} {before} {print} {whole} first next = record { shows 
         split = refl;
         first_spells = first.spelled h.front h.thing h.first_spells;
         next_spells = found.spelled;
+      };
+    }
+
+-- the same, where the printed words spell another thing, with which the rule goes on as with the first
+pub again_changed : {A B : Type 0} {r : Rule A} {s : A → Rule B} {before : Tokens → Tokens} {whole : B → Tokens}
+    (print : A → Tokens) (change : A → A) → ((tokens : Tokens) (x : A) → r tokens x → r (print x) (change x))
+    → ((x : A) (tokens : Tokens) (y : B) → s x tokens y → s (change x) tokens y)
+    → ((x : A) → AgainTail (s x) (λ tail. before (print x ++ tail)) whole) → AgainTail (r >>= s) before whole
+again_changed {A} {B} {r} {s} {before} {whole} print change first goes_on next = record { shows = go }
+  where
+    go : (tokens : Tokens) (y : B) → (r >>= s) tokens y → TailAgain (r >>= s) before whole y
+    go tokens y h = let found = (next h.thing).shows h.back y h.next_spells in record {
+      tail = print h.thing ++ found.tail;
+      whole = found.whole;
+      spelled = record {
+        front = print h.thing;
+        back = found.tail;
+        thing = change h.thing;
+        split = refl;
+        first_spells = first h.front h.thing h.first_spells;
+        next_spells = goes_on h.thing found.tail y found.spelled;
       };
     }
 

@@ -7,3 +7,4 @@ pub mod Again
 pub mod StatementWords
 pub mod SimplePrinting
 pub mod CallPrinting
+pub mod SimpleStatementPrinting

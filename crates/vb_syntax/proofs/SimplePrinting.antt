@@ -110,28 +110,38 @@ again_constant_value line = again (again_or (again_symbol s.Minus line negative)
     negative : AgainTail (one negative_of) (λ tail. symbol line s.Minus ∷ tail) (constant_value_words line)
     negative = record { shows = λ tokens x h. shows h.token.kind x h.passes }
 
-again_constant : (line : ℕ) → Again declarations.constant (constant_words line)
+pub again_constant : (line : ℕ) → Again declarations.constant (constant_words line)
 again_constant line = again (again_bind (again_name line) (λ name. again_symbol s.Equal line
     (again_last (again_constant_value line) (λ found. refl))))
 
 -- ---- paths with their lines
 
-again_head : Again head_at (λ found. head_words found.0 found.1)
-again_head = again (again_or (tail_of named (λ found. refl))
-    (again_or (again_last (again_word (kind.Keyword k.Me)) (λ line. refl))
-    (again_bind (again_word (kind.Symbol s.WithPoint)) (λ line. again_last (again_name line) (λ text. refl)))))
-  where
-    Named : ℕ × PathHead → Type 0
-    Named x = one (λ token. named_by (name_of token) token.line) (head_words x.0 x.1) x
-    shows : (found : Option (List ℕ)) (line : ℕ) (x : ℕ × PathHead) → named_by found line ≡ Some x → Named x
-    shows None line x e = absurd cc
-    shows (Some text) line x e = let same : Path (ℕ × PathHead) (line, head.Name text) x = cc in subst Named same (record {
-      token = name line text;
-      alone = refl;
-      passes = refl;
-    })
-    named : Again (one (λ token. named_by (name_of token) token.line)) (λ found. head_words found.0 found.1)
-    named = record { spelled = λ tokens x h. shows (name_of h.token) h.token.line x h.passes }
+-- the head of a path in a line spells it there
+head_shown : (line : ℕ) (found : PathHead) → head_at (head_words line found) (line, found)
+head_shown line (head.Name text) = inl (record { token = name line text; alone = refl; passes = refl })
+head_shown line head.Me = inr (inl (record {
+  front = keyword line k.Me ∷ [];
+  back = [];
+  thing = line;
+  split = refl;
+  first_spells = word_shown (kind.Keyword k.Me) line;
+  next_spells = (refl, refl);
+}))
+head_shown line (head.With text) = inr (inr (record {
+  front = symbol line s.WithPoint ∷ [];
+  back = name line text ∷ [];
+  thing = line;
+  split = refl;
+  first_spells = word_shown (kind.Symbol s.WithPoint) line;
+  next_spells = record {
+    front = name line text ∷ [];
+    back = [];
+    thing = text;
+    split = refl;
+    first_spells = record { token = name line text; alone = refl; passes = refl };
+    next_spells = (refl, refl);
+  };
+}))
 
 pub step_blind : (depth : ℕ) → Blind (path_step depth)
 step_blind zero = blind_step false closed blind_closed
@@ -145,7 +155,36 @@ step_prints line (suc within) = prints_step line true (expressions within) (expr
 abbrev pub path_at_words : ℕ × PathHead × List Step → Tokens
 path_at_words found = path_words found.0 (path_of found.1 found.2)
 
+-- a path in a line spells it there
+pub path_shown : (looser : Looser) (depth line : ℕ) (tokens : Tokens) (found : ℕ × PathHead × List Step)
+    → statements.path_at looser depth tokens found
+    → statements.path_at looser depth (path_words line (path_of found.1 found.2)) (line, found.1, found.2)
+path_shown looser depth line tokens found h = subst Shown (sym h.next_spells.next_spells.1) (subst
+    (λ t. statements.path_at looser depth t (line, front, steps)) (sym (shown.words-path line front steps)) (record {
+      front = head_words line front;
+      back = behind_it;
+      thing = (line, front);
+      split = refl;
+      first_spells = head_shown line front;
+      next_spells = record {
+        front = behind_it;
+        back = [];
+        thing = steps;
+        split = sym (append-nil behind_it);
+        first_spells = (again_many (path_step_words line) (λ x. x) (alike (step_blind depth)
+            (step_prints line depth))).spelled h.next_spells.front steps h.next_spells.first_spells;
+        next_spells = (refl, refl);
+      };
+    }))
+  where
+    Shown : ℕ × PathHead × List Step → Type 0
+    Shown x = statements.path_at looser depth (path_words line (path_of x.1 x.2)) (line, x.1, x.2)
+    front : PathHead
+    front = h.thing.1
+    steps : List Step
+    steps = h.next_spells.thing
+    behind_it : Tokens
+    behind_it = flat_map (λ (x : Tokens). x) (map (path_step_words line) steps)
+
 pub again_path_at : (looser : Looser) (depth : ℕ) → Again (statements.path_at looser depth) path_at_words
-again_path_at looser depth = again (again_bind again_head (λ found. again_last
-    (again_many (path_step_words found.0) (λ x. x) (alike (step_blind depth) (step_prints found.0 depth)))
-    (λ steps. shown.words-path found.0 found.1 steps)))
+again_path_at looser depth = record { spelled = λ tokens x h. path_shown looser depth x.0 tokens x h }
