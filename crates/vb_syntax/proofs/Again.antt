@@ -99,6 +99,29 @@ again_changed {A} {B} {r} {s} {before} {whole} print change first goes_on next =
       };
     }
 
+-- the same, where a fact holds of all that the first rule spells
+pub again_given : {A B : Type 0} {r : Rule A} {s : A → Rule B} {before : Tokens → Tokens} {print : A → Tokens}
+    {whole : B → Tokens} (Fact : A → Type 0) → Again r print → ((tokens : Tokens) (x : A) → r tokens x → Fact x)
+    → ((x : A) → Fact x → AgainTail (s x) (λ tail. before (print x ++ tail)) whole)
+    → AgainTail (r >>= s) before whole
+again_given {A} {B} {r} {s} {before} {print} {whole} Fact first holds next = record { shows = go }
+  where
+    go : (tokens : Tokens) (y : B) → (r >>= s) tokens y → TailAgain (r >>= s) before whole y
+    go tokens y h =
+        let fact = holds h.front h.thing h.first_spells in
+        let found = (next h.thing fact).shows h.back y h.next_spells in record {
+      tail = print h.thing ++ found.tail;
+      whole = found.whole;
+      spelled = record {
+        front = print h.thing;
+        back = found.tail;
+        thing = h.thing;
+        split = refl;
+        first_spells = first.spelled h.front h.thing h.first_spells;
+        next_spells = found.spelled;
+      };
+    }
+
 -- the last part of a rule
 pub again_last : {A B : Type 0} {r : Rule A} {make : A → B} {before : Tokens → Tokens} {print : A → Tokens}
     {whole : B → Tokens} → Again r print → ((x : A) → whole (make x) ≡ before (print x))

@@ -8,3 +8,4 @@ pub mod StatementWords
 pub mod SimplePrinting
 pub mod CallPrinting
 pub mod SimpleStatementPrinting
+pub mod BlockPrinting
