@@ -247,7 +247,7 @@ module _ (depth : ℕ) (inner : Blocks) (within : BlocksAgain inner) where
       again_keyword k.Loop line (again_pure (shown.words-do line (repetition.Before found.1) body ∙ simp append_assoc refl))))))
       (behind (line_end line ∷ []) [] (end_shown line) (again_bind (within.block line) (λ body.
       again_keyword k.Loop line (again_given (λ found. before_words line found ≡ []) again_behind_loop (not_before line)
-      (λ repeated none. again_pure (shown.words-do line repeated body ∙ simp (append_assoc, append-nil, none) refl))))))))
+      (λ repeated none. again_pure (shown.words-do line repeated body ∙ simp (append-nil, none) refl))))))))
 
   again_while : Again (statements.while strict depth inner) statement_words
   again_while = again (again_bind (again_word (kind.Keyword k.While)) (λ line. again_bind (again_inside line)
@@ -278,7 +278,7 @@ module _ (depth : ℕ) (inner : Blocks) (within : BlocksAgain inner) where
     line = again_line;
   }
 
-again_nothing : BlocksAgain no_blocks
+pub again_nothing : BlocksAgain no_blocks
 again_nothing = record { block = λ line. again_none; line = λ line. again_none }
 
 pub blocks_again : (depth : ℕ) → BlocksAgain (blocks strict depth)

@@ -9,3 +9,4 @@ pub mod SimplePrinting
 pub mod CallPrinting
 pub mod SimpleStatementPrinting
 pub mod BlockPrinting
+pub mod UnitPrinting

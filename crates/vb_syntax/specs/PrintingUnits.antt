@@ -1,7 +1,6 @@
 -- How procedures, classes and whole units are printed: the words of each construct in the grammar's order. The words of
 -- each stand in its line, and those of the statements in it in theirs.
 use Rattle.std.specs.Prelude.{ℕ, Bool, true, false, List, [], ◌∷◌, ◌++◌, map, codes}
-use Rattle.std.specs.List.{flat_map}
 use Rattle.vb_value.specs.declared.token.Keyword.{Keyword}
 use Rattle.vb_value.specs.declared.token.Keyword.TheVariants as k
 use Rattle.vb_value.specs.declared.token.Symbol.TheVariants as s
@@ -25,7 +24,7 @@ use Rattle.vb_syntax.specs.declared.unit.PropertyKind.TheVariants as property_ki
 use Rattle.vb_syntax.specs.declared.unit.Unit.{Unit as Script}
 use Rattle.vb_syntax.specs.Rules.{Tokens}
 use Rattle.vb_syntax.specs.PrintingWords.{keyword, symbol, name, quoted, listed}
-use Rattle.vb_syntax.specs.PrintingStatements.{access_words, declared_words, line_end, statement_words, body_words}
+use Rattle.vb_syntax.specs.PrintingStatements.{access_words, declared_words, line_end, block_words, statement_words, body_words}
 
 -- ---- procedures
 
@@ -89,7 +88,7 @@ member_words (member.Property found) = property_words found
 -- "Class" name end { member end } "End" "Class"
 abbrev pub class_words : Class → Tokens
 class_words found = keyword found.line k.Class ∷ name found.line found.name ∷ line_end found.line
-    ∷ flat_map (λ (x : ClassMember). member_words x ++ line_end found.line ∷ []) found.members
+    ∷ block_words found.line (map member_words found.members)
     ++ keyword found.line k.End ∷ keyword found.line k.Class ∷ []
 
 -- ---- units
@@ -115,4 +114,4 @@ option_words false = []
 -- The words of a unit. The ends of lines between its items stand in the first line.
 unfoldable pub print_of : Script → Tokens
 print_of unit = option_words unit.option_explicit
-    ++ flat_map (λ (x : Item). item_words x ++ line_end 1 ∷ []) unit.items
+    ++ block_words 1 (map item_words unit.items)

@@ -3,6 +3,7 @@
 
 mod declaration;
 mod expression;
+mod laws;
 mod member;
 mod statement;
 #[cfg(test)]
@@ -11,6 +12,7 @@ mod unit;
 
 pub use declaration::{Access, Constant, ConstantValue, Declared, Parameter};
 pub use expression::{Expression, Literal, Operation, Path, PathHead, Step};
+pub use laws::printed_again;
 pub use member::{CollectionPart, ContentsPart, Member};
 pub use statement::{
     Case, Condition, ElseIf, ExitKind, Repetition, Resized, Statement, StatementKind,
