@@ -10,3 +10,4 @@ pub mod CallPrinting
 pub mod SimpleStatementPrinting
 pub mod BlockPrinting
 pub mod UnitPrinting
+pub mod Adding

@@ -10,3 +10,4 @@ pub mod PrintingWords
 pub mod PrintingExpressions
 pub mod PrintingStatements
 pub mod PrintingUnits
+pub mod PrintingOutcome

@@ -5,6 +5,7 @@ mod declaration;
 mod expression;
 mod laws;
 mod member;
+mod printing;
 mod statement;
 #[cfg(test)]
 mod tests;

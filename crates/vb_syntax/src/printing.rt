@@ -1,0 +1,4 @@
+//! Trees as the words that spell them.
+
+mod expressions;
+mod words;
