@@ -9,7 +9,7 @@ use Rattle.vb_syntax.specs.declared.expression.Expression.{Expression}
 use Rattle.vb_syntax.specs.declared.statement.StatementKind.{StatementKind}
 use Rattle.vb_syntax.specs.declared.statement.StatementKind.TheVariants as st
 use Rattle.vb_syntax.specs.declared.statement.StatementKind.TheOpen.{StatementKind-F}
-use Rattle.vb_syntax.specs.declared.statement.StatementKind.TheFolds.{fold-StatementKind, fold-roll-StatementKind}
+use Rattle.vb_syntax.specs.declared.statement.StatementKind.TheFolds.{fold-roll-StatementKind}
 use Rattle.vb_syntax.specs.declared.statement.StatementKind.TheFolds.{fold-roll-Case, fold-roll-ElseIf, fold-roll-Statement}
 use Rattle.vb_syntax.specs.declared.statement.Statement.{Statement}
 use Rattle.vb_syntax.specs.declared.statement.Case.{Case, roll-Case}
@@ -22,10 +22,7 @@ use Rattle.vb_syntax.specs.declared.expression.Path.{Path}
 use Rattle.vb_syntax.specs.Rules.{Tokens}
 use Rattle.vb_syntax.specs.SimpleStatements.{statement}
 use Rattle.vb_syntax.specs.PrintingStatements.{kind_layer, case_layer, else_if_layer, statement_layer}
-use Rattle.vb_syntax.specs.PrintingStatements.{statement_words, else_if_words, case_words}
-
-abbrev kind_words : StatementKind → ℕ → Tokens
-kind_words = fold-StatementKind (ℕ → Tokens) Tokens Tokens Tokens kind_layer case_layer else_if_layer statement_layer
+use Rattle.vb_syntax.specs.PrintingStatements.{statement_words, else_if_words, case_words, kind_words}
 
 at_kind : (line : ℕ) (kind : StatementKind) → statement_words (statement line kind) ≡ kind_words kind line
 at_kind line kind = fold-roll-Statement (ℕ → Tokens) Tokens Tokens Tokens

@@ -24,8 +24,10 @@ use Rattle.vb_syntax.specs.declared.statement.Repetition.{Repetition}
 use Rattle.vb_syntax.specs.declared.statement.Repetition.TheVariants as repetition
 use Rattle.vb_syntax.specs.declared.statement.Resized.{Resized}
 use Rattle.vb_syntax.specs.declared.statement.Statement.{Statement}
+use Rattle.vb_syntax.specs.declared.statement.StatementKind.{StatementKind}
 use Rattle.vb_syntax.specs.declared.statement.StatementKind.TheOpen.{StatementKind-F, Statement-F, ElseIf-F, Case-F}
-use Rattle.vb_syntax.specs.declared.statement.StatementKind.TheFolds.{fold-Case, fold-ElseIf, fold-Statement}
+use Rattle.vb_syntax.specs.declared.statement.StatementKind.TheFolds.{fold-Case, fold-ElseIf}
+use Rattle.vb_syntax.specs.declared.statement.StatementKind.TheFolds.{fold-Statement, fold-StatementKind}
 use Rattle.vb_syntax.specs.Rules.{Tokens}
 use Rattle.vb_syntax.specs.SimpleStatements.{ends_in_group}
 use Rattle.vb_syntax.specs.PrintingWords.{printed, keyword, symbol, name, quoted, joined, listed, literal_word}
@@ -248,4 +250,9 @@ else_if_words = fold-ElseIf (ℕ → Tokens) Tokens Tokens Tokens
 -- the words of a `Case` part
 abbrev pub case_words : Case → Tokens
 case_words = fold-Case (ℕ → Tokens) Tokens Tokens Tokens
+    kind_layer case_layer else_if_layer statement_layer
+
+-- the words of what a statement in a line says
+abbrev pub kind_words : StatementKind → ℕ → Tokens
+kind_words = fold-StatementKind (ℕ → Tokens) Tokens Tokens Tokens
     kind_layer case_layer else_if_layer statement_layer

@@ -1,4 +1,5 @@
 //! Trees as the words that spell them.
 
+mod declarations;
 mod expressions;
 mod words;
