@@ -11,3 +11,4 @@ pub mod SimpleStatementPrinting
 pub mod BlockPrinting
 pub mod UnitPrinting
 pub mod Adding
+pub mod Literals

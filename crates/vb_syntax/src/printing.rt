@@ -2,4 +2,5 @@
 
 mod declarations;
 mod expressions;
+mod simple;
 mod words;

@@ -1,5 +1,5 @@
 //! Single words.
-ghost use Rattle.std.specs.Prelude.{◌≡◌, ◌∷◌, []};
+ghost use Rattle.std.specs.Prelude.{◌≡◌, ◌∷◌, [], codes};
 ghost use Rattle.std.specs.Str.{chars};
 ghost use Rattle.vb_value.specs.Outcome.{Gives};
 ghost use Rattle.vb_syntax.specs.PrintingWords as spec;
@@ -46,7 +46,7 @@ pub fn print_name(words: &mut List<Token>, line: u32, name: &Text) -> Result<(),
 }
 
 /// Adds a word in a line that is a name elsewhere.
-pub fn print_quoted(words: &mut List<Token>, line: u32, word: &str) -> Result<(), Memory>
+fn print_quoted(words: &mut List<Token>, line: u32, word: &str) -> Result<(), Memory>
     ensures { Adds result words.old words.new (spec.quoted line (chars word.now) ∷ []) }
 {
     let kind = TokenKind::Name {
@@ -54,6 +54,34 @@ pub fn print_quoted(words: &mut List<Token>, line: u32, word: &str) -> Result<()
         bracketed: false,
     };
     print_word(words, line, kind)
+}
+
+/// Adds `Error`.
+pub fn print_error_word(words: &mut List<Token>, line: u32) -> Result<(), Memory>
+    ensures { Adds result words.old words.new (spec.quoted line (codes "Error") ∷ []) }
+{
+    print_quoted(words, line, "Error")
+}
+
+/// Adds `Explicit`.
+pub fn print_explicit_word(words: &mut List<Token>, line: u32) -> Result<(), Memory>
+    ensures { Adds result words.old words.new (spec.quoted line (codes "Explicit") ∷ []) }
+{
+    print_quoted(words, line, "Explicit")
+}
+
+/// Adds `Property`.
+pub fn print_property_word(words: &mut List<Token>, line: u32) -> Result<(), Memory>
+    ensures { Adds result words.old words.new (spec.quoted line (codes "Property") ∷ []) }
+{
+    print_quoted(words, line, "Property")
+}
+
+/// Adds `Step`.
+pub fn print_step_word(words: &mut List<Token>, line: u32) -> Result<(), Memory>
+    ensures { Adds result words.old words.new (spec.quoted line (codes "Step") ∷ []) }
+{
+    print_quoted(words, line, "Step")
 }
 
 /// The word of a value that is written down.
