@@ -6,3 +6,6 @@ pub mod ExpressionTaking
 pub mod Turns
 pub mod Theorems
 pub mod ParseExpression
+pub mod Binding
+pub mod Until
+pub mod DeclarationReading

@@ -1,8 +1,6 @@
 -- Procedures, classes and whole units: which token lists spell which of them, and which faults they have.
 use Rattle.std.specs.Prelude.{ℕ, zero, suc, Bool, true, false, List, [], codes}
 use Rattle.vb_value.specs.declared.token.Keyword.TheVariants as k
-use Rattle.vb_syntax.specs.declared.declaration.Access.{Access}
-use Rattle.vb_syntax.specs.declared.declaration.Access.TheVariants as access
 use Rattle.vb_syntax.specs.declared.statement.Statement.{Statement}
 use Rattle.vb_syntax.specs.declared.unit.Class.{Class}
 use Rattle.vb_syntax.specs.declared.unit.ClassMember.{ClassMember}
@@ -19,7 +17,7 @@ use Rattle.vb_syntax.specs.declared.unit.PropertyKind.TheVariants as property_ki
 use Rattle.vb_syntax.specs.declared.unit.Unit.{Unit as Script}
 use Rattle.vb_syntax.specs.Rules.{Tokens, Rule, pure, ◌>>=◌, ◌>>◌, ◌or◌, one, many}
 use Rattle.vb_syntax.specs.Words.{keyword, list_of, name_of}
-use Rattle.vb_syntax.specs.Declarations.{opened, with_access, declared, parameters}
+use Rattle.vb_syntax.specs.Declarations.{opened, access_word, with_access, declared, parameters}
 use Rattle.vb_syntax.specs.SimpleStatements.{Looser, quoted}
 use Rattle.vb_syntax.specs.Statements.{«end», blocks, blocks_inside, loose_texts, sentence}
 use Rattle.vb_syntax.specs.Faults.{WouldGoOn}
@@ -131,11 +129,6 @@ module _ (looser : Looser) where
     keyword k.End
     keyword k.Class
     pure (record { line = line; name = name; members = members }))
-
-  -- "Public" | "Private", with its line
-  abbrev pub access_word : Rule (ℕ × Access)
-  access_word = (do line ← keyword k.Public; pure (line, access.Public))
-      or (do line ← keyword k.Private; pure (line, access.Private))
 
   -- ( "Public" | "Private" ) decl { "," decl }
   abbrev pub variables : ℕ → Rule Item
