@@ -477,7 +477,7 @@ taken_here opens ip ir inner taken = record {
   begins = begins_operators opens ip ir inner taken 12;
 }
 
-closed_taken : Taken false spec.closed grammar.closed
+pub closed_taken : Taken false spec.closed grammar.closed
 closed_taken = record {
   primary = λ is. absurd cc;
   negated = λ is. absurd cc;

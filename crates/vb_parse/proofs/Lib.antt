@@ -9,3 +9,5 @@ pub mod ParseExpression
 pub mod Binding
 pub mod Until
 pub mod DeclarationReading
+pub mod Guarding
+pub mod PathReading
