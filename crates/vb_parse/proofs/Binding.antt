@@ -126,3 +126,8 @@ or_out {A} {B} {r} {s} {f} front x h = go h.first_spells
 pub or_within : {A : Type 0} {r s t : Rule A} → Within r t → Within s t → Within (rule.◌or◌ r s) t
 or_within one other front x (inl h) = one front x h
 or_within one other front x (inr h) = other front x h
+
+pub pure_gone : {A : Type 0} {r : Rule A} → Within (rule.◌>>=◌ r rule.pure) r
+pure_gone {A} {r} front x h =
+    subst (λ y. r front y) (sym h.next_spells.1) (subst (λ t. r t h.thing) (sym (h.split ∙ ap (λ t. h.front ++ t)
+    h.next_spells.0 ∙ append-nil h.front)) h.first_spells)

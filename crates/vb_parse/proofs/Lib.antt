@@ -11,3 +11,5 @@ pub mod Until
 pub mod DeclarationReading
 pub mod Guarding
 pub mod PathReading
+pub mod OperandReading
+pub mod CallReading
