@@ -13,3 +13,4 @@ pub mod Guarding
 pub mod PathReading
 pub mod OperandReading
 pub mod CallReading
+pub mod SimpleReading
