@@ -55,11 +55,11 @@ pub expression_here : (depth : ℕ) → Within (expressions.operators (opens dep
 expression_here zero front x h = h
 expression_here (suc depth) front x h = h
 
-or_false : (a b : Bool) → (a || b) ≡ false → (a ≡ false) × (b ≡ false)
+pub or_false : (a b : Bool) → (a || b) ≡ false → (a ≡ false) × (b ≡ false)
 or_false true b is = absurd cc
 or_false false b is = (refl, is)
 
-or_both : (a b : Bool) → a ≡ false → b ≡ false → (a || b) ≡ false
+pub or_both : (a b : Bool) → a ≡ false → b ≡ false → (a || b) ≡ false
 or_both a b p q = rw (p, q) refl
 
 gate_open : {A : Type 0} (b : Bool) {p : Reader A} {r : Rule A} → b ≡ true → Reads p r

@@ -14,3 +14,4 @@ pub mod PathReading
 pub mod OperandReading
 pub mod CallReading
 pub mod SimpleReading
+pub mod LineReading
