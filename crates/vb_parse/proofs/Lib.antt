@@ -15,3 +15,4 @@ pub mod OperandReading
 pub mod CallReading
 pub mod SimpleReading
 pub mod LineReading
+pub mod StatementReading
