@@ -17,3 +17,4 @@ pub mod SimpleReading
 pub mod LineReading
 pub mod StatementReading
 pub mod ProcedureReading
+pub mod UnitReading

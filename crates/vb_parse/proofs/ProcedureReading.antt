@@ -84,6 +84,36 @@ reads_case_then {A} {B} look p q f {whole} on off = record {
     same true ts = refl
     same false ts = refl
 
+-- the quoted word, as a name
+pub word_of_name : {B : Type 0} {r : Rule B} (text : List ℕ)
+    → Within (rule.◌>>=◌ (rule.one (spec.quoted_name text)) (λ _. r)) (rule.◌>>=◌ (simple.quoted text) (λ _. r))
+word_of_name {B} {r} text front x h = go (quoted_at text h.first_spells.token) refl h.first_spells.passes
+  where
+    go : (o : Option ℕ) → quoted_at text h.first_spells.token ≡ o
+        → spec.name_where o (name_of h.first_spells.token) ≡ Some h.thing
+        → rule.◌>>=◌ (simple.quoted text) (λ _. r) front x
+    go None is e = absurd cc
+    go (Some line) is e = record {
+      front = h.front;
+      back = h.back;
+      thing = line;
+      split = h.split;
+      first_spells = record { token = h.first_spells.token; alone = h.first_spells.alone; passes = is };
+      next_spells = h.next_spells;
+    }
+
+pub plain_name : (text : List ℕ) → Within (rule.one (spec.quoted_name text)) (rule.one name_of)
+plain_name text front x h = record { token = h.token; alone = h.alone; passes = go (quoted_at text h.token) h.passes }
+  where
+    go : (o : Option ℕ) → spec.name_where o (name_of h.token) ≡ Some x → name_of h.token ≡ Some x
+    go None e = absurd cc
+    go (Some line) e = e
+
+pub reads_quoted_name : Reads (reader.one (spec.quoted_name (codes "property"))) (rule.one (spec.quoted_name (codes
+    "property")))
+reads_quoted_name = reads_one (spec.quoted_name (codes "property")) (token_of (kind.Name (codes "property") false)) (codes
+    "property") refl
+
 -- ---- procedures
 
 module _ (looser : Looser) where
@@ -176,44 +206,17 @@ module _ (looser : Looser) where
       (λ _. reads_pure property_kind.Let))
       (reads_bind (reads_word (kind.Keyword k.Set)) (λ _. reads_pure property_kind.Set)))
 
+  pub reads_property_open : (within : ℕ) (first : ℕ × Option Access)
+      → Reads (spec.property_from looser (suc within) first) (property_rest within first)
+  reads_property_open within first = reads_bind reads_kind_of_property (λ which. reads_bind reads_name (λ name. reads_bind
+      (reads_parameters within) (λ given. reads_bind reads_end (λ _. reads_bind (reads_block within) (λ body. reads_bind
+      (reads_word (kind.Keyword k.End)) (λ _. reads_bind reads_property_word (λ _. reads_pure _)))))))
+
   pub reads_property_from : {B : Type 0} (depth : ℕ) (first : ℕ × Option Access) (made : Property → B) (whole : Rule B)
       → Lives whole → Within (rule.◌>>=◌ (property_open depth first) (λ found. rule.pure (made found))) whole
       → Reads (reader.◌>>=◌ (spec.property_from looser depth first) (λ found. reader.pure (made found))) whole
   reads_property_from depth first made whole lives wider = reads_opened_then depth lives wider
-      (λ within. reads_bind reads_kind_of_property (λ which. reads_bind reads_name (λ name. reads_bind
-      (reads_parameters within) (λ given. reads_bind reads_end (λ _. reads_bind (reads_block within) (λ body. reads_bind
-      (reads_word (kind.Keyword k.End)) (λ _. reads_bind reads_property_word (λ _. reads_pure _))))))))
-      (λ found. reads_pure (made found))
-
-  -- the quoted word, as a name
-  pub word_of_name : {B : Type 0} {r : Rule B} (text : List ℕ)
-      → Within (rule.◌>>=◌ (rule.one (spec.quoted_name text)) (λ _. r)) (rule.◌>>=◌ (simple.quoted text) (λ _. r))
-  word_of_name {B} {r} text front x h = go (quoted_at text h.first_spells.token) refl h.first_spells.passes
-    where
-      go : (o : Option ℕ) → quoted_at text h.first_spells.token ≡ o
-          → spec.name_where o (name_of h.first_spells.token) ≡ Some h.thing
-          → rule.◌>>=◌ (simple.quoted text) (λ _. r) front x
-      go None is e = absurd cc
-      go (Some line) is e = record {
-        front = h.front;
-        back = h.back;
-        thing = line;
-        split = h.split;
-        first_spells = record { token = h.first_spells.token; alone = h.first_spells.alone; passes = is };
-        next_spells = h.next_spells;
-      }
-
-  pub plain_name : (text : List ℕ) → Within (rule.one (spec.quoted_name text)) (rule.one name_of)
-  plain_name text front x h = record { token = h.token; alone = h.alone; passes = go (quoted_at text h.token) h.passes }
-    where
-      go : (o : Option ℕ) → spec.name_where o (name_of h.token) ≡ Some x → name_of h.token ≡ Some x
-      go None e = absurd cc
-      go (Some line) e = e
-
-  pub reads_quoted_name : Reads (reader.one (spec.quoted_name (codes "property"))) (rule.one (spec.quoted_name (codes
-      "property")))
-  reads_quoted_name = reads_one (spec.quoted_name (codes "property")) (token_of (kind.Name (codes "property") false)) (codes
-      "property") refl
+      (λ within. reads_property_open within first) (λ found. reads_pure (made found))
 
   pub property_behind : (depth : ℕ) → Within (rule.◌>>=◌ declarations.access_word (λ before. rule.◌>>=◌ (rule.one
       (spec.quoted_name (codes "property"))) (λ _. property_open depth (before.0, Some before.1))))
