@@ -11,3 +11,4 @@ pub mod Until
 pub mod DeclarationReading
 pub mod Guarding
 pub mod PathReading
+pub mod Following
