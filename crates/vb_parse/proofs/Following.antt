@@ -64,7 +64,7 @@ among_right (a ∷ l) m n is = go (n == a) (among_right l m n is)
     go true later = refl
     go false later = later
 
-among_both : (l m : List ℕ) (n : ℕ) → among (l ++ m) n ≡ (among l n || among m n)
+pub among_both : (l m : List ℕ) (n : ℕ) → among (l ++ m) n ≡ (among l n || among m n)
 among_both [] m n = refl
 among_both (a ∷ l) m n = go (n == a) (among_both l m n)
   where
@@ -376,3 +376,18 @@ pub takes_list : {A : Type 0} {p : Reader A} {r : Rule A} {v : List ℕ} → Tak
     → all_have (outside (comma ∷ [])) v ≡ true → Takes (expressions.list_of p) (words.list_of r) (Before v)
 takes_list {A} {p} {r} {v} takes none = takes_then takes (λ first. takes_map (λ more. first ∷ more) (takes_more takes none))
     (λ first. leads_bind (leads_many (begins_word_then (kind.Symbol s.Comma))) (λ more. leads_pure))
+
+-- ---- choices by a word
+
+pub starts_word : {B : Type 0} (kind : TokenKind) {s : ℕ → Rule B} → Starts (sees kind) (rule.◌>>=◌ (words.word kind) s)
+starts_word kind = starts (asks_kind kind) (begins_word_then kind) (all_own (tag kind ∷ []))
+
+pub takes_on_word : {A : Type 0} (kind : TokenKind) {p : Reader A} (q : Reader A) {s : ℕ → Rule A} {v : Follow}
+    → Takes p (rule.◌>>=◌ (words.word kind) s) v
+    → Takes (reader.case (sees kind) p q) (rule.◌>>=◌ (words.word kind) s) v
+takes_on_word kind q takes = takes_on (sees kind) q (starts_word kind) takes
+
+pub takes_off_word : {A : Type 0} (kind : TokenKind) (p : Reader A) {q : Reader A} {l : List ℕ} {r : Rule A} {v : Follow}
+    → Leads l r v → all_have (outside (tag kind ∷ [])) l ≡ true → Takes q r v
+    → Takes (reader.case (sees kind) p q) r v
+takes_off_word kind p leads all takes = takes_off (sees kind) p (skips (asks_kind kind) leads all) takes

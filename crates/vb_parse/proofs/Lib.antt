@@ -12,3 +12,5 @@ pub mod DeclarationReading
 pub mod Guarding
 pub mod PathReading
 pub mod Following
+pub mod Placing
+pub mod DeclarationTaking
