@@ -391,3 +391,38 @@ pub takes_off_word : {A : Type 0} (kind : TokenKind) (p : Reader A) {q : Reader 
     → Leads l r v → all_have (outside (tag kind ∷ [])) l ≡ true → Takes q r v
     → Takes (reader.case (sees kind) p q) r v
 takes_off_word kind p leads all takes = takes_off (sees kind) p (skips (asks_kind kind) leads all) takes
+
+-- ---- several choices, one behind the other
+
+-- The reader takes what the rule spells, which begins with tokens of these kinds.
+pub record Chosen {A : Type 0} (p : Reader A) (l : List ℕ) (r : Rule A) (v : Follow) : Type 0 where
+  pub takes : Takes p r v
+  pub begins : BeginsIn l r
+
+pub chosen : {A : Type 0} {p : Reader A} {l : List ℕ} {r : Rule A} {v : Follow} → Takes p r v → BeginsIn l r
+    → Chosen p l r v
+chosen takes begins = record { takes = takes; begins = begins }
+
+-- one more choice, before the others
+pub choose_by : {A : Type 0} {look : Look} {a m l : List ℕ} {p q : Reader A} {r s : Rule A} {v : Follow}
+    → Asks look a → BeginsIn m r → all_have (among a) m ≡ true → Takes p r v → Chosen q l s v
+    → all_have (outside a) l ≡ true → Chosen (reader.case look p q) (m ++ l) (rule.◌or◌ r s) v
+choose_by {A} {look} {a} {m} {l} {p} {q} {r} {s} {v} asks begins own takes others none = record {
+  takes = takes_or (takes_on look q (starts asks begins own) takes)
+      (takes_off look p (skips asks (leads_begins others.begins) none) others.takes);
+  begins = begins_either begins others.begins;
+}
+
+pub choose : {A : Type 0} (kind : TokenKind) {l : List ℕ} {p q : Reader A} {f : ℕ → Rule A} {s : Rule A} {v : Follow}
+    → Takes p (rule.◌>>=◌ (words.word kind) f) v → Chosen q l s v → all_have (outside (tag kind ∷ [])) l ≡ true
+    → Chosen (reader.case (sees kind) p q) (tag kind ∷ l) (rule.◌or◌ (rule.◌>>=◌ (words.word kind) f) s) v
+choose kind takes others none = choose_by (asks_kind kind) (begins_word_then kind) (all_own (tag kind ∷ [])) takes others
+    none
+
+pub begins_within : {A : Type 0} {l : List ℕ} {r s : Rule A} → ((front : Tokens) (x : A) → r front x → s front x)
+    → BeginsIn l s → BeginsIn l r
+begins_within wider begins = record { head = λ front x h. begins.head front x (wider front x h) }
+
+pub leads_within : {A : Type 0} {l : List ℕ} {r s : Rule A} {v : Follow} → ((front : Tokens) (x : A) → r front x → s front x)
+    → Leads l s v → Leads l r v
+leads_within wider leads = record { leads = λ front rest x h ok. leads.leads front rest x (wider front x h) ok }

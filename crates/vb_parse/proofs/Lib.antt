@@ -14,3 +14,5 @@ pub mod PathReading
 pub mod Following
 pub mod Placing
 pub mod DeclarationTaking
+pub mod CallTaking
+pub mod SimpleTaking
