@@ -10,7 +10,8 @@ use Rattle.vb_syntax.specs.Rules.{Tokens, Rule, Then}
 use Rattle.vb_syntax.specs.Rules as rule
 use Rattle.vb_syntax.specs.Words as words
 use Rattle.vb_syntax.specs.Words.{tag, line_of, name_of}
-use Rattle.vb_parse.specs.Reader.{Outcome, Reader, and_then, next, Look, sees, passes, is_some}
+use Rattle.vb_parse.specs.Reader.{Reader, next, Look, sees, passes, Turn}
+use Rattle.std.specs.declared.ops.ControlFlow.TheVariants.{Continue, Break}
 use Rattle.vb_parse.specs.Reader as reader
 use Rattle.vb_parse.specs.ReadExpressions as expressions
 use Rattle.vb_parse.proofs.Reading.{NoEmpty}
@@ -88,9 +89,6 @@ all_own : (l : List ℕ) → all_have (among l) l ≡ true
 all_own [] = refl
 all_own (m ∷ l) = rw (eq-eqb m m refl) (all_more (among l) (among (m ∷ l)) l (λ n is. among_right (m ∷ []) l n is)
     (all_own l))
-
-pub all_behind : (m : ℕ) (l : List ℕ) → all_have (among (m ∷ l)) l ≡ true
-all_behind m l = all_more (among l) (among (m ∷ l)) l (λ n is. among_right (m ∷ []) l n is) (all_own l)
 
 -- ---- what comes next
 
@@ -320,11 +318,10 @@ takes_map {A} {B} {p} {r} {v} g takes = takes_bind takes (λ x. takes_pure (g x)
 
 -- ---- any number of things
 
-pub takes_each : {A : Type 0} (look : Look) {p : Reader A} {r : Rule A} {l u v : List ℕ} → Takes p r (Before u)
-    → BeginsIn l r → Starts look r → all_have (among u) l ≡ true → all_have (among u) v ≡ true
-    → ((rest : Tokens) → Before v rest → look (next rest) ≡ false)
+pub takes_each : {A : Type 0} (look : Look) {p : Reader A} {r : Rule A} {l v : List ℕ} → BeginsIn l r → Starts look r
+    → ((rest : Tokens) → Before v rest → look (next rest) ≡ false) → Takes p r (Before (l ++ v))
     → Takes (reader.many look p) (rule.many r) (Before v)
-takes_each {A} look {p} {r} {l} {u} {v} one begins asked again ends stops = record {
+takes_each {A} look {p} {r} {l} {v} begins asked stops one = record {
   takes = λ front rest xs h ok. go (length (front ++ rest)) xs front rest h ok (enough xs front rest h);
 }
   where
@@ -340,11 +337,8 @@ takes_each {A} look {p} {r} {l} {u} {v} one begins asked again ends stops = reco
     enough : (xs : List A) (front rest : Tokens) → rule.many r front xs → length xs ≤ length (front ++ rest)
     enough xs front rest h = let sum = length-append front rest in let less = count xs front h in omega arith
 
-    fits : (xs : List A) (back rest : Tokens) → rule.many r back xs → Before v rest → Before u (back ++ rest)
-    fits [] back rest h ok = rw h (before_wider v u ends rest ok)
-    fits (x ∷ xs) back rest h ok = rw (h.split, append_assoc h.front h.back rest)
-        (before_wider l u again (h.front ++ (h.back ++ rest)) (before_head l h.front (h.back ++ rest)
-        (begins.head h.front x h.first)))
+    fits : (xs : List A) (back rest : Tokens) → rule.many r back xs → Before v rest → Before (l ++ v) (back ++ rest)
+    fits xs back rest h ok = (leads_many begins).leads back rest xs h ok
 
     go : (n : ℕ) (xs : List A) (front rest : Tokens) → rule.many r front xs → Before v rest → length xs ≤ n
         → reader.many_from look p n (front ++ rest) ≡ Ok (xs, rest)
@@ -368,9 +362,9 @@ pub takes_more : {A : Type 0} {p : Reader A} {r : Rule A} {v : List ℕ} → Tak
     → all_have (outside (comma ∷ [])) v ≡ true
     → Takes (expressions.more_of p) (rule.many (rule.◌>>◌ (words.symbol s.Comma) r)) (Before v)
 takes_more {A} {p} {r} {v} takes none = takes_each (sees (kind.Symbol s.Comma))
-    (takes_word (λ _. takes)) (begins_word_then (kind.Symbol s.Comma))
+    (begins_word_then (kind.Symbol s.Comma))
     (starts (asks_kind (kind.Symbol s.Comma)) (begins_word_then (kind.Symbol s.Comma)) refl)
-    refl (all_behind comma v) (asks_no (asks_kind (kind.Symbol s.Comma)) none)
+    (asks_no (asks_kind (kind.Symbol s.Comma)) none) (takes_word (λ _. takes))
 
 pub takes_list : {A : Type 0} {p : Reader A} {r : Rule A} {v : List ℕ} → Takes p r (Before (comma ∷ v))
     → all_have (outside (comma ∷ [])) v ≡ true → Takes (expressions.list_of p) (words.list_of r) (Before v)
@@ -426,3 +420,97 @@ begins_within wider begins = record { head = λ front x h. begins.head front x (
 pub leads_within : {A : Type 0} {l : List ℕ} {r s : Rule A} {v : Follow} → ((front : Tokens) (x : A) → r front x → s front x)
     → Leads l s v → Leads l r v
 leads_within wider leads = record { leads = λ front rest x h ok. leads.leads front rest x (wider front x h) ok }
+
+-- before fewer tokens
+pub takes_before : {A : Type 0} {p : Reader A} {r : Rule A} {l m : List ℕ} → all_have (among m) l ≡ true
+    → Takes p r (Before m) → Takes p r (Before l)
+takes_before {A} {p} {r} {l} {m} all takes = takes_narrow (before_wider l m all) takes
+
+-- ---- loops that their last turn ends
+
+-- The turn takes each thing as one to go on behind, and what stands behind them as the last.
+pub until_takes : {A B : Type 0} (turn : Reader (Turn A B)) (r : Rule A) {u : Follow}
+    → Takes turn (rule.◌>>=◌ r (λ x. rule.pure (Continue x))) u → NoEmpty r → (xs : List A) (front behind rest : Tokens)
+    (y : B) → rule.many r front xs → ((ys : List A) (more : Tokens) → rule.many r more ys → u (more ++ behind))
+    → turn behind ≡ Ok (Break y, rest) → reader.until turn (front ++ behind) ≡ Ok ((xs, y), rest)
+until_takes {A} {B} turn r {u} onward full xs front behind rest y h fits last =
+    go (suc (length (front ++ behind))) xs front h (enough xs front h)
+  where
+    shorter : (front back : Tokens) (n : ℕ) → 0 < length front → n ≤ length back → suc n ≤ length (front ++ back)
+    shorter front back n some less = let sum = length-append front back in omega arith
+
+    count : (xs : List A) (front : Tokens) → rule.many r front xs → length xs ≤ length front
+    count [] front h = omega arith
+    count (x ∷ xs) front h = let less : suc (length xs) ≤ length (h.front ++ h.back) = shorter h.front h.back (length xs)
+        (full h.front x h.first) (count xs h.back h.second) in
+        let same : length front ≡ length (h.front ++ h.back) = ap length h.split in omega arith
+
+    enough : (xs : List A) (front : Tokens) → rule.many r front xs → length xs < suc (length (front ++ behind))
+    enough xs front h = let sum = length-append front behind in let less = count xs front h in omega arith
+
+    one : (front more : Tokens) (x : A) → r front x → u more → turn (front ++ more) ≡ Ok (Continue x, more)
+    one front more x h ok = onward.takes front more (Continue x) (record {
+      front = front;
+      back = [];
+      thing = x;
+      split = sym (append-nil front);
+      first_spells = h;
+      next_spells = (refl, refl);
+    }) ok
+
+    go : (n : ℕ) (xs : List A) (front : Tokens) → rule.many r front xs → length xs < n
+        → reader.until_from turn n (front ++ behind) ≡ Ok ((xs, y), rest)
+    go zero xs front h less = absurd (omega arith)
+    go (suc n) [] front h less = rw (h, last) refl
+    go (suc n) (x ∷ xs) front h less = rw (
+      h.split,
+      append_assoc h.front h.back behind,
+      one h.front (h.back ++ behind) x h.first (fits xs h.back h.second),
+      go n xs h.back h.second (omega arith),
+    ) refl
+
+-- ---- a token ahead
+
+-- a token comes next, of one of the kinds with these numbers
+pub record Ahead (l : List ℕ) (rest : Tokens) : Type 0 where
+  pub head : HeadIn (among l) rest
+
+pub ahead_many : {A : Type 0} {l : List ℕ} {r : Rule A} → BeginsIn l r → (xs : List A) (front behind : Tokens)
+    → rule.many r front xs → Ahead l behind → Ahead l (front ++ behind)
+ahead_many begins [] front behind h ok = rw h ok
+ahead_many {A} {l} {r} begins (x ∷ xs) front behind h ok = let w = begins.head h.front x h.first in
+    record {
+      head = (w.0, w.1 ++ (h.back ++ behind), ap (λ t. t ++ behind) h.split ∙ append_assoc h.front h.back behind
+          ∙ ap (λ t. t ++ (h.back ++ behind)) w.2, w.3);
+    }
+
+pub begins_more : {A : Type 0} {l m : List ℕ} {r : Rule A} → all_have (among m) l ≡ true → BeginsIn l r → BeginsIn m r
+begins_more {A} {l} {m} {r} all begins = record {
+  head = λ front x h. let w = begins.head front x h in
+      (w.0, w.1, w.2, among_has (among m) l all (tag w.0.kind) w.3);
+}
+
+-- a rule that nothing is spelled by where nothing opens
+pub record Closed {A : Type 0} (opens : Bool) (r : Rule A) : Type 0 where
+  pub none : opens ≡ false → (front : Tokens) (x : A) → r front x → ⊥
+
+pub closed_first : {A B : Type 0} {opens : Bool} {r : Rule A} {s : A → Rule B} → Closed opens r
+    → Closed opens (rule.◌>>=◌ r s)
+closed_first closed = record { none = λ shut front x h. closed.none shut h.front h.thing h.first_spells }
+
+pub closed_next : {A B : Type 0} {opens : Bool} {r : Rule A} {s : A → Rule B} → ((x : A) → Closed opens (s x))
+    → Closed opens (rule.◌>>=◌ r s)
+closed_next closed = record { none = λ shut front x h. (closed h.thing).none shut h.back x h.next_spells }
+
+pub closed_or : {A : Type 0} {opens : Bool} {r s : Rule A} → Closed opens r → Closed opens s
+    → Closed opens (rule.◌or◌ r s)
+closed_or {A} {opens} {r} {s} one other = record { none = go }
+  where
+    go : opens ≡ false → (front : Tokens) (x : A) → rule.◌or◌ r s front x → ⊥
+    go shut front x (inl h) = one.none shut front x h
+    go shut front x (inr h) = other.none shut front x h
+
+pub takes_gated : {A : Type 0} (opens : Bool) {p : Reader A} {r : Rule A} {v : Follow} → Closed opens r → Takes p r v
+    → Takes (reader.gate opens p) r v
+takes_gated true closed takes = takes
+takes_gated false closed takes = record { takes = λ front rest x h ok. absurd (closed.none refl front x h) }

@@ -16,3 +16,4 @@ pub mod Placing
 pub mod DeclarationTaking
 pub mod CallTaking
 pub mod SimpleTaking
+pub mod LineTaking

@@ -19,7 +19,7 @@ use Rattle.vb_parse.specs.Runs.{opens, inside}
 use Rattle.vb_parse.proofs.Taking.{Follow, Takes, takes_narrow}
 use Rattle.vb_parse.proofs.Beginning.{HeadIn, Begins, other_level, level_of, level_tag, tag_level, tag_is_literal}
 use Rattle.vb_parse.proofs.ExpressionTaking.{Ends, expressions_taken, positive_differs, tag_is_expression}
-use Rattle.vb_parse.proofs.Following.{among, among_both, all_have, among_has, next_in, Before, BeginsIn, Leads}
+use Rattle.vb_parse.proofs.Following.{among, among_both, all_have, among_has, next_in, Before, BeginsIn, Leads, Closed}
 
 -- ---- what ends an expression
 
@@ -119,3 +119,8 @@ pub begins_opened : {A : Type 0} (depth : ℕ) {r : ℕ → Rule A} {l : List �
     → BeginsIn l (declarations.opened depth r)
 begins_opened zero begins = record { head = λ front x h. absurd h }
 begins_opened (suc depth) begins = begins depth
+
+pub closed_inside : (depth : ℕ) → Closed (opens depth) (declarations.opened depth
+    (λ within. (grammar.expressions within).expression))
+closed_inside zero = record { none = λ shut front x h. h }
+closed_inside (suc depth) = record { none = λ shut front x h. absurd cc }

@@ -76,6 +76,9 @@ pub takes_const_from : (before : Option (ℕ × Access)) → Takes (spec.const_f
     (rule.◌>>=◌ (words.keyword k.Const) (λ line. const_rule (begun before line))) (Before statement_ends)
 takes_const_from before = takes_word (λ line. takes_map _ (takes_list takes_constant refl))
 
+abbrev pub const_heads : List ℕ
+const_heads = access_heads ++ const_word
+
 module _ (looser : Looser) (depth : ℕ) where
   pub takes_const : Takes spec.const (grammar.const looser depth) (Before statement_ends)
   takes_const = takes_within access_apart (takes_or
@@ -85,14 +88,17 @@ module _ (looser : Looser) (depth : ℕ) where
       (takes_off sees_access _ (skips asks_access (leads_begins (begins_word_then (kind.Keyword k.Const))) refl)
       (takes_const_from None)))
 
-  abbrev pub const_heads : List ℕ
-  const_heads = access_heads ++ const_word
-
   pub begins_const : BeginsIn const_heads (grammar.const looser depth)
   begins_const = begins_within access_apart (begins_either (begins_then begins_access)
       (begins_word_then (kind.Keyword k.Const)))
 
 -- ---- statements
+
+-- the numbers of the tokens that begin such a statement
+abbrev pub simple_heads : List ℕ
+simple_heads = tag (kind.Keyword k.Dim) ∷ tag (kind.Keyword k.ReDim) ∷ tag (kind.Keyword k.Set)
+    ∷ tag (kind.Keyword k.Call) ∷ tag (kind.Keyword k.Exit) ∷ tag (kind.Keyword k.On) ∷ tag (kind.Keyword k.Erase)
+    ∷ tag (kind.PageText []) ∷ tag kind.PageWrite ∷ path_heads
 
 takes_zero : {v : Follow} → Takes (reader.one zero_of) grammar.zero_number v
 takes_zero = record {
@@ -196,12 +202,6 @@ module _ (looser : Looser) (depth : ℕ) where
       (inl h)))))))
   simple_asked front x (inr (inr (inr (inr (inr (inr (inr (inr (inr (inr h)))))))))) = inr (inr (inr (inr (inr (inr (inr
       (inr (inl h))))))))
-
-  -- the numbers of the tokens that begin such a statement
-  abbrev pub simple_heads : List ℕ
-  simple_heads = tag (kind.Keyword k.Dim) ∷ tag (kind.Keyword k.ReDim) ∷ tag (kind.Keyword k.Set)
-      ∷ tag (kind.Keyword k.Call) ∷ tag (kind.Keyword k.Exit) ∷ tag (kind.Keyword k.On) ∷ tag (kind.Keyword k.Erase)
-      ∷ tag (kind.PageText []) ∷ tag kind.PageWrite ∷ path_heads
 
   chosen_simple : Chosen (spec.simple looser depth) simple_heads asked (Before statement_ends)
   chosen_simple = choose (kind.Keyword k.Dim) takes_dim
