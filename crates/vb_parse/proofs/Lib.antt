@@ -17,3 +17,4 @@ pub mod DeclarationTaking
 pub mod CallTaking
 pub mod SimpleTaking
 pub mod LineTaking
+pub mod StatementTaking

@@ -71,7 +71,7 @@ path_heads = 200 ∷ 28 ∷ 116 ∷ []
 abbrev pub expression_heads : List ℕ
 expression_heads = 32 ∷ ((literal_heads ++ (33 ∷ 30 ∷ [])) ++ (path_heads ++ (112 ∷ 110 ∷ [])))
 
-or_last : (b : Bool) → (b || false) ≡ b
+pub or_last : (b : Bool) → (b || false) ≡ b
 or_last true = refl
 or_last false = refl
 
