@@ -126,3 +126,36 @@ or_out {A} {B} {r} {s} {f} front x h = go h.first_spells
 pub or_within : {A : Type 0} {r s t : Rule A} → Within r t → Within s t → Within (rule.◌or◌ r s) t
 or_within one other front x (inl h) = one front x h
 or_within one other front x (inr h) = other front x h
+
+pub pure_gone : {A : Type 0} {r : Rule A} → Within (rule.◌>>=◌ r rule.pure) r
+pure_gone {A} {r} front x h =
+    subst (λ y. r front y) (sym h.next_spells.1) (subst (λ t. r t h.thing) (sym (h.split ∙ ap (λ t. h.front ++ t)
+    h.next_spells.0 ∙ append-nil h.front)) h.first_spells)
+
+-- a choice behind a rule
+pub bind_or : {A B : Type 0} {r : Rule A} {f g : A → Rule B}
+    → Within (rule.◌>>=◌ r (λ y. rule.◌or◌ (f y) (g y))) (rule.◌or◌ (rule.◌>>=◌ r f) (rule.◌>>=◌ r g))
+bind_or {A} {B} {r} {f} {g} front x h = go h.next_spells
+  where
+    go : rule.◌or◌ (f h.thing) (g h.thing) h.back x → rule.◌or◌ (rule.◌>>=◌ r f) (rule.◌>>=◌ r g) front x
+    go (inl w) = inl (record {
+      front = h.front;
+      back = h.back;
+      thing = h.thing;
+      split = h.split;
+      first_spells = h.first_spells;
+      next_spells = w;
+    })
+    go (inr w) = inr (record {
+      front = h.front;
+      back = h.back;
+      thing = h.thing;
+      split = h.split;
+      first_spells = h.first_spells;
+      next_spells = w;
+    })
+
+-- a choice of two that are each within another
+pub or_wider : {A : Type 0} {r s t u : Rule A} → Within r t → Within s u → Within (rule.◌or◌ r s) (rule.◌or◌ t u)
+or_wider one other front x (inl h) = inl (one front x h)
+or_wider one other front x (inr h) = inr (other front x h)

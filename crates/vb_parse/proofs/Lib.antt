@@ -18,3 +18,8 @@ pub mod CallTaking
 pub mod SimpleTaking
 pub mod LineTaking
 pub mod StatementTaking
+pub mod OperandReading
+pub mod CallReading
+pub mod SimpleReading
+pub mod LineReading
+pub mod StatementReading

@@ -5,6 +5,8 @@ use Rattle.vb_syntax.specs.Rules.{Tokens, Rule, Then}
 use Rattle.vb_syntax.specs.Rules as rule
 use Rattle.vb_parse.specs.Reader.{Outcome, Reader, and_then, next, Turn, then_until}
 use Rattle.vb_parse.specs.Reader as reader
+use Rattle.vb_parse.proofs.Taking.{only}
+use Rattle.vb_parse.proofs.Binding.{Within, within_then, bind_wider, bind_right, pure_out}
 use Rattle.vb_parse.proofs.Reading.{Reads, ReadsAt, Meets, Lives, NoEmpty, reads_pure, reads_same, wider_at, bind_at}
 
 -- what a turn that goes on spells, and what the last one does
@@ -200,3 +202,18 @@ reads_until {A} {B} {turn} {r} {s} reads full lives = record {
     within : (n : ℕ) (ts : Tokens) → length ts ≤ n → ReadsAt (reader.until turn) (until_rule r s) ts
     within zero ts h = go ts (λ rest less. absurd (omega arith))
     within (suc n) ts h = go ts (λ rest less. within n rest (omega arith))
+
+-- a turn by what its thing is made of
+pub onward_turn : {A B : Type 0} {r : Rule A} (s : Rule B)
+    → Within (rule.◌>>=◌ r (λ x. rule.pure (Continue x))) (turn_rule r s)
+onward_turn {A} {B} {r} s front t h = subst (λ u. turn_rule r s front u) (sym h.next_spells.1) (only r Continue front t h)
+
+pub last_turn : {A B : Type 0} (r : Rule A) {s : Rule B}
+    → Within (rule.◌>>=◌ s (λ y. rule.pure (Break y))) (turn_rule r s)
+last_turn {A} {B} r {s} front t h = subst (λ u. turn_rule r s front u) (sym h.next_spells.1) (only s Break front t h)
+
+-- the things and the last one, which are looked at apart
+pub until_apart : {A B C : Type 0} {r : Rule A} {s : Rule B} {f : List A → B → Rule C}
+    → Within (rule.◌>>=◌ (until_rule r s) (λ found. f found.0 found.1))
+    (rule.◌>>=◌ (rule.many r) (λ xs. rule.◌>>=◌ s (f xs)))
+until_apart = within_then bind_right (bind_wider (λ xs. within_then bind_right (bind_wider (λ last. pure_out))))

@@ -85,12 +85,16 @@ module _ (looser : Looser) (depth : ℕ) (inner : Blocks) where
     else_line (body.2 || body.1) line condition body
 
   -- "If" expr "Then" line [ "Else" line ]
-  abbrev pub line_if : Reader LastRead
-  line_if = gate (opens depth) (do
+  abbrev pub line_if_open : Reader LastRead
+  line_if_open = do
     line ← keyword k.If
     condition ← inside_expression
     keyword k.Then
-    line_if_from line condition)
+    line_if_from line condition
+
+  -- the same, where one more construct may open
+  abbrev pub line_if : Reader LastRead
+  line_if = gate (opens depth) line_if_open
 
   -- Behind a statement of a line: a ":" and another statement, a ":" alone, which belongs to what ends the line,
   -- or nothing.

@@ -18,10 +18,11 @@ use Rattle.vb_syntax.specs.Words.{name_of}
 use Rattle.vb_syntax.specs.Declarations.{number_of}
 use Rattle.vb_syntax.specs.Expressions.{path_of}
 use Rattle.vb_syntax.specs.SimpleStatements.{Looser, quoted_at, text_at, statement}
-use Rattle.vb_parse.specs.Reader.{Reader, Look, ◌>>=◌, ◌>>◌, pure, one, word, keyword, symbol, sees, passes, case}
+use Rattle.vb_parse.specs.Reader.{Reader, Look, ◌>>=◌, ◌>>◌, pure, one, word, keyword, symbol, sees, passes, case, gate}
 use Rattle.vb_parse.specs.ReadExpressions.{expressions, list_of}
 use Rattle.vb_parse.specs.ReadDeclarations.{opened, sees_access, access_word, begun, declared, constant}
 use Rattle.vb_parse.specs.ReadCalls.{expression, path_at, value_behind, from_path}
+use Rattle.vb_parse.specs.Runs.{opens}
 
 -- ---- words
 
@@ -132,12 +133,13 @@ module _ (depth : ℕ) where
   abbrev pub preserve : Reader Bool
   preserve = case (sees (kind.Keyword k.Preserve)) (do keyword k.Preserve; pure true) (pure false)
 
+  -- Each array needs a parenthesis, so where none may open no ReDim goes on.
   abbrev pub redim : Reader Statement
-  redim = do
+  redim = gate (opens depth) (do
     line ← keyword k.ReDim
     kept ← preserve
     arrays ← list_of resized
-    pure (statement line (st.ReDim kept arrays))
+    pure (statement line (st.ReDim kept arrays)))
 
   abbrev pub set : Reader Statement
   set = do
