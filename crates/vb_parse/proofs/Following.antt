@@ -10,7 +10,7 @@ use Rattle.vb_syntax.specs.Rules.{Tokens, Rule, Then}
 use Rattle.vb_syntax.specs.Rules as rule
 use Rattle.vb_syntax.specs.Words as words
 use Rattle.vb_syntax.specs.Words.{tag, line_of, name_of}
-use Rattle.vb_parse.specs.Reader.{Reader, next, Look, sees, passes, Turn}
+use Rattle.vb_parse.specs.Reader.{Reader, next, Look, sees, passes, is_some, Turn}
 use Rattle.std.specs.declared.ops.ControlFlow.TheVariants.{Continue, Break}
 use Rattle.vb_parse.specs.Reader as reader
 use Rattle.vb_parse.specs.ReadExpressions as expressions
@@ -250,6 +250,11 @@ pub starts : {A : Type 0} {look : Look} {a l : List ℕ} {r : Rule A} → Asks l
     → all_have (among a) l ≡ true → Starts look r
 starts {A} {look} {a} {l} {r} asks begins all front rest x h = let w = begins.head front x h in
     rw w.2 (asks.some w.0 ∙ among_has (among a) l all (tag w.0.kind) w.3)
+
+-- a token that passes the test comes next
+pub starts_one : {A B : Type 0} {test : Token → Option A} {s : A → Rule B} → Starts (passes test)
+    (rule.◌>>=◌ (rule.one test) s)
+starts_one {A} {B} {test} {s} front rest x h = rw (h.split, h.first_spells.alone) (ap is_some h.first_spells.passes)
 
 -- the question is answered with no before what the rule spells
 abbrev pub Skips : {A : Type 0} → Look → Rule A → Follow → Type 0

@@ -124,3 +124,7 @@ pub closed_inside : (depth : ℕ) → Closed (opens depth) (declarations.opened 
     (λ within. (grammar.expressions within).expression))
 closed_inside zero = record { none = λ shut front x h. h }
 closed_inside (suc depth) = record { none = λ shut front x h. absurd cc }
+
+pub closed_opened : {A : Type 0} (depth : ℕ) (r : ℕ → Rule A) → Closed (opens depth) (declarations.opened depth r)
+closed_opened zero r = record { none = λ shut front x h. h }
+closed_opened (suc depth) r = record { none = λ shut front x h. absurd cc }

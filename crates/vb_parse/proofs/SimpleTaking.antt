@@ -23,12 +23,13 @@ use Rattle.vb_parse.specs.ReadDeclarations.{sees_access, begun}
 use Rattle.vb_parse.specs.ReadCalls as calls
 use Rattle.vb_parse.specs.ReadSimpleStatements as spec
 use Rattle.vb_parse.specs.ReadSimpleStatements.{zero_of, zero_by}
+use Rattle.vb_parse.specs.Runs.{opens}
 use Rattle.vb_parse.proofs.Taking.{Follow, Any, Takes, takes_pure, takes_one, takes_bind, takes_narrow}
 use Rattle.vb_parse.proofs.Binding.{Within, bind_left}
 use Rattle.vb_parse.proofs.ExpressionTaking.{PathEnds}
 use Rattle.vb_parse.proofs.PathReading.{takes_path_at}
-use Rattle.vb_parse.proofs.Following.{among, outside, all_have, Before, BeginsIn, Leads, leads_begins, leads_pure, leads_or, leads_bind, begins_then, begins_word_then, begins_either, begins_within, name_begins, asks_kind, asks_either, asks_no, skips, starts, takes_on, takes_off, takes_on_word, takes_off_word, takes_or, takes_within, takes_word, takes_then, takes_map, takes_list, Chosen, chosen, choose, choose_by, one_among, begins_in}
-use Rattle.vb_parse.proofs.Placing.{takes_expression, takes_opened, tag_ends, path_heads}
+use Rattle.vb_parse.proofs.Following.{among, outside, all_have, Before, BeginsIn, Leads, leads_begins, leads_pure, leads_or, leads_bind, begins_then, begins_word_then, begins_either, begins_within, name_begins, asks_kind, asks_either, asks_no, skips, starts, takes_on, takes_off, takes_on_word, takes_off_word, takes_or, takes_within, takes_word, takes_then, takes_map, takes_list, Chosen, chosen, choose, choose_by, closed_first, closed_next, takes_gated}
+use Rattle.vb_parse.proofs.Placing.{closed_opened, takes_expression, takes_opened, tag_ends, path_heads}
 use Rattle.vb_parse.proofs.DeclarationTaking.{closing, access_heads, takes_access_word, begins_access, asks_access, access_apart, takes_declared, takes_constant}
 use Rattle.vb_parse.proofs.CallTaking.{statement_ends, takes_path_statement, begins_path_statement}
 
@@ -37,7 +38,7 @@ use Rattle.vb_parse.proofs.CallTaking.{statement_ends, takes_path_statement, beg
 abbrev pub name_head : List ℕ
 name_head = 200 ∷ []
 
-quoted_tag : (text : List ℕ) (kind : TokenKind) (line x : ℕ) → line_of_quoted text kind line ≡ Some x
+pub quoted_tag : (text : List ℕ) (kind : TokenKind) (line x : ℕ) → line_of_quoted text kind line ≡ Some x
     → among name_head (tag kind) ≡ true
 quoted_tag text (kind.Name name bracketed) line x e = refl
 quoted_tag text (kind.Keyword keyword) line x e = absurd cc
@@ -130,8 +131,10 @@ module _ (looser : Looser) (depth : ℕ) where
       (takes_off_word (kind.Keyword k.Preserve) _ leads_pure refl (takes_pure false _))
 
   takes_redim : Takes (spec.redim depth) (grammar.redim looser depth) (Before statement_ends)
-  takes_redim = takes_word (λ line. takes_then takes_preserve (λ kept. takes_map _ (takes_list takes_resized refl))
-      (λ kept. leads_begins (begins_then (begins_then (begins_then name_begins)))))
+  takes_redim = takes_gated (opens depth) (closed_next (λ line. closed_next (λ kept. closed_first (closed_first (closed_next
+      (λ name. closed_first (closed_opened depth _))))))) (takes_word (λ line. takes_then takes_preserve
+      (λ kept. takes_map _ (takes_list takes_resized refl))
+      (λ kept. leads_begins (begins_then (begins_then (begins_then name_begins))))))
 
   takes_path : (v : List ℕ) → all_have (outside (115 ∷ 112 ∷ [])) v ≡ true
       → Takes (calls.path_at depth) (grammar.path_at looser depth) (Before v)
