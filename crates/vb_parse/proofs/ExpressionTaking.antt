@@ -202,7 +202,7 @@ list_ends rest w = (
       (kind.Symbol s.Comma) rest [] w refl),
 )
 
-head_behind : (f : ℕ → Bool) (back rest : Tokens) → HeadIn f back → HeadIn f (back ++ rest)
+pub head_behind : (f : ℕ → Bool) (back rest : Tokens) → HeadIn f back → HeadIn f (back ++ rest)
 head_behind f back rest w = (w.0, w.1 ++ rest, ap (λ t. t ++ rest) w.2, w.3)
 
 abbrev pub tag_is_primary : ℕ → Bool

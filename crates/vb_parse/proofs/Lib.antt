@@ -11,6 +11,13 @@ pub mod Until
 pub mod DeclarationReading
 pub mod Guarding
 pub mod PathReading
+pub mod Following
+pub mod Placing
+pub mod DeclarationTaking
+pub mod CallTaking
+pub mod SimpleTaking
+pub mod LineTaking
+pub mod StatementTaking
 pub mod OperandReading
 pub mod CallReading
 pub mod SimpleReading
