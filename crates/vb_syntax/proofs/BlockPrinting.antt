@@ -17,7 +17,7 @@ use Rattle.vb_syntax.specs.Words as words
 use Rattle.vb_syntax.specs.Expressions.{expressions}
 use Rattle.vb_syntax.specs.SimpleStatements.{simple, quoted}
 use Rattle.vb_syntax.specs.Statements as statements
-use Rattle.vb_syntax.specs.Statements.{Blocks, Line, «end», no_blocks, blocks, blocks_here}
+use Rattle.vb_syntax.specs.Statements.{Blocks, Line, «end», no_blocks, blocks, blocks_here, blocks_inside}
 use Rattle.vb_syntax.specs.Units.{strict}
 use Rattle.vb_syntax.specs.PrintingWords.{printed, keyword, symbol, name, joined, listed}
 use Rattle.vb_syntax.specs.PrintingWords as words_of
@@ -35,17 +35,24 @@ use Rattle.vb_syntax.proofs.SimpleStatementPrinting.{again_const, again_simple}
 -- ---- ends
 
 -- the end of a line is one
-pub end_shown : (line : ℕ) → «end» (line_end line ∷ []) []
+pub end_shown : (line : ℕ) → «end» (line_end line ∷ []) tt
 end_shown line = record {
   front = line_end line ∷ [];
   back = [];
   thing = tt;
   split = refl;
   first_spells = record { token = line_end line; alone = refl; passes = refl };
-  next_spells = refl;
+  next_spells = record {
+    front = [];
+    back = [];
+    thing = [];
+    split = refl;
+    first_spells = refl;
+    next_spells = (refl, refl);
+  };
 }
 
-line_end_shown : (line : ℕ) → statements.line_end (line_end line ∷ []) []
+line_end_shown : (line : ℕ) → statements.line_end (line_end line ∷ []) tt
 line_end_shown line = record {
   front = [];
   back = line_end line ∷ [];
@@ -58,7 +65,14 @@ line_end_shown line = record {
     thing = line;
     split = refl;
     first_spells = word_shown kind.LineEnd line;
-    next_spells = refl;
+    next_spells = record {
+      front = [];
+      back = [];
+      thing = [];
+      split = refl;
+      first_spells = refl;
+      next_spells = (refl, refl);
+    };
   };
 }
 
@@ -113,18 +127,18 @@ module _ (depth : ℕ) (inner : Blocks) (within : BlocksAgain inner) where
   again_else : (line : ℕ) → Again (statements.else_part strict depth inner) (λ found. else_words line (option_map (map
       statement_words) found))
   again_else line = again (again_or
-      (again_keyword k.Else line (behind (line_end line ∷ []) [] (end_shown line) (again_last (within.block line)
+      (again_keyword k.Else line (behind (line_end line ∷ []) tt (end_shown line) (again_last (within.block line)
       (λ body. refl))))
       (again_pure refl))
 
   again_else_if : Again (statements.else_if strict depth inner) else_if_words
   again_else_if = again (again_bind (again_word (kind.Keyword k.ElseIf)) (λ line. again_bind (again_inside line)
-      (λ condition. again_keyword k.Then line (behind (line_end line ∷ []) [] (end_shown line)
+      (λ condition. again_keyword k.Then line (behind (line_end line ∷ []) tt (end_shown line)
       (again_last (within.block line) (λ body. shown.words-else_if line condition body))))))
 
   again_block_if : Again (statements.block_if strict depth inner) statement_words
   again_block_if = again (again_bind (again_word (kind.Keyword k.If)) (λ line. again_bind (again_inside line)
-      (λ condition. again_keyword k.Then line (behind (line_end line ∷ []) [] (end_shown line)
+      (λ condition. again_keyword k.Then line (behind (line_end line ∷ []) tt (end_shown line)
       (again_bind (within.block line) (λ body. again_bind (again_many else_if_words (λ x. x) again_else_if)
       (λ others. again_bind (again_else line) (λ otherwise. again_keyword k.End line (again_keyword k.If line
       (again_pure (shown.words-if line condition body others otherwise ∙ simp append_assoc refl)))))))))))
@@ -134,20 +148,20 @@ module _ (depth : ℕ) (inner : Blocks) (within : BlocksAgain inner) where
   again_case : Again (statements.case strict depth inner) case_words
   again_case = again (again_bind (again_word (kind.Keyword k.Case)) (λ line. again_bind
       (again_listed line (expression_words line) (again_inside line)) (λ values.
-      behind (line_end line ∷ []) [] (end_shown line) (again_last (within.block line)
+      behind (line_end line ∷ []) tt (end_shown line) (again_last (within.block line)
       (λ body. shown.words-case line values body)))))
 
   again_case_else : (line : ℕ) → Again (statements.case_else strict depth inner) (λ found. case_else_words line
       (option_map (map statement_words) found))
   again_case_else line = again (again_or
-      (again_keyword k.Case line (again_keyword k.Else line (behind (line_end line ∷ []) [] (end_shown line)
+      (again_keyword k.Case line (again_keyword k.Else line (behind (line_end line ∷ []) tt (end_shown line)
       (again_last (within.block line) (λ body. refl)))))
       (again_pure refl))
 
   again_select : Again (statements.select strict depth inner) statement_words
   again_select = again (again_bind (again_word (kind.Keyword k.Select)) (λ line. again_keyword k.Case line
-      (again_bind (again_inside line) (λ subject. behind (line_end line ∷ []) [] (end_shown line)
-      (behind [] [] (inl (refl, refl)) (again_bind (again_many case_words (λ x. x) again_case)
+      (again_bind (again_inside line) (λ subject. behind (line_end line ∷ []) tt (end_shown line)
+      (behind [] tt (inl (refl, refl)) (again_bind (again_many case_words (λ x. x) again_case)
       (λ cases. again_bind (again_case_else line) (λ otherwise. again_keyword k.End line (again_keyword k.Select line
       (again_pure (shown.words-select line subject cases otherwise ∙ simp append_assoc refl)))))))))))
 
@@ -167,13 +181,13 @@ module _ (depth : ℕ) (inner : Blocks) (within : BlocksAgain inner) where
   again_for = again (again_bind (again_word (kind.Keyword k.For)) (λ line. again_bind (again_name line)
       (λ variable. again_symbol s.Equal line (again_bind (again_inside line) (λ from. again_keyword k.To line
       (again_bind (again_inside line) (λ to. again_bind (again_by line) (λ by.
-      behind (line_end line ∷ []) [] (end_shown line) (again_bind (within.block line) (λ body. again_keyword k.Next line
+      behind (line_end line ∷ []) tt (end_shown line) (again_bind (within.block line) (λ body. again_keyword k.Next line
       (again_pure (shown.words-for line variable from to by body ∙ simp append_assoc refl))))))))))))
 
   again_for_each : Again (statements.for_each strict depth inner) statement_words
   again_for_each = again (again_bind (again_word (kind.Keyword k.For)) (λ line. again_keyword k.Each line
       (again_bind (again_name line) (λ variable. again_keyword k.In line (again_bind (again_inside line) (λ group.
-      behind (line_end line ∷ []) [] (end_shown line) (again_bind (within.block line) (λ body. again_keyword k.Next line
+      behind (line_end line ∷ []) tt (end_shown line) (again_bind (within.block line) (λ body. again_keyword k.Next line
       (again_pure (shown.words-for_each line variable group body ∙ simp append_assoc refl))))))))))
 
   loop_word_shown : (line : ℕ) (is_until : Bool)
@@ -243,20 +257,20 @@ module _ (depth : ℕ) (inner : Blocks) (within : BlocksAgain inner) where
   again_do = again (again_bind (again_word (kind.Keyword k.Do)) (λ line. again_or
       (again_changed (λ found. condition_words line found.1) (λ found. (line, found.1))
       (condition_shown (statements.inside strict depth inner) again_inside line) (λ found tokens y h. h)
-      (λ found. behind (line_end line ∷ []) [] (end_shown line) (again_bind (within.block line) (λ body.
+      (λ found. behind (line_end line ∷ []) tt (end_shown line) (again_bind (within.block line) (λ body.
       again_keyword k.Loop line (again_pure (shown.words-do line (repetition.Before found.1) body ∙ simp append_assoc refl))))))
-      (behind (line_end line ∷ []) [] (end_shown line) (again_bind (within.block line) (λ body.
+      (behind (line_end line ∷ []) tt (end_shown line) (again_bind (within.block line) (λ body.
       again_keyword k.Loop line (again_given (λ found. before_words line found ≡ []) again_behind_loop (not_before line)
       (λ repeated none. again_pure (shown.words-do line repeated body ∙ simp (append-nil, none) refl))))))))
 
   again_while : Again (statements.while strict depth inner) statement_words
   again_while = again (again_bind (again_word (kind.Keyword k.While)) (λ line. again_bind (again_inside line)
-      (λ condition. behind (line_end line ∷ []) [] (end_shown line) (again_bind (within.block line) (λ body.
+      (λ condition. behind (line_end line ∷ []) tt (end_shown line) (again_bind (within.block line) (λ body.
       again_keyword k.Wend line (again_pure (shown.words-while line condition body ∙ simp append_assoc refl)))))))
 
   again_with : Again (statements.with_block strict depth inner) statement_words
   again_with = again (again_bind (again_word (kind.Keyword k.With)) (λ line. again_bind (again_inside line)
-      (λ subject. behind (line_end line ∷ []) [] (end_shown line) (again_bind (within.block line) (λ body.
+      (λ subject. behind (line_end line ∷ []) tt (end_shown line) (again_bind (within.block line) (λ body.
       again_keyword k.End line (again_keyword k.With line (again_pure (shown.words-with line subject body ∙ simp append_assoc refl))))))))
 
   -- ---- blocks
@@ -269,8 +283,8 @@ module _ (depth : ℕ) (inner : Blocks) (within : BlocksAgain inner) where
       ++ line_end line ∷ [])
   again_sentence line = again (again_or
       (again_bind (again (again_or (self (again_const depth)) (again_or (self again_compound) (self (again_simple
-      depth))))) (λ found. behind (line_end line ∷ []) [] (end_shown line) (again_pure refl)))
-      (again_bind again_line_if (λ found. behind (line_end line ∷ []) [] (line_end_shown line) (again_pure refl))))
+      depth))))) (λ found. behind (line_end line ∷ []) tt (end_shown line) (again_pure refl)))
+      (again_bind again_line_if (λ found. behind (line_end line ∷ []) tt (line_end_shown line) (again_pure refl))))
 
   again_here : BlocksAgain (blocks_here strict depth inner)
   again_here = record {
@@ -278,9 +292,13 @@ module _ (depth : ℕ) (inner : Blocks) (within : BlocksAgain inner) where
     line = again_line;
   }
 
-pub again_nothing : BlocksAgain no_blocks
+again_nothing : BlocksAgain no_blocks
 again_nothing = record { block = λ line. again_none; line = λ line. again_none }
 
 pub blocks_again : (depth : ℕ) → BlocksAgain (blocks strict depth)
 blocks_again zero = again_here zero no_blocks again_nothing
 blocks_again (suc depth) = again_here (suc depth) (blocks strict depth) (blocks_again depth)
+
+pub blocks_inside_again : (depth : ℕ) → BlocksAgain (blocks_inside strict depth)
+blocks_inside_again zero = again_nothing
+blocks_inside_again (suc depth) = blocks_again depth

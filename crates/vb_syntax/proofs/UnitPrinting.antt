@@ -16,8 +16,7 @@ use Rattle.vb_syntax.specs.Words as words
 use Rattle.vb_syntax.specs.Declarations as declarations
 use Rattle.vb_syntax.specs.Declarations.{opened}
 use Rattle.vb_syntax.specs.SimpleStatements.{quoted}
-use Rattle.vb_syntax.specs.Statements as statements
-use Rattle.vb_syntax.specs.Statements.{Blocks, «end», no_blocks, blocks}
+use Rattle.vb_syntax.specs.Statements.{blocks_inside}
 use Rattle.vb_syntax.specs.Units as units
 use Rattle.vb_syntax.specs.Units.{strict, Derives}
 use Rattle.vb_syntax.specs.PrintingWords.{printed, keyword, symbol, name, listed}
@@ -30,7 +29,7 @@ use Rattle.vb_syntax.proofs.Again.{Again, AgainTail, again, self, tail_of, again
 use Rattle.vb_syntax.proofs.Again.{again_opened, again_many, again_word, behind, word_shown, again_keyword, again_symbol}
 use Rattle.vb_syntax.proofs.Again.{quoted_shown, again_listed, again_some}
 use Rattle.vb_syntax.proofs.SimplePrinting.{again_name, again_access, again_declared}
-use Rattle.vb_syntax.proofs.BlockPrinting.{BlocksAgain, end_shown, again_sentence, again_nothing, blocks_again}
+use Rattle.vb_syntax.proofs.BlockPrinting.{BlocksAgain, end_shown, again_sentence, blocks_again, blocks_inside_again}
 
 -- ---- procedures
 
@@ -76,14 +75,14 @@ again_sub : (depth : ℕ) → Again (units.sub strict depth) procedure_words
 again_sub depth = again (again_opened depth (λ within. again_bind
     (again_access (words.keyword k.Sub) (λ line. keyword line k.Sub) (word_shown (kind.Keyword k.Sub)))
     (λ first. again_bind (again_name first.0) (λ name. again_bind (again_parameters first.0 within) (λ given.
-    behind (line_end first.0 ∷ []) [] (end_shown first.0) (again_bind ((blocks_again within).block first.0)
+    behind (line_end first.0 ∷ []) tt (end_shown first.0) (again_bind ((blocks_again within).block first.0)
     (λ body. again_keyword k.End first.0 (again_keyword k.Sub first.0 (again_pure (simp append_assoc refl))))))))))
 
 again_function : (depth : ℕ) → Again (units.function strict depth) procedure_words
 again_function depth = again (again_opened depth (λ within. again_bind
     (again_access (words.keyword k.Function) (λ line. keyword line k.Function) (word_shown (kind.Keyword k.Function)))
     (λ first. again_bind (again_name first.0) (λ name. again_bind (again_parameters first.0 within) (λ given.
-    behind (line_end first.0 ∷ []) [] (end_shown first.0) (again_bind ((blocks_again within).block first.0)
+    behind (line_end first.0 ∷ []) tt (end_shown first.0) (again_bind ((blocks_again within).block first.0)
     (λ body. again_keyword k.End first.0 (again_keyword k.Function first.0 (again_pure (simp append_assoc refl))))))))))
 
 again_procedure : (depth : ℕ) → Again (units.procedure strict depth) procedure_words
@@ -99,7 +98,7 @@ again_property : (depth : ℕ) → Again (units.property strict depth) property_
 again_property depth = again (again_opened depth (λ within. again_bind
     (again_access (quoted (codes "property")) (λ line. words_of.quoted line (codes "Property")) property_shown)
     (λ first. again_bind (again_kind first.0) (λ kind. again_bind (again_name first.0) (λ name.
-    again_bind (again_parameters first.0 within) (λ given. behind (line_end first.0 ∷ []) [] (end_shown first.0)
+    again_bind (again_parameters first.0 within) (λ given. behind (line_end first.0 ∷ []) tt (end_shown first.0)
     (again_bind ((blocks_again within).block first.0) (λ body. again_keyword k.End first.0
     (behind (words_of.quoted first.0 (codes "Property") ∷ []) first.0 (property_shown first.0)
     (again_pure (simp append_assoc refl)))))))))))
@@ -123,15 +122,16 @@ again_member depth = again (again_or (self again_fields)
 
 again_class : (depth : ℕ) → Again (units.class strict depth) class_words
 again_class depth = again (again_opened depth (λ within. again_bind (again_word (kind.Keyword k.Class)) (λ line.
-    again_bind (again_name line) (λ name. behind (line_end line ∷ []) [] (end_shown line)
-    (again_bind (again_many member_words (λ x. x ++ line_end line ∷ []) (again_member_line line within))
-    (λ members. behind [] [] (inl (refl, refl)) (again_keyword k.End line (again_keyword k.Class line
+    again_bind (again_name line) (λ name. behind (line_end line ∷ []) tt (end_shown line)
+    (behind [] tt (inl (refl, refl)) (again_bind
+    (again_many member_words (λ x. x ++ line_end line ∷ []) (again_member_line line within))
+    (λ members. again_keyword k.End line (again_keyword k.Class line
     (again_pure refl)))))))))
   where
     again_member_line : (line within : ℕ) → Again (units.member_line strict within) (λ found. member_words found
         ++ line_end line ∷ [])
-    again_member_line line within = again (behind [] [] (inl (refl, refl)) (again_bind (again_member within)
-        (λ found. behind (line_end line ∷ []) [] (end_shown line) (again_pure refl))))
+    again_member_line line within = again (again_bind (again_member within) (λ found.
+        behind (line_end line ∷ []) tt (end_shown line) (behind [] tt (inl (refl, refl)) (again_pure refl))))
 
 -- ---- units
 
@@ -139,36 +139,27 @@ again_variables : (depth : ℕ) → Again (units.variables strict depth) item_wo
 again_variables depth = again (again_bind again_word_of (λ first. again_last
     (again_listed first.0 (declared_words first.0) (again_declared first.0 depth)) (λ found. refl)))
   where
-    again_word_of : Again (units.access_word strict) (λ found. keyword found.0 (access_word found.1) ∷ [])
+    again_word_of : Again declarations.access_word (λ found. keyword found.0 (access_word found.1) ∷ [])
     again_word_of = again (again_or (again_last (again_word (kind.Keyword k.Public)) (λ line. refl))
         (again_last (again_word (kind.Keyword k.Private)) (λ line. refl)))
 
--- an item and the end behind it, where what may stand inside is printed so
-again_item : (depth : ℕ) (inner : Blocks) → BlocksAgain inner → AgainTail
-    ((do found ← statements.sentence strict depth inner; pure (item.Statement found))
-    or (do found ← units.variables strict depth; «end»; pure found)
-    or (do found ← units.procedure strict depth; «end»; pure (item.Procedure found))
-    or (do found ← units.class strict depth; «end»; pure (item.Class found)))
-    (λ tail. tail) (λ found. item_words found ++ line_end 1 ∷ [])
-again_item depth inner within = again_or (again_last (again_sentence depth inner within 1) (λ found. refl))
-    (again_or (again_bind (again_variables depth) (λ found. behind (line_end 1 ∷ []) [] (end_shown 1) (again_pure refl)))
-    (again_or (again_bind (again_procedure depth) (λ found. behind (line_end 1 ∷ []) [] (end_shown 1) (again_pure refl)))
-    (again_bind (again_class depth) (λ found. behind (line_end 1 ∷ []) [] (end_shown 1) (again_pure refl)))))
-
 again_item_line : (depth : ℕ) → Again (units.item_line strict depth) (λ found. item_words found ++ line_end 1 ∷ [])
-again_item_line zero = again (again_item zero no_blocks again_nothing)
-again_item_line (suc within) = again (again_item (suc within) (blocks strict within) (blocks_again within))
+again_item_line depth = again (again_or
+    (again_last (again_sentence depth (blocks_inside strict depth) (blocks_inside_again depth) 1) (λ found. refl))
+    (again_or (again_bind (again_variables depth) (λ found. behind (line_end 1 ∷ []) tt (end_shown 1) (again_pure refl)))
+    (again_or (again_bind (again_procedure depth) (λ found. behind (line_end 1 ∷ []) tt (end_shown 1) (again_pure refl)))
+    (again_bind (again_class depth) (λ found. behind (line_end 1 ∷ []) tt (end_shown 1) (again_pure refl))))))
 
 again_unit : (depth : ℕ) → Again (units.unit strict depth) print_of
 unfolding print_of
-again_unit depth = again (behind [] [] (inr (refl, refl)) (again_bind again_option (λ explicit. again_last
+again_unit depth = again (behind [] tt (inr (refl, refl)) (again_bind again_option (λ explicit. again_last
     (again_many item_words (λ x. x ++ line_end 1 ∷ []) (again_item_line depth)) (λ items. refl))))
   where
     again_option : Again (units.option_explicit strict) option_words
     again_option = again (again_or
         (again_keyword k.Option 1 (behind (words_of.quoted 1 (codes "Explicit") ∷ []) 1
         (quoted_shown (codes "explicit") (codes "Explicit") refl 1)
-        (behind (line_end 1 ∷ []) [] (end_shown 1) (again_pure refl))))
+        (behind (line_end 1 ∷ []) tt (end_shown 1) (again_pure refl))))
         (again_pure refl))
 
 pub printed_again : (tokens : Tokens) (unit : Script) → Derives tokens unit → Derives (print_of unit) unit
