@@ -2,5 +2,7 @@
 
 mod declarations;
 mod expressions;
+mod parts;
 mod simple;
+mod statements;
 mod words;

@@ -1,0 +1,310 @@
+//! Statements and blocks as words.
+ghost use Rattle.std.specs.Prelude.{◌≡◌, ◌∷◌, ◌++◌, [], map, Option};
+ghost use Rattle.std.specs.List.{flat_map};
+ghost use Rattle.std.specs.Option.{option_map};
+ghost use Rattle.vb_syntax.specs.Rules.{Tokens};
+ghost use Rattle.vb_syntax.specs.PrintingStatements as spec;
+ghost use Rattle.vb_syntax.specs.PrintingStatements.{statement_words};
+ghost use Rattle.vb_syntax.specs.declared.statement.StatementKind.TheOpen as layer;
+ghost use Rattle.vb_syntax.specs.PrintingOutcome.{Adds};
+
+use crate::expression::Expression;
+use crate::printing::expressions::{print_expression, print_expressions};
+use crate::printing::parts::{print_after, print_before, print_by, print_line_end, print_tested};
+use crate::printing::simple::{
+    print_assignment, print_call, print_call_path, print_const, print_dim, print_erase, print_exit,
+    print_go_to_zero, print_page_text, print_page_write, print_redim, print_resume_next, print_set,
+};
+use crate::printing::words::{print_keyword, print_name, print_symbol};
+use crate::statement::StatementKind as Kind;
+use crate::statement::{Case, ElseIf, Repetition, Statement};
+use vb_value::{Keyword, List, Memory, Symbol, Text, Token};
+
+/// Adds a statement. It recurses once for each statement and each expression inside another.
+#[cycle(statements)]
+pub fn print_statement(words: &mut List<Token>, statement: &Statement) -> Result<(), Memory>
+    ensures { Adds result words.old words.new (statement_words statement.now) }
+{
+    print_kind(words, statement.line, &statement.kind)
+}
+
+/// Adds what a statement says.
+#[cycle(statements)]
+fn print_kind(words: &mut List<Token>, line: u32, kind: &Kind) -> Result<(), Memory>
+    ensures { Adds result words.old words.new (spec.kind_words kind.now line) }
+{
+    match kind {
+        Kind::Const { access, constants } => print_const(words, line, *access, constants),
+        Kind::Dim { variables } => print_dim(words, line, variables),
+        Kind::ReDim { preserve, arrays } => print_redim(words, line, *preserve, arrays),
+        Kind::Set { target, value } => print_set(words, line, target, value),
+        Kind::Assign { target, value } => print_assignment(words, line, target, value),
+        Kind::Call { callee, arguments } => print_call(words, line, callee, arguments),
+        Kind::CallPath { callee } => print_call_path(words, line, callee),
+        Kind::If { condition, then, others, otherwise } => {
+            print_if(words, line, condition, then, others, otherwise)
+        }
+        Kind::LineIf { condition, then, otherwise } => {
+            print_line_if(words, line, condition, then, otherwise)
+        }
+        Kind::Select { subject, cases, otherwise } => {
+            print_select(words, line, subject, cases, otherwise)
+        }
+        Kind::For { variable, from, to, step, body } => {
+            print_for(words, line, variable, from, to, step, body)
+        }
+        Kind::ForEach { variable, group, body } => print_for_each(words, line, variable, group, body),
+        Kind::Do { repetition, body } => print_do(words, line, repetition, body),
+        Kind::While { condition, body } => print_while(words, line, condition, body),
+        Kind::With { subject, body } => print_with(words, line, subject, body),
+        Kind::Exit { kind } => print_exit(words, line, *kind),
+        Kind::OnErrorResumeNext => print_resume_next(words, line),
+        Kind::OnErrorGoToZero => print_go_to_zero(words, line),
+        Kind::Erase { names } => print_erase(words, line, names),
+        Kind::PageText { text } => print_page_text(words, line, text),
+        Kind::PageWrite { value } => print_page_write(words, line, value),
+    }
+}
+
+/// Adds statements, each with the end of a line behind it.
+#[cycle(statements)]
+pub fn print_body(words: &mut List<Token>, line: u32, statements: &List<Statement>) -> Result<(), Memory>
+    ensures { Adds result words.old words.new (spec.body_words line statements.now) }
+{
+    for statement in statements.as_slice() {
+        print_statement(words, statement)?;
+        print_line_end(words, line)?;
+    }
+    Ok(())
+}
+
+/// Adds the statements of one line, with ":" between.
+#[cycle(statements)]
+fn print_line(words: &mut List<Token>, line: u32, statements: &List<Statement>) -> Result<(), Memory>
+    ensures { Adds result words.old words.new (spec.line_words line (map statement_words statements.now)) }
+{
+    let [first, more @ ..] = statements.as_slice() else {
+        return Ok(());
+    };
+    print_statement(words, first)?;
+    for statement in more {
+        print_symbol(words, line, Symbol::Colon)?;
+        print_statement(words, statement)?;
+    }
+    Ok(())
+}
+
+/// Adds an `If` on several lines.
+#[cycle(statements)]
+fn print_if(
+    words: &mut List<Token>,
+    line: u32,
+    condition: &Expression,
+    then: &List<Statement>,
+    others: &List<ElseIf>,
+    otherwise: &Option<List<Statement>>,
+) -> Result<(), Memory>
+    ensures { Adds result words.old words.new (spec.kind_layer (layer.If condition.now (map statement_words then.now)
+        (map spec.else_if_words others.now) (option_map (map statement_words) otherwise.now)) line) }
+{
+    print_tested(words, line, Keyword::If, condition)?;
+    print_keyword(words, line, Keyword::Then)?;
+    print_line_end(words, line)?;
+    print_body(words, line, then)?;
+    print_else_ifs(words, others)?;
+    print_else(words, line, otherwise)?;
+    print_keyword(words, line, Keyword::End)?;
+    print_keyword(words, line, Keyword::If)
+}
+
+/// Adds the `ElseIf` parts of an `If`.
+#[cycle(statements)]
+fn print_else_ifs(words: &mut List<Token>, others: &List<ElseIf>) -> Result<(), Memory>
+    ensures { Adds result words.old words.new (flat_map (λ (x : Tokens). x) (map spec.else_if_words others.now)) }
+{
+    for other in others.as_slice() {
+        print_tested(words, other.line, Keyword::ElseIf, &other.condition)?;
+        print_keyword(words, other.line, Keyword::Then)?;
+        print_line_end(words, other.line)?;
+        print_body(words, other.line, &other.then)?;
+    }
+    Ok(())
+}
+
+/// Adds an `Else` part, where there is one.
+#[cycle(statements)]
+fn print_else(words: &mut List<Token>, line: u32, otherwise: &Option<List<Statement>>) -> Result<(), Memory>
+    ensures { Adds result words.old words.new
+        (spec.else_words line (option_map (map statement_words) otherwise.now)) }
+{
+    match otherwise {
+        None => Ok(()),
+        Some(body) => {
+            print_keyword(words, line, Keyword::Else)?;
+            print_line_end(words, line)?;
+            print_body(words, line, body)
+        }
+    }
+}
+
+/// Adds an `If` on one line.
+#[cycle(statements)]
+fn print_line_if(
+    words: &mut List<Token>,
+    line: u32,
+    condition: &Expression,
+    then: &List<Statement>,
+    otherwise: &Option<List<Statement>>,
+) -> Result<(), Memory>
+    ensures { Adds result words.old words.new (spec.kind_layer (layer.LineIf condition.now
+        (map statement_words then.now) (option_map (map statement_words) otherwise.now)) line) }
+{
+    print_tested(words, line, Keyword::If, condition)?;
+    print_keyword(words, line, Keyword::Then)?;
+    print_line(words, line, then)?;
+    match otherwise {
+        None => Ok(()),
+        Some(body) => {
+            print_keyword(words, line, Keyword::Else)?;
+            print_line(words, line, body)
+        }
+    }
+}
+
+/// Adds a `Select`.
+#[cycle(statements)]
+fn print_select(
+    words: &mut List<Token>,
+    line: u32,
+    subject: &Expression,
+    cases: &List<Case>,
+    otherwise: &Option<List<Statement>>,
+) -> Result<(), Memory>
+    ensures { Adds result words.old words.new (spec.kind_layer (layer.Select subject.now
+        (map spec.case_words cases.now) (option_map (map statement_words) otherwise.now)) line) }
+{
+    print_keyword(words, line, Keyword::Select)?;
+    print_tested(words, line, Keyword::Case, subject)?;
+    print_line_end(words, line)?;
+    print_cases(words, cases)?;
+    if otherwise.is_some() {
+        print_keyword(words, line, Keyword::Case)?;
+    }
+    print_else(words, line, otherwise)?;
+    print_keyword(words, line, Keyword::End)?;
+    print_keyword(words, line, Keyword::Select)
+}
+
+/// Adds the `Case` parts of a `Select`.
+#[cycle(statements)]
+fn print_cases(words: &mut List<Token>, cases: &List<Case>) -> Result<(), Memory>
+    ensures { Adds result words.old words.new (flat_map (λ (x : Tokens). x) (map spec.case_words cases.now)) }
+{
+    for case in cases.as_slice() {
+        print_keyword(words, case.line, Keyword::Case)?;
+        print_expressions(words, case.line, case.values.as_slice())?;
+        print_line_end(words, case.line)?;
+        print_body(words, case.line, &case.body)?;
+    }
+    Ok(())
+}
+
+/// Adds a `For` that counts.
+#[cycle(statements)]
+fn print_for(
+    words: &mut List<Token>,
+    line: u32,
+    variable: &Text,
+    from: &Expression,
+    to: &Expression,
+    by: &Option<Expression>,
+    body: &List<Statement>,
+) -> Result<(), Memory>
+    ensures { Adds result words.old words.new (spec.kind_layer (layer.For variable.now from.now to.now by.now
+        (map statement_words body.now)) line) }
+{
+    print_keyword(words, line, Keyword::For)?;
+    print_name(words, line, variable)?;
+    print_symbol(words, line, Symbol::Equal)?;
+    print_expression(words, line, from)?;
+    print_tested(words, line, Keyword::To, to)?;
+    print_by(words, line, by)?;
+    print_line_end(words, line)?;
+    print_body(words, line, body)?;
+    print_keyword(words, line, Keyword::Next)
+}
+
+/// Adds a `For Each`.
+#[cycle(statements)]
+fn print_for_each(
+    words: &mut List<Token>,
+    line: u32,
+    variable: &Text,
+    group: &Expression,
+    body: &List<Statement>,
+) -> Result<(), Memory>
+    ensures { Adds result words.old words.new (spec.kind_layer (layer.ForEach variable.now group.now
+        (map statement_words body.now)) line) }
+{
+    print_keyword(words, line, Keyword::For)?;
+    print_keyword(words, line, Keyword::Each)?;
+    print_name(words, line, variable)?;
+    print_tested(words, line, Keyword::In, group)?;
+    print_line_end(words, line)?;
+    print_body(words, line, body)?;
+    print_keyword(words, line, Keyword::Next)
+}
+
+/// Adds a `Do`.
+#[cycle(statements)]
+fn print_do(
+    words: &mut List<Token>,
+    line: u32,
+    repetition: &Repetition,
+    body: &List<Statement>,
+) -> Result<(), Memory>
+    ensures { Adds result words.old words.new (spec.kind_layer (layer.Do repetition.now
+        (map statement_words body.now)) line) }
+{
+    print_keyword(words, line, Keyword::Do)?;
+    print_before(words, line, repetition)?;
+    print_line_end(words, line)?;
+    print_body(words, line, body)?;
+    print_keyword(words, line, Keyword::Loop)?;
+    print_after(words, repetition)
+}
+
+/// Adds a `While`.
+#[cycle(statements)]
+fn print_while(
+    words: &mut List<Token>,
+    line: u32,
+    condition: &Expression,
+    body: &List<Statement>,
+) -> Result<(), Memory>
+    ensures { Adds result words.old words.new (spec.kind_layer (layer.While condition.now
+        (map statement_words body.now)) line) }
+{
+    print_tested(words, line, Keyword::While, condition)?;
+    print_line_end(words, line)?;
+    print_body(words, line, body)?;
+    print_keyword(words, line, Keyword::Wend)
+}
+
+/// Adds a `With`.
+#[cycle(statements)]
+fn print_with(
+    words: &mut List<Token>,
+    line: u32,
+    subject: &Expression,
+    body: &List<Statement>,
+) -> Result<(), Memory>
+    ensures { Adds result words.old words.new (spec.kind_layer (layer.With subject.now
+        (map statement_words body.now)) line) }
+{
+    print_tested(words, line, Keyword::With, subject)?;
+    print_line_end(words, line)?;
+    print_body(words, line, body)?;
+    print_keyword(words, line, Keyword::End)?;
+    print_keyword(words, line, Keyword::With)
+}
