@@ -1,21 +1,25 @@
 //! Statements and blocks as words.
-ghost use Rattle.std.specs.Prelude.{◌≡◌, ◌∷◌, ◌++◌, [], map, Option};
+ghost use Rattle.std.specs.Prelude.{◌≡◌, ◌∷◌, ◌++◌, [], map, Some};
 ghost use Rattle.std.specs.List.{flat_map};
-ghost use Rattle.std.specs.Option.{option_map};
+ghost use Rattle.vb_value.specs.declared.token.Keyword.TheVariants as k;
 ghost use Rattle.vb_syntax.specs.Rules.{Tokens};
+ghost use Rattle.vb_syntax.specs.PrintingWords.{keyword};
+ghost use Rattle.vb_syntax.specs.PrintingExpressions.{expression_words};
 ghost use Rattle.vb_syntax.specs.PrintingStatements as spec;
 ghost use Rattle.vb_syntax.specs.PrintingStatements.{statement_words};
 ghost use Rattle.vb_syntax.specs.declared.statement.StatementKind.TheOpen as layer;
 ghost use Rattle.vb_syntax.specs.PrintingOutcome.{Adds};
 
 use crate::expression::Expression;
-use crate::printing::expressions::{print_expression, print_expressions};
-use crate::printing::parts::{print_after, print_before, print_by, print_line_end, print_tested};
+use crate::printing::parts::{
+    print_after, print_before, print_case_head, print_end, print_for_each_head, print_for_head,
+    print_if_head, print_line_end, print_select_head, print_tested,
+};
 use crate::printing::simple::{
     print_assignment, print_call, print_call_path, print_const, print_dim, print_erase, print_exit,
     print_go_to_zero, print_page_text, print_page_write, print_redim, print_resume_next, print_set,
 };
-use crate::printing::words::{print_keyword, print_name, print_symbol};
+use crate::printing::words::{print_keyword, print_symbol};
 use crate::statement::StatementKind as Kind;
 use crate::statement::{Case, ElseIf, Repetition, Statement};
 use vb_value::{Keyword, List, Memory, Symbol, Text, Token};
@@ -42,21 +46,34 @@ fn print_kind(words: &mut List<Token>, line: u32, kind: &Kind) -> Result<(), Mem
         Kind::Call { callee, arguments } => print_call(words, line, callee, arguments),
         Kind::CallPath { callee } => print_call_path(words, line, callee),
         Kind::If { condition, then, others, otherwise } => {
-            print_if(words, line, condition, then, others, otherwise)
+            print_then(words, line, then, condition)?;
+            print_else_ifs(words, others)?;
+            if let Some(body) = otherwise {
+                print_else(words, line, body)?;
+            }
+            print_end(words, line, Keyword::If)
         }
         Kind::LineIf { condition, then, otherwise } => {
-            print_line_if(words, line, condition, then, otherwise)
+            print_line_then(words, line, then, condition)?;
+            match otherwise {
+                Some(body) => print_line_else(words, line, body),
+                None => Ok(()),
+            }
         }
         Kind::Select { subject, cases, otherwise } => {
-            print_select(words, line, subject, cases, otherwise)
+            print_select(words, line, cases, subject)?;
+            if let Some(body) = otherwise {
+                print_case_else(words, line, body)?;
+            }
+            print_end(words, line, Keyword::Select)
         }
         Kind::For { variable, from, to, step, body } => {
-            print_for(words, line, variable, from, to, step, body)
+            print_for(words, line, body, variable, from, to, step)
         }
-        Kind::ForEach { variable, group, body } => print_for_each(words, line, variable, group, body),
-        Kind::Do { repetition, body } => print_do(words, line, repetition, body),
-        Kind::While { condition, body } => print_while(words, line, condition, body),
-        Kind::With { subject, body } => print_with(words, line, subject, body),
+        Kind::ForEach { variable, group, body } => print_for_each(words, line, body, variable, group),
+        Kind::Do { repetition, body } => print_do(words, line, body, repetition),
+        Kind::While { condition, body } => print_while(words, line, body, condition),
+        Kind::With { subject, body } => print_with(words, line, body, subject),
         Kind::Exit { kind } => print_exit(words, line, *kind),
         Kind::OnErrorResumeNext => print_resume_next(words, line),
         Kind::OnErrorGoToZero => print_go_to_zero(words, line),
@@ -94,27 +111,15 @@ fn print_line(words: &mut List<Token>, line: u32, statements: &List<Statement>) 
     Ok(())
 }
 
-/// Adds an `If` on several lines.
+/// Adds an `If` on several lines as far as its first block.
 #[cycle(statements)]
-fn print_if(
-    words: &mut List<Token>,
-    line: u32,
-    condition: &Expression,
-    then: &List<Statement>,
-    others: &List<ElseIf>,
-    otherwise: &Option<List<Statement>>,
-) -> Result<(), Memory>
-    ensures { Adds result words.old words.new (spec.kind_layer (layer.If condition.now (map statement_words then.now)
-        (map spec.else_if_words others.now) (option_map (map statement_words) otherwise.now)) line) }
+fn print_then(words: &mut List<Token>, line: u32, then: &List<Statement>, condition: &Expression) -> Result<(), Memory>
+    ensures { Adds result words.old words.new (keyword line k.If ∷ expression_words line condition.now
+        ++ keyword line k.Then ∷ spec.line_end line ∷ spec.body_words line then.now) }
 {
-    print_tested(words, line, Keyword::If, condition)?;
-    print_keyword(words, line, Keyword::Then)?;
+    print_if_head(words, line, Keyword::If, condition)?;
     print_line_end(words, line)?;
-    print_body(words, line, then)?;
-    print_else_ifs(words, others)?;
-    print_else(words, line, otherwise)?;
-    print_keyword(words, line, Keyword::End)?;
-    print_keyword(words, line, Keyword::If)
+    print_body(words, line, then)
 }
 
 /// Adds the `ElseIf` parts of an `If`.
@@ -123,90 +128,80 @@ fn print_else_ifs(words: &mut List<Token>, others: &List<ElseIf>) -> Result<(), 
     ensures { Adds result words.old words.new (flat_map (λ (x : Tokens). x) (map spec.else_if_words others.now)) }
 {
     for other in others.as_slice() {
-        print_tested(words, other.line, Keyword::ElseIf, &other.condition)?;
-        print_keyword(words, other.line, Keyword::Then)?;
-        print_line_end(words, other.line)?;
-        print_body(words, other.line, &other.then)?;
+        print_else_if(words, other)?;
     }
     Ok(())
 }
 
-/// Adds an `Else` part, where there is one.
+/// Adds an `ElseIf` part.
 #[cycle(statements)]
-fn print_else(words: &mut List<Token>, line: u32, otherwise: &Option<List<Statement>>) -> Result<(), Memory>
-    ensures { Adds result words.old words.new
-        (spec.else_words line (option_map (map statement_words) otherwise.now)) }
+fn print_else_if(words: &mut List<Token>, other: &ElseIf) -> Result<(), Memory>
+    ensures { Adds result words.old words.new (spec.else_if_words other.now) }
 {
-    match otherwise {
-        None => Ok(()),
-        Some(body) => {
-            print_keyword(words, line, Keyword::Else)?;
-            print_line_end(words, line)?;
-            print_body(words, line, body)
-        }
-    }
+    print_if_head(words, other.line, Keyword::ElseIf, &other.condition)?;
+    print_line_end(words, other.line)?;
+    print_body(words, other.line, &other.then)
 }
 
-/// Adds an `If` on one line.
+/// Adds an `Else` part.
 #[cycle(statements)]
-fn print_line_if(
-    words: &mut List<Token>,
-    line: u32,
-    condition: &Expression,
-    then: &List<Statement>,
-    otherwise: &Option<List<Statement>>,
-) -> Result<(), Memory>
-    ensures { Adds result words.old words.new (spec.kind_layer (layer.LineIf condition.now
-        (map statement_words then.now) (option_map (map statement_words) otherwise.now)) line) }
+fn print_else(words: &mut List<Token>, line: u32, body: &List<Statement>) -> Result<(), Memory>
+    ensures { Adds result words.old words.new (spec.else_words line (Some (map statement_words body.now))) }
 {
-    print_tested(words, line, Keyword::If, condition)?;
-    print_keyword(words, line, Keyword::Then)?;
-    print_line(words, line, then)?;
-    match otherwise {
-        None => Ok(()),
-        Some(body) => {
-            print_keyword(words, line, Keyword::Else)?;
-            print_line(words, line, body)
-        }
-    }
-}
-
-/// Adds a `Select`.
-#[cycle(statements)]
-fn print_select(
-    words: &mut List<Token>,
-    line: u32,
-    subject: &Expression,
-    cases: &List<Case>,
-    otherwise: &Option<List<Statement>>,
-) -> Result<(), Memory>
-    ensures { Adds result words.old words.new (spec.kind_layer (layer.Select subject.now
-        (map spec.case_words cases.now) (option_map (map statement_words) otherwise.now)) line) }
-{
-    print_keyword(words, line, Keyword::Select)?;
-    print_tested(words, line, Keyword::Case, subject)?;
+    print_keyword(words, line, Keyword::Else)?;
     print_line_end(words, line)?;
-    print_cases(words, cases)?;
-    if otherwise.is_some() {
-        print_keyword(words, line, Keyword::Case)?;
-    }
-    print_else(words, line, otherwise)?;
-    print_keyword(words, line, Keyword::End)?;
-    print_keyword(words, line, Keyword::Select)
+    print_body(words, line, body)
 }
 
-/// Adds the `Case` parts of a `Select`.
+/// Adds an `If` on one line as far as its `Else`.
 #[cycle(statements)]
-fn print_cases(words: &mut List<Token>, cases: &List<Case>) -> Result<(), Memory>
-    ensures { Adds result words.old words.new (flat_map (λ (x : Tokens). x) (map spec.case_words cases.now)) }
+fn print_line_then(words: &mut List<Token>, line: u32, then: &List<Statement>, condition: &Expression) -> Result<(), Memory>
+    ensures { Adds result words.old words.new (keyword line k.If ∷ expression_words line condition.now
+        ++ keyword line k.Then ∷ spec.line_words line (map statement_words then.now)) }
 {
+    print_if_head(words, line, Keyword::If, condition)?;
+    print_line(words, line, then)
+}
+
+/// Adds an `Else` on one line.
+#[cycle(statements)]
+fn print_line_else(words: &mut List<Token>, line: u32, body: &List<Statement>) -> Result<(), Memory>
+    ensures { Adds result words.old words.new (spec.line_else_words line (Some (map statement_words body.now))) }
+{
+    print_keyword(words, line, Keyword::Else)?;
+    print_line(words, line, body)
+}
+
+/// Adds a `Select` as far as its last `Case` with values.
+#[cycle(statements)]
+fn print_select(words: &mut List<Token>, line: u32, cases: &List<Case>, subject: &Expression) -> Result<(), Memory>
+    ensures { Adds result words.old words.new (keyword line k.Select ∷ keyword line k.Case
+        ∷ expression_words line subject.now ++ spec.line_end line
+        ∷ flat_map (λ (x : Tokens). x) (map spec.case_words cases.now)) }
+{
+    print_select_head(words, line, subject)?;
     for case in cases.as_slice() {
-        print_keyword(words, case.line, Keyword::Case)?;
-        print_expressions(words, case.line, case.values.as_slice())?;
-        print_line_end(words, case.line)?;
-        print_body(words, case.line, &case.body)?;
+        print_case(words, case)?;
     }
     Ok(())
+}
+
+/// Adds a `Case` part.
+#[cycle(statements)]
+fn print_case(words: &mut List<Token>, case: &Case) -> Result<(), Memory>
+    ensures { Adds result words.old words.new (spec.case_words case.now) }
+{
+    print_case_head(words, case.line, case.values.as_slice())?;
+    print_body(words, case.line, &case.body)
+}
+
+/// Adds a `Case Else` part.
+#[cycle(statements)]
+fn print_case_else(words: &mut List<Token>, line: u32, body: &List<Statement>) -> Result<(), Memory>
+    ensures { Adds result words.old words.new (spec.case_else_words line (Some (map statement_words body.now))) }
+{
+    print_keyword(words, line, Keyword::Case)?;
+    print_else(words, line, body)
 }
 
 /// Adds a `For` that counts.
@@ -214,22 +209,16 @@ fn print_cases(words: &mut List<Token>, cases: &List<Case>) -> Result<(), Memory
 fn print_for(
     words: &mut List<Token>,
     line: u32,
+    body: &List<Statement>,
     variable: &Text,
     from: &Expression,
     to: &Expression,
     by: &Option<Expression>,
-    body: &List<Statement>,
 ) -> Result<(), Memory>
     ensures { Adds result words.old words.new (spec.kind_layer (layer.For variable.now from.now to.now by.now
         (map statement_words body.now)) line) }
 {
-    print_keyword(words, line, Keyword::For)?;
-    print_name(words, line, variable)?;
-    print_symbol(words, line, Symbol::Equal)?;
-    print_expression(words, line, from)?;
-    print_tested(words, line, Keyword::To, to)?;
-    print_by(words, line, by)?;
-    print_line_end(words, line)?;
+    print_for_head(words, line, variable, from, to, by)?;
     print_body(words, line, body)?;
     print_keyword(words, line, Keyword::Next)
 }
@@ -239,30 +228,21 @@ fn print_for(
 fn print_for_each(
     words: &mut List<Token>,
     line: u32,
+    body: &List<Statement>,
     variable: &Text,
     group: &Expression,
-    body: &List<Statement>,
 ) -> Result<(), Memory>
     ensures { Adds result words.old words.new (spec.kind_layer (layer.ForEach variable.now group.now
         (map statement_words body.now)) line) }
 {
-    print_keyword(words, line, Keyword::For)?;
-    print_keyword(words, line, Keyword::Each)?;
-    print_name(words, line, variable)?;
-    print_tested(words, line, Keyword::In, group)?;
-    print_line_end(words, line)?;
+    print_for_each_head(words, line, variable, group)?;
     print_body(words, line, body)?;
     print_keyword(words, line, Keyword::Next)
 }
 
 /// Adds a `Do`.
 #[cycle(statements)]
-fn print_do(
-    words: &mut List<Token>,
-    line: u32,
-    repetition: &Repetition,
-    body: &List<Statement>,
-) -> Result<(), Memory>
+fn print_do(words: &mut List<Token>, line: u32, body: &List<Statement>, repetition: &Repetition) -> Result<(), Memory>
     ensures { Adds result words.old words.new (spec.kind_layer (layer.Do repetition.now
         (map statement_words body.now)) line) }
 {
@@ -276,12 +256,7 @@ fn print_do(
 
 /// Adds a `While`.
 #[cycle(statements)]
-fn print_while(
-    words: &mut List<Token>,
-    line: u32,
-    condition: &Expression,
-    body: &List<Statement>,
-) -> Result<(), Memory>
+fn print_while(words: &mut List<Token>, line: u32, body: &List<Statement>, condition: &Expression) -> Result<(), Memory>
     ensures { Adds result words.old words.new (spec.kind_layer (layer.While condition.now
         (map statement_words body.now)) line) }
 {
@@ -293,18 +268,12 @@ fn print_while(
 
 /// Adds a `With`.
 #[cycle(statements)]
-fn print_with(
-    words: &mut List<Token>,
-    line: u32,
-    subject: &Expression,
-    body: &List<Statement>,
-) -> Result<(), Memory>
+fn print_with(words: &mut List<Token>, line: u32, body: &List<Statement>, subject: &Expression) -> Result<(), Memory>
     ensures { Adds result words.old words.new (spec.kind_layer (layer.With subject.now
         (map statement_words body.now)) line) }
 {
     print_tested(words, line, Keyword::With, subject)?;
     print_line_end(words, line)?;
     print_body(words, line, body)?;
-    print_keyword(words, line, Keyword::End)?;
-    print_keyword(words, line, Keyword::With)
+    print_end(words, line, Keyword::With)
 }

@@ -18,6 +18,6 @@ abbrev pub invariant-print_else_ifs-loop-other : goal.invariant-print_else_ifs-l
 invariant-print_else_ifs-loop-other l = l.words ≡ l.initial.words ++ flat_map (λ (x : Tokens). x)
     (map spec.else_if_words (take l.other-index l.other-items))
 
-abbrev pub invariant-print_cases-loop-case : goal.invariant-print_cases-loop-case
-invariant-print_cases-loop-case l = l.words ≡ l.initial.words ++ flat_map (λ (x : Tokens). x)
+abbrev pub invariant-print_select-loop-case : goal.invariant-print_select-loop-case
+invariant-print_select-loop-case l = l.words ≡ l.initial.words ++ flat_map (λ (x : Tokens). x)
     (map spec.case_words (take l.case-index l.case-items))
