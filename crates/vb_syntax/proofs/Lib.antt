@@ -12,3 +12,4 @@ pub mod BlockPrinting
 pub mod UnitPrinting
 pub mod Adding
 pub mod Literals
+pub mod Branches

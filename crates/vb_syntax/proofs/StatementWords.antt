@@ -24,7 +24,7 @@ use Rattle.vb_syntax.specs.SimpleStatements.{statement}
 use Rattle.vb_syntax.specs.PrintingStatements.{kind_layer, case_layer, else_if_layer, statement_layer}
 use Rattle.vb_syntax.specs.PrintingStatements.{statement_words, else_if_words, case_words, kind_words}
 
-at_kind : (line : ℕ) (kind : StatementKind) → statement_words (statement line kind) ≡ kind_words kind line
+pub at_kind : (line : ℕ) (kind : StatementKind) → statement_words (statement line kind) ≡ kind_words kind line
 at_kind line kind = fold-roll-Statement (ℕ → Tokens) Tokens Tokens Tokens
     kind_layer case_layer else_if_layer statement_layer (record { line = line; kind = kind })
 
