@@ -15,6 +15,7 @@ pub use declaration::{Access, Constant, ConstantValue, Declared, Parameter};
 pub use expression::{Expression, Literal, Operation, Path, PathHead, Step};
 pub use laws::printed_again;
 pub use member::{CollectionPart, ContentsPart, Member};
+pub use printing::print;
 pub use statement::{
     Case, Condition, ElseIf, ExitKind, Repetition, Resized, Statement, StatementKind,
 };

@@ -5,4 +5,7 @@ mod expressions;
 mod parts;
 mod simple;
 mod statements;
+mod units;
 mod words;
+
+pub use units::print;
