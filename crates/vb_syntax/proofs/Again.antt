@@ -110,17 +110,17 @@ again_given {A} {B} {r} {s} {before} {print} {whole} Fact first holds next = rec
     go tokens y h =
         let fact = holds h.front h.thing h.first_spells in
         let found = (next h.thing fact).shows h.back y h.next_spells in record {
-      tail = print h.thing ++ found.tail;
-      whole = found.whole;
-      spelled = record {
-        front = print h.thing;
-        back = found.tail;
-        thing = h.thing;
-        split = refl;
-        first_spells = first.spelled h.front h.thing h.first_spells;
-        next_spells = found.spelled;
-      };
-    }
+          tail = print h.thing ++ found.tail;
+          whole = found.whole;
+          spelled = record {
+            front = print h.thing;
+            back = found.tail;
+            thing = h.thing;
+            split = refl;
+            first_spells = first.spelled h.front h.thing h.first_spells;
+            next_spells = found.spelled;
+          };
+        }
 
 -- the last part of a rule
 pub again_last : {A B : Type 0} {r : Rule A} {make : A → B} {before : Tokens → Tokens} {print : A → Tokens}

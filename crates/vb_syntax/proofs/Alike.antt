@@ -106,13 +106,13 @@ blind_bind {A} {B} {r} {s} first next = record { moved = go }
     go : (tokens other : Tokens) (y : B) → kinds other ≡ kinds tokens → (r >>= s) tokens y → (r >>= s) other y
     go tokens other y e h =
         let cut = parts h.front h.back other (e ∙ ap kinds h.split ∙ kinds-append h.front h.back) in record {
-      front = cut.before;
-      back = cut.after;
-      thing = h.thing;
-      split = cut.split;
-      first_spells = first.moved h.front cut.before h.thing cut.first h.first_spells;
-      next_spells = (next h.thing).moved h.back cut.after y cut.second h.next_spells;
-    }
+          front = cut.before;
+          back = cut.after;
+          thing = h.thing;
+          split = cut.split;
+          first_spells = first.moved h.front cut.before h.thing cut.first h.first_spells;
+          next_spells = (next h.thing).moved h.back cut.after y cut.second h.next_spells;
+        }
 
 pub blind_after : {A B : Type 0} {r : Rule A} {s : Rule B} → Turns r r → Blind s → Blind (r >> s)
 blind_after {A} {B} {r} {s} first next = record { moved = go }
@@ -121,13 +121,13 @@ blind_after {A} {B} {r} {s} first next = record { moved = go }
     go tokens other y e h =
         let cut = parts h.front h.back other (e ∙ ap kinds h.split ∙ kinds-append h.front h.back) in
         let found = first.moved h.front cut.before h.thing cut.first h.first_spells in record {
-      front = cut.before;
-      back = cut.after;
-      thing = found.0;
-      split = cut.split;
-      first_spells = found.1;
-      next_spells = next.moved h.back cut.after y cut.second h.next_spells;
-    }
+          front = cut.before;
+          back = cut.after;
+          thing = found.0;
+          split = cut.split;
+          first_spells = found.1;
+          next_spells = next.moved h.back cut.after y cut.second h.next_spells;
+        }
 
 pub blind_or : {A : Type 0} {r s : Rule A} → Blind r → Blind s → Blind (r or s)
 blind_or {A} {r} {s} a b = record { moved = go }
@@ -146,12 +146,12 @@ blind_many {A} {r} a = record { moved = go }
     go tokens other [] e h = empty other (e ∙ ap kinds h)
     go tokens other (x ∷ xs) e h =
         let cut = parts h.front h.back other (e ∙ ap kinds h.split ∙ kinds-append h.front h.back) in record {
-      front = cut.before;
-      back = cut.after;
-      split = cut.split;
-      first = a.moved h.front cut.before x cut.first h.first;
-      second = go h.back cut.after xs cut.second h.second;
-    }
+          front = cut.before;
+          back = cut.after;
+          split = cut.split;
+          first = a.moved h.front cut.before x cut.first h.first;
+          second = go h.back cut.after xs cut.second h.second;
+        }
 
 -- ---- words
 
@@ -176,11 +176,14 @@ turns_word found = record { moved = go }
   where
     go : (tokens other : Tokens) (x : ℕ) → kinds other ≡ kinds tokens → word found tokens x
         → (y : ℕ) × word found other y
-    go tokens other x e h = let w = alone h.token other (e ∙ ap kinds h.alone) in (w.token_of.line, record {
-      token = w.token_of;
-      alone = w.alone;
-      passes = line_moved (tag found) w.token_of h.token x w.same h.passes;
-    })
+    go tokens other x e h = let w = alone h.token other (e ∙ ap kinds h.alone) in (
+      w.token_of.line,
+      record {
+        token = w.token_of;
+        alone = w.alone;
+        passes = line_moved (tag found) w.token_of h.token x w.same h.passes;
+      },
+    )
 
 pub blind_keyword : {B : Type 0} {s : Rule B} (found : Keyword) → Blind s → Blind (keyword found >> s)
 blind_keyword found next = blind_after (turns_word (kind.Keyword found)) next
@@ -200,11 +203,14 @@ turns_one {A} {B} r s passes = record { moved = go }
     go : (tokens other : Tokens) (x : A) → kinds other ≡ kinds tokens → one r tokens x → (y : B) × one s other y
     go tokens other x e h =
         let w = alone h.token other (e ∙ ap kinds h.alone) in
-        let found = passes w.token_of h.token x w.same h.passes in (found.0, record {
-      token = w.token_of;
-      alone = w.alone;
-      passes = found.1;
-    })
+        let found = passes w.token_of h.token x w.same h.passes in (
+          found.0,
+          record {
+            token = w.token_of;
+            alone = w.alone;
+            passes = found.1;
+          },
+        )
 
 pub turns_pure : {A B : Type 0} (x : A) (y : B) → Turns (pure x) (pure y)
 turns_pure x y = record { moved = λ tokens other z e h. (y, (empty other (e ∙ ap kinds h.0), refl)) }
@@ -218,14 +224,17 @@ turns_bind {A} {B} {C} {D} {r} {q} {s} {t} first next = record { moved = go }
     go tokens other z e h =
         let cut = parts h.front h.back other (e ∙ ap kinds h.split ∙ kinds-append h.front h.back) in
         let found = first.moved h.front cut.before h.thing cut.first h.first_spells in
-        let rest = (next h.thing found.0).moved h.back cut.after z cut.second h.next_spells in (rest.0, record {
-      front = cut.before;
-      back = cut.after;
-      thing = found.0;
-      split = cut.split;
-      first_spells = found.1;
-      next_spells = rest.1;
-    })
+        let rest = (next h.thing found.0).moved h.back cut.after z cut.second h.next_spells in (
+          rest.0,
+          record {
+            front = cut.before;
+            back = cut.after;
+            thing = found.0;
+            split = cut.split;
+            first_spells = found.1;
+            next_spells = rest.1;
+          },
+        )
 
 pub turns_or : {A B : Type 0} {r s : Rule A} {q t : Rule B} → Turns r q → Turns s t → Turns (r or s) (q or t)
 turns_or {A} {B} {r} {s} {q} {t} a b = record { moved = go }

@@ -235,8 +235,8 @@ module _ (depth : ℕ) (inner : Blocks) (within : BlocksAgain inner) where
   -- [ cond ] behind "Loop"
   abbrev behind_loop : Rule Repetition
   behind_loop = pure repetition.Endless or (do
-      found ← statements.condition strict depth inner (expressions depth).expression
-      pure (repetition.After found.0 found.1))
+    found ← statements.condition strict depth inner (expressions depth).expression
+    pure (repetition.After found.0 found.1))
 
   again_behind_loop : Again behind_loop after_words
   again_behind_loop = again (again_or (again_pure refl) (again_last again_condition (λ found. refl)))

@@ -65,7 +65,7 @@ begins_moved r t shorter rest tokens e h =
     let front : Tokens = h.0 in
     let back : Tokens = h.1 in
     let cut = parts front (back ++ rest) tokens (e ∙ ap (λ l. kinds (l ++ rest)) h.4
-        ∙ ap kinds (append_assoc front back rest) ∙ kinds-append front (back ++ rest)) in
+    ∙ ap kinds (append_assoc front back rest) ∙ kinds-append front (back ++ rest)) in
     let found = t.moved front cut.before h.2 cut.first h.3 in
     (cut.before, cut.after, found.0, found.1, cut.split)
 
@@ -145,15 +145,15 @@ module _ (line : ℕ) (depth : ℕ) (head : PathHead) (steps : List Step) (back 
   some_words [] h = let clash : [] ≡ h.thing ∷ h.next_spells.thing = h.next_spells.next_spells.1 in absurd cc
   some_words (first ∷ more) h =
       let print : Prints (words.list_of (expressions depth).expression) (λ xs. listed line (map (expression_words line)
-          xs)) = prints_listed line (expression_words line) (expressions_print line depth).expression in
+      xs)) = prints_listed line (expression_words line) (expressions_print line depth).expression in
       let same = print.same back (first ∷ more) h in record {
-    spells = inr (inr (inl ((again_listed line (expression_words line) (again_expression line depth)).spelled back (first
-        ∷ more) h)));
-    rest = [];
-    same = sym same ∙ ap kinds (sym (append-nil _));
-    parenthesis = λ t. begins_moved (words.symbol s.Open) (turns_word (kind.Symbol s.Open)) back [] _
-        (same ∙ ap kinds (sym (append-nil back))) (opens t);
-  }
+        spells = inr (inr (inl ((again_listed line (expression_words line) (again_expression line depth)).spelled back (first
+            ∷ more) h)));
+        rest = [];
+        same = sym same ∙ ap kinds (sym (append-nil _));
+        parenthesis = λ t. begins_moved (words.symbol s.Open) (turns_word (kind.Symbol s.Open)) back [] _
+            (same ∙ ap kinds (sym (append-nil back))) (opens t);
+      }
 
   given_again : (given : List Expression) → statements.arguments strict depth back given
       → Given depth steps back given (argument_words line (path_of head steps) given)
@@ -177,12 +177,15 @@ prints_head_at line = prints (prints_or (tail prints_named)
     shows (kind.Name text bracketed) at x e = let same : Path (ℕ × PathHead) (at, head.Name text) x = cc in
         ap (λ (y : ℕ × PathHead). kinds (head_words line y.1)) (sym same)
     shows _ at x e = absurd cc
+
     prints_named : Prints (one named) (λ found. head_words line found.1)
     prints_named = record {
       same = λ tokens x h. shows h.token.kind h.token.line x h.passes ∙ sym (ap kinds h.alone);
     }
+
     prints_me : Prints (words.keyword k.Me) (λ _. keyword line k.Me ∷ [])
     prints_me = record { same = λ tokens x h. sym (kinds-keyword k.Me tokens x h) }
+
     prints_point : Prints (words.symbol s.WithPoint) (λ _. symbol line s.WithPoint ∷ [])
     prints_point = record { same = λ tokens x h. sym (kinds-symbol s.WithPoint tokens x h) }
 
@@ -200,10 +203,10 @@ module _ (depth : ℕ) (tokens : Tokens) (found : Statement) (h : statements.Cal
       let back = argument_words h.callee.0 (path_of h.callee.1 h.callee.2) h.given in
       let path_same = (prints_path_at h.callee.0 depth).same h.front h.callee h.callee_spells in
       let alike : kinds tokens ≡ kinds ((front ++ back) ++ given.rest) = ap kinds h.split ∙ kinds-append h.front h.back
-          ∙ ap (λ l. l ++ kinds h.back) (sym path_same) ∙ ap (λ l. kinds front ++ l) given.same
-          ∙ sym (kinds-append front (back ++ given.rest)) ∙ ap kinds (sym (append_assoc front back given.rest)) in
+      ∙ ap (λ l. l ++ kinds h.back) (sym path_same) ∙ ap (λ l. kinds front ++ l) given.same
+      ∙ sym (kinds-append front (back ++ given.rest)) ∙ ap kinds (sym (append_assoc front back given.rest)) in
       subst (λ t. statements.Call strict depth t found) (sym (ap statement_words h.is ∙ shown_statements.words-call
-          h.callee.0 (path_of h.callee.1 h.callee.2) h.given)) (record {
+      h.callee.0 (path_of h.callee.1 h.callee.2) h.given)) (record {
         front = front;
         back = back;
         split = refl;

@@ -148,8 +148,10 @@ module _ (line : ℕ) where
   prints_literal = record { same = λ tokens found h. ap (λ l. l ∷ []) (literal_plain found) ∙ sym (kinds-literal tokens found h) }
 
   prints_operator : (level : ℕ) → Prints (one (operator_at level)) (λ found. word_at line (operator_word found) ∷ [])
-  prints_operator level = record { same = λ tokens found h. ap (λ l. l ∷ []) (operator_plain found)
-      ∙ sym (kinds-operator level tokens found h) }
+  prints_operator level = record {
+    same = λ tokens found h. ap (λ l. l ∷ []) (operator_plain found)
+        ∙ sym (kinds-operator level tokens found h);
+  }
 
   words_chain : (first : Expression) (more : List Operation) → expression_words line (chain first more)
       ≡ expression_words line first ++ flat_map (λ (x : Tokens). x) (map (operation_words line) more)
@@ -170,8 +172,10 @@ module _ (line : ℕ) where
         some : PrintsTail (words.list_of inside.expression) (λ tail. tail) (λ arguments. listed line (map (expression_words
             line) arguments))
         some = tail (prints_listed line (expression_words line) within.expression)
+
         group_words : List Expression → Tokens
         group_words arguments = path_step_words line (behind.Group arguments)
+
         prints_group : Prints (grammar.group opens inside) group_words
         prints_group = prints (prints_where (prints_symbol s.Open line (prints_bind
             (prints (prints_or (prints_pure refl) some))

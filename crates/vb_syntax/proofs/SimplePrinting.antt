@@ -95,6 +95,7 @@ again_constant_value line = again (again_or (again_symbol s.Minus line negative)
   where
     Shown : ConstantValue → Type 0
     Shown x = TailAgain (one negative_of) (λ tail. symbol line s.Minus ∷ tail) (constant_value_words line) x
+
     shows : (found : TokenKind) (x : ConstantValue) → negative_of_kind found ≡ Some x → Shown x
     shows (kind.Integer number) x e = let same : value.NegativeInteger number ≡ x = cc in subst Shown same (record {
       tail = printed line (kind.Integer number) ∷ [];
@@ -107,6 +108,7 @@ again_constant_value line = again (again_or (again_symbol s.Minus line negative)
       spelled = record { token = printed line (kind.Long number); alone = refl; passes = refl };
     })
     shows _ x e = absurd cc
+
     negative : AgainTail (one negative_of) (λ tail. symbol line s.Minus ∷ tail) (constant_value_words line)
     negative = record { shows = λ tokens x h. shows h.token.kind x h.passes }
 
@@ -179,10 +181,13 @@ path_shown looser depth line tokens found h = subst Shown (sym h.next_spells.nex
   where
     Shown : ℕ × PathHead × List Step → Type 0
     Shown x = statements.path_at looser depth (path_words line (path_of x.1 x.2)) (line, x.1, x.2)
+
     front : PathHead
     front = h.thing.1
+
     steps : List Step
     steps = h.next_spells.thing
+
     behind_it : Tokens
     behind_it = flat_map (λ (x : Tokens). x) (map (path_step_words line) steps)
 

@@ -59,6 +59,7 @@ module _ (depth : ℕ) where
         found ← words.list_of (expressions within).expression
         words.symbol s.Close
         pure found)
+
       again_sizes : Again sizes (λ found. symbol line s.Open ∷ listed line (map (expression_words line) found)
           ++ symbol line s.Close ∷ [])
       again_sizes = again (again_opened depth (λ within. again_symbol s.Open line (again_bind

@@ -60,11 +60,13 @@ again_parameters line depth = record { spelled = go }
       found ← pure [] or words.list_of (declarations.parameter within)
       words.symbol s.Close
       pure found)
+
     again_group : Again group (λ found. symbol line s.Open ∷ listed line (map (parameter_words line) found)
         ++ symbol line s.Close ∷ [])
     again_group = again (again_opened depth (λ within. again_symbol s.Open line
         (again_bind (again_some line (parameter_words line) (again_parameter line within))
         (λ found. again_symbol s.Close line (again_pure refl)))))
+
     go : (tokens : Tokens) (found : List Parameter) → declarations.parameters depth tokens found
         → declarations.parameters depth (parameters_words line found) found
     go tokens [] h = inl (refl, refl)

@@ -6,13 +6,15 @@ ghost use Rattle.vb_syntax.specs.PrintingUnits as units;
 ghost use Rattle.vb_syntax.specs.PrintingOutcome.{Adds};
 
 use crate::declaration::{Access, Constant, ConstantValue, Declared, Parameter};
-use crate::printing::words::{
-    literal_word, print_keyword, print_name, print_symbol, print_word,
-};
+use crate::printing::words::{literal_word, print_keyword, print_name, print_symbol, print_word};
 use vb_value::{Keyword, List, Memory, Symbol, Token, TokenKind};
 
 /// Adds the word before a declaration, where there is one.
-pub fn print_access(words: &mut List<Token>, line: u32, access: Option<Access>) -> Result<(), Memory>
+pub fn print_access(
+    words: &mut List<Token>,
+    line: u32,
+    access: Option<Access>,
+) -> Result<(), Memory>
     ensures { Adds result words.old words.new (spec.access_words line access) }
 {
     match access {
@@ -51,7 +53,11 @@ fn print_declared(words: &mut List<Token>, line: u32, found: &Declared) -> Resul
 }
 
 /// Adds declared variables, with commas between.
-pub fn print_variables(words: &mut List<Token>, line: u32, variables: &[Declared]) -> Result<(), Memory>
+pub fn print_variables(
+    words: &mut List<Token>,
+    line: u32,
+    variables: &[Declared],
+) -> Result<(), Memory>
     ensures { Adds result words.old words.new (listed line (map (spec.declared_words line) variables.now)) }
 {
     let [first, more @ ..] = variables else {
@@ -66,7 +72,11 @@ pub fn print_variables(words: &mut List<Token>, line: u32, variables: &[Declared
 }
 
 /// Adds what a constant stands for.
-fn print_constant_value(words: &mut List<Token>, line: u32, value: &ConstantValue) -> Result<(), Memory>
+fn print_constant_value(
+    words: &mut List<Token>,
+    line: u32,
+    value: &ConstantValue,
+) -> Result<(), Memory>
     ensures { Adds result words.old words.new (spec.constant_value_words line value.now) }
 {
     match value {
@@ -92,7 +102,11 @@ fn print_constant(words: &mut List<Token>, line: u32, found: &Constant) -> Resul
 }
 
 /// Adds declared constants, with commas between.
-pub fn print_constants(words: &mut List<Token>, line: u32, constants: &[Constant]) -> Result<(), Memory>
+pub fn print_constants(
+    words: &mut List<Token>,
+    line: u32,
+    constants: &[Constant],
+) -> Result<(), Memory>
     ensures { Adds result words.old words.new (listed line (map (spec.constant_words line) constants.now)) }
 {
     let [first, more @ ..] = constants else {
@@ -117,7 +131,11 @@ fn print_parameter(words: &mut List<Token>, line: u32, found: &Parameter) -> Res
 }
 
 /// Adds the parameters of a procedure, with their parentheses where there are any.
-pub fn print_parameters(words: &mut List<Token>, line: u32, parameters: &[Parameter]) -> Result<(), Memory>
+pub fn print_parameters(
+    words: &mut List<Token>,
+    line: u32,
+    parameters: &[Parameter],
+) -> Result<(), Memory>
     ensures { Adds result words.old words.new (units.parameters_words line parameters.now) }
 {
     let [first, more @ ..] = parameters else {

@@ -28,7 +28,11 @@ fn print_head(words: &mut List<Token>, line: u32, head: &PathHead) -> Result<(),
 
 /// Adds an expression in a line. It recurses once for each expression inside another.
 #[cycle(expressions)]
-pub fn print_expression(words: &mut List<Token>, line: u32, expression: &Expression) -> Result<(), Memory>
+pub fn print_expression(
+    words: &mut List<Token>,
+    line: u32,
+    expression: &Expression,
+) -> Result<(), Memory>
     ensures { Adds result words.old words.new (spec.expression_words line expression.now) }
 {
     match expression {
@@ -61,7 +65,11 @@ pub fn print_expression(words: &mut List<Token>, line: u32, expression: &Express
 
 /// Adds operators with their right operands in a line.
 #[cycle(expressions)]
-fn print_operations(words: &mut List<Token>, line: u32, operations: &[Operation]) -> Result<(), Memory>
+fn print_operations(
+    words: &mut List<Token>,
+    line: u32,
+    operations: &[Operation],
+) -> Result<(), Memory>
     ensures { Adds result words.old words.new
         (flat_map (λ (x : Tokens). x) (map (spec.operation_words line) operations.now)) }
 {
@@ -104,7 +112,11 @@ fn print_step(words: &mut List<Token>, line: u32, step: &Step) -> Result<(), Mem
 
 /// Adds expressions in a line, with commas between.
 #[cycle(expressions)]
-pub fn print_expressions(words: &mut List<Token>, line: u32, expressions: &[Expression]) -> Result<(), Memory>
+pub fn print_expressions(
+    words: &mut List<Token>,
+    line: u32,
+    expressions: &[Expression],
+) -> Result<(), Memory>
     ensures { Adds result words.old words.new (listed line (map (spec.expression_words line) expressions.now)) }
 {
     let [first, more @ ..] = expressions else {

@@ -23,7 +23,12 @@ pub fn print_line_end(words: &mut List<Token>, line: u32) -> Result<(), Memory>
 }
 
 /// Adds a keyword and an expression behind it.
-pub fn print_tested(words: &mut List<Token>, line: u32, word: Keyword, test: &Expression) -> Result<(), Memory>
+pub fn print_tested(
+    words: &mut List<Token>,
+    line: u32,
+    word: Keyword,
+    test: &Expression,
+) -> Result<(), Memory>
     ensures { Adds result words.old words.new (keyword line word ∷ expression_words line test.now) }
 {
     print_keyword(words, line, word)?;
@@ -43,7 +48,11 @@ fn print_condition(words: &mut List<Token>, line: u32, condition: &Condition) ->
 }
 
 /// Adds the condition behind `Do`, where it stands there.
-pub fn print_before(words: &mut List<Token>, line: u32, repetition: &Repetition) -> Result<(), Memory>
+pub fn print_before(
+    words: &mut List<Token>,
+    line: u32,
+    repetition: &Repetition,
+) -> Result<(), Memory>
     ensures { Adds result words.old words.new (spec.before_words line repetition.now) }
 {
     match repetition {
@@ -84,7 +93,12 @@ pub fn print_end(words: &mut List<Token>, line: u32, word: Keyword) -> Result<()
 }
 
 /// Adds an `If` or `ElseIf` as far as `Then`.
-pub fn print_if_head(words: &mut List<Token>, line: u32, word: Keyword, test: &Expression) -> Result<(), Memory>
+pub fn print_if_head(
+    words: &mut List<Token>,
+    line: u32,
+    word: Keyword,
+    test: &Expression,
+) -> Result<(), Memory>
     ensures { Adds result words.old words.new
         (keyword line word ∷ expression_words line test.now ++ keyword line k.Then ∷ []) }
 {
@@ -93,7 +107,11 @@ pub fn print_if_head(words: &mut List<Token>, line: u32, word: Keyword, test: &E
 }
 
 /// Adds a `Case` as far as the end of its line.
-pub fn print_case_head(words: &mut List<Token>, line: u32, values: &[Expression]) -> Result<(), Memory>
+pub fn print_case_head(
+    words: &mut List<Token>,
+    line: u32,
+    values: &[Expression],
+) -> Result<(), Memory>
     ensures { Adds result words.old words.new (keyword line k.Case
         ∷ listed line (map (expression_words line) values.now) ++ spec.line_end line ∷ []) }
 {
@@ -103,7 +121,11 @@ pub fn print_case_head(words: &mut List<Token>, line: u32, values: &[Expression]
 }
 
 /// Adds a `Select` as far as the end of its line.
-pub fn print_select_head(words: &mut List<Token>, line: u32, subject: &Expression) -> Result<(), Memory>
+pub fn print_select_head(
+    words: &mut List<Token>,
+    line: u32,
+    subject: &Expression,
+) -> Result<(), Memory>
     ensures { Adds result words.old words.new (keyword line k.Select ∷ keyword line k.Case
         ∷ expression_words line subject.now ++ spec.line_end line ∷ []) }
 {

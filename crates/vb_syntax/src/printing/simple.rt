@@ -18,7 +18,12 @@ use crate::statement::{ExitKind, Resized};
 use vb_value::{Copied, Keyword, List, Memory, Symbol, Text, Token, TokenKind};
 
 /// Adds a declaration of constants.
-pub fn print_const(words: &mut List<Token>, line: u32, access: Option<Access>, constants: &List<Constant>) -> Result<(), Memory>
+pub fn print_const(
+    words: &mut List<Token>,
+    line: u32,
+    access: Option<Access>,
+    constants: &List<Constant>,
+) -> Result<(), Memory>
     ensures { Adds result words.old words.new (spec.kind_layer (layer.Const access constants.now) line) }
 {
     print_access(words, line, access)?;
@@ -27,7 +32,11 @@ pub fn print_const(words: &mut List<Token>, line: u32, access: Option<Access>, c
 }
 
 /// Adds a declaration of variables.
-pub fn print_dim(words: &mut List<Token>, line: u32, variables: &List<Declared>) -> Result<(), Memory>
+pub fn print_dim(
+    words: &mut List<Token>,
+    line: u32,
+    variables: &List<Declared>,
+) -> Result<(), Memory>
     ensures { Adds result words.old words.new (spec.kind_layer (layer.Dim variables.now) line) }
 {
     print_keyword(words, line, Keyword::Dim)?;
@@ -60,7 +69,12 @@ fn print_arrays(words: &mut List<Token>, line: u32, arrays: &[Resized]) -> Resul
 }
 
 /// Adds a change of the bounds of arrays.
-pub fn print_redim(words: &mut List<Token>, line: u32, preserve: bool, arrays: &List<Resized>) -> Result<(), Memory>
+pub fn print_redim(
+    words: &mut List<Token>,
+    line: u32,
+    preserve: bool,
+    arrays: &List<Resized>,
+) -> Result<(), Memory>
     ensures { Adds result words.old words.new (spec.kind_layer (layer.ReDim preserve arrays.now) line) }
 {
     print_keyword(words, line, Keyword::ReDim)?;
@@ -71,7 +85,12 @@ pub fn print_redim(words: &mut List<Token>, line: u32, preserve: bool, arrays: &
 }
 
 /// Adds an assignment of a value.
-pub fn print_assignment(words: &mut List<Token>, line: u32, target: &Path, value: &Expression) -> Result<(), Memory>
+pub fn print_assignment(
+    words: &mut List<Token>,
+    line: u32,
+    target: &Path,
+    value: &Expression,
+) -> Result<(), Memory>
     ensures { Adds result words.old words.new (spec.kind_layer (layer.Assign target.now value.now) line) }
 {
     print_path(words, line, target)?;
@@ -80,7 +99,12 @@ pub fn print_assignment(words: &mut List<Token>, line: u32, target: &Path, value
 }
 
 /// Adds an assignment of an object.
-pub fn print_set(words: &mut List<Token>, line: u32, target: &Path, value: &Expression) -> Result<(), Memory>
+pub fn print_set(
+    words: &mut List<Token>,
+    line: u32,
+    target: &Path,
+    value: &Expression,
+) -> Result<(), Memory>
     ensures { Adds result words.old words.new (spec.kind_layer (layer.Set target.now value.now) line) }
 {
     print_keyword(words, line, Keyword::Set)?;
@@ -107,7 +131,12 @@ fn ends_in_group(steps: &[Step]) -> bool
 
 /// Adds the arguments of a call. Where there are none behind a path that ends in a parenthesis, an empty one
 /// follows.
-fn print_arguments(words: &mut List<Token>, line: u32, callee: &Path, arguments: &[Expression]) -> Result<(), Memory>
+fn print_arguments(
+    words: &mut List<Token>,
+    line: u32,
+    callee: &Path,
+    arguments: &[Expression],
+) -> Result<(), Memory>
     ensures { Adds result words.old words.new (spec.argument_words line callee.now arguments.now) }
 {
     if arguments.is_empty() && ends_in_group(callee.steps.as_slice()) {
@@ -118,7 +147,12 @@ fn print_arguments(words: &mut List<Token>, line: u32, callee: &Path, arguments:
 }
 
 /// Adds a call.
-pub fn print_call(words: &mut List<Token>, line: u32, callee: &Path, arguments: &List<Expression>) -> Result<(), Memory>
+pub fn print_call(
+    words: &mut List<Token>,
+    line: u32,
+    callee: &Path,
+    arguments: &List<Expression>,
+) -> Result<(), Memory>
     ensures { Adds result words.old words.new (spec.kind_layer (layer.Call callee.now arguments.now) line) }
 {
     print_path(words, line, callee)?;
@@ -198,7 +232,11 @@ pub fn print_page_text(words: &mut List<Token>, line: u32, text: &Text) -> Resul
 }
 
 /// Adds a write of the page.
-pub fn print_page_write(words: &mut List<Token>, line: u32, value: &Expression) -> Result<(), Memory>
+pub fn print_page_write(
+    words: &mut List<Token>,
+    line: u32,
+    value: &Expression,
+) -> Result<(), Memory>
     ensures { Adds result words.old words.new (spec.kind_layer (layer.PageWrite value.now) line) }
 {
     print_word(words, line, TokenKind::PageWrite)?;

@@ -20,8 +20,7 @@ use crate::printing::simple::{
     print_go_to_zero, print_page_text, print_page_write, print_redim, print_resume_next, print_set,
 };
 use crate::printing::words::{print_keyword, print_symbol};
-use crate::statement::StatementKind as Kind;
-use crate::statement::{Case, ElseIf, Repetition, Statement};
+use crate::statement::{Case, ElseIf, Repetition, Statement, StatementKind as Kind};
 use vb_value::{Keyword, List, Memory, Symbol, Text, Token};
 
 /// Adds a statement. It recurses once for each statement and each expression inside another.
@@ -45,7 +44,12 @@ fn print_kind(words: &mut List<Token>, line: u32, kind: &Kind) -> Result<(), Mem
         Kind::Assign { target, value } => print_assignment(words, line, target, value),
         Kind::Call { callee, arguments } => print_call(words, line, callee, arguments),
         Kind::CallPath { callee } => print_call_path(words, line, callee),
-        Kind::If { condition, then, others, otherwise } => {
+        Kind::If {
+            condition,
+            then,
+            others,
+            otherwise,
+        } => {
             print_then(words, line, then, condition)?;
             print_else_ifs(words, others)?;
             if let Some(body) = otherwise {
@@ -53,24 +57,40 @@ fn print_kind(words: &mut List<Token>, line: u32, kind: &Kind) -> Result<(), Mem
             }
             print_end(words, line, Keyword::If)
         }
-        Kind::LineIf { condition, then, otherwise } => {
+        Kind::LineIf {
+            condition,
+            then,
+            otherwise,
+        } => {
             print_line_then(words, line, then, condition)?;
             match otherwise {
                 Some(body) => print_line_else(words, line, body),
                 None => Ok(()),
             }
         }
-        Kind::Select { subject, cases, otherwise } => {
+        Kind::Select {
+            subject,
+            cases,
+            otherwise,
+        } => {
             print_select(words, line, cases, subject)?;
             if let Some(body) = otherwise {
                 print_case_else(words, line, body)?;
             }
             print_end(words, line, Keyword::Select)
         }
-        Kind::For { variable, from, to, step, body } => {
-            print_for(words, line, body, variable, from, to, step)
-        }
-        Kind::ForEach { variable, group, body } => print_for_each(words, line, body, variable, group),
+        Kind::For {
+            variable,
+            from,
+            to,
+            step,
+            body,
+        } => { print_for(words, line, body, variable, from, to, step) }
+        Kind::ForEach {
+            variable,
+            group,
+            body,
+        } => print_for_each(words, line, body, variable, group),
         Kind::Do { repetition, body } => print_do(words, line, body, repetition),
         Kind::While { condition, body } => print_while(words, line, body, condition),
         Kind::With { subject, body } => print_with(words, line, body, subject),
@@ -85,7 +105,11 @@ fn print_kind(words: &mut List<Token>, line: u32, kind: &Kind) -> Result<(), Mem
 
 /// Adds statements, each with the end of a line behind it.
 #[cycle(statements)]
-pub fn print_body(words: &mut List<Token>, line: u32, statements: &List<Statement>) -> Result<(), Memory>
+pub fn print_body(
+    words: &mut List<Token>,
+    line: u32,
+    statements: &List<Statement>,
+) -> Result<(), Memory>
     ensures { Adds result words.old words.new (spec.body_words line statements.now) }
 {
     for statement in statements.as_slice() {
@@ -97,7 +121,11 @@ pub fn print_body(words: &mut List<Token>, line: u32, statements: &List<Statemen
 
 /// Adds the statements of one line, with ":" between.
 #[cycle(statements)]
-fn print_line(words: &mut List<Token>, line: u32, statements: &List<Statement>) -> Result<(), Memory>
+fn print_line(
+    words: &mut List<Token>,
+    line: u32,
+    statements: &List<Statement>,
+) -> Result<(), Memory>
     ensures { Adds result words.old words.new (spec.line_words line (map statement_words statements.now)) }
 {
     let [first, more @ ..] = statements.as_slice() else {
@@ -113,7 +141,12 @@ fn print_line(words: &mut List<Token>, line: u32, statements: &List<Statement>) 
 
 /// Adds an `If` on several lines as far as its first block.
 #[cycle(statements)]
-fn print_then(words: &mut List<Token>, line: u32, then: &List<Statement>, condition: &Expression) -> Result<(), Memory>
+fn print_then(
+    words: &mut List<Token>,
+    line: u32,
+    then: &List<Statement>,
+    condition: &Expression,
+) -> Result<(), Memory>
     ensures { Adds result words.old words.new (keyword line k.If ∷ expression_words line condition.now
         ++ keyword line k.Then ∷ spec.line_end line ∷ spec.body_words line then.now) }
 {
@@ -155,7 +188,12 @@ fn print_else(words: &mut List<Token>, line: u32, body: &List<Statement>) -> Res
 
 /// Adds an `If` on one line as far as its `Else`.
 #[cycle(statements)]
-fn print_line_then(words: &mut List<Token>, line: u32, then: &List<Statement>, condition: &Expression) -> Result<(), Memory>
+fn print_line_then(
+    words: &mut List<Token>,
+    line: u32,
+    then: &List<Statement>,
+    condition: &Expression,
+) -> Result<(), Memory>
     ensures { Adds result words.old words.new (keyword line k.If ∷ expression_words line condition.now
         ++ keyword line k.Then ∷ spec.line_words line (map statement_words then.now)) }
 {
@@ -174,7 +212,12 @@ fn print_line_else(words: &mut List<Token>, line: u32, body: &List<Statement>) -
 
 /// Adds a `Select` as far as its last `Case` with values.
 #[cycle(statements)]
-fn print_select(words: &mut List<Token>, line: u32, cases: &List<Case>, subject: &Expression) -> Result<(), Memory>
+fn print_select(
+    words: &mut List<Token>,
+    line: u32,
+    cases: &List<Case>,
+    subject: &Expression,
+) -> Result<(), Memory>
     ensures { Adds result words.old words.new (keyword line k.Select ∷ keyword line k.Case
         ∷ expression_words line subject.now ++ spec.line_end line
         ∷ flat_map (λ (x : Tokens). x) (map spec.case_words cases.now)) }
@@ -242,7 +285,12 @@ fn print_for_each(
 
 /// Adds a `Do`.
 #[cycle(statements)]
-fn print_do(words: &mut List<Token>, line: u32, body: &List<Statement>, repetition: &Repetition) -> Result<(), Memory>
+fn print_do(
+    words: &mut List<Token>,
+    line: u32,
+    body: &List<Statement>,
+    repetition: &Repetition,
+) -> Result<(), Memory>
     ensures { Adds result words.old words.new (spec.kind_layer (layer.Do repetition.now
         (map statement_words body.now)) line) }
 {
@@ -256,7 +304,12 @@ fn print_do(words: &mut List<Token>, line: u32, body: &List<Statement>, repetiti
 
 /// Adds a `While`.
 #[cycle(statements)]
-fn print_while(words: &mut List<Token>, line: u32, body: &List<Statement>, condition: &Expression) -> Result<(), Memory>
+fn print_while(
+    words: &mut List<Token>,
+    line: u32,
+    body: &List<Statement>,
+    condition: &Expression,
+) -> Result<(), Memory>
     ensures { Adds result words.old words.new (spec.kind_layer (layer.While condition.now
         (map statement_words body.now)) line) }
 {
@@ -268,7 +321,12 @@ fn print_while(words: &mut List<Token>, line: u32, body: &List<Statement>, condi
 
 /// Adds a `With`.
 #[cycle(statements)]
-fn print_with(words: &mut List<Token>, line: u32, body: &List<Statement>, subject: &Expression) -> Result<(), Memory>
+fn print_with(
+    words: &mut List<Token>,
+    line: u32,
+    body: &List<Statement>,
+    subject: &Expression,
+) -> Result<(), Memory>
     ensures { Adds result words.old words.new (spec.kind_layer (layer.With subject.now
         (map statement_words body.now)) line) }
 {

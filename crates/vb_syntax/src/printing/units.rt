@@ -11,9 +11,7 @@ use crate::declaration::{Access, Declared, Parameter};
 use crate::printing::declarations::{print_access, print_parameters, print_variables};
 use crate::printing::parts::{print_end, print_line_end};
 use crate::printing::statements::{print_body, print_statement};
-use crate::printing::words::{
-    print_explicit_word, print_keyword, print_name, print_property_word,
-};
+use crate::printing::words::{print_explicit_word, print_keyword, print_name, print_property_word};
 use crate::unit::{
     Class, ClassMember, FieldAccess, Item, Procedure, ProcedureKind, Property, PropertyKind, Unit,
 };
@@ -63,7 +61,12 @@ fn access_word(access: Access) -> Keyword
 }
 
 /// Adds a name, parameters and the end of the line.
-fn print_signature(words: &mut List<Token>, line: u32, name: &Text, parameters: &List<Parameter>) -> Result<(), Memory>
+fn print_signature(
+    words: &mut List<Token>,
+    line: u32,
+    name: &Text,
+    parameters: &List<Parameter>,
+) -> Result<(), Memory>
     ensures { Adds result words.old words.new (name_word line name.now
         ∷ spec.parameters_words line parameters.now ++ line_end line ∷ []) }
 {
@@ -110,7 +113,12 @@ fn print_property(words: &mut List<Token>, found: &Property) -> Result<(), Memor
 }
 
 /// Adds a keyword and declared variables behind it.
-fn print_fields(words: &mut List<Token>, line: u32, word: Keyword, fields: &List<Declared>) -> Result<(), Memory>
+fn print_fields(
+    words: &mut List<Token>,
+    line: u32,
+    word: Keyword,
+    fields: &List<Declared>,
+) -> Result<(), Memory>
     ensures { Adds result words.old words.new
         (keyword line word ∷ listed line (map (declared_words line) fields.now)) }
 {
@@ -123,16 +131,22 @@ fn print_member(words: &mut List<Token>, member: &ClassMember) -> Result<(), Mem
     ensures { Adds result words.old words.new (spec.member_words member.now) }
 {
     match member {
-        ClassMember::Fields { line, access, fields } => {
-            print_fields(words, *line, field_word(*access), fields)
-        }
+        ClassMember::Fields {
+            line,
+            access,
+            fields,
+        } => { print_fields(words, *line, field_word(*access), fields) }
         ClassMember::Method(found) => print_procedure(words, found),
         ClassMember::Property(found) => print_property(words, found),
     }
 }
 
 /// Adds the members of a class, each with the end of a line behind it.
-fn print_members(words: &mut List<Token>, line: u32, members: &List<ClassMember>) -> Result<(), Memory>
+fn print_members(
+    words: &mut List<Token>,
+    line: u32,
+    members: &List<ClassMember>,
+) -> Result<(), Memory>
     ensures { Adds result words.old words.new (block_words line (map spec.member_words members.now)) }
 {
     for member in members.as_slice() {
@@ -159,9 +173,11 @@ fn print_item(words: &mut List<Token>, item: &Item) -> Result<(), Memory>
 {
     match item {
         Item::Statement(found) => print_statement(words, found),
-        Item::Variables { line, access, variables } => {
-            print_fields(words, *line, access_word(*access), variables)
-        }
+        Item::Variables {
+            line,
+            access,
+            variables,
+        } => { print_fields(words, *line, access_word(*access), variables) }
         Item::Procedure(found) => print_procedure(words, found),
         Item::Class(found) => print_class(words, found),
     }

@@ -87,12 +87,20 @@ fn each_expression_is_printed(rt: HostRuntime) -> Result<(), Fail> {
     let inner = Boxed::new(alloc, number(1))?;
     let cases = [
         (Expression::Nothing, "2| <%= Nothing 1| ;"),
-        (Expression::New { class: text(alloc, "C")? }, "2| <%= New [C] 1| ;"),
+        (
+            Expression::New {
+                class: text(alloc, "C")?,
+            },
+            "2| <%= New [C] 1| ;",
+        ),
         (long_path(alloc)?, "2| <%= Me . [a] ( 1 , 2 ) ( ) 1| ;"),
         (with_path(alloc)?, "2| <%= .. [a] 1| ;"),
         (Expression::Path(path(alloc, "Step")?), "2| <%= [Step] 1| ;"),
         (Expression::Negative(inner), "2| <%= - 1 1| ;"),
-        (Expression::Not(Boxed::new(alloc, variable(alloc, "a")?)?), "2| <%= Not [a] 1| ;"),
+        (
+            Expression::Not(Boxed::new(alloc, variable(alloc, "a")?)?),
+            "2| <%= Not [a] 1| ;",
+        ),
         (product_of_sum(alloc)?, "2| <%= ( 0 + 1 ) * [c] 1| ;"),
     ];
     for (value, words) in cases {
@@ -106,10 +114,22 @@ fn each_expression_is_printed(rt: HostRuntime) -> Result<(), Fail> {
 fn each_operator_is_printed(rt: HostRuntime) -> Result<(), Fail> {
     let alloc = rt.alloc();
     let cases: [(&[Op2], &str); 5] = [
-        (&[Op2::Multiply, Op2::Divide, Op2::Modulo], "2| <%= 0 * 1 \\ 2 Mod 3 1| ;"),
-        (&[Op2::Add, Op2::Subtract, Op2::Join], "2| <%= 0 + 1 - 2 & 3 1| ;"),
-        (&[Op2::Equal, Op2::Unequal, Op2::Less, Op2::Greater], "2| <%= 0 = 1 <> 2 < 3 > 4 1| ;"),
-        (&[Op2::AtMost, Op2::AtLeast, Op2::Is], "2| <%= 0 <= 1 >= 2 Is 3 1| ;"),
+        (
+            &[Op2::Multiply, Op2::Divide, Op2::Modulo],
+            "2| <%= 0 * 1 \\ 2 Mod 3 1| ;",
+        ),
+        (
+            &[Op2::Add, Op2::Subtract, Op2::Join],
+            "2| <%= 0 + 1 - 2 & 3 1| ;",
+        ),
+        (
+            &[Op2::Equal, Op2::Unequal, Op2::Less, Op2::Greater],
+            "2| <%= 0 = 1 <> 2 < 3 > 4 1| ;",
+        ),
+        (
+            &[Op2::AtMost, Op2::AtLeast, Op2::Is],
+            "2| <%= 0 <= 1 >= 2 Is 3 1| ;",
+        ),
         (
             &[Op2::And, Op2::Or, Op2::Xor, Op2::Eqv, Op2::Imp],
             "2| <%= 0 And 1 Or 2 Xor 3 Eqv 4 Imp 5 1| ;",

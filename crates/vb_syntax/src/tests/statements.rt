@@ -91,9 +91,18 @@ fn call_of_item(alloc: Global) -> Result<Kind, Memory> {
 fn each_declaration_is_printed(rt: HostRuntime) -> Result<(), Fail> {
     let alloc = rt.alloc();
     let cases = [
-        (constants(alloc)?, "2| Public Const [a] = 1 , [b] = - 2 , [c] = - 70000& 1| ;"),
-        (variables(alloc)?, "2| Dim [a] , [b] ( 2& , 3& ) , [c] ( ) 1| ;"),
-        (new_bounds(alloc, true)?, "2| ReDim Preserve [a] ( 1 , 2 ) 1| ;"),
+        (
+            constants(alloc)?,
+            "2| Public Const [a] = 1 , [b] = - 2 , [c] = - 70000& 1| ;",
+        ),
+        (
+            variables(alloc)?,
+            "2| Dim [a] , [b] ( 2& , 3& ) , [c] ( ) 1| ;",
+        ),
+        (
+            new_bounds(alloc, true)?,
+            "2| ReDim Preserve [a] ( 1 , 2 ) 1| ;",
+        ),
         (new_bounds(alloc, false)?, "2| ReDim [a] ( 1 , 2 ) 1| ;"),
         (names(alloc)?, "2| Erase [a] , [b] 1| ;"),
     ];
@@ -112,7 +121,12 @@ fn each_call_is_printed(rt: HostRuntime) -> Result<(), Fail> {
         (call(alloc, 1)?, "2| [s] 0 1| ;"),
         (call(alloc, 2)?, "2| [s] 0 , 1 1| ;"),
         (call_of_item(alloc)?, "2| [s] ( 1 ) ( ) 1| ;"),
-        (Kind::CallPath { callee: indexed(alloc, "s")? }, "2| Call [s] ( 1 ) 1| ;"),
+        (
+            Kind::CallPath {
+                callee: indexed(alloc, "s")?,
+            },
+            "2| Call [s] ( 1 ) 1| ;",
+        ),
     ];
     for (kind, words) in cases {
         let shown = statement_words(alloc, kind)?;
@@ -132,13 +146,38 @@ fn each_plain_statement_is_printed(rt: HostRuntime) -> Result<(), Fail> {
         (set, "2| Set [a] = Nothing 1| ;"),
         (assign(alloc, 2, "a")?.kind, "2| [a] = 1 1| ;"),
         (Kind::Exit { kind: ExitKind::Do }, "2| Exit Do 1| ;"),
-        (Kind::Exit { kind: ExitKind::For }, "2| Exit For 1| ;"),
-        (Kind::Exit { kind: ExitKind::Sub }, "2| Exit Sub 1| ;"),
-        (Kind::Exit { kind: ExitKind::Function }, "2| Exit Function 1| ;"),
-        (Kind::Exit { kind: ExitKind::Property }, "2| Exit Property 1| ;"),
+        (
+            Kind::Exit {
+                kind: ExitKind::For,
+            },
+            "2| Exit For 1| ;",
+        ),
+        (
+            Kind::Exit {
+                kind: ExitKind::Sub,
+            },
+            "2| Exit Sub 1| ;",
+        ),
+        (
+            Kind::Exit {
+                kind: ExitKind::Function,
+            },
+            "2| Exit Function 1| ;",
+        ),
+        (
+            Kind::Exit {
+                kind: ExitKind::Property,
+            },
+            "2| Exit Property 1| ;",
+        ),
         (Kind::OnErrorResumeNext, "2| On Error Resume Next 1| ;"),
         (Kind::OnErrorGoToZero, "2| On Error GoTo 0 1| ;"),
-        (Kind::PageText { text: text(alloc, "<p>")? }, "2| {<p>} 1| ;"),
+        (
+            Kind::PageText {
+                text: text(alloc, "<p>")?,
+            },
+            "2| {<p>} 1| ;",
+        ),
     ];
     for (kind, words) in cases {
         let shown = statement_words(alloc, kind)?;
@@ -210,8 +249,14 @@ fn each_choice_is_printed(rt: HostRuntime) -> Result<(), Fail> {
             "2| If [a] Then ; 3| [b] = 1 2| ; 4| ElseIf [d] Then ; 2| Else ; 5| [b] = 1 2| ; End If 1| ;",
         ),
         (short_if(alloc)?, "2| If [a] Then ; End If 1| ;"),
-        (line_if(alloc, false)?, "2| If [a] Then [c] = 1 : [d] = 1 1| ;"),
-        (line_if(alloc, true)?, "2| If [a] Then [c] = 1 : [d] = 1 Else [b] = 1 1| ;"),
+        (
+            line_if(alloc, false)?,
+            "2| If [a] Then [c] = 1 : [d] = 1 1| ;",
+        ),
+        (
+            line_if(alloc, true)?,
+            "2| If [a] Then [c] = 1 : [d] = 1 Else [b] = 1 1| ;",
+        ),
         (
             select(alloc, false)?,
             "2| Select Case [a] ; 3| Case 1 , 2 ; 4| [b] = 1 3| ; 2| End Select 1| ;",
@@ -272,15 +317,30 @@ fn after(alloc: Global) -> Result<Kind, Memory> {
 fn each_loop_is_printed(rt: HostRuntime) -> Result<(), Fail> {
     let alloc = rt.alloc();
     let cases = [
-        (count(alloc, None)?, "2| For [i] = 1 To 9 ; 3| [b] = 1 2| ; Next 1| ;"),
-        (count(alloc, Some(number(2)))?, "2| For [i] = 1 To 9 Step 2 ; 3| [b] = 1 2| ; Next 1| ;"),
-        (each(alloc)?, "2| For Each [i] In [a] ; 3| [b] = 1 2| ; Next 1| ;"),
-        (repeat(alloc, Repetition::Endless)?, "2| Do ; 3| [b] = 1 2| ; Loop 1| ;"),
+        (
+            count(alloc, None)?,
+            "2| For [i] = 1 To 9 ; 3| [b] = 1 2| ; Next 1| ;",
+        ),
+        (
+            count(alloc, Some(number(2)))?,
+            "2| For [i] = 1 To 9 Step 2 ; 3| [b] = 1 2| ; Next 1| ;",
+        ),
+        (
+            each(alloc)?,
+            "2| For Each [i] In [a] ; 3| [b] = 1 2| ; Next 1| ;",
+        ),
+        (
+            repeat(alloc, Repetition::Endless)?,
+            "2| Do ; 3| [b] = 1 2| ; Loop 1| ;",
+        ),
         (
             repeat(alloc, Repetition::Before(until(alloc, false)?))?,
             "2| Do While [a] ; 3| [b] = 1 2| ; Loop 1| ;",
         ),
-        (after(alloc)?, "2| Do ; 3| [b] = 1 2| ; Loop 4| Until [a] 1| ;"),
+        (
+            after(alloc)?,
+            "2| Do ; 3| [b] = 1 2| ; Loop 4| Until [a] 1| ;",
+        ),
     ];
     for (kind, words) in cases {
         let shown = statement_words(alloc, kind)?;

@@ -97,7 +97,10 @@ fn each_item_is_printed(rt: HostRuntime) -> Result<(), Fail> {
             Item::Procedure(sub(alloc)?),
             "2| Private Sub [s] ( ByVal [x] , [y] ) ; 3| [b] = 1 2| ; End Sub 1| ;",
         ),
-        (Item::Procedure(function(alloc)?), "2| Function [f] ; End Function 1| ;"),
+        (
+            Item::Procedure(function(alloc)?),
+            "2| Function [f] ; End Function 1| ;",
+        ),
     ];
     for (item, words) in cases {
         let shown = item_words(alloc, item)?;
@@ -110,9 +113,18 @@ fn each_item_is_printed(rt: HostRuntime) -> Result<(), Fail> {
 fn each_member_is_printed(rt: HostRuntime) -> Result<(), Fail> {
     let alloc = rt.alloc();
     let cases = [
-        (fields(alloc, FieldAccess::Dim)?, "2| Class [C] ; 3| Dim [v] 2| ; End Class 1| ;"),
-        (fields(alloc, FieldAccess::Public)?, "2| Class [C] ; 3| Public [v] 2| ; End Class 1| ;"),
-        (fields(alloc, FieldAccess::Private)?, "2| Class [C] ; 3| Private [v] 2| ; End Class 1| ;"),
+        (
+            fields(alloc, FieldAccess::Dim)?,
+            "2| Class [C] ; 3| Dim [v] 2| ; End Class 1| ;",
+        ),
+        (
+            fields(alloc, FieldAccess::Public)?,
+            "2| Class [C] ; 3| Public [v] 2| ; End Class 1| ;",
+        ),
+        (
+            fields(alloc, FieldAccess::Private)?,
+            "2| Class [C] ; 3| Private [v] 2| ; End Class 1| ;",
+        ),
         (
             ClassMember::Method(function(alloc)?),
             "2| Class [C] ; Function [f] ; End Function ; End Class 1| ;",
@@ -146,7 +158,8 @@ fn a_unit_is_printed(rt: HostRuntime) -> Result<(), Fail> {
         option_explicit: true,
         items,
     };
-    let words = "1| Option Explicit ; 2| Function [f] ; End Function 1| ; 2| Class [C] ; 3| Dim [v] 2| ; End Class 1| ;";
+    let words =
+        "1| Option Explicit ; 2| Function [f] ; End Function 1| ; 2| Class [C] ; 3| Dim [v] 2| ; End Class 1| ;";
     let shown = unit_words(alloc, &unit)?;
     assert_eq!(rt; shown.as_str(), words);
     let nothing = Unit {

@@ -12,7 +12,7 @@ print_expression-returns-in_ok-print_expression-in-Chain t c =
     let first = spec.expression_words c.args.line c.get-in-Chain.result.now in
     let rest = flat_map (λ (x : Tokens). x) (map (spec.operation_words c.args.line) c.as_slice.result.now) in
     let whole : spec.expression_words c.args.line c.args.expression.now ≡ first ++ rest =
-        ap (spec.expression_words c.args.line) c.in-Chain.is
-        ∙ words-chain c.args.line c.in-Chain.first c.in-Chain.rest
-        ∙ rw (c.get-in-Chain.ensures, c.as_slice.ensures) refl in
+    ap (spec.expression_words c.args.line) c.in-Chain.is
+    ∙ words-chain c.args.line c.in-Chain.first c.in-Chain.rest
+    ∙ rw (c.get-in-Chain.ensures, c.as_slice.ensures) refl in
     adds_more _ _ _ _ first rest _ c.in_ok-print_expression-in-Chain.ensures whole c.print_operations.ensures
