@@ -1,8 +1,9 @@
 //! Trees that are built by hand, and the words that the grammar gives them.
 
+mod blocks;
 mod chains;
 mod expressions;
+mod plain;
 mod shown;
-mod statements;
 mod trees;
 mod units;

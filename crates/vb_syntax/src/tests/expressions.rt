@@ -1,7 +1,7 @@
 //! Expressions.
 
 use crate::tests::shown::expression_words;
-use crate::tests::trees::{number, one, path, text, two, variable};
+use crate::tests::trees::{number, one, text, two, variable};
 use crate::{Expression, Literal, Operation, Path, PathHead, Step};
 use std::alloc::Global;
 use std::test::Fail;
@@ -62,49 +62,68 @@ fn product_of_sum(alloc: Global) -> Result<Expression, Memory> {
     })
 }
 
-#[test]
-fn each_value_is_printed(rt: HostRuntime) -> Result<(), Fail> {
-    let alloc = rt.alloc();
-    let cases = [
-        (Literal::Empty, "2| <%= Empty 1| ;"),
-        (Literal::Null, "2| <%= Null 1| ;"),
-        (Literal::Boolean(true), "2| <%= True 1| ;"),
-        (Literal::Boolean(false), "2| <%= False 1| ;"),
-        (Literal::Integer(7), "2| <%= 7 1| ;"),
-        (Literal::Long(70_000), "2| <%= 70000& 1| ;"),
-        (Literal::Text(text(alloc, "x y")?), "2| <%= 'x y' 1| ;"),
-    ];
-    for (value, words) in cases {
-        let shown = expression_words(alloc, Expression::Literal(value))?;
-        assert_eq!(rt; shown.as_str(), words);
-    }
-    Ok(())
+// The forms of the table.
+#[derive(Clone, Copy)]
+enum Form {
+    Empty,
+    Null,
+    True,
+    False,
+    Integer,
+    Long,
+    Text,
+    Nothing,
+    New,
+    Path,
+    WithPath,
+    Quoted,
+    Negative,
+    Not,
+    Product,
+}
+
+fn tree(alloc: Global, form: Form) -> Result<Expression, Memory> {
+    Ok(match form {
+        Form::Empty => Expression::Literal(Literal::Empty),
+        Form::Null => Expression::Literal(Literal::Null),
+        Form::True => Expression::Literal(Literal::Boolean(true)),
+        Form::False => Expression::Literal(Literal::Boolean(false)),
+        Form::Integer => number(7),
+        Form::Long => Expression::Literal(Literal::Long(70_000)),
+        Form::Text => Expression::Literal(Literal::Text(text(alloc, "x y")?)),
+        Form::Nothing => Expression::Nothing,
+        Form::New => Expression::New { class: text(alloc, "C")? },
+        Form::Path => long_path(alloc)?,
+        Form::WithPath => with_path(alloc)?,
+        Form::Quoted => variable(alloc, "Step")?,
+        Form::Negative => Expression::Negative(Boxed::new(alloc, number(1))?),
+        Form::Not => Expression::Not(Boxed::new(alloc, number(1))?),
+        Form::Product => product_of_sum(alloc)?,
+    })
 }
 
 #[test]
 fn each_expression_is_printed(rt: HostRuntime) -> Result<(), Fail> {
     let alloc = rt.alloc();
-    let inner = Boxed::new(alloc, number(1))?;
     let cases = [
-        (Expression::Nothing, "2| <%= Nothing 1| ;"),
-        (
-            Expression::New {
-                class: text(alloc, "C")?,
-            },
-            "2| <%= New [C] 1| ;",
-        ),
-        (long_path(alloc)?, "2| <%= Me . [a] ( 1 , 2 ) ( ) 1| ;"),
-        (with_path(alloc)?, "2| <%= .. [a] 1| ;"),
-        (Expression::Path(path(alloc, "Step")?), "2| <%= [Step] 1| ;"),
-        (Expression::Negative(inner), "2| <%= - 1 1| ;"),
-        (
-            Expression::Not(Boxed::new(alloc, variable(alloc, "a")?)?),
-            "2| <%= Not [a] 1| ;",
-        ),
-        (product_of_sum(alloc)?, "2| <%= ( 0 + 1 ) * [c] 1| ;"),
+        (Form::Empty, "2| <%= Empty 1| ;"),
+        (Form::Null, "2| <%= Null 1| ;"),
+        (Form::True, "2| <%= True 1| ;"),
+        (Form::False, "2| <%= False 1| ;"),
+        (Form::Integer, "2| <%= 7 1| ;"),
+        (Form::Long, "2| <%= 70000& 1| ;"),
+        (Form::Text, "2| <%= 'x y' 1| ;"),
+        (Form::Nothing, "2| <%= Nothing 1| ;"),
+        (Form::New, "2| <%= New [C] 1| ;"),
+        (Form::Path, "2| <%= Me . [a] ( 1 , 2 ) ( ) 1| ;"),
+        (Form::WithPath, "2| <%= .. [a] 1| ;"),
+        (Form::Quoted, "2| <%= [Step] 1| ;"),
+        (Form::Negative, "2| <%= - 1 1| ;"),
+        (Form::Not, "2| <%= Not 1 1| ;"),
+        (Form::Product, "2| <%= ( 0 + 1 ) * [c] 1| ;"),
     ];
-    for (value, words) in cases {
-        let shown = expression_words(alloc, value)?;
+    for (form, words) in cases {
+        let shown = expression_words(alloc, tree(alloc, form)?)?;
         assert_eq!(rt; shown.as_str(), words);
     }
     Ok(())

@@ -83,84 +83,85 @@ fn class(alloc: Global, member: ClassMember) -> Result<Item, Memory> {
     }))
 }
 
-#[test]
-fn each_item_is_printed(rt: HostRuntime) -> Result<(), Fail> {
-    let alloc = rt.alloc();
-    let variables = Item::Variables {
+fn shared(alloc: Global) -> Result<Item, Memory> {
+    Ok(Item::Variables {
         line: 2,
         access: Access::Private,
         variables: variable(alloc, "v")?,
-    };
+    })
+}
+
+// The forms of the table.
+#[derive(Clone, Copy)]
+enum Form {
+    Variables,
+    Sub,
+    Function,
+    Fields(FieldAccess),
+    Method,
+    Property(PropertyKind),
+}
+
+fn tree(alloc: Global, form: Form) -> Result<Item, Memory> {
+    match form {
+        Form::Variables => shared(alloc),
+        Form::Sub => Ok(Item::Procedure(sub(alloc)?)),
+        Form::Function => Ok(Item::Procedure(function(alloc)?)),
+        Form::Fields(access) => class(alloc, fields(alloc, access)?),
+        Form::Method => class(alloc, ClassMember::Method(function(alloc)?)),
+        Form::Property(kind) => class(alloc, property(alloc, kind)?),
+    }
+}
+
+#[test]
+fn each_item_is_printed(rt: HostRuntime) -> Result<(), Fail> {
+    let alloc = rt.alloc();
     let cases = [
-        (variables, "2| Private [v] 1| ;"),
+        (Form::Variables, "2| Private [v] 1| ;"),
+        (Form::Sub, "2| Private Sub [s] ( ByVal [x] , [y] ) ; 3| [b] = 1 2| ; End Sub 1| ;"),
+        (Form::Function, "2| Function [f] ; End Function 1| ;"),
+        (Form::Fields(FieldAccess::Dim), "2| Class [C] ; 3| Dim [v] 2| ; End Class 1| ;"),
+        (Form::Fields(FieldAccess::Public), "2| Class [C] ; 3| Public [v] 2| ; End Class 1| ;"),
+        (Form::Fields(FieldAccess::Private), "2| Class [C] ; 3| Private [v] 2| ; End Class 1| ;"),
+        (Form::Method, "2| Class [C] ; Function [f] ; End Function ; End Class 1| ;"),
         (
-            Item::Procedure(sub(alloc)?),
-            "2| Private Sub [s] ( ByVal [x] , [y] ) ; 3| [b] = 1 2| ; End Sub 1| ;",
+            Form::Property(PropertyKind::Get),
+            "2| Class [C] ; 4| Public Property Get [p] ; End Property 2| ; End Class 1| ;",
         ),
         (
-            Item::Procedure(function(alloc)?),
-            "2| Function [f] ; End Function 1| ;",
+            Form::Property(PropertyKind::Let),
+            "2| Class [C] ; 4| Public Property Let [p] ; End Property 2| ; End Class 1| ;",
+        ),
+        (
+            Form::Property(PropertyKind::Set),
+            "2| Class [C] ; 4| Public Property Set [p] ; End Property 2| ; End Class 1| ;",
         ),
     ];
-    for (item, words) in cases {
-        let shown = item_words(alloc, item)?;
+    for (form, words) in cases {
+        let shown = item_words(alloc, tree(alloc, form)?)?;
         assert_eq!(rt; shown.as_str(), words);
     }
     Ok(())
 }
 
-#[test]
-fn each_member_is_printed(rt: HostRuntime) -> Result<(), Fail> {
-    let alloc = rt.alloc();
-    let cases = [
-        (
-            fields(alloc, FieldAccess::Dim)?,
-            "2| Class [C] ; 3| Dim [v] 2| ; End Class 1| ;",
-        ),
-        (
-            fields(alloc, FieldAccess::Public)?,
-            "2| Class [C] ; 3| Public [v] 2| ; End Class 1| ;",
-        ),
-        (
-            fields(alloc, FieldAccess::Private)?,
-            "2| Class [C] ; 3| Private [v] 2| ; End Class 1| ;",
-        ),
-        (
-            ClassMember::Method(function(alloc)?),
-            "2| Class [C] ; Function [f] ; End Function ; End Class 1| ;",
-        ),
-        (
-            property(alloc, PropertyKind::Get)?,
-            "2| Class [C] ; 4| Public Property Get [p] ; End Property 2| ; End Class 1| ;",
-        ),
-        (
-            property(alloc, PropertyKind::Let)?,
-            "2| Class [C] ; 4| Public Property Let [p] ; End Property 2| ; End Class 1| ;",
-        ),
-        (
-            property(alloc, PropertyKind::Set)?,
-            "2| Class [C] ; 4| Public Property Set [p] ; End Property 2| ; End Class 1| ;",
-        ),
-    ];
-    for (member, words) in cases {
-        let shown = item_words(alloc, class(alloc, member)?)?;
-        assert_eq!(rt; shown.as_str(), words);
-    }
-    Ok(())
+// `Option Explicit`, a function and a class.
+fn script(alloc: Global) -> Result<Unit, Memory> {
+    let items = two(
+        alloc,
+        Item::Procedure(function(alloc)?),
+        class(alloc, fields(alloc, FieldAccess::Dim)?)?,
+    )?;
+    Ok(Unit {
+        option_explicit: true,
+        items,
+    })
 }
 
 #[test]
 fn a_unit_is_printed(rt: HostRuntime) -> Result<(), Fail> {
     let alloc = rt.alloc();
-    let mut items = one(alloc, Item::Procedure(function(alloc)?))?;
-    items.push(class(alloc, fields(alloc, FieldAccess::Dim)?)?)?;
-    let unit = Unit {
-        option_explicit: true,
-        items,
-    };
-    let words =
-        "1| Option Explicit ; 2| Function [f] ; End Function 1| ; 2| Class [C] ; 3| Dim [v] 2| ; End Class 1| ;";
-    let shown = unit_words(alloc, &unit)?;
+    let words = "1| Option Explicit ; 2| Function [f] ; End Function 1| ; 2| Class [C] ; 3| Dim [v] 2| ; End Class 1| ;";
+    let shown = unit_words(alloc, &script(alloc)?)?;
     assert_eq!(rt; shown.as_str(), words);
     let nothing = Unit {
         option_explicit: false,
