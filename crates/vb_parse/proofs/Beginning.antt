@@ -1,5 +1,5 @@
 -- With which tokens a rule begins, by the numbers of their kinds.
-use Rattle.std.proofs.Common.{◌≡◌, ℕ, zero, suc, ◌<◌, ◌==◌, ◌||◌, inl, inr, Bool, true, false, cond, List, [], ◌∷◌, ◌++◌, Option, Some, None, if◌then◌else◌, refl, sym, ap, ◌∙◌, arith}
+use Rattle.std.proofs.Common.{◌≡◌, ℕ, ◌==◌, ◌||◌, inl, inr, Bool, true, false, cond, List, [], ◌∷◌, ◌++◌, Option, Some, None, if◌then◌else◌, refl, sym, ap, ◌∙◌}
 use Rattle.std.proofs.lemmas.Bool.{eqb-true}
 use Rattle.vb_value.specs.declared.operator.Op2.{Op2}
 use Rattle.vb_value.specs.declared.token.Keyword.TheVariants as k
@@ -11,8 +11,8 @@ use Rattle.vb_syntax.specs.Rules.{Tokens, Rule}
 use Rattle.vb_syntax.specs.Rules as rule
 use Rattle.vb_syntax.specs.Words as words
 use Rattle.vb_syntax.specs.Words.{tag, line_of, name_of, name_of_kind, literal_of, literal_of_kind}
-use Rattle.vb_syntax.specs.Expressions.{operator_of, operator_at, at_level}
-use Rattle.vb_parse.specs.Reader.{next, sees, is_some, passes}
+use Rattle.vb_syntax.specs.Expressions.{operator_of, at_level}
+use Rattle.vb_parse.specs.Reader.{next, sees, is_some}
 
 -- a token comes first whose number has the property
 abbrev pub HeadIn : (ℕ → Bool) → Tokens → Type 0

@@ -1,18 +1,15 @@
 -- The readers of expressions read the grammar's expressions.
-use Rattle.std.proofs.Common.{◌≡◌, ℕ, zero, suc, ◌+◌, ◌<◌, ◌≤◌, ◌==◌, ◌≢◌, ◌⊎◌, inl, inr, Bool, true, false, IsTrue, List, [], ◌∷◌, Option, Some, None, refl, sym, ap, ◌∙◌, arith}
+use Rattle.std.proofs.Common.{◌≡◌, ℕ, zero, suc, ◌<◌, ◌≤◌, ◌==◌, inl, inr, Bool, true, false, IsTrue, [], ◌∷◌, Some, refl, arith}
 use Rattle.vb_value.specs.declared.operator.Op2.{Op2}
 use Rattle.vb_value.specs.declared.operator.Op2.TheVariants as op
 use Rattle.vb_value.specs.declared.token.Keyword.TheVariants as k
 use Rattle.vb_value.specs.declared.token.Symbol.TheVariants as s
 use Rattle.vb_value.specs.declared.token.Token.{Token}
-use Rattle.vb_value.specs.declared.token.TokenKind.{TokenKind}
 use Rattle.vb_value.specs.declared.token.TokenKind.TheVariants as kind
 use Rattle.vb_syntax.specs.declared.expression.Expression.{Expression}
 use Rattle.vb_syntax.specs.declared.expression.Expression.TheVariants as e
 use Rattle.vb_syntax.specs.declared.expression.Literal.TheVariants as literal
-use Rattle.vb_syntax.specs.declared.expression.Operation.{Operation}
 use Rattle.vb_syntax.specs.declared.expression.PathHead.TheVariants as head
-use Rattle.vb_syntax.specs.declared.expression.Step.{Step}
 use Rattle.vb_syntax.specs.declared.expression.Step.TheVariants as behind
 use Rattle.vb_syntax.specs.Rules.{Tokens, Rule}
 use Rattle.vb_syntax.specs.Rules as rule
@@ -25,8 +22,8 @@ use Rattle.vb_parse.specs.Reader as reader
 use Rattle.vb_parse.specs.ReadExpressions as spec
 use Rattle.vb_parse.proofs.Reading.{Reads, Lives, NoEmpty, reads_pure, reads_wider, reads_bind, reads_one, reads_choice, reads_both, reads_gate, reads_many, reads_word, reads_name, full_one, full_bind, full_word, token_of}
 
-pub reads_list_of : {p : Reader Expression} {r : Rule Expression} → Reads p r → Reads (spec.list_of p) (words.list_of r)
-reads_list_of {p} {r} reads =
+pub reads_list_of : {A : Type 0} {p : Reader A} {r : Rule A} → Reads p r → Reads (spec.list_of p) (words.list_of r)
+reads_list_of {A} {p} {r} reads =
     reads_bind reads (λ first. reads_bind
     (reads_many (reader.sees (kind.Symbol s.Comma)) (reads_bind (reads_word (kind.Symbol s.Comma))
     (λ _. reads)) (full_bind _ _ (full_word (kind.Symbol s.Comma))) refl)

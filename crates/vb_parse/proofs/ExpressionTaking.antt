@@ -1,19 +1,16 @@
 -- The readers of expressions take whatever the grammar spells.
-use Rattle.std.proofs.Common.{◌≡◌, ℕ, zero, suc, ◌+◌, ◌<◌, ◌≤◌, ◌==◌, ◌||◌, ◌⊎◌, inl, inr, Bool, true, false, IsTrue, List, [], ◌∷◌, ◌++◌, Option, Some, None, refl, sym, ap, ◌∙◌, append_assoc, append-nil, subst, arith}
+use Rattle.std.proofs.Common.{◌≡◌, ℕ, zero, suc, ◌<◌, ◌≤◌, ◌==◌, ◌||◌, inl, inr, Bool, true, false, IsTrue, List, [], ◌∷◌, ◌++◌, Some, refl, sym, ap, ◌∙◌, append-nil, subst, arith}
 use Rattle.std.proofs.lemmas.Bool.{eq-eqb, eqb-true}
 use Rattle.vb_value.specs.declared.operator.Op2.{Op2}
 use Rattle.vb_value.specs.declared.token.Keyword.TheVariants as k
 use Rattle.vb_value.specs.declared.token.Symbol.TheVariants as s
 use Rattle.vb_value.specs.declared.token.Token.{Token}
-use Rattle.vb_value.specs.declared.token.TokenKind.{TokenKind}
 use Rattle.vb_value.specs.declared.token.TokenKind.TheVariants as kind
 use Rattle.vb_syntax.specs.declared.expression.Expression.{Expression}
 use Rattle.vb_syntax.specs.declared.expression.Expression.TheVariants as e
-use Rattle.vb_syntax.specs.declared.expression.Literal.{Literal}
 use Rattle.vb_syntax.specs.declared.expression.Operation.{Operation}
 use Rattle.vb_syntax.specs.declared.expression.PathHead.{PathHead}
 use Rattle.vb_syntax.specs.declared.expression.PathHead.TheVariants as head
-use Rattle.vb_syntax.specs.declared.expression.Step.{Step}
 use Rattle.vb_syntax.specs.declared.expression.Step.TheVariants as behind
 use Rattle.vb_syntax.specs.Rules.{Tokens, Rule}
 use Rattle.vb_syntax.specs.Rules as rule
@@ -22,13 +19,12 @@ use Rattle.vb_syntax.specs.Words.{tag, name_of, literal_of, literal_of_kind}
 use Rattle.vb_syntax.specs.Expressions as grammar
 use Rattle.vb_syntax.specs.Expressions.{operator_of, operator_at, operation, chain, path_of, not_level}
 use Rattle.vb_parse.specs.Reader.{Reader, Look, next, sees, passes, is_some}
-use Rattle.vb_parse.specs.Reader as reader
 use Rattle.vb_parse.specs.ReadExpressions as spec
 use Rattle.vb_parse.specs.ReadExpressions.{goes_on_path}
 use Rattle.vb_parse.proofs.Reading.{Reads, moves, reads_bind, reads_word, full_bind, full_word}
 use Rattle.vb_parse.proofs.Taking.{Follow, Any, Takes, Starts, takes_pure, takes_one, takes_bind, takes_narrow, takes_many, takes_case, takes_gate, before_many, only}
 use Rattle.vb_parse.proofs.Beginning.{HeadIn, Begins, begins_wider, begins_bind, begins_or, begins_where, begins_word, begins_name, has_at, differs, sees_true, sees_false, tag_is_literal, literal_tag, name_tag, tag_level, level_of, level_tag, other_level, this_level}
-use Rattle.vb_parse.proofs.ExpressionReading.{Inner, Operator, closed_inner, expressions_read, reads_list_of, reads_step, full_step, reads_turn, full_turn, reads_operators, operator_of_level, leaf}
+use Rattle.vb_parse.proofs.ExpressionReading.{Inner, Operator, closed_inner, expressions_read, reads_step, full_step, reads_turn, full_turn, reads_operators, operator_of_level, leaf}
 
 -- ---- what may stand behind an expression
 
@@ -206,7 +202,7 @@ list_ends rest w = (
       (kind.Symbol s.Comma) rest [] w refl),
 )
 
-head_behind : (f : ℕ → Bool) (back rest : Tokens) → HeadIn f back → HeadIn f (back ++ rest)
+pub head_behind : (f : ℕ → Bool) (back rest : Tokens) → HeadIn f back → HeadIn f (back ++ rest)
 head_behind f back rest w = (w.0, w.1 ++ rest, ap (λ t. t ++ rest) w.2, w.3)
 
 abbrev pub tag_is_primary : ℕ → Bool
@@ -481,7 +477,7 @@ taken_here opens ip ir inner taken = record {
   begins = begins_operators opens ip ir inner taken 12;
 }
 
-closed_taken : Taken false spec.closed grammar.closed
+pub closed_taken : Taken false spec.closed grammar.closed
 closed_taken = record {
   primary = λ is. absurd cc;
   negated = λ is. absurd cc;

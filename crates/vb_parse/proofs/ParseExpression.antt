@@ -1,11 +1,11 @@
 -- What the parser answers, from what its readers read.
-use Rattle.std.proofs.Common.{◌≡◌, ℕ, suc, ◌<◌, ◌≤◌, ◌⊎◌, [], ◌∷◌, length, Ok, Err, refl, sym, ◌∙◌, arith}
+use Rattle.std.proofs.Common.{◌≡◌, ℕ, suc, ◌<◌, ◌≤◌, ◌⊎◌, [], ◌∷◌, length, Ok, Err, refl, arith}
 use Rattle.vb_syntax.specs.declared.expression.Expression.{Expression}
 use Rattle.vb_syntax.specs.Rules.{Tokens}
 use Rattle.vb_syntax.specs.Expressions.{SpellsExpression}
 use Rattle.vb_syntax.specs.Faults.{IsFault, WouldGoOn, fault_line}
 use Rattle.vb_parse.specs.declared.fault.ParseFault.TheVariants as kind
-use Rattle.vb_parse.specs.Outcome.{HasFault, IsKind, Leaves}
+use Rattle.vb_parse.specs.Outcome.{HasFault, Leaves}
 use Rattle.vb_parse.specs.Reader.{Outcome, Reader}
 use Rattle.vb_parse.specs.ReadExpressions as spec
 use Rattle.vb_parse.specs.ReadExpressions.{whole_expression}

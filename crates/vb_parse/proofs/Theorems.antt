@@ -1,13 +1,13 @@
 -- What a reader proves of the rule that it reads and takes: what it reads is what the tokens spell, no tokens spell
 -- two things, and it stops at the first token with which nothing goes on.
-use Rattle.std.proofs.Common.{◌≡◌, ℕ, zero, suc, ◌+◌, ◌<◌, ◌≤◌, ◌⊎◌, inl, inr, List, [], ◌∷◌, ◌++◌, length, Result, Ok, Err, refl, sym, ap, ◌∙◌, append_assoc, append-nil, subst, length-append, arith}
+use Rattle.std.proofs.Common.{◌≡◌, ℕ, ◌+◌, ◌<◌, ◌≤◌, ◌⊎◌, inl, inr, [], ◌∷◌, ◌++◌, length, Ok, Err, refl, sym, ap, ◌∙◌, append_assoc, append-nil, subst, length-append, arith}
 use Rattle.vb_value.specs.declared.token.Token.{Token}
 use Rattle.vb_syntax.specs.Rules.{Tokens, Rule}
 use Rattle.vb_syntax.specs.Rules as rule
 use Rattle.vb_syntax.specs.Faults.{IsFault, GoesOn, Ends, WouldGoOn}
 use Rattle.vb_parse.specs.Reader.{Outcome, Reader, and_then, next, at_end, whole}
 use Rattle.vb_parse.specs.Reader as reader
-use Rattle.vb_parse.proofs.Reading.{Reads, Good, Bad, Meets, reads_bind, reads_pure, reads_wider, ok_tail, ok_thing}
+use Rattle.vb_parse.proofs.Reading.{Reads, Bad, Meets, reads_bind, reads_pure, reads_wider, ok_tail, ok_thing}
 use Rattle.vb_parse.proofs.Taking.{Takes}
 
 -- ---- nothing is left behind the whole

@@ -1,9 +1,8 @@
 -- Loops that read, and where the readers of a depth come from.
-use Rattle.std.proofs.Common.{◌≡◌, ℕ, zero, suc, ◌+◌, ◌-◌, ◌<◌, ◌≤◌, ◌≢◌, ◌==◌, Bool, true, false, cond, List, [], ◌∷◌, ◌++◌, length, Option, Some, None, Ok, Err, refl, sym, ap, ◌∙◌, append_assoc, subst, arith}
+use Rattle.std.proofs.Common.{◌≡◌, ℕ, zero, suc, ◌+◌, ◌<◌, ◌≢◌, ◌==◌, Bool, true, false, cond, List, [], ◌∷◌, ◌++◌, None, Ok, Err, refl, sym, ap, ◌∙◌, append_assoc, subst, arith}
 use Rattle.std.proofs.lemmas.Bool.{eqb-true}
 use Rattle.vb_value.specs.declared.token.Symbol.TheVariants as s
 use Rattle.vb_value.specs.declared.token.TokenKind.TheVariants as kind
-use Rattle.vb_syntax.specs.declared.expression.Expression.{Expression}
 use Rattle.vb_syntax.specs.Rules.{Tokens}
 use Rattle.vb_syntax.specs.Expressions as grammar
 use Rattle.vb_syntax.specs.Expressions.{not_level}
@@ -12,6 +11,7 @@ use Rattle.vb_parse.specs.Reader.{Reader, Outcome, Look, and_then, next}
 use Rattle.vb_parse.specs.ReadExpressions as spec
 use Rattle.vb_parse.specs.Runs.{opens, inside}
 use Rattle.vb_parse.proofs.Reading.{Moves, moves, more_with, many_step, reads_bind, reads_word, full_word, full_bind}
+use Rattle.vb_parse.proofs.ExpressionTaking.{Taken, closed_taken, expressions_taken}
 use Rattle.vb_parse.proofs.ExpressionReading.{Inner, Operator, closed_inner, expressions_read, reads_step, full_step, reads_turn, full_turn, reads_operators, operator_of_level}
 
 -- one turn of a loop that reads into a list
@@ -50,13 +50,17 @@ found_turn look p mv quiet f whole found new tokens rest x inv is read e =
     and_same (Err w) e = refl
 
 -- the rules inside a construct
-abbrev rules_inside : ℕ → grammar.Inside
+abbrev pub rules_inside : ℕ → grammar.Inside
 rules_inside zero = grammar.closed
 rules_inside (suc depth) = grammar.expressions depth
 
-inner_at : (depth : ℕ) → Inner (opens depth) (inside depth) (rules_inside depth)
+pub inner_at : (depth : ℕ) → Inner (opens depth) (inside depth) (rules_inside depth)
 inner_at zero = closed_inner _ _
 inner_at (suc depth) = expressions_read depth
+
+pub taken_inside : (depth : ℕ) → Taken (opens depth) (inside depth) (rules_inside depth)
+taken_inside zero = closed_taken
+taken_inside (suc depth) = expressions_taken depth
 
 -- the readers of a place
 pub expressions_at : (depth : ℕ) → spec.expressions depth ≡ spec.readers_here (opens depth) (inside depth)

@@ -1,4 +1,10 @@
 pub mod Reader
 pub mod ReadExpressions
 pub mod Runs
+pub mod ReadDeclarations
+pub mod ReadCalls
+pub mod ReadSimpleStatements
+pub mod ReadLines
+pub mod ReadStatements
+pub mod ReadUnits
 pub mod Outcome

@@ -1,5 +1,5 @@
 -- What the parser answers: the tree that the tokens spell, or the fault with its kind and its line.
-use Rattle.std.specs.Prelude.{◌≡◌, ℕ, suc, List, length, Result, Ok, Err}
+use Rattle.std.specs.Prelude.{◌≡◌, ℕ, suc, length, Result, Ok, Err}
 use Rattle.vb_syntax.specs.Rules.{Tokens, Rule}
 use Rattle.vb_syntax.specs.Faults.{IsFault, WouldGoOn, fault_line}
 use Rattle.vb_parse.specs.declared.fault.ParseFault.{ParseFault}

@@ -1,8 +1,7 @@
 -- Reading expressions: each reader is the rule of its name, and asks the next token alone.
-use Rattle.std.specs.Prelude.{ℕ, zero, suc, Bool, true, false, ◌||◌, List, [], ◌∷◌, Option, Some, None, ◌==◌}
+use Rattle.std.specs.Prelude.{ℕ, zero, suc, Bool, true, false, ◌||◌, List, [], ◌∷◌, ◌==◌}
 use Rattle.vb_value.specs.declared.token.Keyword.TheVariants as k
 use Rattle.vb_value.specs.declared.token.Symbol.TheVariants as s
-use Rattle.vb_value.specs.declared.token.Token.{Token}
 use Rattle.vb_value.specs.declared.token.TokenKind.TheVariants as kind
 use Rattle.vb_syntax.specs.declared.expression.Expression.{Expression}
 use Rattle.vb_syntax.specs.declared.expression.Expression.TheVariants as e
@@ -14,17 +13,22 @@ use Rattle.vb_syntax.specs.declared.expression.Step.{Step}
 use Rattle.vb_syntax.specs.declared.expression.Step.TheVariants as behind
 use Rattle.vb_syntax.specs.Words.{name_of, literal_of}
 use Rattle.vb_syntax.specs.Expressions.{operator_at, operation, chain, path_of, not_level, last_level}
-use Rattle.vb_parse.specs.Reader.{Reader, Look, ◌>>=◌, ◌>>◌, pure, refuse, one, keyword, symbol, sees, passes, case, gate, many, whole}
+use Rattle.vb_parse.specs.Reader.{Reader, Look, ◌>>=◌, ◌>>◌, pure, refuse, one, keyword, symbol, sees, passes, case}
+use Rattle.vb_parse.specs.Reader.{gate, many, whole}
 
 -- a comma and what stands behind it
-abbrev pub comma_and : Reader Expression → Reader Expression
-comma_and expression = symbol s.Comma >> expression
+abbrev pub comma_and : {A : Type 0} → Reader A → Reader A
+comma_and thing = symbol s.Comma >> thing
 
--- exprs
-abbrev pub list_of : Reader Expression → Reader (List Expression)
-list_of expression = do
-  first ← expression
-  more ← many (sees (kind.Symbol s.Comma)) (comma_and expression)
+-- things that each stand behind a comma
+abbrev pub more_of : {A : Type 0} → Reader A → Reader (List A)
+more_of thing = many (sees (kind.Symbol s.Comma)) (comma_and thing)
+
+-- things with commas between
+abbrev pub list_of : {A : Type 0} → Reader A → Reader (List A)
+list_of thing = do
+  first ← thing
+  more ← more_of thing
   pure (first ∷ more)
 
 -- an operator of the level, and its right operand

@@ -1,5 +1,8 @@
 -- The steps that a reader of tokens is made of. A reader asks the next token alone.
-use Rattle.std.specs.Prelude.{ℕ, zero, suc, Bool, true, false, List, [], ◌∷◌, length, Option, Some, None, Result, Ok, Err, if◌then◌else◌, ◌==◌}
+use Rattle.std.specs.Prelude.{ℕ, zero, suc, Bool, true, false, List, [], ◌∷◌, length, Option, Some, None, Result, Ok}
+use Rattle.std.specs.Prelude.{Err, if◌then◌else◌, ◌==◌}
+use Rattle.std.specs.declared.ops.ControlFlow.{ControlFlow}
+use Rattle.std.specs.declared.ops.ControlFlow.TheVariants.{Continue, Break}
 use Rattle.vb_value.specs.declared.token.Keyword.{Keyword}
 use Rattle.vb_value.specs.declared.token.Symbol.{Symbol}
 use Rattle.vb_value.specs.declared.token.Token.{Token}
@@ -84,6 +87,11 @@ abbrev pub sees : TokenKind → Look
 sees kind None = false
 sees kind (Some token) = tag token.kind == tag kind
 
+-- whether the kind of the next token has the property
+abbrev pub asks : (TokenKind → Bool) → Look
+asks property None = false
+asks property (Some token) = property token.kind
+
 -- whether a test is passed
 abbrev pub is_some : {A : Type 0} → Option A → Bool
 is_some None = false
@@ -111,3 +119,20 @@ many_from look p (suc n) = case look (p >>= (λ x. many_from look p n >>= (λ xs
 -- as often as the look says
 abbrev pub many : {A : Type 0} → Look → Reader A → Reader (List A)
 many look p tokens = many_from look p (length tokens) tokens
+
+-- a turn of a loop that goes on with a thing, or ends with what stands last
+abbrev pub Turn : Type 0 → Type 0 → Type 0
+Turn A B = ControlFlow B A
+
+abbrev pub then_until : {A B : Type 0} → Reader (List A × B) → Turn A B → Reader (List A × B)
+then_until later (Continue x) = later >>= (λ found. pure (x ∷ found.0, found.1))
+then_until later (Break last) = pure ([], last)
+
+-- turns up to the last one. The number bounds them, and each but the last takes a token.
+abbrev pub until_from : {A B : Type 0} → Reader (Turn A B) → ℕ → Reader (List A × B)
+until_from turn zero = refuse
+until_from turn (suc n) = turn >>= then_until (until_from turn n)
+
+-- turns up to the last one
+abbrev pub until : {A B : Type 0} → Reader (Turn A B) → Reader (List A × B)
+until turn tokens = until_from turn (suc (length tokens)) tokens

@@ -20,6 +20,11 @@ abbrev pub opened : {A : Type 0} → ℕ → (ℕ → Rule A) → Rule A
 opened zero rule = none
 opened (suc depth) rule = rule depth
 
+-- "Public" | "Private", with its line
+abbrev pub access_word : Rule (ℕ × Access)
+access_word = (do line ← keyword k.Public; pure (line, access.Public))
+    or (do line ← keyword k.Private; pure (line, access.Private))
+
 -- [ "Public" | "Private" ], and a word with its line. The line is that of the first of them.
 abbrev pub with_access : Rule ℕ → Rule (ℕ × Option Access)
 with_access word = (do line ← keyword k.Public; word; pure (line, Some access.Public))

@@ -6,3 +6,8 @@ pub mod SimpleStatements
 pub mod Statements
 pub mod Units
 pub mod Faults
+pub mod PrintingWords
+pub mod PrintingExpressions
+pub mod PrintingStatements
+pub mod PrintingUnits
+pub mod PrintingOutcome

@@ -3,6 +3,7 @@ use Rattle.std.specs.Prelude.{◌≡◌, ℕ, zero, suc, Bool, true, false, IsTr
 use Rattle.std.specs.Str.{str_eq_ignore_ascii_case}
 use Rattle.vb_value.specs.declared.token.Keyword.TheVariants as k
 use Rattle.vb_value.specs.declared.token.Symbol.TheVariants as s
+use Rattle.vb_value.specs.declared.token.Token.{Token}
 use Rattle.vb_value.specs.declared.token.TokenKind.{TokenKind}
 use Rattle.vb_value.specs.declared.token.TokenKind.TheVariants as kind
 use Rattle.vb_syntax.specs.declared.expression.Expression.{Expression}
@@ -30,17 +31,23 @@ line_of_quoted text (kind.Name name false) line =
     if str_eq_ignore_ascii_case text name then Some line else None
 line_of_quoted text _ line = None
 
+abbrev pub quoted_at : List ℕ → Token → Option ℕ
+quoted_at text token = line_of_quoted text token.kind token.line
+
 -- a quoted word that is a name elsewhere
 abbrev pub quoted : List ℕ → Rule ℕ
-quoted text = one (λ token. line_of_quoted text token.kind token.line)
+quoted text = one (quoted_at text)
 
 -- the line of a page text, and the text
 abbrev pub text_of_kind : TokenKind → ℕ → Option (ℕ × List ℕ)
 text_of_kind (kind.PageText text) line = Some (line, text)
 text_of_kind _ line = None
 
+abbrev pub text_at : Token → Option (ℕ × List ℕ)
+text_at token = text_of_kind token.kind token.line
+
 abbrev pub page_text : Rule (ℕ × List ℕ)
-page_text = one (λ token. text_of_kind token.kind token.line)
+page_text = one text_at
 
 -- a number of the value 0
 abbrev pub zero_number : Rule (Unit {0})
@@ -76,9 +83,12 @@ abbrev pub named_by : Option (List ℕ) → ℕ → Option (ℕ × PathHead)
 named_by None line = None
 named_by (Some name) line = Some (line, head.Name name)
 
+abbrev pub named_at : Token → Option (ℕ × PathHead)
+named_at token = named_by (name_of token) token.line
+
 -- where a path begins, with its line
 abbrev pub head_at : Rule (ℕ × PathHead)
-head_at = one (λ token. named_by (name_of token) token.line)
+head_at = one named_at
     or (do line ← keyword k.Me; pure (line, head.Me))
     or (do line ← symbol s.WithPoint; name ← one name_of; pure (line, head.With name))
 

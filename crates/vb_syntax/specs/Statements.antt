@@ -15,7 +15,7 @@ use Rattle.vb_syntax.specs.Rules.{Rule, none, pure, ◌>>=◌, ◌>>◌, ◌or�
 use Rattle.vb_syntax.specs.Words.{tag, word, keyword, symbol, list_of, name_of}
 use Rattle.vb_syntax.specs.Declarations.{opened}
 use Rattle.vb_syntax.specs.Expressions.{expressions}
-use Rattle.vb_syntax.specs.SimpleStatements.{Looser, quoted, page_text, statement, const, simple}
+use Rattle.vb_syntax.specs.SimpleStatements.{Looser, quoted, statement, const, simple}
 
 -- ---- ends
 
@@ -25,12 +25,12 @@ break_of token =
     if tag token.kind == tag (kind.Symbol s.Colon) || tag token.kind == tag kind.LineEnd then Some tt else None
 
 -- end = one or more of ":" and line end
-abbrev pub «end» : Rule (List (Unit {0}))
-«end» = do one break_of; many (one break_of)
+abbrev pub «end» : Rule (Unit {0})
+«end» = do one break_of; many (one break_of); pure tt
 
 -- an end on whose first line nothing stands
-abbrev pub line_end : Rule (List (Unit {0}))
-line_end = do many (symbol s.Colon); word kind.LineEnd; many (one break_of)
+abbrev pub line_end : Rule (Unit {0})
+line_end = do many (symbol s.Colon); word kind.LineEnd; many (one break_of); pure tt
 
 -- ---- what may stand in a place
 
@@ -44,9 +44,13 @@ pub record Blocks : Type 1 where
   pub block : Rule (List Statement)
   pub line : Rule Line
 
+-- a text that says nothing, and its end
+abbrev pub loose_text : Rule (Unit {0})
+loose_text = do word (kind.PageText []); «end»
+
 -- texts and their ends, where they are allowed
-abbrev pub loose_texts : Looser → Rule (List (ℕ × List ℕ))
-loose_texts looser = pure [] or where_true looser.texts (many (do text ← page_text; «end»; pure text))
+abbrev pub loose_texts : Looser → Rule (Unit {0})
+loose_texts looser = pure tt or where_true looser.texts (do many loose_text; pure tt)
 
 -- ---- rules
 
@@ -236,3 +240,8 @@ no_blocks = record { block = none; line = none }
 abbrev pub blocks : Looser → ℕ → Blocks
 blocks looser zero = blocks_here looser zero no_blocks
 blocks looser (suc depth) = blocks_here looser (suc depth) (blocks looser depth)
+
+-- what may stand inside a construct that opens here
+abbrev pub blocks_inside : Looser → ℕ → Blocks
+blocks_inside looser zero = no_blocks
+blocks_inside looser (suc depth) = blocks looser depth

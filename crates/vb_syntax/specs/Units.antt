@@ -1,8 +1,6 @@
 -- Procedures, classes and whole units: which token lists spell which of them, and which faults they have.
 use Rattle.std.specs.Prelude.{ℕ, zero, suc, Bool, true, false, List, [], codes}
 use Rattle.vb_value.specs.declared.token.Keyword.TheVariants as k
-use Rattle.vb_syntax.specs.declared.declaration.Access.{Access}
-use Rattle.vb_syntax.specs.declared.declaration.Access.TheVariants as access
 use Rattle.vb_syntax.specs.declared.statement.Statement.{Statement}
 use Rattle.vb_syntax.specs.declared.unit.Class.{Class}
 use Rattle.vb_syntax.specs.declared.unit.ClassMember.{ClassMember}
@@ -19,10 +17,9 @@ use Rattle.vb_syntax.specs.declared.unit.PropertyKind.TheVariants as property_ki
 use Rattle.vb_syntax.specs.declared.unit.Unit.{Unit as Script}
 use Rattle.vb_syntax.specs.Rules.{Tokens, Rule, pure, ◌>>=◌, ◌>>◌, ◌or◌, one, many}
 use Rattle.vb_syntax.specs.Words.{keyword, list_of, name_of}
-use Rattle.vb_syntax.specs.Declarations.{opened, with_access, declared, parameters}
+use Rattle.vb_syntax.specs.Declarations.{opened, access_word, with_access, declared, parameters}
 use Rattle.vb_syntax.specs.SimpleStatements.{Looser, quoted}
-use Rattle.vb_syntax.specs.Statements.{Blocks, «end», blocks, loose_texts}
-use Rattle.vb_syntax.specs.Statements as s
+use Rattle.vb_syntax.specs.Statements.{«end», blocks, blocks_inside, loose_texts, sentence}
 use Rattle.vb_syntax.specs.Faults.{WouldGoOn}
 
 module _ (looser : Looser) where
@@ -117,9 +114,9 @@ module _ (looser : Looser) where
       or (do found ← procedure depth; pure (member.Method found))
       or (do found ← property depth; pure (member.Property found))
 
-  -- a member and its end, behind texts where they are allowed
+  -- a member and its end, before texts where they are allowed
   abbrev pub member_line : ℕ → Rule ClassMember
-  member_line depth = do loose_texts looser; found ← class_member depth; «end»; pure found
+  member_line depth = do found ← class_member depth; «end»; loose_texts looser; pure found
 
   -- class = "Class" name end { member end } "End" "Class"
   abbrev pub class : ℕ → Rule Class
@@ -127,16 +124,11 @@ module _ (looser : Looser) where
     line ← keyword k.Class
     name ← one name_of
     «end»
-    members ← many (member_line within)
     loose_texts looser
+    members ← many (member_line within)
     keyword k.End
     keyword k.Class
     pure (record { line = line; name = name; members = members }))
-
-  -- "Public" | "Private", with its line
-  abbrev pub access_word : Rule (ℕ × Access)
-  access_word = (do line ← keyword k.Public; pure (line, access.Public))
-      or (do line ← keyword k.Private; pure (line, access.Private))
 
   -- ( "Public" | "Private" ) decl { "," decl }
   abbrev pub variables : ℕ → Rule Item
@@ -147,14 +139,10 @@ module _ (looser : Looser) where
 
   -- item end
   abbrev pub item_line : ℕ → Rule Item
-  item_line depth = (do found ← s.sentence looser depth (inside depth); pure (item.Statement found))
+  item_line depth = (do found ← sentence looser depth (blocks_inside looser depth); pure (item.Statement found))
       or (do found ← variables depth; «end»; pure found)
       or (do found ← procedure depth; «end»; pure (item.Procedure found))
       or (do found ← class depth; «end»; pure (item.Class found))
-    where
-      inside : ℕ → Blocks
-      inside zero = s.no_blocks
-      inside (suc within) = blocks looser within
 
   -- [ "Option" "Explicit" end ], and whether it stands there
   abbrev pub option_explicit : Rule Bool
@@ -163,7 +151,7 @@ module _ (looser : Looser) where
   -- unit = [ end ] [ "Option" "Explicit" end ] { item end }
   abbrev pub unit : ℕ → Rule Script
   unit depth = do
-    «end» or pure []
+    «end» or pure tt
     explicit ← option_explicit
     items ← many (item_line depth)
     pure (record { option_explicit = explicit; items = items })

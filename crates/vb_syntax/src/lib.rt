@@ -3,7 +3,9 @@
 
 mod declaration;
 mod expression;
+mod laws;
 mod member;
+mod printing;
 mod statement;
 #[cfg(test)]
 mod tests;
@@ -11,7 +13,9 @@ mod unit;
 
 pub use declaration::{Access, Constant, ConstantValue, Declared, Parameter};
 pub use expression::{Expression, Literal, Operation, Path, PathHead, Step};
+pub use laws::printed_again;
 pub use member::{CollectionPart, ContentsPart, Member};
+pub use printing::print;
 pub use statement::{
     Case, Condition, ElseIf, ExitKind, Repetition, Resized, Statement, StatementKind,
 };

@@ -1,7 +1,6 @@
 use Rattle.std.proofs.Common.{◌≡◌, ◌+◌, ◌*◌, length, ◌++◌}
 use Rattle.vb_value.specs.declared.token.Symbol.TheVariants as s
 use Rattle.vb_value.specs.declared.token.TokenKind.TheVariants as kind
-use Rattle.vb_syntax.specs.Expressions.{operator_at}
 use Rattle.vb_parse.specs.Reader as reader
 use Rattle.vb_parse.specs.ReadExpressions as spec
 use Rattle.vb_parse.specs.Runs.{opens, inside}

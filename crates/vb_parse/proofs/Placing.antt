@@ -1,0 +1,130 @@
+-- Readers of expressions and of what opens, before what may stand behind them.
+use Rattle.std.proofs.Common.{◌≡◌, ℕ, zero, suc, ◌<◌, ◌≤◌, ◌==◌, ◌||◌, inl, inr, Bool, true, false, not, cond, IsTrue, List, [], ◌∷◌, ◌++◌, Option, Some, None, if◌then◌else◌, Ok, refl, sym, ap, ◌∙◌, arith}
+use Rattle.std.proofs.lemmas.Bool.{eqb-true}
+use Rattle.vb_value.specs.declared.token.Token.{Token}
+use Rattle.vb_syntax.specs.declared.expression.Expression.{Expression}
+use Rattle.vb_syntax.specs.Rules.{Tokens, Rule}
+use Rattle.vb_syntax.specs.Rules as rule
+use Rattle.vb_syntax.specs.Words as words
+use Rattle.vb_syntax.specs.Words.{tag}
+use Rattle.vb_syntax.specs.Expressions as grammar
+use Rattle.vb_syntax.specs.Expressions.{operator_of, operator_at}
+use Rattle.vb_syntax.specs.Declarations as declarations
+use Rattle.vb_parse.specs.Reader.{Reader, next, passes}
+use Rattle.vb_parse.specs.Reader as reader
+use Rattle.vb_parse.specs.ReadExpressions as spec
+use Rattle.vb_parse.specs.ReadExpressions.{goes_on_path}
+use Rattle.vb_parse.specs.ReadDeclarations as read_declarations
+use Rattle.vb_parse.specs.Runs.{opens, inside}
+use Rattle.vb_parse.proofs.Taking.{Follow, Takes, takes_narrow}
+use Rattle.vb_parse.proofs.Beginning.{HeadIn, Begins, other_level, level_of, level_tag, tag_level, tag_is_literal}
+use Rattle.vb_parse.proofs.ExpressionTaking.{Ends, expressions_taken, positive_differs, tag_is_expression}
+use Rattle.vb_parse.proofs.Following.{among, among_both, all_have, among_has, next_in, Before, BeginsIn, Leads, Closed}
+
+-- ---- what ends an expression
+
+abbrev pub tag_ends : ℕ → Bool
+tag_ends n = if n == 115 then false else (if n == 112 then false else tag_level n == 0)
+
+ends_facts : (n : ℕ) → tag_ends n ≡ true → ((n == 115) ≡ false) × ((n == 112) ≡ false) × (tag_level n ≡ 0)
+ends_facts n is = go (n == 115) refl (n == 112) refl is
+  where
+    go : (a : Bool) → (n == 115) ≡ a → (b : Bool) → (n == 112) ≡ b
+        → cond a false (cond b false (tag_level n == 0)) ≡ true
+        → ((n == 115) ≡ false) × ((n == 112) ≡ false) × (tag_level n ≡ 0)
+    go true at b _ is = absurd cc
+    go false point true at is = absurd cc
+    go false point false paren is = (point, paren, eqb-true (tag_level n) 0 is)
+
+pub ends_before : (v : List ℕ) → all_have tag_ends v ≡ true → (rest : Tokens) → Before v rest → Ends 12 rest
+ends_before v all rest b = record { path = path (next rest) b.fits; quiet = λ n some less. quiet n some (next rest) b.fits }
+  where
+    facts : (token : Token) → among v (tag token.kind) ≡ true → ((tag token.kind == 115) ≡ false)
+        × ((tag token.kind == 112) ≡ false) × (tag_level (tag token.kind) ≡ 0)
+    facts token is = ends_facts (tag token.kind) (among_has tag_ends v all (tag token.kind) is)
+
+    path : (token : Option Token) → next_in (among v) token ≡ true → goes_on_path token ≡ false
+    path None is = refl
+    path (Some token) is = let found = facts token is in rw (found.0, found.1) refl
+
+    quiet : (n : ℕ) → 0 < n → (token : Option Token) → next_in (among v) token ≡ true
+        → passes (operator_at n) token ≡ false
+    quiet n some None is = refl
+    quiet n some (Some token) is = other_level n (operator_of token.kind) (ap (λ l. l == n) (level_tag token.kind
+        ∙ (facts token is).2) ∙ positive_differs n some)
+
+-- ---- expressions
+
+pub takes_expression : (depth : ℕ) {v : List ℕ} → all_have tag_ends v ≡ true
+    → Takes (spec.expressions depth).expression (grammar.expressions depth).expression (Before v)
+takes_expression depth {v} all = takes_narrow (ends_before v all) ((expressions_taken depth).expression refl)
+
+-- the numbers of the tokens that are values
+abbrev pub literal_heads : List ℕ
+literal_heads = 12 ∷ 17 ∷ 34 ∷ 48 ∷ 201 ∷ 202 ∷ 203 ∷ []
+
+-- the numbers of the tokens that begin a path
+abbrev pub path_heads : List ℕ
+path_heads = 200 ∷ 28 ∷ 116 ∷ []
+
+-- the numbers of the tokens that begin an expression
+abbrev pub expression_heads : List ℕ
+expression_heads = 32 ∷ ((literal_heads ++ (33 ∷ 30 ∷ [])) ++ (path_heads ++ (112 ∷ 110 ∷ [])))
+
+pub or_last : (b : Bool) → (b || false) ≡ b
+or_last true = refl
+or_last false = refl
+
+pub heads_literal : (n : ℕ) → among literal_heads n ≡ tag_is_literal n
+heads_literal n = rw (or_last (n == 203)) refl
+
+heads_expression : (n : ℕ) → among expression_heads n ≡ tag_is_expression n
+heads_expression n = rw (
+  among_both (literal_heads ++ (33 ∷ 30 ∷ [])) (path_heads ++ (112 ∷ 110 ∷ [])) n,
+  among_both literal_heads (33 ∷ 30 ∷ []) n,
+  among_both path_heads (112 ∷ 110 ∷ []) n,
+  or_last (n == 203),
+  or_last (n == 30),
+  or_last (n == 116),
+  or_last (n == 110),
+) refl
+
+pub begins_expression : (depth : ℕ) → BeginsIn expression_heads (grammar.expressions depth).expression
+begins_expression depth = record {
+  head = λ front x h. let w = (expressions_taken depth).begins.head front x h in
+      (w.0, w.1, w.2, heads_expression (tag w.0.kind) ∙ w.3);
+}
+
+-- an expression inside a construct
+pub takes_inside : (depth : ℕ) {v : List ℕ} → all_have tag_ends v ≡ true
+    → Takes (inside depth).expression (declarations.opened depth (λ within. (grammar.expressions within).expression))
+    (Before v)
+takes_inside zero all = record { takes = λ front rest x h ok. absurd h }
+takes_inside (suc depth) all = takes_expression depth all
+
+pub begins_inside : (depth : ℕ) → BeginsIn expression_heads (declarations.opened depth
+    (λ within. (grammar.expressions within).expression))
+begins_inside zero = record { head = λ front x h. absurd h }
+begins_inside (suc depth) = begins_expression depth
+
+-- ---- constructs that open
+
+pub takes_opened : {A : Type 0} (depth : ℕ) {p : ℕ → Reader A} {r : ℕ → Rule A} {v : Follow}
+    → ((within : ℕ) → Takes (p within) (r within) v) → Takes (read_declarations.opened depth p)
+    (declarations.opened depth r) v
+takes_opened zero takes = record { takes = λ front rest x h ok. absurd h }
+takes_opened (suc depth) takes = takes depth
+
+pub begins_opened : {A : Type 0} (depth : ℕ) {r : ℕ → Rule A} {l : List ℕ} → ((within : ℕ) → BeginsIn l (r within))
+    → BeginsIn l (declarations.opened depth r)
+begins_opened zero begins = record { head = λ front x h. absurd h }
+begins_opened (suc depth) begins = begins depth
+
+pub closed_inside : (depth : ℕ) → Closed (opens depth) (declarations.opened depth
+    (λ within. (grammar.expressions within).expression))
+closed_inside zero = record { none = λ shut front x h. h }
+closed_inside (suc depth) = record { none = λ shut front x h. absurd cc }
+
+pub closed_opened : {A : Type 0} (depth : ℕ) (r : ℕ → Rule A) → Closed (opens depth) (declarations.opened depth r)
+closed_opened zero r = record { none = λ shut front x h. h }
+closed_opened (suc depth) r = record { none = λ shut front x h. absurd cc }
