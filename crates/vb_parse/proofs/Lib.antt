@@ -17,6 +17,8 @@ pub mod DeclarationTaking
 pub mod CallTaking
 pub mod SimpleTaking
 pub mod LineTaking
+pub mod EndTaking
+pub mod IfTaking
 pub mod StatementTaking
 pub mod OperandReading
 pub mod CallReading
