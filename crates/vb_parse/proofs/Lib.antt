@@ -25,3 +25,4 @@ pub mod CallReading
 pub mod SimpleReading
 pub mod LineReading
 pub mod StatementReading
+pub mod BlockTaking

@@ -158,7 +158,7 @@ module _ (looser : Looser) (depth : ℕ) (ip : lines.Blocks) (ir : grammar.Block
   leads_select_cases line subject = leads_within (cases_apart line subject) (leads_bind leads_cases
       (λ found. leads_begins (begins_word_then (kind.Keyword k.End))))
 
-  takes_select : {v : Follow} → Takes (spec.select looser depth ip) (grammar.select looser depth ir) v
+  pub takes_select : {v : Follow} → Takes (spec.select looser depth ip) (grammar.select looser depth ir) v
   takes_select {v} = takes_gated (opens depth) (closed_next (λ line. closed_next (λ _. closed_first (closed_inside depth))))
       (takes_word (λ line. takes_word (λ _. takes_then {l = break_heads} (takes_place refl)
       (λ subject. takes_then {l = text_head ++ cases_heads} (takes_end refl)
@@ -222,14 +222,14 @@ module _ (looser : Looser) (depth : ℕ) (ip : lines.Blocks) (ir : grammar.Block
       (λ group. leads_begins (begins_then begins_end)))))
 
   -- two rules that begin with the same one
-  shared : {A B : Type 0} {r : Rule A} {f g : A → Rule B} → Within (rule.◌or◌ (rule.◌>>=◌ r f) (rule.◌>>=◌ r g))
+  pub shared : {A B : Type 0} {r : Rule A} {f g : A → Rule B} → Within (rule.◌or◌ (rule.◌>>=◌ r f) (rule.◌>>=◌ r g))
       (rule.◌>>=◌ r (λ x. rule.◌or◌ (f x) (g x)))
   shared = or_within (bind_wider (λ x front y h. inl h)) (bind_wider (λ x front y h. inr h))
 
-  abbrev for_rule : Rule Statement
+  abbrev pub for_rule : Rule Statement
   for_rule = rule.◌or◌ (grammar.for looser depth ir) (grammar.for_each looser depth ir)
 
-  takes_for : {v : Follow} → Takes (spec.for looser depth ip) for_rule v
+  pub takes_for : {v : Follow} → Takes (spec.for looser depth ip) for_rule v
   takes_for = takes_gated (opens depth) (closed_or
       (closed_next (λ line. closed_next (λ variable. closed_next (λ _. closed_first (closed_inside depth)))))
       (closed_next (λ line. closed_next (λ _. closed_next (λ variable. closed_next (λ _. closed_first (closed_inside
@@ -271,7 +271,7 @@ module _ (looser : Looser) (depth : ℕ) (ip : lines.Blocks) (ir : grammar.Block
       (λ body. leads_wider refl (leads_begins (begins_word_then (kind.Keyword k.Loop)))))
       (λ _. leads_block loop_word refl (λ body. begins_word_then (kind.Keyword k.Loop)))
 
-  takes_do : Takes (spec.do_loop looser depth ip) (grammar.do_loop looser depth ir) (Before break_heads)
+  pub takes_do : Takes (spec.do_loop looser depth ip) (grammar.do_loop looser depth ir) (Before break_heads)
   takes_do = takes_gated (opens depth) (closed_next (λ line. closed_or
       (closed_first (closed_next (λ found. closed_first (closed_inside depth))))
       (closed_next (λ _. closed_first inner.closed))))
@@ -281,7 +281,7 @@ module _ (looser : Looser) (depth : ℕ) (ip : lines.Blocks) (ir : grammar.Block
       (takes_off sees_loop_word _ (skips (asks_loop looser depth ip ir inner) (leads_begins (begins_then begins_end)) refl)
       (takes_do_after line))))
 
-  takes_while : {v : Follow} → Takes (spec.while looser depth ip) (grammar.while looser depth ir) v
+  pub takes_while : {v : Follow} → Takes (spec.while looser depth ip) (grammar.while looser depth ir) v
   takes_while {v} = takes_gated (opens depth) (closed_next (λ line. closed_first (closed_inside depth)))
       (takes_word (λ line. takes_then {l = break_heads} (takes_place refl)
       (λ condition. takes_then {l = block_heads} (takes_end refl)
@@ -290,7 +290,7 @@ module _ (looser : Looser) (depth : ℕ) (ip : lines.Blocks) (ir : grammar.Block
       (λ _. leads_block (tag (kind.Keyword k.Wend) ∷ []) refl (λ body. begins_word_then (kind.Keyword k.Wend))))
       (λ condition. leads_begins (begins_then begins_end))))
 
-  takes_with : {v : Follow} → Takes (spec.with_block looser depth ip) (grammar.with_block looser depth ir) v
+  pub takes_with : {v : Follow} → Takes (spec.with_block looser depth ip) (grammar.with_block looser depth ir) v
   takes_with {v} = takes_gated (opens depth) (closed_next (λ line. closed_first (closed_inside depth)))
       (takes_word (λ line. takes_then {l = break_heads} (takes_place refl)
       (λ subject. takes_then {l = block_heads} (takes_end refl)
