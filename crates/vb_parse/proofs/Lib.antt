@@ -26,3 +26,5 @@ pub mod SimpleReading
 pub mod LineReading
 pub mod StatementReading
 pub mod BlockTaking
+pub mod ProcedureReading
+pub mod UnitReading
