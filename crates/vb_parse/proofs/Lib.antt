@@ -14,6 +14,7 @@ pub mod PathReading
 pub mod Following
 pub mod Placing
 pub mod DeclarationTaking
+pub mod OperandTaking
 pub mod CallTaking
 pub mod SimpleTaking
 pub mod LineTaking
