@@ -234,7 +234,7 @@ module _ (looser : Looser) (depth : ℕ) where
     pub head_spells : grammar.head_at first (target.0, target.1)
     pub steps_spell : rule.many (grammar.path_step depth) more target.2
 
-  path_parts : (front : Tokens) (target : Target) → grammar.path_at looser depth front target → Parts front target
+  pub path_parts : (front : Tokens) (target : Target) → grammar.path_at looser depth front target → Parts front target
   path_parts front target h = let g = h.next_spells in record {
     first = h.front;
     more = g.front;
@@ -245,7 +245,7 @@ module _ (looser : Looser) (depth : ℕ) where
         g.next_spells.1)) g.first_spells;
   }
 
-  path_made : (target : Target) (steps : List Step) (first before : Tokens)
+  pub path_made : (target : Target) (steps : List Step) (first before : Tokens)
       → grammar.head_at first (target.0, target.1) → rule.many (grammar.path_step depth) before steps
       → grammar.path_at looser depth (first ++ before) (target.0, target.1, steps)
   path_made target steps first before is are = record {

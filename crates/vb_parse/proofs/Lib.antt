@@ -14,11 +14,13 @@ pub mod PathReading
 pub mod Following
 pub mod Placing
 pub mod DeclarationTaking
-pub mod CallTaking
 pub mod SimpleTaking
 pub mod LineTaking
 pub mod StatementTaking
 pub mod OperandReading
+pub mod OperandTaking
+pub mod GroupTaking
+pub mod CallTaking
 pub mod CallReading
 pub mod SimpleReading
 pub mod LineReading
