@@ -16,6 +16,8 @@ pub mod Placing
 pub mod DeclarationTaking
 pub mod SimpleTaking
 pub mod LineTaking
+pub mod EndTaking
+pub mod IfTaking
 pub mod StatementTaking
 pub mod OperandReading
 pub mod OperandTaking
@@ -25,5 +27,6 @@ pub mod CallReading
 pub mod SimpleReading
 pub mod LineReading
 pub mod StatementReading
+pub mod BlockTaking
 pub mod ProcedureReading
 pub mod UnitReading
