@@ -30,3 +30,4 @@ pub mod StatementReading
 pub mod BlockTaking
 pub mod ProcedureReading
 pub mod UnitReading
+pub mod ProcedureTaking
