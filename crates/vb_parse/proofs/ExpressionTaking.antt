@@ -243,14 +243,14 @@ operator_ends level token back o is =
           ∙ nat_differs (suc level) n (omega arith));
     }
 
-turn_ends : (level : ℕ) {r : Rule Expression} (front rest : Tokens) (x : Operation)
+pub turn_ends : (level : ℕ) {r : Rule Expression} (front rest : Tokens) (x : Operation)
     → grammar.turn (suc level) r front x → Ends level (front ++ rest)
 turn_ends level front rest x h = let first = h.first_spells in
     let split : front ++ rest ≡ first.token ∷ (h.back ++ rest) = ap (λ t. t ++ rest) (h.split
     ∙ ap (λ t. t ++ h.back) first.alone) in
     rw split (operator_ends level first.token (h.back ++ rest) h.thing first.passes)
 
-turn_starts : (level : ℕ) {r : Rule Expression} (front rest : Tokens) (x : Operation)
+pub turn_starts : (level : ℕ) {r : Rule Expression} (front rest : Tokens) (x : Operation)
     → grammar.turn level r front x → passes (operator_at level) (next (front ++ rest)) ≡ true
 turn_starts level front rest x h = let first = h.first_spells in
     let split : front ++ rest ≡ first.token ∷ (h.back ++ rest) = ap (λ t. t ++ rest) (h.split

@@ -14,14 +14,15 @@ pub mod PathReading
 pub mod Following
 pub mod Placing
 pub mod DeclarationTaking
-pub mod OperandTaking
-pub mod CallTaking
 pub mod SimpleTaking
 pub mod LineTaking
 pub mod EndTaking
 pub mod IfTaking
 pub mod StatementTaking
 pub mod OperandReading
+pub mod OperandTaking
+pub mod GroupTaking
+pub mod CallTaking
 pub mod CallReading
 pub mod SimpleReading
 pub mod LineReading
@@ -29,3 +30,4 @@ pub mod StatementReading
 pub mod BlockTaking
 pub mod ProcedureReading
 pub mod UnitReading
+pub mod ProcedureTaking
