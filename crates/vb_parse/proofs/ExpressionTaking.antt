@@ -257,12 +257,15 @@ turn_starts level front rest x h = let first = h.first_spells in
     ∙ ap (λ t. t ++ h.back) first.alone) in
     rw split (ap is_some first.passes)
 
--- the operators of one level, with their right operands
-pub takes_turns : (level : ℕ) {p : Reader Expression} {r : Rule Expression} → Operator (suc level)
+pub takes_chained : (level : ℕ) {p : Reader Expression} {r : Rule Expression} → Operator (suc level)
     → Reads p r → Takes p r (Ends level)
-    → Takes (spec.turns (suc level) p) (rule.many (grammar.turn (suc level) r)) (Ends (suc level))
-takes_turns level {p} {r} has reads operand =
-    takes_many (passes (operator_at (suc level))) {v = Ends (suc level)}
+    → Takes (spec.chained (suc level) p) (grammar.chained (suc level) r) (Ends (suc level))
+takes_chained level {p} {r} has reads operand =
+    let less : ((rest : Tokens) → Ends (suc level) rest
+    → Ends level rest) = ends_less level (suc level) (omega arith) in
+    takes_bind operand
+    (λ first. takes_bind
+    (takes_many (passes (operator_at (suc level))) {v = Ends (suc level)}
     (takes_bind (takes_one (operator_at (suc level)) Any)
     (λ o. takes_bind operand (λ x. takes_pure (operation o x) (Ends level))
     (λ x y back rest h ok. rw h.0 ok)) (λ _ _ _ _ _ _. tt))
@@ -270,23 +273,11 @@ takes_turns level {p} {r} has reads operand =
     refl
     (turn_starts (suc level))
     (turn_ends level)
-    (λ rest ok. (ends_less level (suc level) (omega arith) rest ok, ok.quiet (suc level) (omega arith) (omega arith)))
-
--- before operators of a level, and at their end, no tighter one goes on
-pub turns_end : (level : ℕ) (r : Rule Expression) (more : List Operation) (back rest : Tokens)
-    → rule.many (grammar.turn (suc level) r) back more → Ends (suc level) rest → Ends level (back ++ rest)
-turns_end level r more back rest h ok = before_many _ (Ends level) more back rest h
-    (ends_less level (suc level) (omega arith) rest ok) (turn_ends level)
-
-pub takes_chained : (level : ℕ) {p : Reader Expression} {r : Rule Expression} → Operator (suc level)
-    → Reads p r → Takes p r (Ends level)
-    → Takes (spec.chained (suc level) p) (grammar.chained (suc level) r) (Ends (suc level))
-takes_chained level {p} {r} has reads operand =
-    takes_bind operand
-    (λ first. takes_bind (takes_turns level has reads operand)
+    (λ rest ok. (less rest ok, ok.quiet (suc level) (omega arith) (omega arith))))
     (λ more. takes_pure (chain first more) (Ends (suc level)))
     (λ more y back rest h ok. rw h.0 ok))
-    (λ first y back rest h ok. turns_end level r h.thing back rest (only _ _ back y h) ok)
+    (λ first y back rest h ok. before_many _ (Ends level) h.thing back rest (only _ _ back y h)
+    (less rest ok) (turn_ends level))
 
 takes_rule : {A : Type 0} {p : Reader A} {r s : Rule A} {u : Follow} → ((front : Tokens) (x : A)
     → r front x → s front x) → Takes p s u → Takes p r u

@@ -163,16 +163,6 @@ leads_many {A} {l} {m} {r} begins = record { leads = go }
     go front rest (x ∷ xs) h ok = let w = begins.head h.front x h.first in
         rw (h.split, append_assoc h.front h.back rest, w.2) (record { fits = among_left m l (tag w.0.kind) w.3 })
 
--- the same, where more of them may stand behind
-pub leads_again : {A : Type 0} (l : List ℕ) {m : List ℕ} {r : Rule A} → BeginsIn m r
-    → Leads (m ++ l) (rule.many r) (Before (m ++ l))
-leads_again {A} l {m} {r} begins = record { leads = go }
-  where
-    go : (front rest : Tokens) (xs : List A) → rule.many r front xs → Before (m ++ l) rest → Before (m ++ l) (front ++ rest)
-    go front rest [] h ok = rw h ok
-    go front rest (x ∷ xs) h ok = let w = begins.head h.front x h.first in
-        rw (h.split, append_assoc h.front h.back rest, w.2) (record { fits = among_left m l (tag w.0.kind) w.3 })
-
 -- ---- with what a rule begins
 
 pub begins_in : {A : Type 0} {f : ℕ → Bool} (l : List ℕ) {r : Rule A} → ((n : ℕ) → f n ≡ true → among l n ≡ true)

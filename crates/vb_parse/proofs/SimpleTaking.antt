@@ -31,7 +31,7 @@ use Rattle.vb_parse.proofs.PathReading.{takes_path_at}
 use Rattle.vb_parse.proofs.Following.{among, outside, all_have, Before, BeginsIn, Leads, leads_begins, leads_pure, leads_or, leads_bind, begins_then, begins_word_then, begins_either, begins_within, name_begins, asks_kind, asks_either, asks_no, skips, starts, takes_on, takes_off, takes_on_word, takes_off_word, takes_or, takes_within, takes_word, takes_then, takes_map, takes_list, Chosen, chosen, choose, choose_by, closed_first, closed_next, takes_gated}
 use Rattle.vb_parse.proofs.Placing.{closed_opened, takes_expression, takes_opened, tag_ends, path_heads}
 use Rattle.vb_parse.proofs.DeclarationTaking.{closing, access_heads, takes_access_word, begins_access, asks_access, access_apart, takes_declared, takes_constant}
-use Rattle.vb_parse.proofs.CallTaking.{statement_ends, takes_path, takes_value, takes_path_statement, begins_path_statement}
+use Rattle.vb_parse.proofs.CallTaking.{statement_ends, takes_path_statement, begins_path_statement}
 
 -- ---- with what a rule begins
 
@@ -106,6 +106,11 @@ takes_zero = record {
   takes = λ front rest x h ok. rw h.alone (ap (λ o. one_by (zero_by o) h.token rest) h.passes);
 }
 
+path_before : (v : List ℕ) → all_have (outside (115 ∷ 112 ∷ [])) v ≡ true → (rest : Tokens) → Before v rest
+    → PathEnds rest
+path_before v none rest ok = asks_no (asks_either (asks_kind (kind.Symbol s.PathPoint)) (asks_kind (kind.Symbol s.Open)))
+    none rest ok
+
 module _ (looser : Looser) (depth : ℕ) where
   takes_dim : Takes (spec.dim depth) (grammar.dim looser depth) (Before statement_ends)
   takes_dim = takes_word (λ line. takes_map _ (takes_list (takes_declared depth refl) refl))
@@ -131,13 +136,21 @@ module _ (looser : Looser) (depth : ℕ) where
       (λ kept. takes_map _ (takes_list takes_resized refl))
       (λ kept. leads_begins (begins_then (begins_then (begins_then name_begins))))))
 
+  takes_path : (v : List ℕ) → all_have (outside (115 ∷ 112 ∷ [])) v ≡ true
+      → Takes (calls.path_at depth) (grammar.path_at looser depth) (Before v)
+  takes_path v none = takes_narrow (path_before v none) (takes_path_at looser depth)
+
+  takes_value : {v : List ℕ} → all_have tag_ends v ≡ true
+      → Takes (calls.value_behind depth) (rule.◌>>◌ (words.symbol s.Equal) (grammar.expression looser depth)) (Before v)
+  takes_value ends = takes_word (λ _. takes_expression depth ends)
+
   takes_set : Takes (spec.set depth) (grammar.set looser depth) (Before statement_ends)
-  takes_set = takes_word (λ line. takes_then (takes_path looser depth (tag (kind.Symbol s.Equal) ∷ []) refl)
-      (λ target. takes_within bind_left (takes_map _ (takes_value looser depth refl)))
+  takes_set = takes_word (λ line. takes_then (takes_path (tag (kind.Symbol s.Equal) ∷ []) refl)
+      (λ target. takes_within bind_left (takes_map _ (takes_value refl)))
       (λ target. leads_begins (begins_word_then (kind.Symbol s.Equal))))
 
   takes_call_path : Takes (spec.call_path depth) (grammar.call_path looser depth) (Before statement_ends)
-  takes_call_path = takes_word (λ line. takes_map _ (takes_path looser depth statement_ends refl))
+  takes_call_path = takes_word (λ line. takes_map _ (takes_path statement_ends refl))
 
   takes_exit_kind : {v : Follow} → Takes spec.exit_kind (grammar.exit_kind looser depth) v
   takes_exit_kind = (choose (kind.Keyword k.Do) (takes_word (λ _. takes_pure _ _))
