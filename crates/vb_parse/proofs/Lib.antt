@@ -31,3 +31,5 @@ pub mod BlockTaking
 pub mod ProcedureReading
 pub mod UnitReading
 pub mod ProcedureTaking
+pub mod Telling
+pub mod ParseUnit
