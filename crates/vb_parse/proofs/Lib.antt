@@ -31,3 +31,4 @@ pub mod BlockTaking
 pub mod ProcedureReading
 pub mod UnitReading
 pub mod ProcedureTaking
+pub mod ClassTaking
