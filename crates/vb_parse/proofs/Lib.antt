@@ -32,3 +32,4 @@ pub mod ProcedureReading
 pub mod UnitReading
 pub mod ProcedureTaking
 pub mod ClassTaking
+pub mod UnitTaking
