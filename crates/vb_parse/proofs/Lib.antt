@@ -31,5 +31,7 @@ pub mod BlockTaking
 pub mod ProcedureReading
 pub mod UnitReading
 pub mod ProcedureTaking
+pub mod ClassTaking
+pub mod UnitTaking
 pub mod Telling
 pub mod ParseUnit

@@ -8,14 +8,10 @@ use Rattle.vb_syntax.specs.Faults.{IsFault, WouldGoOn}
 use Rattle.vb_parse.specs.Outcome.{Leaves}
 use Rattle.vb_parse.specs.ReadUnits as spec
 use Rattle.vb_parse.specs.ReadUnits.{whole_unit}
-use Rattle.vb_parse.proofs.Taking.{Takes}
 use Rattle.vb_parse.proofs.Theorems.{Fits, fits, unique, sound, stops_at_fault, spelled_or_fault, spelled_no_fault, fault_unique}
-use Rattle.vb_parse.proofs.Following.{Before}
 use Rattle.vb_parse.proofs.Telling.{would_go_on, would_not_go_on}
 use Rattle.vb_parse.proofs.UnitReading.{reads_unit}
-
-takes_unit : (looser : Looser) (depth : ℕ) → Takes (spec.unit looser depth) (grammar.unit looser depth) (Before [])
-takes_unit looser depth = ?
+use Rattle.vb_parse.proofs.UnitTaking.{takes_unit}
 
 unit_fits : (looser : Looser) (depth : ℕ) → Fits (spec.unit looser depth) (grammar.unit looser depth)
 unit_fits looser depth = fits (reads_unit looser depth) (takes_unit looser depth) (record { fits = refl })
