@@ -1,5 +1,6 @@
 -- The readers of fields, members and classes take whatever the grammar spells.
-use Rattle.std.proofs.Common.{◌≡◌, ℕ, zero, suc, ◌==◌, ◌||◌, ◌⊎◌, inl, inr, Bool, true, false, List, [], ◌∷◌, ◌++◌, Option, Some, None, Ok, refl, sym, ap, ◌∙◌, append_assoc, codes}
+use Rattle.std.proofs.Common.{◌≡◌, ℕ, ◌||◌, inl, inr, Bool, true, false, List, [], ◌∷◌, ◌++◌, Option, Some, None, Ok}
+use Rattle.std.proofs.Common.{refl, ap, ◌∙◌, append_assoc, codes}
 use Rattle.vb_value.specs.declared.token.Keyword.{Keyword}
 use Rattle.vb_value.specs.declared.token.Keyword.TheVariants as k
 use Rattle.vb_value.specs.declared.token.Symbol.TheVariants as s
@@ -8,7 +9,6 @@ use Rattle.vb_value.specs.declared.token.TokenKind.{TokenKind}
 use Rattle.vb_value.specs.declared.token.TokenKind.TheVariants as kind
 use Rattle.vb_syntax.specs.declared.declaration.Access.{Access}
 use Rattle.vb_syntax.specs.declared.declaration.Access.TheVariants as access
-use Rattle.vb_syntax.specs.declared.unit.Class.{Class}
 use Rattle.vb_syntax.specs.declared.unit.ClassMember.{ClassMember}
 use Rattle.vb_syntax.specs.declared.unit.ClassMember.TheVariants as member
 use Rattle.vb_syntax.specs.declared.unit.FieldAccess.{FieldAccess}
@@ -23,22 +23,30 @@ use Rattle.vb_syntax.specs.SimpleStatements.{Looser, quoted_at, line_of_quoted}
 use Rattle.vb_syntax.specs.Units as grammar
 use Rattle.vb_parse.specs.Reader.{Reader, Look, next, passes, is_some, one_by, asks}
 use Rattle.vb_parse.specs.Reader as reader
-use Rattle.vb_parse.specs.ReadDeclarations.{sees_access, access_word as access_reader}
+use Rattle.vb_parse.specs.ReadDeclarations.{access_word as access_reader}
 use Rattle.vb_parse.specs.ReadSimpleStatements.{sees_quoted}
 use Rattle.vb_parse.specs.ReadUnits as spec
-use Rattle.vb_parse.specs.Runs.{opens}
-use Rattle.vb_parse.proofs.Taking.{Follow, Any, Takes, Starts, takes_pure, takes_one}
+use Rattle.vb_parse.proofs.Taking.{Follow, Any, Takes, Starts, takes_pure}
 use Rattle.vb_parse.proofs.Beginning.{HeadIn}
-use Rattle.vb_parse.proofs.Binding.{Within, within_then, bind_wider, first_wider, bind_left, bind_right, pure_in, pure_out, or_out, or_within, or_wider}
+use Rattle.vb_parse.proofs.Binding.{Within, within_then, bind_wider, first_wider, bind_left, bind_right, pure_in}
+use Rattle.vb_parse.proofs.Binding.{pure_out, or_out, or_within}
 use Rattle.vb_parse.proofs.ProcedureReading.{either_open, property_open}
 use Rattle.vb_parse.proofs.CallReading.{or_both}
 use Rattle.vb_parse.proofs.UnitReading.{fields_rest, fields_of}
-use Rattle.vb_parse.proofs.Following.{among, outside, all_have, Before, BeginsIn, Leads, leads_begins, leads_bind, leads_many, leads_or, leads_pure, leads_wider, leads_within, begins_then, begins_either, begins_more, begins_within, begins_word_then, name_begins, Asks, asks_kind, asks_either, asks_no, starts, starts_word, takes_on, takes_off, takes_on_word, takes_off_word, takes_or, takes_within, takes_word, takes_then, takes_map, takes_more, takes_each, skips, Chosen, chosen, choose, choose_by, comma}
+use Rattle.vb_parse.proofs.Following.{among, Before, BeginsIn, Leads, leads_begins, leads_bind, leads_many, leads_or}
+use Rattle.vb_parse.proofs.Following.{leads_pure, begins_then, begins_either, begins_more, begins_within}
+use Rattle.vb_parse.proofs.Following.{begins_word_then, name_begins, Asks, asks_no, starts, takes_on, takes_off}
+use Rattle.vb_parse.proofs.Following.{takes_or, takes_within, takes_word, takes_then, takes_map, takes_more, takes_each}
+use Rattle.vb_parse.proofs.Following.{skips, Chosen, chosen, choose, choose_by, comma}
 use Rattle.vb_parse.proofs.Placing.{takes_opened, begins_opened}
-use Rattle.vb_parse.proofs.DeclarationTaking.{access_heads, asks_access, begins_access, takes_access_word, takes_declared, takes_declared_from, opening, bounds_behind, begins_bounds}
+use Rattle.vb_parse.proofs.DeclarationTaking.{access_heads, asks_access, begins_access, takes_access_word}
+use Rattle.vb_parse.proofs.DeclarationTaking.{takes_declared, takes_declared_from, opening, begins_bounds}
 use Rattle.vb_parse.proofs.SimpleTaking.{name_head, quoted_begins}
-use Rattle.vb_parse.proofs.EndTaking.{break_heads, takes_end, begins_end, skips_quoted, text_head, takes_texts, leads_texts}
-use Rattle.vb_parse.proofs.ProcedureTaking.{procedure_heads, asks_procedure, begins_procedure, takes_procedure, procedure_apart, property_kinds, asks_property, begins_property, takes_property_from, property_word, property_apart, takes_property_alone}
+use Rattle.vb_parse.proofs.EndTaking.{break_heads, takes_end, begins_end, skips_quoted, text_head, takes_texts}
+use Rattle.vb_parse.proofs.EndTaking.{leads_texts}
+use Rattle.vb_parse.proofs.ProcedureTaking.{asks_procedure, begins_procedure, takes_procedure, procedure_apart}
+use Rattle.vb_parse.proofs.ProcedureTaking.{asks_property, begins_property, takes_property_from, property_word}
+use Rattle.vb_parse.proofs.ProcedureTaking.{property_apart, takes_property_alone}
 
 -- ---- fields
 
@@ -51,7 +59,8 @@ fields_named depth first = within_then bind_right (within_then (bind_wider (λ o
 module _ (looser : Looser) where
   -- the word before fields
   fields_apart : (depth : ℕ) → Within (grammar.fields looser depth)
-      (rule.◌or◌ (rule.◌>>=◌ declarations.access_word (λ before. fields_of depth (before.0, spec.field_access before.1)))
+      (rule.◌or◌ (rule.◌>>=◌ declarations.access_word (λ before. fields_of depth
+      (before.0, spec.field_access before.1)))
       (rule.◌>>=◌ (words.keyword k.Dim) (λ line. fields_of depth (line, field.Dim))))
   fields_apart depth = within_then or_out (or_within
       (within_then bind_right (within_then (bind_wider (λ line. pure_out)) (λ _ _ h. inr h)))
@@ -59,7 +68,8 @@ module _ (looser : Looser) where
       (within_then (access_by k.Public access.Public) (λ _ _ h. inl (first_wider (λ _ _ w. inl w) _ _ h)))
       (within_then (access_by k.Private access.Private) (λ _ _ h. inl (first_wider (λ _ _ w. inr w) _ _ h))))))
     where
-      access_by : (word : Keyword) (found : Access) → Within (rule.◌>>=◌ {A = ℕ × FieldAccess} (rule.◌>>=◌ (words.keyword
+      access_by : (word : Keyword) (found : Access) → Within (rule.◌>>=◌ {A = ℕ × FieldAccess} (rule.◌>>=◌
+          (words.keyword
           word) (λ line. rule.pure (line, spec.field_access found))) (fields_of depth)) (rule.◌>>=◌ {A = ℕ × Access}
           (rule.◌>>=◌ (words.keyword word) (λ line. rule.pure (line, found)))
           (λ before. fields_of depth (before.0, spec.field_access before.1)))
@@ -72,7 +82,8 @@ field_ends = comma ∷ break_heads
 
 leads_more : (depth line : ℕ) (access : FieldAccess) (name : List ℕ)
     → Leads (field_ends ++ opening) (fields_rest depth line access name) (Before break_heads)
-leads_more depth line access name = leads_bind (leads_bind {m = field_ends} (leads_or leads_pure (leads_begins (begins_then
+leads_more depth line access name = leads_bind (leads_bind {m = field_ends} (leads_or leads_pure (leads_begins
+    (begins_then
     (begins_bounds depth)))) (λ found. leads_pure))
     (λ first. leads_bind (leads_many (begins_word_then (kind.Symbol s.Comma))) (λ more. leads_pure))
 
@@ -104,18 +115,25 @@ module _ (looser : Looser) (depth : ℕ) (before : ℕ × Access) where
   named_fields name = fields_rest depth before.0 (spec.field_access before.1) name
 
   abbrev property_member : Rule ClassMember
-  property_member = rule.◌>>=◌ (property_open looser depth (before.0, Some before.1)) (λ found. rule.pure (member.Property
+  property_member = rule.◌>>=◌ (property_open looser depth (before.0, Some before.1)) (λ found. rule.pure
+      (member.Property
       found))
 
   takes_fields_behind : (name : List ℕ) → Takes (spec.behind_property looser depth before name) (named_fields name)
       (Before break_heads)
-  takes_fields_behind name = takes_off spec.sees_property_kind _ (skips (asks_property looser) (leads_more depth before.0
+  takes_fields_behind name = takes_off spec.sees_property_kind _ (skips (asks_property looser)
+      (leads_more depth before.0
       (spec.field_access before.1) name) refl) (takes_fields_from depth before.0 (spec.field_access before.1) name)
 
-  takes_kind_behind : (name : List ℕ) {v : Follow} → Takes (spec.behind_property looser depth before name) property_member v
-  takes_kind_behind name = takes_on spec.sees_property_kind _ (starts (asks_property looser) (begins_then (begins_property
-      looser depth (before.0, Some before.1))) refl) (takes_map _ (takes_property_from looser depth (before.0, Some
-      before.1)))
+  takes_kind_behind : (name : List ℕ) {v : Follow} → Takes (spec.behind_property looser depth before name)
+      property_member v
+  takes_kind_behind name = takes_on spec.sees_property_kind _ (starts (asks_property looser) (begins_then
+      (begins_property
+      looser depth (before.0, Some before.1))) refl) (takes_map _ (takes_property_from looser depth (
+        before.0,
+        Some
+            before.1,
+      )))
 
   -- what stands behind an access, but for a procedure
   abbrev name_behind : Reader ClassMember
@@ -125,7 +143,8 @@ module _ (looser : Looser) (depth : ℕ) (before : ℕ × Access) where
 
   takes_named : Takes name_behind (rule.◌>>=◌ (rule.one name_of) named_fields) (Before break_heads)
   takes_named = record {
-    takes = λ front rest x h ok. ap name_behind (ap (λ t. t ++ rest) (h.split ∙ ap (λ t. t ++ h.back) h.first_spells.alone))
+    takes = λ front rest x h ok. ap name_behind (ap (λ t. t ++ rest) (h.split ∙ ap
+        (λ t. t ++ h.back) h.first_spells.alone))
         ∙ go h.first_spells.token h.thing h.back rest x (quoted_at property_text h.first_spells.token) refl
         h.first_spells.passes h.next_spells ok;
   }
@@ -133,13 +152,17 @@ module _ (looser : Looser) (depth : ℕ) (before : ℕ × Access) where
       go : (token : Token) (name : List ℕ) (back rest : Tokens) (x : ClassMember) (o : Option ℕ)
           → quoted_at property_text token ≡ o → name_of token ≡ Some name → named_fields name back x
           → Before break_heads rest → name_behind (token ∷ (back ++ rest)) ≡ Ok (x, rest)
-      go token name back rest x None is named h ok = rw (is, named) ((takes_fields_from depth before.0 (spec.field_access
+      go token name back rest x None is named h ok = rw (is, named) ((takes_fields_from depth before.0
+          (spec.field_access
           before.1) name).takes back rest x h ok)
-      go token name back rest x (Some line) is named h ok = rw (is, named) ((takes_fields_behind name).takes back rest x h ok)
+      go token name back rest x (Some line) is named h ok = rw (is, named) ((takes_fields_behind name).takes back rest
+          x h ok)
 
-  takes_property : {v : Follow} → Takes name_behind (rule.◌>>=◌ (simple.quoted property_text) (λ line. property_member)) v
+  takes_property : {v : Follow} → Takes name_behind (rule.◌>>=◌ (simple.quoted property_text)
+      (λ line. property_member)) v
   takes_property {v} = record {
-    takes = λ front rest x h ok. ap name_behind (ap (λ t. t ++ rest) (h.split ∙ ap (λ t. t ++ h.back) h.first_spells.alone))
+    takes = λ front rest x h ok. ap name_behind (ap (λ t. t ++ rest) (h.split ∙ ap
+        (λ t. t ++ h.back) h.first_spells.alone))
         ∙ go h.first_spells.token h.thing h.back rest x h.first_spells.passes (quoted_is_name property_text
         h.first_spells.token h.thing h.first_spells.passes) h.next_spells;
   }
@@ -147,7 +170,8 @@ module _ (looser : Looser) (depth : ℕ) (before : ℕ × Access) where
       go : (token : Token) (line : ℕ) (back rest : Tokens) (x : ClassMember) → quoted_at property_text token ≡ Some line
           → (name : List ℕ) × (name_of token ≡ Some name) → property_member back x
           → name_behind (token ∷ (back ++ rest)) ≡ Ok (x, rest)
-      go token line back rest x is named h = rw (is, named.1) ((takes_kind_behind named.0 {v = Any}).takes back rest x h tt)
+      go token line back rest x is named h = rw (is, named.1) ((takes_kind_behind named.0
+          {v = Any}).takes back rest x h tt)
 
   -- ---- members behind an access
 
@@ -162,7 +186,8 @@ module _ (looser : Looser) (depth : ℕ) (before : ℕ × Access) where
   member_behind = rule.◌or◌ method_behind names_behind
 
   begins_names : BeginsIn name_head names_behind
-  begins_names = begins_more {m = name_head} refl (begins_either (begins_then (begins_then (quoted_begins property_text)))
+  begins_names = begins_more {m = name_head} refl (begins_either (begins_then (begins_then
+      (quoted_begins property_text)))
       (begins_then name_begins))
 
   pub takes_member_behind : Takes (spec.behind_access looser depth before) member_behind (Before break_heads)
@@ -183,7 +208,8 @@ module _ (looser : Looser) (depth : ℕ) (before : ℕ × Access) where
 
 -- the numbers of the keywords that begin a member
 abbrev pub member_words : List ℕ
-member_words = access_heads ++ (tag (kind.Keyword k.Dim) ∷ tag (kind.Keyword k.Sub) ∷ tag (kind.Keyword k.Function) ∷ [])
+member_words = access_heads ++ (tag (kind.Keyword k.Dim) ∷ tag (kind.Keyword k.Sub) ∷ tag
+    (kind.Keyword k.Function) ∷ [])
 
 member_tag : (kind : TokenKind) → spec.kind_begins_member kind ≡ among member_words (tag kind)
 member_tag (kind.Keyword k.And) = refl
@@ -255,7 +281,8 @@ module _ (looser : Looser) (depth : ℕ) where
       (choose (kind.Keyword k.Dim) takes_dim
       (choose_by (asks_procedure looser) (begins_then (begins_procedure looser depth None)) refl
       (takes_map _ (takes_procedure looser depth None))
-      (chosen (takes_map _ (takes_property_alone looser depth)) (begins_then (begins_then (quoted_begins property_text))))
+      (chosen (takes_map _ (takes_property_alone looser depth)) (begins_then (begins_then
+      (quoted_begins property_text))))
       refl) refl) refl
 
 -- the numbers of the tokens that begin a member
@@ -280,10 +307,12 @@ module _ (looser : Looser) (depth : ℕ) where
       (λ found. leads_begins (begins_then begins_end))
 
   starts_member : Starts spec.begins_member (grammar.member_line looser depth)
-  starts_member front rest x h = rw (h.split, append_assoc h.front h.back rest) (go (member_asked looser depth h.front h.thing
+  starts_member front rest x h = rw (h.split, append_assoc h.front h.back rest) (go
+      (member_asked looser depth h.front h.thing
       h.first_spells) (h.back ++ rest))
     where
-      plain : (front rest : Tokens) → HeadIn (among member_words) front → spec.begins_member (next (front ++ rest)) ≡ true
+      plain : (front rest : Tokens) → HeadIn (among member_words) front → spec.begins_member (next
+          (front ++ rest)) ≡ true
       plain front rest w = rw w.2 (or_on _ _ (member_tag w.0.kind ∙ w.3))
 
       quoted : (front rest : Tokens) (y : ClassMember) → alone_member looser depth front y
@@ -292,11 +321,13 @@ module _ (looser : Looser) (depth : ℕ) where
           rw (w.split, w.first_spells.split, first.alone) (or_second _ _ (ap is_some first.passes))
 
       go : asked looser depth h.front h.thing → (rest : Tokens) → spec.begins_member (next (h.front ++ rest)) ≡ true
-      go (inl w) rest = plain h.front rest ((begins_more {m = member_words} refl (begins_then begins_access)).head h.front
+      go (inl w) rest = plain h.front rest ((begins_more {m = member_words} refl
+          (begins_then begins_access)).head h.front
           h.thing w)
       go (inr (inl w)) rest = plain h.front rest ((begins_more {m = member_words} refl (begins_word_then (kind.Keyword
           k.Dim))).head h.front h.thing w)
-      go (inr (inr (inl w))) rest = plain h.front rest ((begins_more {m = member_words} refl (begins_then (begins_procedure
+      go (inr (inr (inl w))) rest = plain h.front rest ((begins_more {m = member_words} refl (begins_then
+          (begins_procedure
           looser depth None))).head h.front h.thing w)
       go (inr (inr (inr w))) rest = quoted h.front rest h.thing w
 
@@ -305,7 +336,8 @@ module _ (looser : Looser) (depth : ℕ) where
 
 -- ---- classes
 
-pub takes_class : (looser : Looser) (depth : ℕ) {v : Follow} → Takes (spec.class looser depth) (grammar.class looser depth) v
+pub takes_class : (looser : Looser) (depth : ℕ) {v : Follow} → Takes (spec.class looser depth)
+    (grammar.class looser depth) v
 takes_class looser depth {v} = takes_opened depth (λ within. takes_word (λ line. takes_word (λ name.
     takes_then {l = member_ends ++ (text_head ++ member_ends)} (takes_end refl)
     (λ _. takes_then {l = member_ends} (takes_texts looser refl refl)
@@ -316,9 +348,11 @@ takes_class looser depth {v} = takes_opened depth (λ within. takes_word (λ lin
     (λ _. leads_bind {m = member_ends} (leads_texts looser) (λ _. leads_members within)))))
   where
     leads_members : (within : ℕ) {B : Type 0} {w : Follow} {f : List ClassMember → Rule B} → Leads member_ends
-        (rule.◌>>=◌ (rule.many (grammar.member_line looser within)) (λ found. rule.◌>>◌ (words.keyword k.End) (f found))) w
+        (rule.◌>>=◌ (rule.many (grammar.member_line looser within)) (λ found. rule.◌>>◌ (words.keyword k.End)
+        (f found))) w
     leads_members within = leads_bind (leads_many {l = end_word} (begins_then (begins_member looser within)))
         (λ found. leads_begins (begins_word_then (kind.Keyword k.End)))
 
-pub begins_class : (looser : Looser) (depth : ℕ) → BeginsIn (tag (kind.Keyword k.Class) ∷ []) (grammar.class looser depth)
+pub begins_class : (looser : Looser) (depth : ℕ) → BeginsIn (tag (kind.Keyword k.Class) ∷ [])
+    (grammar.class looser depth)
 begins_class looser depth = begins_opened depth (λ within. begins_word_then (kind.Keyword k.Class))

@@ -1,5 +1,6 @@
 -- The readers of items and units take whatever the grammar spells.
-use Rattle.std.proofs.Common.{◌≡◌, ℕ, zero, suc, ◌==◌, ◌||◌, ◌⊎◌, inl, inr, Bool, true, false, List, [], ◌∷◌, ◌++◌, Option, Some, None, Ok, refl, sym, ap, ◌∙◌, append_assoc, codes}
+use Rattle.std.proofs.Common.{◌≡◌, ℕ, ◌⊎◌, inl, inr, Bool, true, false, List, [], ◌∷◌, ◌++◌, Option, Some, None, Ok}
+use Rattle.std.proofs.Common.{refl, ap, ◌∙◌}
 use Rattle.vb_value.specs.declared.token.Keyword.TheVariants as k
 use Rattle.vb_value.specs.declared.token.Symbol.TheVariants as s
 use Rattle.vb_value.specs.declared.token.TokenKind.{TokenKind}
@@ -27,14 +28,21 @@ use Rattle.vb_parse.specs.ReadSimpleStatements.{const_from as const_reader}
 use Rattle.vb_parse.specs.ReadLines as lines
 use Rattle.vb_parse.specs.ReadStatements as read_statements
 use Rattle.vb_parse.specs.ReadUnits as spec
-use Rattle.vb_parse.proofs.Taking.{Follow, Takes, takes_pure}
+use Rattle.vb_parse.proofs.Taking.{Takes, takes_pure}
 use Rattle.vb_parse.proofs.Beginning.{HeadIn}
-use Rattle.vb_parse.proofs.Binding.{Within, within_then, bind_wider, first_wider, bind_left, bind_right, pure_in, pure_out, or_out, or_within}
+use Rattle.vb_parse.proofs.Binding.{Within, within_then, bind_wider, first_wider, bind_left, bind_right, pure_in}
+use Rattle.vb_parse.proofs.Binding.{pure_out, or_out, or_within}
 use Rattle.vb_parse.proofs.SimpleReading.{const_behind}
 use Rattle.vb_parse.proofs.ProcedureReading.{either_open}
-use Rattle.vb_parse.proofs.Following.{among, outside, all_have, Before, before_head, BeginsIn, Leads, leads_begins, leads_bind, leads_many, leads_or, leads_pure, begins_then, begins_either, begins_more, begins_within, begins_word_then, name_begins, Asks, asks_kind, asks_either, asks_no, starts, takes_on, takes_off, takes_on_word, takes_off_word, takes_or, takes_within, takes_word, takes_then, takes_map, takes_list, takes_each, takes_before, skips, Chosen, chosen, choose, choose_by, comma}
-use Rattle.vb_parse.proofs.DeclarationTaking.{access_heads, asks_access, begins_access, takes_access_word, access_apart, takes_declared}
-use Rattle.vb_parse.proofs.SimpleTaking.{name_head, simple_heads, quoted_begins, takes_const_from, begins_simple}
+use Rattle.vb_parse.proofs.Following.{among, outside, all_have, Before, BeginsIn, Leads, leads_begins, leads_bind}
+use Rattle.vb_parse.proofs.Following.{leads_many, leads_or, leads_pure, begins_then, begins_either, begins_more}
+use Rattle.vb_parse.proofs.Following.{begins_within, begins_word_then, name_begins, Asks, asks_kind, asks_either}
+use Rattle.vb_parse.proofs.Following.{asks_no, starts, takes_on, takes_off, takes_on_word, takes_off_word, takes_or}
+use Rattle.vb_parse.proofs.Following.{takes_within, takes_word, takes_then, takes_map, takes_list, takes_each}
+use Rattle.vb_parse.proofs.Following.{takes_before, skips, Chosen, chosen, choose_by}
+use Rattle.vb_parse.proofs.DeclarationTaking.{access_heads, asks_access, begins_access, takes_access_word, access_apart}
+use Rattle.vb_parse.proofs.DeclarationTaking.{takes_declared}
+use Rattle.vb_parse.proofs.SimpleTaking.{name_head, simple_heads, takes_const_from, begins_simple}
 use Rattle.vb_parse.proofs.EndTaking.{break_heads, asks_breaks, takes_end, begins_end}
 use Rattle.vb_parse.proofs.IfTaking.{sentence_heads}
 use Rattle.vb_parse.proofs.BlockTaking.{takes_sentence, begins_sentence, inside_taken}
@@ -45,11 +53,13 @@ use Rattle.vb_parse.proofs.ClassTaking.{takes_class, begins_class}
 
 -- the numbers of the tokens that begin one
 abbrev other_heads : List ℕ
-other_heads = access_heads ++ (tag (kind.Keyword k.Sub) ∷ tag (kind.Keyword k.Function) ∷ tag (kind.Keyword k.Class) ∷ [])
+other_heads = access_heads ++ (tag (kind.Keyword k.Sub) ∷ tag (kind.Keyword k.Function) ∷ tag
+    (kind.Keyword k.Class) ∷ [])
 
 -- the numbers of the tokens that begin a statement, but for a word before a constant
 abbrev plain_heads : List ℕ
-plain_heads = tag (kind.Keyword k.If) ∷ tag (kind.Keyword k.Const) ∷ tag (kind.Keyword k.Select) ∷ tag (kind.Keyword k.For)
+plain_heads = tag (kind.Keyword k.If) ∷ tag (kind.Keyword k.Const) ∷ tag (kind.Keyword k.Select) ∷ tag
+    (kind.Keyword k.For)
     ∷ tag (kind.Keyword k.Do) ∷ tag (kind.Keyword k.While) ∷ tag (kind.Keyword k.With) ∷ simple_heads
 
 module _ (looser : Looser) (depth : ℕ) where
@@ -82,8 +92,10 @@ module _ (looser : Looser) (depth : ℕ) where
   begins_variables before = begins_then (begins_then (begins_then name_begins))
 
   chosen_behind : (before : ℕ × Access) → Chosen (spec.item_behind looser depth before) (tag (kind.Keyword k.Const)
-      ∷ (tag (kind.Keyword k.Sub) ∷ tag (kind.Keyword k.Function) ∷ name_head)) (item_behind before) (Before break_heads)
-  chosen_behind before = choose_by (asks_kind (kind.Keyword k.Const)) (begins_then (begins_word_then (kind.Keyword k.Const)))
+      ∷ (tag (kind.Keyword k.Sub) ∷ tag (kind.Keyword k.Function) ∷ name_head)) (item_behind before)
+      (Before break_heads)
+  chosen_behind before = choose_by (asks_kind (kind.Keyword k.Const)) (begins_then (begins_word_then
+      (kind.Keyword k.Const)))
       refl (takes_const_item before)
       (choose_by (asks_procedure looser) (begins_then (begins_procedure looser depth (Some before))) refl
       (takes_map _ (takes_procedure looser depth (Some before)))
@@ -95,7 +107,8 @@ module _ (looser : Looser) (depth : ℕ) where
 
   chosen_item : Chosen (spec.other_item looser depth) other_heads asked (Before break_heads)
   chosen_item = choose_by asks_access (begins_then begins_access) refl
-      (takes_then {l = tag (kind.Keyword k.Const) ∷ (tag (kind.Keyword k.Sub) ∷ tag (kind.Keyword k.Function) ∷ name_head)}
+      (takes_then {l = tag (kind.Keyword k.Const) ∷ (tag (kind.Keyword k.Sub) ∷ tag
+      (kind.Keyword k.Function) ∷ name_head)}
       takes_access_word (λ before. (chosen_behind before).takes) (λ before. leads_begins (chosen_behind before).begins))
       (choose_by (asks_procedure looser) (begins_then (begins_procedure looser depth None)) refl
       (takes_map _ (takes_procedure looser depth None))
@@ -162,14 +175,16 @@ module _ (looser : Looser) (depth : ℕ) where
             first_spells = c;
             next_spells = h.next_spells;
           })
-          split (inr c) = inr (longer ((begins_more {m = plain_heads} refl (begins_word_then (kind.Keyword k.Const))).head
+          split (inr c) = inr (longer ((begins_more {m = plain_heads} refl (begins_word_then
+              (kind.Keyword k.Const))).head
               h.front h.thing c))
 
       go : rule.◌or◌ (simple.const looser depth) (rule.◌or◌ (statements.compound looser depth inner_rules)
           (simple.simple looser depth)) h.front h.thing → access_const front x ⊎ HeadIn (among plain_heads) front
       go (inl w) = const_apart w
       go (inr (inl w)) = inr (longer (begins_compound.head h.front h.thing w))
-      go (inr (inr w)) = inr (longer ((begins_more {m = plain_heads} refl (begins_simple looser depth)).head h.front h.thing
+      go (inr (inr w)) = inr (longer ((begins_more {m = plain_heads} refl (begins_simple looser depth)).head h.front
+          h.thing
           w))
 
   -- the constant as another item
@@ -185,7 +200,8 @@ module _ (looser : Looser) (depth : ℕ) where
   }
     where
       plain : Takes (reader.◌>>=◌ (read_statements.sentence looser depth (read_statements.blocks_inside looser depth))
-          (λ found. reader.pure (item.Statement found))) (rule.◌>>=◌ sentence (λ found. rule.pure (item.Statement found)))
+          (λ found. reader.pure (item.Statement found))) (rule.◌>>=◌ sentence (λ found. rule.pure
+          (item.Statement found)))
           (Before v)
       plain = takes_map _ (takes_sentence looser depth _ _ (inside_taken looser depth) none)
 
@@ -195,7 +211,8 @@ module _ (looser : Looser) (depth : ℕ) where
         fits = w.3;
       }))
 
-      go : (front rest : Tokens) (x : Item) → (h : rule.◌>>=◌ sentence (λ found. rule.pure (item.Statement found)) front x)
+      go : (front rest : Tokens) (x : Item) → (h : rule.◌>>=◌ sentence (λ found. rule.pure
+          (item.Statement found)) front x)
           → Before v rest → access_const h.front h.thing ⊎ HeadIn (among plain_heads) h.front
           → spec.item_line looser depth (front ++ rest) ≡ Ok (x, rest)
       go front rest x h ok (inl c) = (takes_other none).takes front rest x (const_asked front x (record {
@@ -259,7 +276,8 @@ module _ (looser : Looser) (depth : ℕ) where
 
   -- ---- units
 
-  leads_items : (explicit : Bool) → Leads {A = Script} item_heads (rule.◌>>=◌ (rule.many (grammar.item_line looser depth))
+  leads_items : (explicit : Bool) → Leads {A = Script} item_heads (rule.◌>>=◌ (rule.many
+      (grammar.item_line looser depth))
       (λ items. rule.pure (record { option_explicit = explicit; items = items }))) (Before [])
   leads_items explicit = leads_bind (leads_many begins_item_line) (λ items. leads_pure)
 
