@@ -33,14 +33,17 @@ use Rattle.vb_parse.specs.Runs.{opens}
 use Rattle.vb_parse.proofs.Taking.{Follow, Any, Takes, Starts, takes_pure, takes_one}
 use Rattle.vb_parse.proofs.Binding.{Within, within_then, bind_left, bind_right, bind_wider, first_wider, pure_in, pure_out, or_out, or_within}
 use Rattle.vb_parse.proofs.Beginning.{HeadIn}
-use Rattle.vb_parse.proofs.Following.{among, outside, all_have, next_in, Before, before_head, before_wider, BeginsIn, Leads, leads_begins, leads_pure, leads_or, leads_bind, leads_many, leads_wider, begins_kind, begins_then, begins_word_then, begins_either, begins_within, begins_more, full_begins, leads_within, name_begins, Asks, asks_kind, asks_either, asks_no, not_true, among_has, starts_one, leads_within, Skips, skips, starts, starts_word, takes_on, takes_off, takes_on_word, takes_off_word, takes_or, takes_within, takes_word, takes_then, takes_map, takes_each, takes_list, takes_before, Chosen, chosen, choose, choose_by, Ahead, ahead_many, until_takes, Closed, closed_first, closed_next, closed_or, takes_gated, comma}
+use Rattle.vb_parse.proofs.Tags.{among, outside, all_have}
+use Rattle.vb_parse.proofs.Following.{Before, BeginsIn, leads_many, begins_then, begins_word_then, begins_either}
+use Rattle.vb_parse.proofs.Following.{begins_within, begins_more, Asks, asks_kind, asks_either, asks_no, starts}
+use Rattle.vb_parse.proofs.Choosing.{takes_within, takes_each, takes_before, Chosen, chosen, choose, choose_by}
 use Rattle.vb_parse.proofs.Placing.{or_last, begins_expression, takes_expression, takes_inside, begins_inside, closed_inside, tag_ends, expression_heads}
 use Rattle.vb_parse.proofs.DeclarationTaking.{access_heads, asks_access}
 use Rattle.vb_parse.proofs.CallTaking.{statement_ends}
 use Rattle.vb_parse.proofs.SimpleTaking.{simple_heads, const_heads, name_head, takes_simple, begins_simple, takes_const, begins_const, quoted_begins, quoted_tag}
 use Rattle.vb_parse.proofs.LineTaking.{Trailing, after_line, TakesLine, TakesTrailing, line_heads, takes_line, begins_line, takes_line_if_from}
 use Rattle.vb_parse.proofs.EndTaking.{break_heads, asks_breaks, break_begins, takes_end, begins_end, takes_breaks, CutEnd, cut_end, takes_line_end, skips_quoted, text_head, takes_texts, leads_texts}
-use Rattle.vb_parse.proofs.IfTaking.{block_ends, sentence_heads, block_heads, BlocksTaken, last_apart, takes_within_place, takes_inner, leads_inner, loop_heads, asks_loop, takes_condition, begins_condition, if_rule, takes_if, ended}
+use Rattle.vb_parse.proofs.IfTaking.{block_ends, sentence_heads, block_heads, BlocksTaken, last_apart, takes_within_place, leads_inner, loop_heads, asks_loop, takes_condition, begins_condition, if_rule, takes_if, ended}
 use Rattle.vb_parse.proofs.StatementTaking.{takes_select, for_rule, takes_for, takes_do, takes_while, takes_with, shared}
 
 -- what begins a statement or a constant

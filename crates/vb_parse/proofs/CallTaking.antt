@@ -41,7 +41,12 @@ use Rattle.vb_parse.proofs.PathReading.{begins_named, path_group, takes_path_at}
 use Rattle.vb_parse.proofs.GroupTaking.{tail_plain, tail_snoc, many_snoc, group_step, pair_group, Single, operand_group, several_group}
 use Rattle.vb_parse.proofs.CallReading.{Target, Parts, path_parts, path_made, more_arguments, held_arguments}
 use Rattle.vb_parse.proofs.Turns.{rules_inside, inner_at, taken_inside}
-use Rattle.vb_parse.proofs.Following.{among, outside, all_have, Before, before_head, before_wider, BeginsIn, Leads, leads_begins, leads_pure, leads_bind, leads_many, begins_in, one_among, begins_then, begins_either, begins_more, begins_word_then, Asks, asks_kind, asks_either, asks_no, among_has, begins_kind, starts, takes_or, takes_on_word, takes_within, takes_word, takes_then, takes_map, takes_list, takes_more}
+use Rattle.vb_parse.proofs.Tags.{among, outside, all_have, among_has}
+use Rattle.vb_parse.proofs.Following.{Before, before_head, BeginsIn, Leads, leads_begins, leads_pure, leads_bind}
+use Rattle.vb_parse.proofs.Following.{leads_many, begins_in, one_among, begins_then, begins_either, begins_word_then}
+use Rattle.vb_parse.proofs.Following.{Asks, asks_kind, asks_either, asks_no, begins_kind, starts}
+use Rattle.vb_parse.proofs.Choosing.{takes_or, takes_on_word, takes_within, takes_word, takes_then, takes_map}
+use Rattle.vb_parse.proofs.Choosing.{takes_list, takes_more}
 use Rattle.vb_parse.proofs.Placing.{path_heads, ends_before, tag_ends, takes_expression, expression_heads}
 
 -- what may stand behind a statement

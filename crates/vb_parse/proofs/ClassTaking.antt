@@ -33,11 +33,12 @@ use Rattle.vb_parse.proofs.Binding.{pure_out, or_out, or_within}
 use Rattle.vb_parse.proofs.ProcedureReading.{either_open, property_open}
 use Rattle.vb_parse.proofs.CallReading.{or_both}
 use Rattle.vb_parse.proofs.UnitReading.{fields_rest, fields_of}
-use Rattle.vb_parse.proofs.Following.{among, Before, BeginsIn, Leads, leads_begins, leads_bind, leads_many, leads_or}
+use Rattle.vb_parse.proofs.Tags.{among}
+use Rattle.vb_parse.proofs.Following.{Before, BeginsIn, Leads, leads_begins, leads_bind, leads_many, leads_or}
 use Rattle.vb_parse.proofs.Following.{leads_pure, begins_then, begins_either, begins_more, begins_within}
-use Rattle.vb_parse.proofs.Following.{begins_word_then, name_begins, Asks, asks_no, starts, takes_on, takes_off}
-use Rattle.vb_parse.proofs.Following.{takes_or, takes_within, takes_word, takes_then, takes_map, takes_more, takes_each}
-use Rattle.vb_parse.proofs.Following.{skips, Chosen, chosen, choose, choose_by, comma}
+use Rattle.vb_parse.proofs.Following.{begins_word_then, name_begins, Asks, asks_no, starts, skips}
+use Rattle.vb_parse.proofs.Choosing.{takes_on, takes_off, takes_or, takes_within, takes_word, takes_then, takes_map}
+use Rattle.vb_parse.proofs.Choosing.{takes_more, takes_each, Chosen, chosen, choose, choose_by, comma}
 use Rattle.vb_parse.proofs.Placing.{takes_opened, begins_opened}
 use Rattle.vb_parse.proofs.DeclarationTaking.{access_heads, asks_access, begins_access, takes_access_word}
 use Rattle.vb_parse.proofs.DeclarationTaking.{takes_declared, takes_declared_from, opening, begins_bounds}

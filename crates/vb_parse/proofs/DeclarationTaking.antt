@@ -22,7 +22,12 @@ use Rattle.vb_parse.proofs.Taking.{Follow, Any, Takes, takes_pure, takes_one, ta
 use Rattle.vb_parse.proofs.Beginning.{HeadIn, begins_bind, begins_word, literal_tag}
 use Rattle.vb_parse.proofs.ExpressionTaking.{ArgumentsEnd, head_behind}
 use Rattle.vb_parse.proofs.Binding.{Within, within_then, bind_wider, bind_left, bind_right, pure_in, pure_out, or_out, or_within, first_wider}
-use Rattle.vb_parse.proofs.Following.{among, outside, all_have, Before, BeginsIn, Leads, leads_begins, leads_pure, leads_or, leads_bind, leads_many, begins_kind, begins_then, begins_word_then, begins_either, begins_leads, name_begins, Asks, asks_kind, asks_either, Skips, skips, starts, takes_on, takes_off, takes_on_word, takes_off_word, takes_or, takes_within, takes_word, takes_then, takes_map, takes_list, before_head, comma}
+use Rattle.vb_parse.proofs.Tags.{among, outside, all_have}
+use Rattle.vb_parse.proofs.Following.{Before, BeginsIn, leads_begins, leads_pure, leads_or, begins_then}
+use Rattle.vb_parse.proofs.Following.{begins_word_then, begins_either, begins_leads, name_begins, Asks, asks_kind}
+use Rattle.vb_parse.proofs.Following.{asks_either, skips, starts, before_head}
+use Rattle.vb_parse.proofs.Choosing.{takes_on, takes_on_word, takes_off_word, takes_or, takes_word, takes_then}
+use Rattle.vb_parse.proofs.Choosing.{takes_map, takes_list, comma}
 use Rattle.vb_parse.proofs.Placing.{takes_opened, begins_opened, literal_heads, heads_literal}
 
 abbrev pub opening : List ℕ

@@ -29,7 +29,12 @@ use Rattle.vb_parse.specs.Runs.{opens}
 use Rattle.vb_parse.proofs.Taking.{Follow, Any, Takes, Starts, takes_pure, takes_one}
 use Rattle.vb_parse.proofs.Binding.{Within, within_then, bind_left, bind_right, bind_wider, first_wider, pure_in, pure_out, or_out, or_within}
 use Rattle.vb_parse.proofs.Beginning.{HeadIn}
-use Rattle.vb_parse.proofs.Following.{among, outside, all_have, next_in, Before, before_head, before_wider, BeginsIn, Leads, leads_begins, leads_pure, leads_or, leads_bind, leads_many, leads_wider, begins_kind, begins_then, begins_word_then, begins_either, begins_within, begins_more, name_begins, Asks, asks_kind, asks_either, asks_no, not_true, among_has, starts_one, leads_within, Skips, skips, starts, starts_word, takes_on, takes_off, takes_on_word, takes_off_word, takes_or, takes_within, takes_word, takes_then, takes_map, takes_each, takes_list, takes_before, Chosen, chosen, choose, choose_by, Ahead, ahead_many, until_takes, Closed, closed_first, closed_next, closed_or, takes_gated, comma}
+use Rattle.vb_parse.proofs.Tags.{among, outside, all_have, not_true, among_has}
+use Rattle.vb_parse.proofs.Following.{next_in, Before, before_head, before_wider, BeginsIn, Leads, leads_begins}
+use Rattle.vb_parse.proofs.Following.{leads_pure, leads_or, leads_bind, leads_many, begins_kind, begins_then}
+use Rattle.vb_parse.proofs.Following.{begins_word_then, Asks, asks_kind, asks_no, leads_within, Skips, starts}
+use Rattle.vb_parse.proofs.Choosing.{starts_word, takes_or, takes_within, takes_word, takes_then, takes_map}
+use Rattle.vb_parse.proofs.Choosing.{takes_each}
 use Rattle.vb_parse.proofs.Placing.{or_last, takes_expression, takes_inside, begins_inside, closed_inside, tag_ends, expression_heads}
 use Rattle.vb_parse.proofs.DeclarationTaking.{access_heads, asks_access}
 use Rattle.vb_parse.proofs.CallTaking.{statement_ends}

@@ -40,7 +40,6 @@ use Rattle.vb_parse.proofs.OperandTaking.{rest_ends, takes_operators_from, liste
 use Rattle.vb_parse.proofs.PathReading.{begins_named, path_group, takes_path_at}
 use Rattle.vb_parse.proofs.CallReading.{Target, Parts, path_parts, path_made, more_arguments, held_arguments}
 use Rattle.vb_parse.proofs.Turns.{rules_inside, inner_at, taken_inside}
-use Rattle.vb_parse.proofs.Following.{among, outside, all_have, Before, before_head, before_wider, BeginsIn, Leads, leads_begins, leads_pure, leads_bind, leads_many, begins_in, one_among, begins_then, begins_either, begins_more, begins_word_then, Asks, asks_kind, asks_either, asks_no, takes_on_word, takes_within, takes_word, takes_then, takes_map, takes_list, takes_more}
 use Rattle.vb_parse.proofs.Placing.{path_heads, ends_before, tag_ends, takes_expression, expression_heads}
 
 -- ---- steps with a parenthesis at the end

@@ -29,7 +29,14 @@ use Rattle.vb_parse.specs.Runs.{opens}
 use Rattle.vb_parse.proofs.Taking.{Follow, Any, Takes, Starts, takes_pure, takes_one}
 use Rattle.vb_parse.proofs.Binding.{Within, within_then, bind_left, bind_right, bind_wider, first_wider, pure_in, pure_out, or_out, or_within}
 use Rattle.vb_parse.proofs.Beginning.{HeadIn}
-use Rattle.vb_parse.proofs.Following.{among, outside, all_have, next_in, Before, before_head, before_wider, BeginsIn, Leads, leads_begins, leads_pure, leads_or, leads_bind, leads_many, leads_wider, begins_kind, begins_then, begins_word_then, begins_either, begins_within, begins_more, name_begins, Asks, asks_kind, asks_either, asks_no, not_true, among_has, starts_one, leads_within, Skips, skips, starts, starts_word, takes_on, takes_off, takes_on_word, takes_off_word, takes_or, takes_within, takes_word, takes_then, takes_map, takes_each, takes_list, takes_before, Chosen, chosen, choose, choose_by, Ahead, ahead_many, until_takes, Closed, closed_first, closed_next, closed_or, takes_gated, comma}
+use Rattle.vb_parse.proofs.Tags.{among, outside, all_have}
+use Rattle.vb_parse.proofs.Following.{Before, BeginsIn, Leads, leads_begins, leads_pure, leads_or, leads_bind}
+use Rattle.vb_parse.proofs.Following.{leads_many, leads_wider, begins_then, begins_word_then, begins_either, Asks}
+use Rattle.vb_parse.proofs.Following.{asks_kind, asks_either, asks_no, skips, starts, Closed, closed_first}
+use Rattle.vb_parse.proofs.Following.{closed_next, closed_or}
+use Rattle.vb_parse.proofs.Choosing.{starts_word, takes_on, takes_off, takes_on_word, takes_off_word, takes_or}
+use Rattle.vb_parse.proofs.Choosing.{takes_within, takes_word, takes_then, takes_map, takes_each, takes_before}
+use Rattle.vb_parse.proofs.Choosing.{takes_gated}
 use Rattle.vb_parse.proofs.Placing.{or_last, takes_expression, takes_inside, begins_inside, closed_inside, tag_ends, expression_heads}
 use Rattle.vb_parse.proofs.DeclarationTaking.{access_heads, asks_access}
 use Rattle.vb_parse.proofs.CallTaking.{statement_ends}
@@ -73,13 +80,6 @@ module _ (looser : Looser) (depth : ℕ) (ip : lines.Blocks) (ir : grammar.Block
   pub takes_within_place : {v : List ℕ} → all_have tag_ends v ≡ true → Takes (spec.within looser depth ip)
       (grammar.inside looser depth ir) (Before v)
   takes_within_place ends = takes_inside depth ends
-
-  -- an end, and a block behind it
-  takes_block_end : {v : List ℕ} → all_have (outside break_heads) v ≡ true → Takes lines.«end» grammar.«end» (Before v)
-  takes_block_end none = takes_end none
-
-  pub takes_inner : {v : List ℕ} → all_have (among block_ends) v ≡ true → Takes ip.block ir.block (Before v)
-  takes_inner all = takes_before all inner.block
 
   -- a block, and behind it what may stand there
   pub leads_inner : {B : Type 0} {f : List Statement → Rule B} {v : Follow} → ((x : List Statement) → Leads block_ends (f x) v)

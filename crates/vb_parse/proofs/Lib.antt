@@ -11,7 +11,9 @@ pub mod Until
 pub mod DeclarationReading
 pub mod Guarding
 pub mod PathReading
+pub mod Tags
 pub mod Following
+pub mod Choosing
 pub mod Placing
 pub mod DeclarationTaking
 pub mod SimpleTaking

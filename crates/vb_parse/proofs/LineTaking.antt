@@ -25,7 +25,12 @@ use Rattle.vb_parse.proofs.Reading.{NoEmpty}
 use Rattle.vb_parse.proofs.Taking.{Follow, Any, Takes, takes_pure, takes_one}
 use Rattle.vb_parse.proofs.Binding.{Within, within_then, bind_right, bind_wider, pure_in, pure_out}
 use Rattle.vb_parse.proofs.Beginning.{HeadIn}
-use Rattle.vb_parse.proofs.Following.{among, outside, all_have, Before, before_head, before_wider, BeginsIn, Leads, leads_begins, begins_kind, begins_then, begins_word_then, begins_either, begins_more, full_begins, Asks, asks_kind, asks_no, Skips, skips, starts, starts_word, takes_on_word, takes_off_word, takes_within, takes_word, takes_then, Ahead, ahead_many, until_takes, Closed, closed_first, closed_next}
+use Rattle.vb_parse.proofs.Tags.{among}
+use Rattle.vb_parse.proofs.Following.{Before, before_head, before_wider, BeginsIn, leads_begins, begins_kind}
+use Rattle.vb_parse.proofs.Following.{begins_then, begins_word_then, begins_either, begins_more, full_begins, Asks}
+use Rattle.vb_parse.proofs.Following.{asks_kind, asks_no, skips, starts, Ahead, ahead_many, Closed, closed_first}
+use Rattle.vb_parse.proofs.Following.{closed_next}
+use Rattle.vb_parse.proofs.Choosing.{starts_word, takes_within, until_takes}
 use Rattle.vb_parse.proofs.Placing.{takes_inside, begins_inside, closed_inside}
 use Rattle.vb_parse.proofs.CallTaking.{statement_ends}
 use Rattle.vb_parse.proofs.SimpleTaking.{simple_heads, takes_simple, begins_simple}

@@ -19,7 +19,9 @@ use Rattle.vb_parse.proofs.Beginning.{HeadIn}
 use Rattle.vb_parse.proofs.ExpressionReading.{Inner, Operator, reads_turn, full_turn, reads_operators, operator_of_level}
 use Rattle.vb_parse.proofs.ExpressionTaking.{Ends, ends_less, turn_starts, turn_ends, Taken, takes_operators}
 use Rattle.vb_parse.proofs.OperandReading.{level_rest, rest_from}
-use Rattle.vb_parse.proofs.Following.{among, BeginsIn, begins_then, begins_either, begins_more, begins_word_then, name_begins}
+use Rattle.vb_parse.proofs.Tags.{among}
+use Rattle.vb_parse.proofs.Following.{BeginsIn, begins_then, begins_either, begins_more, begins_word_then}
+use Rattle.vb_parse.proofs.Following.{name_begins}
 use Rattle.vb_parse.proofs.DeclarationTaking.{literal_begins}
 
 -- ---- the rest is taken

@@ -19,7 +19,8 @@ use Rattle.vb_parse.specs.Runs.{opens, inside}
 use Rattle.vb_parse.proofs.Taking.{Follow, Takes, takes_narrow}
 use Rattle.vb_parse.proofs.Beginning.{HeadIn, Begins, other_level, level_of, level_tag, tag_level, tag_is_literal}
 use Rattle.vb_parse.proofs.ExpressionTaking.{Ends, expressions_taken, positive_differs, tag_is_expression}
-use Rattle.vb_parse.proofs.Following.{among, among_both, all_have, among_has, next_in, Before, BeginsIn, Leads, Closed}
+use Rattle.vb_parse.proofs.Tags.{among, among_both, all_have, among_has}
+use Rattle.vb_parse.proofs.Following.{next_in, Before, BeginsIn, Closed}
 
 -- ---- what ends an expression
 

@@ -27,7 +27,11 @@ use Rattle.vb_parse.specs.Runs.{opens}
 use Rattle.vb_parse.proofs.Taking.{Follow, Takes, takes_pure}
 use Rattle.vb_parse.proofs.Binding.{Within, within_then, bind_wider, or_within, or_wider}
 use Rattle.vb_parse.proofs.ProcedureReading.{procedure_rest, procedure_open, either_open, property_rest, property_open}
-use Rattle.vb_parse.proofs.Following.{among, outside, all_have, Before, BeginsIn, Leads, leads_begins, leads_bind, leads_wider, begins_then, begins_either, begins_more, begins_word_then, name_begins, Asks, asks_kind, asks_either, starts, takes_on, takes_off_word, takes_or, takes_within, takes_word, takes_then, takes_map, takes_before, Chosen, chosen, choose, Closed, closed_next, takes_gated}
+use Rattle.vb_parse.proofs.Following.{Before, BeginsIn, Leads, leads_begins, leads_bind, leads_wider, begins_then}
+use Rattle.vb_parse.proofs.Following.{begins_either, begins_word_then, name_begins, Asks, asks_kind, asks_either}
+use Rattle.vb_parse.proofs.Following.{starts, Closed, closed_next}
+use Rattle.vb_parse.proofs.Choosing.{takes_on, takes_off_word, takes_or, takes_word, takes_then, takes_before, Chosen}
+use Rattle.vb_parse.proofs.Choosing.{chosen, choose, takes_gated}
 use Rattle.vb_parse.proofs.Placing.{takes_opened, begins_opened, closed_opened}
 use Rattle.vb_parse.proofs.DeclarationTaking.{access_apart, takes_parameters}
 use Rattle.vb_parse.proofs.SimpleTaking.{name_head, quoted_begins}

@@ -28,7 +28,13 @@ use Rattle.vb_parse.proofs.Taking.{Follow, Any, Takes, takes_pure, takes_one, ta
 use Rattle.vb_parse.proofs.Binding.{Within, bind_left}
 use Rattle.vb_parse.proofs.ExpressionTaking.{PathEnds}
 use Rattle.vb_parse.proofs.PathReading.{takes_path_at}
-use Rattle.vb_parse.proofs.Following.{among, outside, all_have, Before, BeginsIn, Leads, leads_begins, leads_pure, leads_or, leads_bind, begins_then, begins_word_then, begins_either, begins_within, name_begins, asks_kind, asks_either, asks_no, skips, starts, takes_on, takes_off, takes_on_word, takes_off_word, takes_or, takes_within, takes_word, takes_then, takes_map, takes_list, Chosen, chosen, choose, choose_by, closed_first, closed_next, takes_gated}
+use Rattle.vb_parse.proofs.Tags.{among, outside, all_have}
+use Rattle.vb_parse.proofs.Following.{Before, BeginsIn, leads_begins, leads_pure, begins_then, begins_word_then}
+use Rattle.vb_parse.proofs.Following.{begins_either, begins_within, name_begins, asks_kind, asks_either, asks_no}
+use Rattle.vb_parse.proofs.Following.{skips, starts, closed_first, closed_next}
+use Rattle.vb_parse.proofs.Choosing.{takes_on, takes_off, takes_on_word, takes_off_word, takes_or, takes_within}
+use Rattle.vb_parse.proofs.Choosing.{takes_word, takes_then, takes_map, takes_list, Chosen, chosen, choose, choose_by}
+use Rattle.vb_parse.proofs.Choosing.{takes_gated}
 use Rattle.vb_parse.proofs.Placing.{closed_opened, takes_expression, takes_opened, tag_ends, path_heads}
 use Rattle.vb_parse.proofs.DeclarationTaking.{closing, access_heads, takes_access_word, begins_access, asks_access, access_apart, takes_declared, takes_constant}
 use Rattle.vb_parse.proofs.CallTaking.{statement_ends, takes_path_statement, begins_path_statement}

@@ -34,12 +34,14 @@ use Rattle.vb_parse.proofs.Binding.{Within, within_then, bind_wider, first_wider
 use Rattle.vb_parse.proofs.Binding.{pure_out, or_out, or_within}
 use Rattle.vb_parse.proofs.SimpleReading.{const_behind}
 use Rattle.vb_parse.proofs.ProcedureReading.{either_open}
-use Rattle.vb_parse.proofs.Following.{among, outside, all_have, Before, BeginsIn, Leads, leads_begins, leads_bind}
-use Rattle.vb_parse.proofs.Following.{leads_many, leads_or, leads_pure, begins_then, begins_either, begins_more}
-use Rattle.vb_parse.proofs.Following.{begins_within, begins_word_then, name_begins, Asks, asks_kind, asks_either}
-use Rattle.vb_parse.proofs.Following.{asks_no, starts, takes_on, takes_off, takes_on_word, takes_off_word, takes_or}
-use Rattle.vb_parse.proofs.Following.{takes_within, takes_word, takes_then, takes_map, takes_list, takes_each}
-use Rattle.vb_parse.proofs.Following.{takes_before, skips, Chosen, chosen, choose_by}
+use Rattle.vb_parse.proofs.Tags.{among, outside, all_have}
+use Rattle.vb_parse.proofs.Following.{Before, BeginsIn, Leads, leads_begins, leads_bind, leads_many, leads_or}
+use Rattle.vb_parse.proofs.Following.{leads_pure, begins_then, begins_either, begins_more, begins_within}
+use Rattle.vb_parse.proofs.Following.{begins_word_then, name_begins, Asks, asks_kind, asks_either, asks_no, starts}
+use Rattle.vb_parse.proofs.Following.{skips}
+use Rattle.vb_parse.proofs.Choosing.{takes_on, takes_off, takes_on_word, takes_off_word, takes_or, takes_within}
+use Rattle.vb_parse.proofs.Choosing.{takes_word, takes_then, takes_map, takes_list, takes_each, takes_before, Chosen}
+use Rattle.vb_parse.proofs.Choosing.{chosen, choose_by}
 use Rattle.vb_parse.proofs.DeclarationTaking.{access_heads, asks_access, begins_access, takes_access_word, access_apart}
 use Rattle.vb_parse.proofs.DeclarationTaking.{takes_declared}
 use Rattle.vb_parse.proofs.SimpleTaking.{name_head, simple_heads, takes_const_from, begins_simple}

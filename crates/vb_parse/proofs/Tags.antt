@@ -1,0 +1,89 @@
+-- Sets of the numbers of kinds of tokens.
+use Rattle.std.proofs.Common.{◌≡◌, ℕ, zero, suc, ◌<◌, ◌≤◌, ◌==◌, ◌||◌, ◌⊎◌, inl, inr, Bool, true, false, not, cond, List, [], ◌∷◌, ◌++◌, length, Option, Some, None, if◌then◌else◌, Ok, refl, sym, ap, ◌∙◌, append_assoc, append-nil, subst, length-append, ◌+◌, arith}
+use Rattle.std.proofs.lemmas.Bool.{eqb-true, eq-eqb}
+use Rattle.vb_value.specs.declared.token.Keyword.TheVariants as k
+use Rattle.vb_value.specs.declared.token.Symbol.TheVariants as s
+use Rattle.vb_value.specs.declared.token.Token.{Token}
+use Rattle.vb_value.specs.declared.token.TokenKind.{TokenKind}
+use Rattle.vb_value.specs.declared.token.TokenKind.TheVariants as kind
+use Rattle.vb_syntax.specs.Rules.{Tokens, Rule, Then}
+use Rattle.vb_syntax.specs.Rules as rule
+use Rattle.vb_syntax.specs.Words as words
+use Rattle.vb_syntax.specs.Words.{tag, line_of, name_of}
+use Rattle.vb_parse.specs.Reader.{Reader, next, Look, sees, passes, is_some, Turn}
+use Rattle.std.specs.declared.ops.ControlFlow.TheVariants.{Continue, Break}
+use Rattle.vb_parse.specs.Reader as reader
+use Rattle.vb_parse.specs.ReadExpressions as expressions
+use Rattle.vb_parse.proofs.Reading.{NoEmpty}
+use Rattle.vb_parse.proofs.Taking.{Follow, Any, Takes, Starts, takes_pure, takes_one, takes_bind, takes_narrow}
+use Rattle.vb_parse.proofs.Beginning.{HeadIn, Begins, begins_bind, begins_word, begins_name, name_tag}
+
+-- one of the numbers
+abbrev pub among : List ℕ → ℕ → Bool
+among [] n = false
+among (m ∷ more) n = n == m || among more n
+
+-- none of the numbers
+abbrev pub outside : List ℕ → ℕ → Bool
+outside l n = not (among l n)
+
+-- whether each of the numbers has the property
+abbrev pub all_have : (ℕ → Bool) → List ℕ → Bool
+all_have f [] = true
+all_have f (m ∷ more) = if f m then all_have f more else false
+
+pub among_has : (f : ℕ → Bool) (l : List ℕ) → all_have f l ≡ true → (n : ℕ) → among l n ≡ true → f n ≡ true
+among_has f [] all n is = absurd cc
+among_has f (m ∷ more) all n is = go (f m) refl (n == m) refl all is (λ all is. among_has f more all n is)
+  where
+    go : (b : Bool) → f m ≡ b → (c : Bool) → (n == m) ≡ c → cond b (all_have f more) false ≡ true
+        → (c || among more n) ≡ true → (all_have f more ≡ true → among more n ≡ true → f n ≡ true) → f n ≡ true
+    go true has true at _ _ later = ap f (eqb-true n m at) ∙ has
+    go true has false at all is later = later all is
+    go false has c at all is later = absurd cc
+
+pub not_true : (b : Bool) → not b ≡ true → b ≡ false
+not_true true e = absurd cc
+not_true false e = refl
+
+pub among_left : (l m : List ℕ) (n : ℕ) → among l n ≡ true → among (l ++ m) n ≡ true
+among_left [] m n is = absurd cc
+among_left (a ∷ l) m n is = go (n == a) is (among_left l m n)
+  where
+    go : (b : Bool) → (b || among l n) ≡ true → (among l n ≡ true → among (l ++ m) n ≡ true)
+        → (b || among (l ++ m) n) ≡ true
+    go true _ later = refl
+    go false is later = later is
+
+pub among_right : (l m : List ℕ) (n : ℕ) → among m n ≡ true → among (l ++ m) n ≡ true
+among_right [] m n is = is
+among_right (a ∷ l) m n is = go (n == a) (among_right l m n is)
+  where
+    go : (b : Bool) → among (l ++ m) n ≡ true → (b || among (l ++ m) n) ≡ true
+    go true later = refl
+    go false later = later
+
+pub among_both : (l m : List ℕ) (n : ℕ) → among (l ++ m) n ≡ (among l n || among m n)
+among_both [] m n = refl
+among_both (a ∷ l) m n = go (n == a) (among_both l m n)
+  where
+    go : (b : Bool) → among (l ++ m) n ≡ (among l n || among m n)
+        → (b || among (l ++ m) n) ≡ ((b || among l n) || among m n)
+    go true later = refl
+    go false later = later
+
+-- a set has its own numbers, and those of a part
+pub all_more : (f g : ℕ → Bool) (l : List ℕ) → ((n : ℕ) → f n ≡ true → g n ≡ true) → all_have f l ≡ true
+    → all_have g l ≡ true
+all_more f g [] wider all = refl
+all_more f g (m ∷ l) wider all = go (f m) refl all (all_more f g l wider)
+  where
+    go : (b : Bool) → f m ≡ b → cond b (all_have f l) false ≡ true → (all_have f l ≡ true → all_have g l ≡ true)
+        → cond (g m) (all_have g l) false ≡ true
+    go true has all later = rw (wider m has) (later all)
+    go false has all later = absurd cc
+
+pub all_own : (l : List ℕ) → all_have (among l) l ≡ true
+all_own [] = refl
+all_own (m ∷ l) = rw (eq-eqb m m refl) (all_more (among l) (among (m ∷ l)) l (λ n is. among_right (m ∷ []) l n is)
+    (all_own l))
