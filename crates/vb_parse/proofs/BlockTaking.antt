@@ -1,50 +1,35 @@
 -- The readers of blocks take whatever the grammar spells.
-use Rattle.std.proofs.Common.{◌≡◌, ℕ, zero, suc, ◌==◌, ◌||◌, not, inl, inr, Bool, true, false, IsTrue, cond, List, [], ◌∷◌, ◌++◌, Option, Some, None, Ok, refl, sym, ap, ◌∙◌, subst, append_assoc, append-nil, codes}
-use Rattle.std.specs.declared.ops.ControlFlow.TheVariants.{Continue, Break}
+use Rattle.std.proofs.Common.{◌≡◌, ℕ, zero, suc, inl, inr, Bool, true, false, List, [], ◌∷◌, ◌++◌, refl}
 use Rattle.vb_value.specs.declared.token.Keyword.TheVariants as k
 use Rattle.vb_value.specs.declared.token.Symbol.TheVariants as s
-use Rattle.vb_value.specs.declared.token.Token.{Token}
 use Rattle.vb_value.specs.declared.token.TokenKind.{TokenKind}
 use Rattle.vb_value.specs.declared.token.TokenKind.TheVariants as kind
-use Rattle.vb_syntax.specs.declared.expression.Expression.{Expression}
-use Rattle.vb_syntax.specs.declared.statement.Case.{Case, roll-Case}
-use Rattle.vb_syntax.specs.declared.statement.Condition.{Condition}
-use Rattle.vb_syntax.specs.declared.statement.Repetition.{Repetition}
-use Rattle.vb_syntax.specs.declared.statement.Repetition.TheVariants as repetition
 use Rattle.vb_syntax.specs.declared.statement.Statement.{Statement}
-use Rattle.vb_syntax.specs.declared.statement.StatementKind.TheVariants as st
 use Rattle.vb_syntax.specs.Rules.{Tokens, Rule}
 use Rattle.vb_syntax.specs.Rules as rule
-use Rattle.vb_syntax.specs.Words as words
-use Rattle.vb_syntax.specs.Words.{tag, name_of}
-use Rattle.vb_syntax.specs.Expressions.{expressions}
-use Rattle.vb_syntax.specs.SimpleStatements.{Looser, statement, simple, const, quoted, quoted_at}
+use Rattle.vb_syntax.specs.Words.{tag}
+use Rattle.vb_syntax.specs.SimpleStatements.{Looser, simple, const}
 use Rattle.vb_syntax.specs.Statements as grammar
 use Rattle.vb_syntax.specs.Statements.{break_of}
-use Rattle.vb_parse.specs.Reader.{Reader, Turn, Look, and_then, next, sees, passes, is_some}
-use Rattle.vb_parse.specs.Reader as reader
-use Rattle.vb_parse.specs.ReadSimpleStatements as statements
-use Rattle.vb_parse.specs.ReadSimpleStatements.{sees_quoted}
 use Rattle.vb_parse.specs.ReadLines as lines
 use Rattle.vb_parse.specs.ReadLines.{breaks}
 use Rattle.vb_parse.specs.ReadStatements as spec
 use Rattle.vb_parse.specs.ReadStatements.{begins_statement, kind_begins_statement, sees_const, sees_loop_word}
 use Rattle.vb_parse.specs.Runs.{opens}
-use Rattle.vb_parse.proofs.Taking.{Follow, Any, Takes, Starts, takes_pure, takes_one}
-use Rattle.vb_parse.proofs.Binding.{Within, within_then, bind_left, bind_right, bind_wider, first_wider, pure_in, pure_out, or_out, or_within}
-use Rattle.vb_parse.proofs.Beginning.{HeadIn}
+use Rattle.vb_parse.proofs.Taking.{Takes}
+use Rattle.vb_parse.proofs.Binding.{Within}
 use Rattle.vb_parse.proofs.Tags.{among, outside, all_have}
 use Rattle.vb_parse.proofs.Following.{Before, BeginsIn, leads_many, begins_then, begins_word_then, begins_either}
 use Rattle.vb_parse.proofs.Following.{begins_within, begins_more, Asks, asks_kind, asks_either, asks_no, starts}
 use Rattle.vb_parse.proofs.Choosing.{takes_within, takes_each, takes_before, Chosen, chosen, choose, choose_by}
-use Rattle.vb_parse.proofs.Placing.{or_last, begins_expression, takes_expression, takes_inside, begins_inside, closed_inside, tag_ends, expression_heads}
-use Rattle.vb_parse.proofs.DeclarationTaking.{access_heads, asks_access}
-use Rattle.vb_parse.proofs.CallTaking.{statement_ends}
-use Rattle.vb_parse.proofs.SimpleTaking.{simple_heads, const_heads, name_head, takes_simple, begins_simple, takes_const, begins_const, quoted_begins, quoted_tag}
-use Rattle.vb_parse.proofs.LineTaking.{Trailing, after_line, TakesLine, TakesTrailing, line_heads, takes_line, begins_line, takes_line_if_from}
-use Rattle.vb_parse.proofs.EndTaking.{break_heads, asks_breaks, break_begins, takes_end, begins_end, takes_breaks, CutEnd, cut_end, takes_line_end, skips_quoted, text_head, takes_texts, leads_texts}
-use Rattle.vb_parse.proofs.IfTaking.{block_ends, sentence_heads, block_heads, BlocksTaken, last_apart, takes_within_place, leads_inner, loop_heads, asks_loop, takes_condition, begins_condition, if_rule, takes_if, ended}
-use Rattle.vb_parse.proofs.StatementTaking.{takes_select, for_rule, takes_for, takes_do, takes_while, takes_with, shared}
+use Rattle.vb_parse.proofs.DeclarationTaking.{asks_access}
+use Rattle.vb_parse.proofs.SimpleTaking.{simple_heads, const_heads, takes_simple, begins_simple, takes_const}
+use Rattle.vb_parse.proofs.SimpleTaking.{begins_const}
+use Rattle.vb_parse.proofs.LineTaking.{takes_line, begins_line}
+use Rattle.vb_parse.proofs.EndTaking.{break_heads}
+use Rattle.vb_parse.proofs.IfTaking.{block_ends, sentence_heads, BlocksTaken, if_rule, takes_if, ended}
+use Rattle.vb_parse.proofs.StatementTaking.{takes_select, for_rule, takes_for, takes_do, takes_while, takes_with}
+use Rattle.vb_parse.proofs.StatementTaking.{shared}
 
 -- what begins a statement or a constant
 statement_tag : (kind : TokenKind) → kind_begins_statement kind ≡ among sentence_heads (tag kind)
@@ -81,7 +66,8 @@ module _ (looser : Looser) (depth : ℕ) (ip : lines.Blocks) (ir : grammar.Block
   -- statements other than If, in the order in which the reader asks for them
   abbrev other : Rule Statement
   other = rule.◌or◌ (const looser depth) (rule.◌or◌ (grammar.select looser depth ir) (rule.◌or◌
-      (for_rule looser depth ip ir inner) (rule.◌or◌ (grammar.do_loop looser depth ir) (rule.◌or◌ (grammar.while looser depth
+      (for_rule looser depth ip ir inner) (rule.◌or◌ (grammar.do_loop looser depth ir) (rule.◌or◌
+      (grammar.while looser depth
       ir) (rule.◌or◌ (grammar.with_block looser depth ir) (simple looser depth))))))
 
   chosen_other : Chosen (spec.other looser depth ip) other_heads other (Before break_heads)
@@ -103,7 +89,8 @@ module _ (looser : Looser) (depth : ℕ) (ip : lines.Blocks) (ir : grammar.Block
   sentence_asked front x (inr h) = inl (inr h)
   sentence_asked front x (inl h) = go h.first_spells
     where
-      go : rule.◌or◌ (const looser depth) (rule.◌or◌ (grammar.compound looser depth ir) (simple looser depth)) h.front h.thing
+      go : rule.◌or◌ (const looser depth) (rule.◌or◌ (grammar.compound looser depth ir)
+          (simple looser depth)) h.front h.thing
           → asked front x
       go (inl w) = inr (rebuilt front x h (inl w))
       go (inr (inr w)) = inr (rebuilt front x h (inr (inr (inr (inr (inr (inr w)))))))
@@ -113,15 +100,18 @@ module _ (looser : Looser) (depth : ℕ) (ip : lines.Blocks) (ir : grammar.Block
       go (inr (inl (inr (inr (inr (inl w)))))) = inr (rebuilt front x h (inr (inr (inl (inr w)))))
       go (inr (inl (inr (inr (inr (inr (inl w))))))) = inr (rebuilt front x h (inr (inr (inr (inl w)))))
       go (inr (inl (inr (inr (inr (inr (inr (inl w)))))))) = inr (rebuilt front x h (inr (inr (inr (inr (inl w))))))
-      go (inr (inl (inr (inr (inr (inr (inr (inr w)))))))) = inr (rebuilt front x h (inr (inr (inr (inr (inr (inl w)))))))
+      go (inr (inl (inr (inr (inr (inr (inr (inr w)))))))) = inr (rebuilt front x h (inr (inr (inr (inr (inr
+          (inl w)))))))
 
   if_begins : BeginsIn (tag (kind.Keyword k.If) ∷ []) (if_rule looser depth ip ir inner)
-  if_begins = begins_more refl (begins_either (begins_then (begins_word_then (kind.Keyword k.If))) (begins_then (begins_word_then
+  if_begins = begins_more refl (begins_either (begins_then (begins_word_then (kind.Keyword k.If))) (begins_then
+      (begins_word_then
       (kind.Keyword k.If))))
 
   chosen_sentence : {v : List ℕ} → all_have (outside break_heads) v ≡ true
       → Chosen (spec.sentence looser depth ip) sentence_heads asked (Before v)
-  chosen_sentence none = choose_by (asks_kind (kind.Keyword k.If)) if_begins refl (takes_if looser depth ip ir inner none)
+  chosen_sentence none = choose_by (asks_kind (kind.Keyword k.If)) if_begins refl
+      (takes_if looser depth ip ir inner none)
       (chosen (ended looser depth ip ir inner chosen_other.takes none) (begins_then chosen_other.begins)) refl
 
   pub takes_sentence : {v : List ℕ} → all_have (outside break_heads) v ≡ true
@@ -156,7 +146,8 @@ nothing_taken o = record {
 }
 
 -- where this many more constructs may open
-pub blocks_taken : (looser : Looser) (depth : ℕ) → BlocksTaken true (spec.blocks looser depth) (grammar.blocks looser depth)
+pub blocks_taken : (looser : Looser) (depth : ℕ) → BlocksTaken true (spec.blocks looser depth)
+    (grammar.blocks looser depth)
 blocks_taken looser zero = here looser zero spec.no_blocks grammar.no_blocks (nothing_taken false)
 blocks_taken looser (suc depth) = here looser (suc depth) (spec.blocks looser depth) (grammar.blocks looser depth)
     (blocks_taken looser depth)

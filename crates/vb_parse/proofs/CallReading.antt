@@ -316,7 +316,7 @@ module _ (looser : Looser) (depth : ℕ) where
         thing = h.thing;
         split = refl;
         first_spells = expression_here depth (group ++ h.front) h.thing (from_operand (opens depth)
-        (rules_inside depth) 12
+            (rules_inside depth) 12
             group h.front (e.Parenthesis x) h.thing (operand_held depth group x is) h.first_spells);
         next_spells = h.next_spells;
       }))))
@@ -337,7 +337,7 @@ module _ (looser : Looser) (depth : ℕ) where
       let both = or_false (goes_on_path (next back)) (reader.sees (kind.Symbol s.Equal) (next back)) ends in
       let given = only (held_arguments held) _ back x h in
       let split : front ++ back ≡ (parts.first ++ told.before) ++ (told.group ++ back) = ap (λ t. t ++ back)
-          (parts.split
+      (parts.split
       ∙ ap (λ t. parts.first ++ t) told.split ∙ sym (append_assoc parts.first told.before told.group))
       ∙ append_assoc (parts.first ++ told.before) told.group back in
       subst (λ y. grammar.Call looser depth (front ++ back) y) (sym h.next_spells.1)

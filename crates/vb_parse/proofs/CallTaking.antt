@@ -1,16 +1,13 @@
 -- The readers of what begins with a path take whatever the grammar spells.
-use Rattle.std.proofs.Common.{◌≡◌, ℕ, zero, suc, ◌==◌, ◌||◌, ◌⊎◌, inl, inr, Bool, true, false, IsTrue, cond, List, [], ◌∷◌, ◌++◌, Option, Some, None, Ok, refl, sym, ap, ◌∙◌, append_assoc, append-nil, subst, arith}
+use Rattle.std.proofs.Common.{◌≡◌, ℕ, zero, suc, ◌==◌, ◌⊎◌, inl, inr, Bool, true, false, IsTrue, cond, List, [], ◌∷◌}
+use Rattle.std.proofs.Common.{◌++◌, Ok, refl, sym, ap, ◌∙◌, append_assoc, append-nil, subst, arith}
 use Rattle.vb_value.specs.declared.token.Keyword.TheVariants as k
 use Rattle.vb_value.specs.declared.token.Symbol.TheVariants as s
 use Rattle.vb_value.specs.declared.token.TokenKind.{TokenKind}
 use Rattle.vb_value.specs.declared.token.TokenKind.TheVariants as kind
 use Rattle.vb_syntax.specs.declared.expression.Expression.{Expression}
 use Rattle.vb_syntax.specs.declared.expression.Expression.TheVariants as e
-use Rattle.vb_syntax.specs.declared.expression.Expression.TheOpen.{Step-F}
-use Rattle.vb_syntax.specs.declared.expression.Operation.{Operation}
-use Rattle.vb_syntax.specs.declared.expression.Path.{Path as PathTree}
-use Rattle.vb_syntax.specs.declared.expression.PathHead.{PathHead}
-use Rattle.vb_syntax.specs.declared.expression.Step.{Step, out-Step}
+use Rattle.vb_syntax.specs.declared.expression.Step.{Step}
 use Rattle.vb_syntax.specs.declared.expression.Step.TheVariants as behind
 use Rattle.vb_syntax.specs.declared.expression.Step.TheVariants.{outs-Group}
 use Rattle.vb_syntax.specs.declared.statement.Statement.{Statement}
@@ -21,7 +18,6 @@ use Rattle.vb_syntax.specs.Words as words
 use Rattle.vb_syntax.specs.Words.{tag}
 use Rattle.vb_syntax.specs.Expressions as expressions
 use Rattle.vb_syntax.specs.Expressions.{path_of}
-use Rattle.vb_syntax.specs.Declarations as declarations
 use Rattle.vb_syntax.specs.SimpleStatements as grammar
 use Rattle.vb_syntax.specs.SimpleStatements.{Looser, named_at, ends_in_group, statement}
 use Rattle.vb_parse.specs.Reader.{Reader, Look, and_then, next, sees}
@@ -31,15 +27,16 @@ use Rattle.vb_parse.specs.ReadExpressions.{goes_on_path}
 use Rattle.vb_parse.specs.ReadCalls as spec
 use Rattle.vb_parse.specs.ReadCalls.{Tail, plain, grouped, tail}
 use Rattle.vb_parse.specs.Runs.{opens, inside}
-use Rattle.vb_parse.proofs.Taking.{Follow, Any, Takes, takes_narrow, only}
-use Rattle.vb_parse.proofs.Beginning.{HeadIn, sees_true}
-use Rattle.vb_parse.proofs.Binding.{Within, bind_left, bind_right}
-use Rattle.vb_parse.proofs.ExpressionTaking.{PathEnds, Ends}
-use Rattle.vb_parse.proofs.OperandReading.{rest_from, empty_pair}
+use Rattle.vb_parse.proofs.Taking.{Takes, takes_narrow}
+use Rattle.vb_parse.proofs.Beginning.{HeadIn}
+use Rattle.vb_parse.proofs.Binding.{Within, bind_left}
+use Rattle.vb_parse.proofs.ExpressionTaking.{PathEnds}
+use Rattle.vb_parse.proofs.OperandReading.{rest_from}
 use Rattle.vb_parse.proofs.OperandTaking.{rest_ends, takes_operators_from, listed_heads, Held, first_operand}
 use Rattle.vb_parse.proofs.PathReading.{begins_named, path_group, takes_path_at}
-use Rattle.vb_parse.proofs.GroupTaking.{tail_plain, tail_snoc, many_snoc, group_step, pair_group, Single, operand_group, several_group}
-use Rattle.vb_parse.proofs.CallReading.{Target, Parts, path_parts, path_made, more_arguments, held_arguments}
+use Rattle.vb_parse.proofs.GroupTaking.{tail_plain, tail_snoc, many_snoc, group_step, pair_group, Single}
+use Rattle.vb_parse.proofs.GroupTaking.{operand_group, several_group}
+use Rattle.vb_parse.proofs.CallReading.{Target, path_parts, path_made, more_arguments, held_arguments}
 use Rattle.vb_parse.proofs.Turns.{rules_inside, inner_at, taken_inside}
 use Rattle.vb_parse.proofs.Tags.{among, outside, all_have, among_has}
 use Rattle.vb_parse.proofs.Following.{Before, before_head, BeginsIn, Leads, leads_begins, leads_pure, leads_bind}
@@ -47,7 +44,7 @@ use Rattle.vb_parse.proofs.Following.{leads_many, begins_in, one_among, begins_t
 use Rattle.vb_parse.proofs.Following.{Asks, asks_kind, asks_either, asks_no, begins_kind, starts}
 use Rattle.vb_parse.proofs.Choosing.{takes_or, takes_on_word, takes_within, takes_word, takes_then, takes_map}
 use Rattle.vb_parse.proofs.Choosing.{takes_list, takes_more}
-use Rattle.vb_parse.proofs.Placing.{path_heads, ends_before, tag_ends, takes_expression, expression_heads}
+use Rattle.vb_parse.proofs.Placing.{path_heads, ends_before, takes_expression, expression_heads}
 
 -- what may stand behind a statement
 abbrev pub statement_ends : List ℕ
@@ -87,7 +84,8 @@ no_equal : (v : List ℕ) → all_have (outside equal_word) v ≡ true → (rest
 no_equal v none rest ok = asks_no (asks_kind (kind.Symbol s.Equal)) none rest ok
 
 begins_open : (back : Tokens) → grammar.Begins (words.symbol s.Open) back → sees (kind.Symbol s.Open) (next back) ≡ true
-begins_open back b = rw b.4 (starts (asks_kind (kind.Symbol s.Open)) (begins_kind (kind.Symbol s.Open)) refl b.0 b.1 b.2 b.3)
+begins_open back b = rw b.4 (starts (asks_kind (kind.Symbol s.Open)) (begins_kind
+    (kind.Symbol s.Open)) refl b.0 b.1 b.2 b.3)
 
 -- what may stand behind an argument
 abbrev after_argument : List ℕ
@@ -112,10 +110,12 @@ module _ (looser : Looser) (depth : ℕ) where
   begins_path = begins_then (begins_either named_begins (begins_either (begins_word_then (kind.Keyword k.Me))
       (begins_word_then (kind.Symbol s.WithPoint))))
 
-  pub begins_path_statement : BeginsIn path_heads (rule.◌or◌ (grammar.assignment looser depth) (grammar.Call looser depth))
+  pub begins_path_statement : BeginsIn path_heads (rule.◌or◌ (grammar.assignment looser depth)
+      (grammar.Call looser depth))
   begins_path_statement = record { head = go }
     where
-      go : (front : Tokens) (x : Statement) → rule.◌or◌ (grammar.assignment looser depth) (grammar.Call looser depth) front x
+      go : (front : Tokens) (x : Statement) → rule.◌or◌ (grammar.assignment looser depth)
+          (grammar.Call looser depth) front x
           → HeadIn (among path_heads) front
       go front x (inl h) = (begins_then begins_path).head front x h
       go front x (inr c) = let w = begins_path.head c.front c.callee c.callee_spells in
@@ -140,7 +140,8 @@ module _ (looser : Looser) (depth : ℕ) where
   behind_call back target t differs is = rw (differs, is) refl
 
   takes_assignment : Takes statement_reader (grammar.assignment looser depth) (Before statement_ends)
-  takes_assignment = takes_then {l = equal_word} (takes_narrow (path_before equal_word refl) (takes_path_at looser depth))
+  takes_assignment = takes_then {l = equal_word} (takes_narrow (path_before equal_word refl)
+      (takes_path_at looser depth))
       (λ target. takes_on_word (kind.Symbol s.Equal) _ (takes_within bind_left (takes_map _ (takes_word
       (λ _. takes_expression depth refl)))))
       (λ target. leads_begins (begins_word_then (kind.Symbol s.Equal)))
@@ -199,7 +200,8 @@ module _ (looser : Looser) (depth : ℕ) where
       → Before statement_ends rest → statement_reader (front ++ (back ++ rest)) ≡ Ok (call_of target given, rest)
   takes_listed front back rest target given h parenthesis w list ok =
       let fits : Before listed_heads (back ++ rest) = before_head listed_heads back rest w in
-      let alone : Before listed_heads back = subst (λ t. Before listed_heads t) (append-nil back) (before_head listed_heads
+      let alone : Before listed_heads back = subst (λ t. Before listed_heads t) (append-nil back)
+      (before_head listed_heads
       back [] w) in
       let begins : spec.begins_expression (next (back ++ rest)) ≡ true = rw w.2 (asks_expression.some w.0
       ∙ among_has (among expression_heads) listed_heads refl (tag w.0.kind) w.3) in
@@ -208,7 +210,8 @@ module _ (looser : Looser) (depth : ℕ) where
       (ungrouped back target.2 (asks_no (asks_kind (kind.Symbol s.Open)) refl back alone) parenthesis))
       ∙ ap (λ b. and_then (cond b (read.list_of (spec.expression depth) (back ++ rest)) (Ok ([], back ++ rest)))
       (λ given. reader.pure (call_of target given))) begins
-      ∙ ap (λ o. and_then o (λ given. reader.pure (call_of target given))) (takes_arguments.takes back rest given list ok)
+      ∙ ap (λ o. and_then o (λ given. reader.pure (call_of target given)))
+      (takes_arguments.takes back rest given list ok)
     where
       takes_arguments : Takes (read.list_of (spec.expression depth)) (words.list_of (grammar.expression looser depth))
           (Before statement_ends)
@@ -216,7 +219,8 @@ module _ (looser : Looser) (depth : ℕ) where
 
   takes_held : (held : Expression) → Takes (spec.arguments_from looser depth (held ∷ []))
       (held_arguments looser depth (held ∷ [])) (Before statement_ends)
-  takes_held held = takes_then {l = after_argument} (takes_narrow (ends_before after_argument refl) (takes_operators_from (opens depth) (inside depth) (rules_inside depth)
+  takes_held held = takes_then {l = after_argument} (takes_narrow (ends_before after_argument refl)
+      (takes_operators_from (opens depth) (inside depth) (rules_inside depth)
       (inner_at depth) (taken_inside depth) 12 (omega arith) (e.Parenthesis held)))
       (λ first. takes_map (λ more. first ∷ more) (takes_more (takes_expression depth refl) refl))
       (λ first. leads_bind (leads_many (begins_word_then (kind.Symbol s.Comma))) (λ more. leads_pure))
@@ -228,7 +232,8 @@ module _ (looser : Looser) (depth : ℕ) where
   not_equal front [] rest target h none ok = ok
   not_equal front (t ∷ more) rest target h none ok = go (tag t.kind == tag (kind.Symbol s.Equal)) refl
     where
-      go : (b : Bool) → (tag t.kind == tag (kind.Symbol s.Equal)) ≡ b → (tag t.kind == tag (kind.Symbol s.Equal)) ≡ false
+      go : (b : Bool) → (tag t.kind == tag (kind.Symbol s.Equal)) ≡ b → (tag t.kind == tag
+          (kind.Symbol s.Equal)) ≡ false
       go false is = is
       go true is = absurd (none (
         front ++ t ∷ [],
@@ -258,9 +263,11 @@ module _ (looser : Looser) (depth : ℕ) where
       ∙ append_assoc f.operand f.rest l.back in
       let lined : front ++ back ≡ (front ++ f.operand) ++ behind = ap (λ t. front ++ t) whole
       ∙ sym (append_assoc front f.operand behind) in
-      let path : path_rule (front ++ f.operand) (longer_target target (single.held ∷ [])) = longer front f.operand target
+      let path : path_rule (front ++ f.operand) (longer_target target
+      (single.held ∷ [])) = longer front f.operand target
       (single.held ∷ []) h single.group in
-      let differs : sees (kind.Symbol s.Equal) (next (behind ++ rest)) ≡ false = not_equal (front ++ f.operand) behind rest
+      let differs : sees (kind.Symbol s.Equal) (next (behind ++ rest)) ≡ false = not_equal
+      (front ++ f.operand) behind rest
       (longer_target target (single.held ∷ [])) path (subst (λ t. ¬ (grammar.Begins (rule.◌>>◌ path_rule (words.symbol
       s.Equal)) t)) lined none) (no_equal statement_ends refl rest ok) in
       let spelled : held_arguments looser depth (single.held ∷ []) behind given = record {
@@ -274,7 +281,8 @@ module _ (looser : Looser) (depth : ℕ) where
       ap statement_reader (sym (append_assoc front back rest) ∙ ap (λ t. t ++ rest) lined
       ∙ append_assoc (front ++ f.operand) behind rest)
       ∙ behind_path (front ++ f.operand) (behind ++ rest) (longer_target target (single.held ∷ [])) path (ends l f ok)
-      ∙ behind_call (behind ++ rest) (longer_target target (single.held ∷ [])) (grouped target.2 (single.held ∷ [])) differs
+      ∙ behind_call (behind ++ rest) (longer_target target (single.held ∷ [])) (grouped target.2
+      (single.held ∷ [])) differs
       (tail_snoc target.2 (single.held ∷ []))
       ∙ ap (λ o. and_then o (λ given. reader.pure (call_of target given)))
       ((takes_held single.held).takes behind rest given spelled ok)
@@ -283,11 +291,14 @@ module _ (looser : Looser) (depth : ℕ) where
           → (f : Held (opens depth) (rules_inside depth) 12 l.front l.thing) → Before statement_ends rest
           → PathEnds ((f.rest ++ l.back) ++ rest)
       ends l f ok =
-          let leads : Leads after_argument (rule.◌>>=◌ (more_arguments looser depth) (λ more. rule.pure (l.thing ∷ more)))
-          (Before statement_ends) = leads_bind (leads_many (begins_word_then (kind.Symbol s.Comma))) (λ more. leads_pure) in
+          let leads : Leads after_argument (rule.◌>>=◌ (more_arguments looser depth) (λ more. rule.pure
+          (l.thing ∷ more)))
+          (Before statement_ends) = leads_bind (leads_many (begins_word_then (kind.Symbol s.Comma)))
+          (λ more. leads_pure) in
           let after : Before after_argument (l.back ++ rest) = leads.leads l.back rest given l.next_spells ok in
           subst (λ t. PathEnds t) (sym (append_assoc f.rest l.back rest)) (rest_ends (opens depth) (inside depth)
-          (rules_inside depth) 12 f.first l.thing f.rest (l.back ++ rest) f.behind (ends_before after_argument refl (l.back
+          (rules_inside depth) 12 f.first l.thing f.rest (l.back ++ rest) f.behind (ends_before after_argument refl
+          (l.back
           ++ rest) after)).path
 
   takes_given : (front back rest : Tokens) (target : Target) (given : List Expression) → path_rule front target
@@ -304,7 +315,8 @@ module _ (looser : Looser) (depth : ℕ) where
       ap statement_reader (sym (append_assoc front back rest)) ∙ takes_empty front back rest target h pair.0 ok
       ∙ ap (λ l. Ok (call_of target l, rest)) (sym pair.1)
   takes_given front back rest target given h none parenthesis (inr (inr (inl l))) ok =
-      by_first (first_operand (opens depth) (rules_inside depth) 12 l.front l.thing (operators_here depth l.front l.thing
+      by_first (first_operand (opens depth) (rules_inside depth) 12 l.front l.thing
+      (operators_here depth l.front l.thing
       l.first_spells))
     where
       by_first : HeadIn (among listed_heads) l.front ⊎ Held (opens depth) (rules_inside depth) 12 l.front l.thing
@@ -326,7 +338,8 @@ module _ (looser : Looser) (depth : ℕ) where
   takes_call = record {
     takes = λ front rest x c ok.
         ap statement_reader (ap (λ t. t ++ rest) c.split ∙ append_assoc c.front c.back rest)
-        ∙ takes_given c.front c.back rest c.callee c.given c.callee_spells (subst (λ t. ¬ (grammar.Begins (rule.◌>>◌ path_rule
+        ∙ takes_given c.front c.back rest c.callee c.given c.callee_spells (subst (λ t. ¬ (grammar.Begins
+        (rule.◌>>◌ path_rule
         (words.symbol s.Equal)) t)) c.split c.no_assignment) c.parenthesis c.given_spells ok
         ∙ ap (λ y. Ok (y, rest)) (sym c.is);
   }

@@ -1,7 +1,6 @@
 -- How readers take what the rules spell, where the next token tells the rules apart.
-use Rattle.std.proofs.Common.{◌≡◌, ℕ, zero, suc, ◌<◌, ◌≤◌, ◌==◌, ◌||◌, ◌⊎◌, inl, inr, Bool, true, false, not, cond, List, [], ◌∷◌, ◌++◌, length, Option, Some, None, if◌then◌else◌, Ok, refl, sym, ap, ◌∙◌, append_assoc, append-nil, subst, length-append, ◌+◌, arith}
-use Rattle.std.proofs.lemmas.Bool.{eqb-true, eq-eqb}
-use Rattle.vb_value.specs.declared.token.Keyword.TheVariants as k
+use Rattle.std.proofs.Common.{◌≡◌, ℕ, zero, suc, ◌<◌, ◌≤◌, inl, inr, Bool, true, false, List, [], ◌∷◌, ◌++◌, length}
+use Rattle.std.proofs.Common.{Option, Ok, refl, sym, ap, append_assoc, append-nil, length-append, arith}
 use Rattle.vb_value.specs.declared.token.Symbol.TheVariants as s
 use Rattle.vb_value.specs.declared.token.Token.{Token}
 use Rattle.vb_value.specs.declared.token.TokenKind.{TokenKind}
@@ -16,9 +15,10 @@ use Rattle.vb_parse.specs.Reader as reader
 use Rattle.vb_parse.specs.ReadExpressions as expressions
 use Rattle.vb_parse.proofs.Reading.{NoEmpty}
 use Rattle.vb_parse.proofs.Taking.{Follow, Any, Takes, Starts, takes_pure, takes_one, takes_bind, takes_narrow}
-use Rattle.vb_parse.proofs.Beginning.{HeadIn, Begins, begins_bind, begins_word, begins_name, name_tag}
 use Rattle.vb_parse.proofs.Tags.{among, outside, all_have, all_own}
-use Rattle.vb_parse.proofs.Following.{next_in, Before, before_head, next_has, before_wider, BeginsIn, Leads, leads_begins, leads_pure, leads_wider, leads_or, leads_bind, leads_many, begins_in, one_among, begins_kind, name_begins, begins_either, begins_leads, begins_then, begins_word_then, full_begins, begins_within, leads_within, Ahead, ahead_many, begins_more, Closed, closed_first, closed_next, closed_or, Asks, asks_kind, asks_name, asks_either, starts, starts_one, Skips, asks_no, skips}
+use Rattle.vb_parse.proofs.Following.{Before, before_wider, BeginsIn, Leads, leads_begins, leads_pure, leads_bind}
+use Rattle.vb_parse.proofs.Following.{leads_many, begins_either, begins_word_then, full_begins, Closed, Asks}
+use Rattle.vb_parse.proofs.Following.{asks_kind, starts, Skips, asks_no, skips}
 
 -- ---- choices
 
@@ -59,7 +59,8 @@ pub takes_on_word : {A : Type 0} (kind : TokenKind) {p : Reader A} (q : Reader A
     → Takes (reader.case (sees kind) p q) (rule.◌>>=◌ (words.word kind) s) v
 takes_on_word kind q takes = takes_on (sees kind) q (starts_word kind) takes
 
-pub takes_off_word : {A : Type 0} (kind : TokenKind) (p : Reader A) {q : Reader A} {l : List ℕ} {r : Rule A} {v : Follow}
+pub takes_off_word : {A : Type 0} (kind : TokenKind) (p : Reader A) {q : Reader A} {l : List ℕ} {r : Rule A} {v :
+    Follow}
     → Leads l r v → all_have (outside (tag kind ∷ [])) l ≡ true → Takes q r v
     → Takes (reader.case (sees kind) p q) r v
 takes_off_word kind p leads all takes = takes_off (sees kind) p (skips (asks_kind kind) leads all) takes
@@ -88,7 +89,8 @@ choose_by {A} {look} {a} {m} {l} {p} {q} {r} {s} {v} asks begins own takes other
 pub choose : {A : Type 0} (kind : TokenKind) {l : List ℕ} {p q : Reader A} {f : ℕ → Rule A} {s : Rule A} {v : Follow}
     → Takes p (rule.◌>>=◌ (words.word kind) f) v → Chosen q l s v → all_have (outside (tag kind ∷ [])) l ≡ true
     → Chosen (reader.case (sees kind) p q) (tag kind ∷ l) (rule.◌or◌ (rule.◌>>=◌ (words.word kind) f) s) v
-choose kind takes others none = choose_by (asks_kind kind) (begins_word_then kind) (all_own (tag kind ∷ [])) takes others
+choose kind takes others none = choose_by (asks_kind kind) (begins_word_then kind) (all_own
+    (tag kind ∷ [])) takes others
     none
 
 -- before fewer tokens
@@ -135,7 +137,8 @@ takes_each {A} look {p} {r} {l} {v} begins asked stops one = record {
 
     count : (xs : List A) (front : Tokens) → rule.many r front xs → length xs ≤ length front
     count [] front h = omega arith
-    count (x ∷ xs) front h = let less : suc (length xs) ≤ length (h.front ++ h.back) = shorter h.front h.back (length xs)
+    count (x ∷ xs) front h = let less : suc (length xs) ≤ length (h.front ++ h.back) = shorter h.front h.back
+        (length xs)
         (full_begins r begins h.front x h.first) (count xs h.back h.second) in
         let same : length front ≡ length (h.front ++ h.back) = ap length h.split in omega arith
 
@@ -173,7 +176,8 @@ takes_more {A} {p} {r} {v} takes none = takes_each (sees (kind.Symbol s.Comma))
 
 pub takes_list : {A : Type 0} {p : Reader A} {r : Rule A} {v : List ℕ} → Takes p r (Before (comma ∷ v))
     → all_have (outside (comma ∷ [])) v ≡ true → Takes (expressions.list_of p) (words.list_of r) (Before v)
-takes_list {A} {p} {r} {v} takes none = takes_then takes (λ first. takes_map (λ more. first ∷ more) (takes_more takes none))
+takes_list {A} {p} {r} {v} takes none = takes_then takes (λ first. takes_map (λ more. first ∷ more)
+    (takes_more takes none))
     (λ first. leads_bind (leads_many (begins_word_then (kind.Symbol s.Comma))) (λ more. leads_pure))
 
 -- ---- loops that their last turn ends
@@ -191,7 +195,8 @@ until_takes {A} {B} turn r {u} onward full xs front behind rest y h fits last =
 
     count : (xs : List A) (front : Tokens) → rule.many r front xs → length xs ≤ length front
     count [] front h = omega arith
-    count (x ∷ xs) front h = let less : suc (length xs) ≤ length (h.front ++ h.back) = shorter h.front h.back (length xs)
+    count (x ∷ xs) front h = let less : suc (length xs) ≤ length (h.front ++ h.back) = shorter h.front h.back
+        (length xs)
         (full h.front x h.first) (count xs h.back h.second) in
         let same : length front ≡ length (h.front ++ h.back) = ap length h.split in omega arith
 

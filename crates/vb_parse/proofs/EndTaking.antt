@@ -1,45 +1,34 @@
 -- The readers of ends, of quoted words and of texts that say nothing take whatever the grammar spells.
-use Rattle.std.proofs.Common.{◌≡◌, ℕ, zero, suc, ◌==◌, ◌||◌, not, inl, inr, Bool, true, false, IsTrue, cond, List, [], ◌∷◌, ◌++◌, Option, Some, None, Ok, refl, sym, ap, ◌∙◌, subst, append_assoc, append-nil, codes}
-use Rattle.std.specs.declared.ops.ControlFlow.TheVariants.{Continue, Break}
-use Rattle.vb_value.specs.declared.token.Keyword.TheVariants as k
+use Rattle.std.proofs.Common.{◌≡◌, ℕ, ◌==◌, ◌||◌, Bool, true, false, cond, List, [], ◌∷◌, ◌++◌, Option, Some, None}
+use Rattle.std.proofs.Common.{refl, sym, ap, ◌∙◌, append_assoc}
 use Rattle.vb_value.specs.declared.token.Symbol.TheVariants as s
 use Rattle.vb_value.specs.declared.token.Token.{Token}
-use Rattle.vb_value.specs.declared.token.TokenKind.{TokenKind}
 use Rattle.vb_value.specs.declared.token.TokenKind.TheVariants as kind
-use Rattle.vb_syntax.specs.declared.expression.Expression.{Expression}
-use Rattle.vb_syntax.specs.declared.statement.Case.{Case}
-use Rattle.vb_syntax.specs.declared.statement.Statement.{Statement}
-use Rattle.vb_syntax.specs.declared.statement.StatementKind.TheVariants as st
 use Rattle.vb_syntax.specs.Rules.{Tokens, Rule}
 use Rattle.vb_syntax.specs.Rules as rule
 use Rattle.vb_syntax.specs.Words as words
 use Rattle.vb_syntax.specs.Words.{tag, name_of}
-use Rattle.vb_syntax.specs.SimpleStatements.{Looser, statement, simple, const, quoted, quoted_at}
+use Rattle.vb_syntax.specs.SimpleStatements.{Looser, quoted_at}
 use Rattle.vb_syntax.specs.Statements as grammar
 use Rattle.vb_syntax.specs.Statements.{break_of}
 use Rattle.vb_parse.specs.Reader.{Reader, Turn, Look, and_then, next, sees, passes, is_some}
 use Rattle.vb_parse.specs.Reader as reader
-use Rattle.vb_parse.specs.ReadSimpleStatements as statements
 use Rattle.vb_parse.specs.ReadSimpleStatements.{sees_quoted}
 use Rattle.vb_parse.specs.ReadLines as lines
 use Rattle.vb_parse.specs.ReadLines.{breaks}
 use Rattle.vb_parse.specs.ReadStatements as spec
 use Rattle.vb_parse.specs.ReadStatements.{begins_statement, kind_begins_statement, sees_const, sees_loop_word}
-use Rattle.vb_parse.specs.Runs.{opens}
-use Rattle.vb_parse.proofs.Taking.{Follow, Any, Takes, Starts, takes_pure, takes_one}
-use Rattle.vb_parse.proofs.Binding.{Within, within_then, bind_left, bind_right, bind_wider, first_wider, pure_in, pure_out, or_out, or_within}
-use Rattle.vb_parse.proofs.Beginning.{HeadIn}
+use Rattle.vb_parse.proofs.Taking.{Follow, Any, Takes, takes_pure, takes_one}
+use Rattle.vb_parse.proofs.Binding.{Within}
 use Rattle.vb_parse.proofs.Tags.{among, outside, all_have, not_true, among_has}
 use Rattle.vb_parse.proofs.Following.{next_in, Before, before_head, before_wider, BeginsIn, Leads, leads_begins}
 use Rattle.vb_parse.proofs.Following.{leads_pure, leads_or, leads_bind, leads_many, begins_kind, begins_then}
 use Rattle.vb_parse.proofs.Following.{begins_word_then, Asks, asks_kind, asks_no, leads_within, Skips, starts}
 use Rattle.vb_parse.proofs.Choosing.{starts_word, takes_or, takes_within, takes_word, takes_then, takes_map}
 use Rattle.vb_parse.proofs.Choosing.{takes_each}
-use Rattle.vb_parse.proofs.Placing.{or_last, takes_expression, takes_inside, begins_inside, closed_inside, tag_ends, expression_heads}
-use Rattle.vb_parse.proofs.DeclarationTaking.{access_heads, asks_access}
-use Rattle.vb_parse.proofs.CallTaking.{statement_ends}
-use Rattle.vb_parse.proofs.SimpleTaking.{simple_heads, const_heads, name_head, takes_simple, begins_simple, takes_const, begins_const, quoted_begins, quoted_tag}
-use Rattle.vb_parse.proofs.LineTaking.{Trailing, after_line, TakesLine, TakesTrailing, line_heads, takes_line, begins_line, takes_line_if_from}
+use Rattle.vb_parse.proofs.Placing.{or_last}
+use Rattle.vb_parse.proofs.SimpleTaking.{name_head, quoted_tag}
+use Rattle.vb_parse.proofs.LineTaking.{Trailing, after_line}
 
 -- ---- ends
 
@@ -53,7 +42,8 @@ break_asked : (token : Token) → is_some (break_of token) ≡ among break_heads
 break_asked token = go (tag token.kind == tag (kind.Symbol s.Colon) || tag token.kind == tag kind.LineEnd)
     (break_same (tag token.kind))
   where
-    go : (b : Bool) → among break_heads (tag token.kind) ≡ b → is_some (cond b (Some (tt {0})) None) ≡ among break_heads (tag
+    go : (b : Bool) → among break_heads (tag token.kind) ≡ b → is_some (cond b (Some
+        (tt {0})) None) ≡ among break_heads (tag
         token.kind)
     go true is = sym is
     go false is = sym is
@@ -201,4 +191,3 @@ takes_texts looser none quiet = takes_texts_where looser.texts none quiet
 pub leads_texts : (looser : Looser) {v : List ℕ} → Leads (v ++ (text_head ++ v)) (grammar.loose_texts looser) (Before v)
 leads_texts looser = leads_or leads_pure (leads_within (λ front x h. h.1) (leads_bind (leads_many (begins_word_then
     (kind.PageText []))) (λ _. leads_pure)))
-

@@ -1,5 +1,6 @@
 -- The readers of expressions take whatever the grammar spells.
-use Rattle.std.proofs.Common.{◌≡◌, ℕ, zero, suc, ◌<◌, ◌≤◌, ◌==◌, ◌||◌, inl, inr, Bool, true, false, IsTrue, List, [], ◌∷◌, ◌++◌, Some, refl, sym, ap, ◌∙◌, append-nil, subst, arith}
+use Rattle.std.proofs.Common.{◌≡◌, ℕ, zero, suc, ◌<◌, ◌≤◌, ◌==◌, ◌||◌, inl, inr, Bool, true, false, IsTrue, List, []}
+use Rattle.std.proofs.Common.{◌∷◌, ◌++◌, Some, refl, sym, ap, ◌∙◌, append-nil, subst, arith}
 use Rattle.std.proofs.lemmas.Bool.{eq-eqb, eqb-true}
 use Rattle.vb_value.specs.declared.operator.Op2.{Op2}
 use Rattle.vb_value.specs.declared.token.Keyword.TheVariants as k
@@ -22,9 +23,13 @@ use Rattle.vb_parse.specs.Reader.{Reader, Look, next, sees, passes, is_some}
 use Rattle.vb_parse.specs.ReadExpressions as spec
 use Rattle.vb_parse.specs.ReadExpressions.{goes_on_path}
 use Rattle.vb_parse.proofs.Reading.{Reads, moves, reads_bind, reads_word, full_bind, full_word}
-use Rattle.vb_parse.proofs.Taking.{Follow, Any, Takes, Starts, takes_pure, takes_one, takes_bind, takes_narrow, takes_many, takes_case, takes_gate, before_many, only}
-use Rattle.vb_parse.proofs.Beginning.{HeadIn, Begins, begins_wider, begins_bind, begins_or, begins_where, begins_word, begins_name, has_at, differs, sees_true, sees_false, tag_is_literal, literal_tag, name_tag, tag_level, level_of, level_tag, other_level, this_level}
-use Rattle.vb_parse.proofs.ExpressionReading.{Inner, Operator, closed_inner, expressions_read, reads_step, full_step, reads_turn, full_turn, reads_operators, operator_of_level, leaf}
+use Rattle.vb_parse.proofs.Taking.{Follow, Any, Takes, Starts, takes_pure, takes_one, takes_bind, takes_narrow}
+use Rattle.vb_parse.proofs.Taking.{takes_many, takes_case, takes_gate, before_many, only}
+use Rattle.vb_parse.proofs.Beginning.{HeadIn, Begins, begins_wider, begins_bind, begins_or, begins_where, begins_word}
+use Rattle.vb_parse.proofs.Beginning.{begins_name, has_at, differs, sees_true, sees_false, tag_is_literal}
+use Rattle.vb_parse.proofs.Beginning.{literal_tag, name_tag, tag_level, level_of, level_tag, other_level, this_level}
+use Rattle.vb_parse.proofs.ExpressionReading.{Inner, Operator, closed_inner, expressions_read, reads_step, full_step}
+use Rattle.vb_parse.proofs.ExpressionReading.{reads_turn, full_turn, reads_operators, operator_of_level, leaf}
 
 -- ---- what may stand behind an expression
 

@@ -1,23 +1,17 @@
 -- What may stand behind a rule, and with what it begins, by the numbers of the kinds of tokens.
-use Rattle.std.proofs.Common.{◌≡◌, ℕ, zero, suc, ◌<◌, ◌≤◌, ◌==◌, ◌||◌, ◌⊎◌, inl, inr, Bool, true, false, not, cond, List, [], ◌∷◌, ◌++◌, length, Option, Some, None, if◌then◌else◌, Ok, refl, sym, ap, ◌∙◌, append_assoc, append-nil, subst, length-append, ◌+◌, arith}
-use Rattle.std.proofs.lemmas.Bool.{eqb-true, eq-eqb}
-use Rattle.vb_value.specs.declared.token.Keyword.TheVariants as k
-use Rattle.vb_value.specs.declared.token.Symbol.TheVariants as s
+use Rattle.std.proofs.Common.{◌≡◌, ℕ, ◌==◌, ◌||◌, inl, inr, Bool, true, false, List, [], ◌∷◌, ◌++◌, Option, Some}
+use Rattle.std.proofs.Common.{None, refl, sym, ap, ◌∙◌, append_assoc, append-nil, subst, arith}
 use Rattle.vb_value.specs.declared.token.Token.{Token}
 use Rattle.vb_value.specs.declared.token.TokenKind.{TokenKind}
-use Rattle.vb_value.specs.declared.token.TokenKind.TheVariants as kind
 use Rattle.vb_syntax.specs.Rules.{Tokens, Rule, Then}
 use Rattle.vb_syntax.specs.Rules as rule
 use Rattle.vb_syntax.specs.Words as words
 use Rattle.vb_syntax.specs.Words.{tag, line_of, name_of}
-use Rattle.vb_parse.specs.Reader.{Reader, next, Look, sees, passes, is_some, Turn}
-use Rattle.std.specs.declared.ops.ControlFlow.TheVariants.{Continue, Break}
-use Rattle.vb_parse.specs.Reader as reader
-use Rattle.vb_parse.specs.ReadExpressions as expressions
+use Rattle.vb_parse.specs.Reader.{next, Look, sees, passes, is_some}
 use Rattle.vb_parse.proofs.Reading.{NoEmpty}
-use Rattle.vb_parse.proofs.Taking.{Follow, Any, Takes, Starts, takes_pure, takes_one, takes_bind, takes_narrow}
-use Rattle.vb_parse.proofs.Beginning.{HeadIn, Begins, begins_bind, begins_word, begins_name, name_tag}
-use Rattle.vb_parse.proofs.Tags.{among, outside, all_have, among_has, not_true, among_left, among_right, among_both, all_own}
+use Rattle.vb_parse.proofs.Taking.{Follow, Starts}
+use Rattle.vb_parse.proofs.Beginning.{HeadIn, Begins, begins_word, begins_name, name_tag}
+use Rattle.vb_parse.proofs.Tags.{among, outside, all_have, among_has, not_true, among_left, among_right, among_both}
 
 -- ---- what comes next
 
@@ -38,7 +32,10 @@ next_has f g None wider is = refl
 next_has f g (Some token) wider is = wider (tag token.kind) is
 
 pub before_wider : (l m : List ℕ) → all_have (among m) l ≡ true → (rest : Tokens) → Before l rest → Before m rest
-before_wider l m all rest b = record { fits = next_has (among l) (among m) (next rest) (among_has (among m) l all) b.fits }
+before_wider l m all rest b = record {
+  fits = next_has (among l) (among m) (next rest) (among_has
+      (among m) l all) b.fits;
+}
 
 -- What the rule spells begins with a token of one of the kinds with these numbers.
 pub record BeginsIn {A : Type 0} (l : List ℕ) (r : Rule A) : Type 0 where
@@ -49,7 +46,10 @@ pub record Leads {A : Type 0} (l : List ℕ) (r : Rule A) (v : Follow) : Type 0 
   pub leads : (front rest : Tokens) (x : A) → r front x → v rest → Before l (front ++ rest)
 
 pub leads_begins : {A : Type 0} {l : List ℕ} {r : Rule A} {v : Follow} → BeginsIn l r → Leads l r v
-leads_begins {A} {l} {r} {v} begins = record { leads = λ front rest x h ok. before_head l front rest (begins.head front x h) }
+leads_begins {A} {l} {r} {v} begins = record {
+  leads = λ front rest x h ok. before_head l front rest
+      (begins.head front x h);
+}
 
 pub leads_pure : {A : Type 0} {l : List ℕ} {x : A} → Leads l (rule.pure x) (Before l)
 leads_pure = record { leads = λ front rest y h ok. rw h.0 ok }
@@ -126,7 +126,8 @@ begins_leads {A} {B} {l} {m} {r} {s} one other = record { head = go }
         → HeadIn (among l) front
     some front token back b e = (token, back, e, sym (ap (λ t. next_in (among l) (next t)) e) ∙ b.fits)
 
-    first : (front back : Tokens) → HeadIn (among m) back → (token : Token) × (rest : Tokens) × (front ++ back ≡ token ∷ rest)
+    first : (front back : Tokens) → HeadIn (among m) back → (token : Token) × (rest : Tokens) ×
+        (front ++ back ≡ token ∷ rest)
     first [] back w = (w.0, w.1, w.2)
     first (t ∷ front) back w = (t, front ++ back, refl)
 
@@ -135,7 +136,8 @@ begins_leads {A} {B} {l} {m} {r} {s} one other = record { head = go }
         let w = (other h.thing).head h.back x h.next_spells in
         let behind : Before m h.back = subst (λ t. Before m t) (append-nil h.back) (before_head m h.back [] w) in
         let f = first h.front h.back w in
-        some front f.0 f.1 (subst (λ t. Before l t) (sym h.split) (one.leads h.front h.back h.thing h.first_spells behind))
+        some front f.0 f.1 (subst (λ t. Before l t) (sym h.split)
+        (one.leads h.front h.back h.thing h.first_spells behind))
         (h.split ∙ f.2)
 
 pub begins_then : {A B : Type 0} {l : List ℕ} {r : Rule A} {s : A → Rule B} → BeginsIn l r
@@ -156,7 +158,8 @@ pub begins_within : {A : Type 0} {l : List ℕ} {r s : Rule A} → ((front : Tok
     → BeginsIn l s → BeginsIn l r
 begins_within wider begins = record { head = λ front x h. begins.head front x (wider front x h) }
 
-pub leads_within : {A : Type 0} {l : List ℕ} {r s : Rule A} {v : Follow} → ((front : Tokens) (x : A) → r front x → s front x)
+pub leads_within : {A : Type 0} {l : List ℕ} {r s : Rule A} {v : Follow} → ((front : Tokens) (x : A) → r front x
+    → s front x)
     → Leads l s v → Leads l r v
 leads_within wider leads = record { leads = λ front rest x h ok. leads.leads front rest x (wider front x h) ok }
 
@@ -171,8 +174,13 @@ pub ahead_many : {A : Type 0} {l : List ℕ} {r : Rule A} → BeginsIn l r → (
 ahead_many begins [] front behind h ok = rw h ok
 ahead_many {A} {l} {r} begins (x ∷ xs) front behind h ok = let w = begins.head h.front x h.first in
     record {
-      head = (w.0, w.1 ++ (h.back ++ behind), ap (λ t. t ++ behind) h.split ∙ append_assoc h.front h.back behind
-          ∙ ap (λ t. t ++ (h.back ++ behind)) w.2, w.3);
+      head = (
+        w.0,
+        w.1 ++ (h.back ++ behind),
+        ap (λ t. t ++ behind) h.split ∙ append_assoc h.front h.back behind
+            ∙ ap (λ t. t ++ (h.back ++ behind)) w.2,
+        w.3,
+      );
     }
 
 pub begins_more : {A : Type 0} {l m : List ℕ} {r : Rule A} → all_have (among m) l ≡ true → BeginsIn l r → BeginsIn m r

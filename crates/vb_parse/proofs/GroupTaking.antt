@@ -1,46 +1,27 @@
 -- The parenthesis at the end of a path, and what it is in the grammar of calls.
-use Rattle.std.proofs.Common.{◌≡◌, ℕ, zero, suc, ◌==◌, ◌||◌, ◌⊎◌, inl, inr, Bool, true, false, IsTrue, cond, List, [], ◌∷◌, ◌++◌, Option, Some, None, Ok, refl, sym, ap, ◌∙◌, append_assoc, append-nil, subst, arith}
-use Rattle.vb_value.specs.declared.token.Keyword.TheVariants as k
-use Rattle.vb_value.specs.declared.token.Symbol.TheVariants as s
-use Rattle.vb_value.specs.declared.token.TokenKind.{TokenKind}
-use Rattle.vb_value.specs.declared.token.TokenKind.TheVariants as kind
+use Rattle.std.proofs.Common.{◌≡◌, ℕ, zero, suc, inl, inr, true, false, List, [], ◌∷◌, ◌++◌, refl, sym, ap, ◌∙◌}
+use Rattle.std.proofs.Common.{append_assoc, append-nil}
 use Rattle.vb_syntax.specs.declared.expression.Expression.{Expression}
 use Rattle.vb_syntax.specs.declared.expression.Expression.TheVariants as e
 use Rattle.vb_syntax.specs.declared.expression.Expression.TheOpen.{Step-F}
 use Rattle.vb_syntax.specs.declared.expression.Operation.{Operation}
 use Rattle.vb_syntax.specs.declared.expression.Path.{Path as PathTree}
-use Rattle.vb_syntax.specs.declared.expression.PathHead.{PathHead}
 use Rattle.vb_syntax.specs.declared.expression.Step.{Step, out-Step}
 use Rattle.vb_syntax.specs.declared.expression.Step.TheVariants as behind
 use Rattle.vb_syntax.specs.declared.expression.Step.TheVariants.{outs-Group}
-use Rattle.vb_syntax.specs.declared.statement.Statement.{Statement}
-use Rattle.vb_syntax.specs.declared.statement.StatementKind.TheVariants as st
 use Rattle.vb_syntax.specs.Rules.{Tokens, Rule}
 use Rattle.vb_syntax.specs.Rules as rule
-use Rattle.vb_syntax.specs.Words as words
-use Rattle.vb_syntax.specs.Words.{tag}
 use Rattle.vb_syntax.specs.Expressions as expressions
 use Rattle.vb_syntax.specs.Expressions.{path_of}
 use Rattle.vb_syntax.specs.Declarations as declarations
 use Rattle.vb_syntax.specs.SimpleStatements as grammar
 use Rattle.vb_syntax.specs.SimpleStatements.{Looser, named_at, ends_in_group, statement}
-use Rattle.vb_parse.specs.Reader.{Reader, Look, and_then, next, sees}
-use Rattle.vb_parse.specs.Reader as reader
-use Rattle.vb_parse.specs.ReadExpressions as read
-use Rattle.vb_parse.specs.ReadExpressions.{goes_on_path}
 use Rattle.vb_parse.specs.ReadCalls as spec
 use Rattle.vb_parse.specs.ReadCalls.{Tail, plain, grouped, tail}
-use Rattle.vb_parse.specs.Runs.{opens, inside}
-use Rattle.vb_parse.proofs.Taking.{Follow, Any, Takes, takes_narrow, only}
-use Rattle.vb_parse.proofs.Beginning.{HeadIn, sees_true}
-use Rattle.vb_parse.proofs.Binding.{Within, bind_left, bind_right}
-use Rattle.vb_parse.proofs.ExpressionTaking.{PathEnds, Ends}
-use Rattle.vb_parse.proofs.OperandReading.{rest_from, empty_pair}
-use Rattle.vb_parse.proofs.OperandTaking.{rest_ends, takes_operators_from, listed_heads, Held, first_operand}
-use Rattle.vb_parse.proofs.PathReading.{begins_named, path_group, takes_path_at}
-use Rattle.vb_parse.proofs.CallReading.{Target, Parts, path_parts, path_made, more_arguments, held_arguments}
-use Rattle.vb_parse.proofs.Turns.{rules_inside, inner_at, taken_inside}
-use Rattle.vb_parse.proofs.Placing.{path_heads, ends_before, tag_ends, takes_expression, expression_heads}
+use Rattle.vb_parse.specs.Runs.{opens}
+use Rattle.vb_parse.proofs.OperandReading.{empty_pair}
+use Rattle.vb_parse.proofs.PathReading.{path_group}
+use Rattle.vb_parse.proofs.Turns.{rules_inside}
 
 -- ---- steps with a parenthesis at the end
 
@@ -54,7 +35,8 @@ tail_plain [] e = refl
 tail_plain (x ∷ []) e = layer_plain (out-Step x) e
 tail_plain (x ∷ y ∷ more) e = ap (spec.tail_behind x) (tail_plain (y ∷ more) e)
 
-pub tail_snoc : (steps : List Step) (held : List Expression) → tail (steps ++ behind.Group held ∷ []) ≡ grouped steps held
+pub tail_snoc : (steps : List Step) (held : List Expression) → tail
+    (steps ++ behind.Group held ∷ []) ≡ grouped steps held
 tail_snoc [] held = ap (λ l. spec.tail_of_last (spec.group_of_layer l)) (outs-Group held)
 tail_snoc (x ∷ []) held = ap (spec.tail_behind x) (tail_snoc [] held)
 tail_snoc (x ∷ y ∷ more) held = ap (spec.tail_behind x) (tail_snoc (y ∷ more) held)

@@ -1,35 +1,28 @@
 -- The readers of If take whatever the grammar spells.
-use Rattle.std.proofs.Common.{◌≡◌, ℕ, zero, suc, ◌==◌, ◌||◌, not, inl, inr, Bool, true, false, IsTrue, cond, List, [], ◌∷◌, ◌++◌, Option, Some, None, Ok, refl, sym, ap, ◌∙◌, subst, append_assoc, append-nil, codes}
-use Rattle.std.specs.declared.ops.ControlFlow.TheVariants.{Continue, Break}
+use Rattle.std.proofs.Common.{◌≡◌, ℕ, not, Bool, true, List, [], ◌∷◌, ◌++◌, Option, Some, None, Ok, refl, sym, ap}
+use Rattle.std.proofs.Common.{◌∙◌, append_assoc, append-nil}
 use Rattle.vb_value.specs.declared.token.Keyword.TheVariants as k
-use Rattle.vb_value.specs.declared.token.Symbol.TheVariants as s
-use Rattle.vb_value.specs.declared.token.Token.{Token}
-use Rattle.vb_value.specs.declared.token.TokenKind.{TokenKind}
 use Rattle.vb_value.specs.declared.token.TokenKind.TheVariants as kind
 use Rattle.vb_syntax.specs.declared.expression.Expression.{Expression}
-use Rattle.vb_syntax.specs.declared.statement.Case.{Case}
 use Rattle.vb_syntax.specs.declared.statement.Statement.{Statement}
 use Rattle.vb_syntax.specs.declared.statement.StatementKind.TheVariants as st
 use Rattle.vb_syntax.specs.Rules.{Tokens, Rule}
 use Rattle.vb_syntax.specs.Rules as rule
 use Rattle.vb_syntax.specs.Words as words
 use Rattle.vb_syntax.specs.Words.{tag, name_of}
-use Rattle.vb_syntax.specs.SimpleStatements.{Looser, statement, simple, const, quoted, quoted_at}
+use Rattle.vb_syntax.specs.SimpleStatements.{Looser, statement}
 use Rattle.vb_syntax.specs.Statements as grammar
 use Rattle.vb_syntax.specs.Statements.{break_of}
 use Rattle.vb_parse.specs.Reader.{Reader, Turn, Look, and_then, next, sees, passes, is_some}
 use Rattle.vb_parse.specs.Reader as reader
-use Rattle.vb_parse.specs.ReadSimpleStatements as statements
-use Rattle.vb_parse.specs.ReadSimpleStatements.{sees_quoted}
 use Rattle.vb_parse.specs.ReadLines as lines
 use Rattle.vb_parse.specs.ReadLines.{breaks}
 use Rattle.vb_parse.specs.ReadStatements as spec
 use Rattle.vb_parse.specs.ReadStatements.{begins_statement, kind_begins_statement, sees_const, sees_loop_word}
 use Rattle.vb_parse.specs.Runs.{opens}
-use Rattle.vb_parse.proofs.Taking.{Follow, Any, Takes, Starts, takes_pure, takes_one}
-use Rattle.vb_parse.proofs.Binding.{Within, within_then, bind_left, bind_right, bind_wider, first_wider, pure_in, pure_out, or_out, or_within}
-use Rattle.vb_parse.proofs.Beginning.{HeadIn}
-use Rattle.vb_parse.proofs.Tags.{among, outside, all_have}
+use Rattle.vb_parse.proofs.Taking.{Follow, Takes, takes_pure}
+use Rattle.vb_parse.proofs.Binding.{Within, within_then, bind_left, bind_right, bind_wider}
+use Rattle.vb_parse.proofs.Tags.{outside, all_have}
 use Rattle.vb_parse.proofs.Following.{Before, BeginsIn, Leads, leads_begins, leads_pure, leads_or, leads_bind}
 use Rattle.vb_parse.proofs.Following.{leads_many, leads_wider, begins_then, begins_word_then, begins_either, Asks}
 use Rattle.vb_parse.proofs.Following.{asks_kind, asks_either, asks_no, skips, starts, Closed, closed_first}
@@ -37,13 +30,10 @@ use Rattle.vb_parse.proofs.Following.{closed_next, closed_or}
 use Rattle.vb_parse.proofs.Choosing.{starts_word, takes_on, takes_off, takes_on_word, takes_off_word, takes_or}
 use Rattle.vb_parse.proofs.Choosing.{takes_within, takes_word, takes_then, takes_map, takes_each, takes_before}
 use Rattle.vb_parse.proofs.Choosing.{takes_gated}
-use Rattle.vb_parse.proofs.Placing.{or_last, takes_expression, takes_inside, begins_inside, closed_inside, tag_ends, expression_heads}
-use Rattle.vb_parse.proofs.DeclarationTaking.{access_heads, asks_access}
-use Rattle.vb_parse.proofs.CallTaking.{statement_ends}
-use Rattle.vb_parse.proofs.SimpleTaking.{simple_heads, const_heads, name_head, takes_simple, begins_simple, takes_const, begins_const, quoted_begins, quoted_tag}
-use Rattle.vb_parse.proofs.LineTaking.{Trailing, after_line, TakesLine, TakesTrailing, line_heads, takes_line, begins_line, takes_line_if_from}
-
-use Rattle.vb_parse.proofs.EndTaking.{break_heads, asks_breaks, break_begins, takes_end, begins_end, takes_breaks, CutEnd, cut_end, takes_line_end, skips_quoted, text_head, takes_texts, leads_texts}
+use Rattle.vb_parse.proofs.Placing.{takes_inside, closed_inside, tag_ends, expression_heads}
+use Rattle.vb_parse.proofs.SimpleTaking.{simple_heads, const_heads}
+use Rattle.vb_parse.proofs.LineTaking.{TakesLine, line_heads, takes_line_if_from}
+use Rattle.vb_parse.proofs.EndTaking.{break_heads, asks_breaks, takes_end, begins_end, cut_end, takes_line_end}
 
 -- ---- what stands inside
 
@@ -82,7 +72,8 @@ module _ (looser : Looser) (depth : ℕ) (ip : lines.Blocks) (ir : grammar.Block
   takes_within_place ends = takes_inside depth ends
 
   -- a block, and behind it what may stand there
-  pub leads_inner : {B : Type 0} {f : List Statement → Rule B} {v : Follow} → ((x : List Statement) → Leads block_ends (f x) v)
+  pub leads_inner : {B : Type 0} {f : List Statement → Rule B} {v : Follow} → ((x : List Statement)
+      → Leads block_ends (f x) v)
       → Leads block_heads (rule.◌>>=◌ ir.block f) v
   leads_inner behind = leads_bind inner.leads behind
 
@@ -114,7 +105,8 @@ module _ (looser : Looser) (depth : ℕ) (ip : lines.Blocks) (ir : grammar.Block
 
   takes_else_part : Takes (spec.else_part looser depth ip) (grammar.else_part looser depth ir)
       (Before (tag (kind.Keyword k.End) ∷ []))
-  takes_else_part = takes_or (takes_on_word (kind.Keyword k.Else) _ (takes_within last_apart (takes_map (λ body. Some body)
+  takes_else_part = takes_or (takes_on_word (kind.Keyword k.Else) _ (takes_within last_apart (takes_map
+      (λ body. Some body)
       (takes_before refl takes_else_block))))
       (takes_off_word (kind.Keyword k.Else) _ leads_pure refl (takes_pure None _))
 
@@ -142,16 +134,19 @@ module _ (looser : Looser) (depth : ℕ) (ip : lines.Blocks) (ir : grammar.Block
 
   leads_else : {B : Type 0} {f : Option (List Statement) → Rule B} {v : Follow} → ((x : Option (List Statement))
       → BeginsIn (tag (kind.Keyword k.End) ∷ []) (f x))
-      → Leads (tag (kind.Keyword k.Else) ∷ tag (kind.Keyword k.End) ∷ []) (rule.◌>>=◌ (grammar.else_part looser depth ir) f) v
+      → Leads (tag (kind.Keyword k.Else) ∷ tag (kind.Keyword k.End) ∷ []) (rule.◌>>=◌
+      (grammar.else_part looser depth ir) f) v
   leads_else begins = leads_bind (leads_or (leads_begins (begins_word_then (kind.Keyword k.Else))) leads_pure)
       (λ x. leads_begins (begins x))
 
   leads_others : (line : ℕ) (condition : Expression) (body : List Statement) {v : Follow}
       → Leads block_ends (others_behind line condition body) v
-  leads_others line condition body = leads_wider refl (leads_bind (leads_many (begins_word_then (kind.Keyword k.ElseIf)))
+  leads_others line condition body = leads_wider refl (leads_bind (leads_many (begins_word_then
+      (kind.Keyword k.ElseIf)))
       (λ others. leads_else (λ otherwise. begins_word_then (kind.Keyword k.End))))
 
-  takes_block_if_from : (line : ℕ) (condition : Expression) {v : Follow} → Takes (spec.block_if_from looser depth ip line
+  takes_block_if_from : (line : ℕ) (condition : Expression) {v : Follow} → Takes
+      (spec.block_if_from looser depth ip line
       condition) (block_if_behind line condition) v
   takes_block_if_from line condition = takes_then (takes_end refl)
       (λ _. takes_then inner.block (λ body. takes_then takes_else_ifs (λ others. takes_then takes_else_part
@@ -213,7 +208,8 @@ module _ (looser : Looser) (depth : ℕ) (ip : lines.Blocks) (ir : grammar.Block
   takes_if_from_block : (line : ℕ) (condition : Expression) {v : List ℕ} → all_have (outside break_heads) v ≡ true
       → Takes (spec.if_from looser depth ip line condition) (rule.◌>>=◌ (block_if_behind line condition)
       (λ found. rule.◌>>◌ grammar.«end» (rule.pure found))) (Before v)
-  takes_if_from_block line condition none = takes_on breaks _ (starts asks_breaks (begins_then (block_if_behind_begins line
+  takes_if_from_block line condition none = takes_on breaks _ (starts asks_breaks (begins_then
+      (block_if_behind_begins line
       condition)) refl) (ended (takes_block_if_from line condition) none)
 
   takes_if_from_line : (line : ℕ) (condition : Expression) {v : List ℕ} → all_have (outside break_heads) v ≡ true
@@ -225,11 +221,13 @@ module _ (looser : Looser) (depth : ℕ) (ip : lines.Blocks) (ir : grammar.Block
   -- "If" expr "Then" before the one or the other
   if_apart : {A B : Type 0} {word : Rule ℕ} {test : Rule Expression} {then : Rule ℕ} {behind : ℕ → Expression → Rule A}
       {f : A → Rule B}
-      → Within (rule.◌>>=◌ (rule.◌>>=◌ word (λ line. rule.◌>>=◌ test (λ condition. rule.◌>>◌ then (behind line condition)))) f)
+      → Within (rule.◌>>=◌ (rule.◌>>=◌ word (λ line. rule.◌>>=◌ test (λ condition. rule.◌>>◌ then
+      (behind line condition)))) f)
       (rule.◌>>=◌ word (λ line. rule.◌>>=◌ test (λ condition. rule.◌>>◌ then (rule.◌>>=◌ (behind line condition) f))))
   if_apart = within_then bind_right (bind_wider (λ line. within_then bind_right (bind_wider (λ condition. bind_right))))
 
-  pub takes_if : {v : List ℕ} → all_have (outside break_heads) v ≡ true → Takes (spec.if_sentence looser depth ip) if_rule
+  pub takes_if : {v : List ℕ} → all_have (outside break_heads) v ≡ true → Takes
+      (spec.if_sentence looser depth ip) if_rule
       (Before v)
   takes_if none = takes_gated (opens depth) (closed_or
       (closed_first (closed_next (λ line. closed_first (closed_inside depth))))

@@ -1,22 +1,21 @@
 -- An expression is its first operand and what stands behind it, which the reader takes where the operand is known.
-use Rattle.std.proofs.Common.{◌≡◌, ℕ, zero, suc, ◌<◌, ◌≤◌, ◌==◌, ◌||◌, ◌⊎◌, inl, inr, Bool, true, false, List, [], ◌∷◌, ◌++◌, Option, Some, None, refl, sym, ap, ◌∙◌, append_assoc, append-nil, subst, arith}
+use Rattle.std.proofs.Common.{◌≡◌, ℕ, zero, suc, ◌≤◌, ◌==◌, ◌⊎◌, inl, inr, Bool, true, false, List, [], ◌∷◌, ◌++◌}
+use Rattle.std.proofs.Common.{refl, sym, ap, ◌∙◌, append_assoc, append-nil, subst, arith}
 use Rattle.vb_value.specs.declared.token.Keyword.TheVariants as k
 use Rattle.vb_value.specs.declared.token.Symbol.TheVariants as s
 use Rattle.vb_value.specs.declared.token.TokenKind.TheVariants as kind
 use Rattle.vb_syntax.specs.declared.expression.Expression.{Expression}
 use Rattle.vb_syntax.specs.Rules.{Tokens, Rule}
-use Rattle.vb_syntax.specs.Rules as rule
-use Rattle.vb_syntax.specs.Words.{tag}
 use Rattle.vb_syntax.specs.Expressions as grammar
 use Rattle.vb_syntax.specs.Expressions.{operator_at, operation, chain, not_level}
 use Rattle.vb_parse.specs.Reader.{Reader, passes}
-use Rattle.vb_parse.specs.Reader as reader
 use Rattle.vb_parse.specs.ReadExpressions as read
 use Rattle.vb_parse.specs.ReadCalls as spec
 use Rattle.vb_parse.proofs.Reading.{Reads, moves}
 use Rattle.vb_parse.proofs.Taking.{Any, Takes, takes_pure, takes_one, takes_bind, takes_many, before_many, only}
 use Rattle.vb_parse.proofs.Beginning.{HeadIn}
-use Rattle.vb_parse.proofs.ExpressionReading.{Inner, Operator, reads_turn, full_turn, reads_operators, operator_of_level}
+use Rattle.vb_parse.proofs.ExpressionReading.{Inner, Operator, reads_turn, full_turn, reads_operators}
+use Rattle.vb_parse.proofs.ExpressionReading.{operator_of_level}
 use Rattle.vb_parse.proofs.ExpressionTaking.{Ends, ends_less, turn_starts, turn_ends, Taken, takes_operators}
 use Rattle.vb_parse.proofs.OperandReading.{level_rest, rest_from}
 use Rattle.vb_parse.proofs.Tags.{among}
@@ -57,7 +56,11 @@ module _ (o : Bool) (ip : read.Inside) (ir : grammar.Inside) (inner : Inner o ip
       refl
       (turn_starts (suc level))
       (turn_ends level)
-      (λ rest ok. (ends_less level (suc level) (omega arith) rest ok, ok.quiet (suc level) (omega arith) (omega arith))))
+      (λ rest ok. (
+        ends_less level (suc level) (omega arith) rest ok,
+        ok.quiet (suc level) (omega arith)
+            (omega arith),
+      )))
       (λ more. takes_pure (chain first more) (Ends (suc level)))
       (λ more y back rest h ok. rw h.0 ok)
 
@@ -67,7 +70,8 @@ module _ (o : Bool) (ip : read.Inside) (ir : grammar.Inside) (inner : Inner o ip
   takes_operators_from (suc level) h first = takes_bind (takes_operators_from level (omega arith) first)
       (λ found. takes_level_from (suc level == not_level) level found (operator_of_level level (omega arith))
       (reads_operators o ip ir inner level (omega arith)) (takes_operators o ip ir inner taken level (omega arith)))
-      (λ found x back rest w ok. level_ends o ip ir (suc level == not_level) level (grammar.operators o ir level) found x
+      (λ found x back rest w ok. level_ends o ip ir (suc level == not_level) level
+      (grammar.operators o ir level) found x
       back rest w ok)
 
 -- ---- the first operand
@@ -99,9 +103,12 @@ module _ (o : Bool) (ir : grammar.Inside) where
     where
       primary : grammar.primary o ir front x → First zero front x
       primary (inl w) = inl ((begins_more {m = listed_heads} refl (begins_then literal_begins)).head front x w)
-      primary (inr (inl w)) = inl ((begins_more {m = listed_heads} refl (begins_word_then (kind.Keyword k.Nothing))).head front x w)
-      primary (inr (inr (inl w))) = inl ((begins_more {m = listed_heads} refl (begins_word_then (kind.Keyword k.New))).head front x w)
-      primary (inr (inr (inr (inl w)))) = inl ((begins_more {m = listed_heads} refl (begins_then (begins_then path_head_begins))).head front x w)
+      primary (inr (inl w)) = inl ((begins_more {m = listed_heads} refl (begins_word_then
+          (kind.Keyword k.Nothing))).head front x w)
+      primary (inr (inr (inl w))) = inl ((begins_more {m = listed_heads} refl (begins_word_then
+          (kind.Keyword k.New))).head front x w)
+      primary (inr (inr (inr (inl w)))) = inl ((begins_more {m = listed_heads} refl (begins_then
+          (begins_then path_head_begins))).head front x w)
       primary (inr (inr (inr (inr (inl w))))) = inr (record {
         operand = front;
         rest = [];
@@ -110,9 +117,11 @@ module _ (o : Bool) (ir : grammar.Inside) where
         behind = (refl, refl);
         split = sym (append-nil front);
       })
-      primary (inr (inr (inr (inr (inr w))))) = inl ((begins_more {m = listed_heads} refl (begins_word_then (kind.Symbol s.Minus))).head front x
+      primary (inr (inr (inr (inr (inr w))))) = inl ((begins_more {m = listed_heads} refl (begins_word_then
+          (kind.Symbol s.Minus))).head front x
           w.1)
-  first_operand (suc level) front x h = go (λ tokens y w. first_operand level tokens y w) (suc level == not_level) h refl
+  first_operand (suc level) front x h = go (λ tokens y w. first_operand level tokens y w)
+      (suc level == not_level) h refl
     where
       extend : (tokens back : Tokens) (y : Expression) → front ≡ tokens ++ back → First level tokens y
           → level_rest o ir (suc level == not_level) (suc level) (grammar.operators o ir level) y back x
@@ -142,8 +151,10 @@ module _ (o : Bool) (ir : grammar.Inside) where
       go : ((tokens : Tokens) (y : Expression) → grammar.operators o ir level tokens y → First level tokens y)
           → (is_not : Bool) → grammar.one_level o ir is_not (suc level) (grammar.operators o ir level) front x
           → (suc level == not_level) ≡ is_not → First (suc level) front x
-      go later true (inl w) is = inl ((begins_more {m = listed_heads} refl (begins_word_then (kind.Keyword k.Not))).head front x w.1)
+      go later true (inl w) is = inl ((begins_more {m = listed_heads} refl (begins_word_then
+          (kind.Keyword k.Not))).head front x w.1)
       go later true (inr w) is = extend front [] x (sym (append-nil front)) (later front x w)
           (subst (λ b. level_rest o ir b (suc level) (grammar.operators o ir level) x [] x) (sym is) (refl, refl))
       go later false w is = extend w.front w.back w.thing w.split (later w.front w.thing w.first_spells)
-          (subst (λ b. level_rest o ir b (suc level) (grammar.operators o ir level) w.thing w.back x) (sym is) w.next_spells)
+          (subst (λ b. level_rest o ir b (suc level) (grammar.operators o ir level) w.thing w.back x)
+          (sym is) w.next_spells)

@@ -11,7 +11,8 @@ use Rattle.vb_parse.specs.ReadExpressions as spec
 use Rattle.vb_parse.specs.ReadExpressions.{whole_expression}
 use Rattle.vb_parse.proofs.ExpressionReading.{expressions_read}
 use Rattle.vb_parse.proofs.ExpressionTaking.{Ends, expressions_taken}
-use Rattle.vb_parse.proofs.Theorems.{Fits, fits, unique, sound, stops_at_fault, spelled_or_fault, spelled_no_fault, fault_unique, looser_reads, looser_further, looser_stops}
+use Rattle.vb_parse.proofs.Theorems.{Fits, fits, unique, sound, stops_at_fault, spelled_or_fault, spelled_no_fault}
+use Rattle.vb_parse.proofs.Theorems.{fault_unique, looser_reads, looser_further, looser_stops}
 
 abbrev reader_at : ℕ → Reader Expression
 reader_at depth = (spec.expressions depth).expression

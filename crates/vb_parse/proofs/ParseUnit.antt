@@ -1,5 +1,5 @@
 -- What a parser of units answers, from what its readers read.
-use Rattle.std.proofs.Common.{◌≡◌, ℕ, ◌<◌, ◌≤◌, ◌⊎◌, [], length, Ok, Err, refl}
+use Rattle.std.proofs.Common.{◌≡◌, ℕ, ◌<◌, ◌≤◌, ◌⊎◌, length, Ok, Err, refl}
 use Rattle.vb_syntax.specs.declared.unit.Unit.{Unit as Script}
 use Rattle.vb_syntax.specs.Rules.{Tokens}
 use Rattle.vb_syntax.specs.SimpleStatements.{Looser}
@@ -8,7 +8,8 @@ use Rattle.vb_syntax.specs.Faults.{IsFault, WouldGoOn}
 use Rattle.vb_parse.specs.Outcome.{Leaves}
 use Rattle.vb_parse.specs.ReadUnits as spec
 use Rattle.vb_parse.specs.ReadUnits.{whole_unit}
-use Rattle.vb_parse.proofs.Theorems.{Fits, fits, unique, sound, stops_at_fault, spelled_or_fault, spelled_no_fault, fault_unique}
+use Rattle.vb_parse.proofs.Theorems.{Fits, fits, unique, sound, stops_at_fault, spelled_or_fault, spelled_no_fault}
+use Rattle.vb_parse.proofs.Theorems.{fault_unique}
 use Rattle.vb_parse.proofs.Telling.{would_go_on, would_not_go_on}
 use Rattle.vb_parse.proofs.UnitReading.{reads_unit}
 use Rattle.vb_parse.proofs.UnitTaking.{takes_unit}
@@ -35,14 +36,17 @@ unit_unique looser depth = unique (spec.unit looser depth) (grammar.unit looser 
 
 -- every list of tokens spells a unit or has a fault
 pub unit_or_fault : (looser : Looser) (depth : ℕ) (tokens : Tokens)
-    → ((x : Script) × grammar.unit looser depth tokens x) ⊎ ((left : Tokens) × IsFault (grammar.unit looser depth) tokens
+    → ((x : Script) × grammar.unit looser depth tokens x) ⊎ ((left : Tokens) × IsFault
+    (grammar.unit looser depth) tokens
     left)
-unit_or_fault looser depth = spelled_or_fault (spec.unit looser depth) (grammar.unit looser depth) (unit_fits looser depth)
+unit_or_fault looser depth = spelled_or_fault (spec.unit looser depth) (grammar.unit looser depth)
+    (unit_fits looser depth)
 
 -- what is spelled is read
 pub unit_only : (looser : Looser) (depth : ℕ) (tokens rest : Tokens) (x y : Script)
     → whole_unit looser depth tokens ≡ Ok (x, rest) → grammar.unit looser depth tokens y → x ≡ y
-unit_only looser depth tokens rest x y read h = unit_unique looser depth tokens x y (unit_sound looser depth tokens rest x
+unit_only looser depth tokens rest x y read h = unit_unique looser depth tokens x y
+    (unit_sound looser depth tokens rest x
     read) h
 
 -- where the reader stops nothing is spelled

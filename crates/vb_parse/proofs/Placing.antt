@@ -1,23 +1,20 @@
 -- Readers of expressions and of what opens, before what may stand behind them.
-use Rattle.std.proofs.Common.{◌≡◌, ℕ, zero, suc, ◌<◌, ◌≤◌, ◌==◌, ◌||◌, inl, inr, Bool, true, false, not, cond, IsTrue, List, [], ◌∷◌, ◌++◌, Option, Some, None, if◌then◌else◌, Ok, refl, sym, ap, ◌∙◌, arith}
+use Rattle.std.proofs.Common.{◌≡◌, ℕ, zero, suc, ◌<◌, ◌==◌, ◌||◌, Bool, true, false, cond, List, [], ◌∷◌, ◌++◌}
+use Rattle.std.proofs.Common.{Option, Some, None, if◌then◌else◌, refl, ap, ◌∙◌}
 use Rattle.std.proofs.lemmas.Bool.{eqb-true}
 use Rattle.vb_value.specs.declared.token.Token.{Token}
-use Rattle.vb_syntax.specs.declared.expression.Expression.{Expression}
 use Rattle.vb_syntax.specs.Rules.{Tokens, Rule}
-use Rattle.vb_syntax.specs.Rules as rule
-use Rattle.vb_syntax.specs.Words as words
 use Rattle.vb_syntax.specs.Words.{tag}
 use Rattle.vb_syntax.specs.Expressions as grammar
 use Rattle.vb_syntax.specs.Expressions.{operator_of, operator_at}
 use Rattle.vb_syntax.specs.Declarations as declarations
 use Rattle.vb_parse.specs.Reader.{Reader, next, passes}
-use Rattle.vb_parse.specs.Reader as reader
 use Rattle.vb_parse.specs.ReadExpressions as spec
 use Rattle.vb_parse.specs.ReadExpressions.{goes_on_path}
 use Rattle.vb_parse.specs.ReadDeclarations as read_declarations
 use Rattle.vb_parse.specs.Runs.{opens, inside}
 use Rattle.vb_parse.proofs.Taking.{Follow, Takes, takes_narrow}
-use Rattle.vb_parse.proofs.Beginning.{HeadIn, Begins, other_level, level_of, level_tag, tag_level, tag_is_literal}
+use Rattle.vb_parse.proofs.Beginning.{other_level, level_tag, tag_level, tag_is_literal}
 use Rattle.vb_parse.proofs.ExpressionTaking.{Ends, expressions_taken, positive_differs, tag_is_expression}
 use Rattle.vb_parse.proofs.Tags.{among, among_both, all_have, among_has}
 use Rattle.vb_parse.proofs.Following.{next_in, Before, BeginsIn, Closed}
@@ -38,7 +35,11 @@ ends_facts n is = go (n == 115) refl (n == 112) refl is
     go false point false paren is = (point, paren, eqb-true (tag_level n) 0 is)
 
 pub ends_before : (v : List ℕ) → all_have tag_ends v ≡ true → (rest : Tokens) → Before v rest → Ends 12 rest
-ends_before v all rest b = record { path = path (next rest) b.fits; quiet = λ n some less. quiet n some (next rest) b.fits }
+ends_before v all rest b = record {
+  path = path (next rest) b.fits;
+  quiet = λ n some less. quiet n some
+      (next rest) b.fits;
+}
   where
     facts : (token : Token) → among v (tag token.kind) ≡ true → ((tag token.kind == 115) ≡ false)
         × ((tag token.kind == 112) ≡ false) × (tag_level (tag token.kind) ≡ 0)

@@ -1,17 +1,12 @@
 -- The readers of procedures and properties take whatever the grammar spells.
-use Rattle.std.proofs.Common.{◌≡◌, ℕ, zero, suc, ◌==◌, ◌||◌, ◌⊎◌, inl, inr, Bool, true, false, List, [], ◌∷◌, ◌++◌, Option, Some, None, Ok, refl, sym, ap, ◌∙◌, append_assoc, codes}
+use Rattle.std.proofs.Common.{ℕ, zero, suc, inl, inr, List, [], ◌∷◌, Option, Some, None, refl, codes}
 use Rattle.vb_value.specs.declared.token.Keyword.TheVariants as k
-use Rattle.vb_value.specs.declared.token.Symbol.TheVariants as s
-use Rattle.vb_value.specs.declared.token.Token.{Token}
-use Rattle.vb_value.specs.declared.token.TokenKind.{TokenKind}
 use Rattle.vb_value.specs.declared.token.TokenKind.TheVariants as kind
 use Rattle.vb_syntax.specs.declared.declaration.Access.{Access}
 use Rattle.vb_syntax.specs.declared.statement.Statement.{Statement}
-use Rattle.vb_syntax.specs.declared.unit.Procedure.{Procedure}
 use Rattle.vb_syntax.specs.declared.unit.ProcedureKind.{ProcedureKind}
 use Rattle.vb_syntax.specs.declared.unit.ProcedureKind.TheVariants as procedure_kind
 use Rattle.vb_syntax.specs.declared.unit.Property.{Property}
-use Rattle.vb_syntax.specs.declared.unit.PropertyKind.{PropertyKind}
 use Rattle.vb_syntax.specs.Rules.{Tokens, Rule}
 use Rattle.vb_syntax.specs.Rules as rule
 use Rattle.vb_syntax.specs.Words as words
@@ -34,9 +29,9 @@ use Rattle.vb_parse.proofs.Choosing.{takes_on, takes_off_word, takes_or, takes_w
 use Rattle.vb_parse.proofs.Choosing.{chosen, choose, takes_gated}
 use Rattle.vb_parse.proofs.Placing.{takes_opened, begins_opened, closed_opened}
 use Rattle.vb_parse.proofs.DeclarationTaking.{access_apart, takes_parameters}
-use Rattle.vb_parse.proofs.SimpleTaking.{name_head, quoted_begins}
+use Rattle.vb_parse.proofs.SimpleTaking.{name_head}
 use Rattle.vb_parse.proofs.EndTaking.{break_heads, takes_end, begins_end}
-use Rattle.vb_parse.proofs.IfTaking.{block_ends, block_heads}
+use Rattle.vb_parse.proofs.IfTaking.{block_heads}
 use Rattle.vb_parse.proofs.BlockTaking.{blocks_taken}
 
 -- the word before what opens, and what stands behind it
@@ -135,7 +130,8 @@ module _ (looser : Looser) where
       (λ given. leads_begins (begins_then begins_end))))
       (λ which. leads_begins (begins_then name_begins)))
 
-  pub begins_property : (depth : ℕ) (first : ℕ × Option Access) → BeginsIn property_kinds (property_open looser depth first)
+  pub begins_property : (depth : ℕ) (first : ℕ × Option Access) → BeginsIn property_kinds
+      (property_open looser depth first)
   begins_property depth first = begins_opened depth (λ within. begins_then (chosen_kind {v = Before []}).begins)
 
   -- a property behind the word "Property"
@@ -154,5 +150,6 @@ module _ (looser : Looser) where
 
   pub takes_property_alone : (depth : ℕ) {v : Follow}
       → Takes (spec.property_alone looser depth) (property_word depth None) v
-  takes_property_alone depth = takes_gated (opens depth) (closed_property depth) (takes_word (λ line. takes_property_from
+  takes_property_alone depth = takes_gated (opens depth) (closed_property depth) (takes_word
+      (λ line. takes_property_from
       depth (line, None)))

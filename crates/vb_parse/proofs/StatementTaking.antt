@@ -1,14 +1,12 @@
 -- The readers of blocks and of statements that hold others take whatever the grammar spells.
-use Rattle.std.proofs.Common.{◌≡◌, ℕ, zero, suc, ◌==◌, ◌||◌, not, inl, inr, Bool, true, false, IsTrue, cond, List, [], ◌∷◌, ◌++◌, Option, Some, None, Ok, refl, sym, ap, ◌∙◌, subst, append_assoc, append-nil, codes}
+use Rattle.std.proofs.Common.{◌≡◌, ℕ, inl, inr, true, List, [], ◌∷◌, ◌++◌, Option, Some, None, Ok, refl, sym, ap, ◌∙◌}
+use Rattle.std.proofs.Common.{append_assoc, append-nil, codes}
 use Rattle.std.specs.declared.ops.ControlFlow.TheVariants.{Continue, Break}
 use Rattle.vb_value.specs.declared.token.Keyword.TheVariants as k
 use Rattle.vb_value.specs.declared.token.Symbol.TheVariants as s
-use Rattle.vb_value.specs.declared.token.Token.{Token}
-use Rattle.vb_value.specs.declared.token.TokenKind.{TokenKind}
 use Rattle.vb_value.specs.declared.token.TokenKind.TheVariants as kind
 use Rattle.vb_syntax.specs.declared.expression.Expression.{Expression}
 use Rattle.vb_syntax.specs.declared.statement.Case.{Case, roll-Case}
-use Rattle.vb_syntax.specs.declared.statement.Condition.{Condition}
 use Rattle.vb_syntax.specs.declared.statement.Repetition.{Repetition}
 use Rattle.vb_syntax.specs.declared.statement.Repetition.TheVariants as repetition
 use Rattle.vb_syntax.specs.declared.statement.Statement.{Statement}
@@ -18,21 +16,20 @@ use Rattle.vb_syntax.specs.Rules as rule
 use Rattle.vb_syntax.specs.Words as words
 use Rattle.vb_syntax.specs.Words.{tag, name_of}
 use Rattle.vb_syntax.specs.Expressions.{expressions}
-use Rattle.vb_syntax.specs.SimpleStatements.{Looser, statement, simple, const, quoted, quoted_at}
+use Rattle.vb_syntax.specs.SimpleStatements.{Looser, statement, quoted}
 use Rattle.vb_syntax.specs.Statements as grammar
 use Rattle.vb_syntax.specs.Statements.{break_of}
 use Rattle.vb_parse.specs.Reader.{Reader, Turn, Look, and_then, next, sees, passes, is_some}
 use Rattle.vb_parse.specs.Reader as reader
-use Rattle.vb_parse.specs.ReadSimpleStatements as statements
 use Rattle.vb_parse.specs.ReadSimpleStatements.{sees_quoted}
 use Rattle.vb_parse.specs.ReadLines as lines
 use Rattle.vb_parse.specs.ReadLines.{breaks}
 use Rattle.vb_parse.specs.ReadStatements as spec
 use Rattle.vb_parse.specs.ReadStatements.{begins_statement, kind_begins_statement, sees_const, sees_loop_word}
 use Rattle.vb_parse.specs.Runs.{opens}
-use Rattle.vb_parse.proofs.Taking.{Follow, Any, Takes, Starts, takes_pure, takes_one}
-use Rattle.vb_parse.proofs.Binding.{Within, within_then, bind_left, bind_right, bind_wider, first_wider, pure_in, pure_out, or_out, or_within}
-use Rattle.vb_parse.proofs.Beginning.{HeadIn}
+use Rattle.vb_parse.proofs.Taking.{Follow, Takes, takes_pure}
+use Rattle.vb_parse.proofs.Binding.{Within, within_then, bind_left, bind_right, bind_wider, first_wider, pure_in}
+use Rattle.vb_parse.proofs.Binding.{pure_out, or_out, or_within}
 use Rattle.vb_parse.proofs.Tags.{among, all_have}
 use Rattle.vb_parse.proofs.Following.{Before, before_wider, BeginsIn, Leads, leads_begins, leads_pure, leads_or}
 use Rattle.vb_parse.proofs.Following.{leads_bind, leads_many, leads_wider, begins_then, begins_word_then, full_begins}
@@ -41,13 +38,13 @@ use Rattle.vb_parse.proofs.Following.{closed_next, closed_or}
 use Rattle.vb_parse.proofs.Choosing.{takes_on, takes_off, takes_on_word, takes_off_word, takes_or, takes_within}
 use Rattle.vb_parse.proofs.Choosing.{takes_word, takes_then, takes_map, takes_list, takes_before, until_takes}
 use Rattle.vb_parse.proofs.Choosing.{takes_gated}
-use Rattle.vb_parse.proofs.Placing.{or_last, begins_expression, takes_expression, takes_inside, begins_inside, closed_inside, tag_ends, expression_heads}
-use Rattle.vb_parse.proofs.DeclarationTaking.{access_heads, asks_access}
-use Rattle.vb_parse.proofs.CallTaking.{statement_ends}
-use Rattle.vb_parse.proofs.SimpleTaking.{simple_heads, const_heads, name_head, takes_simple, begins_simple, takes_const, begins_const, quoted_begins, quoted_tag}
-use Rattle.vb_parse.proofs.LineTaking.{Trailing, after_line, TakesLine, TakesTrailing, line_heads, takes_line, begins_line, takes_line_if_from}
-use Rattle.vb_parse.proofs.EndTaking.{break_heads, asks_breaks, break_begins, takes_end, begins_end, takes_breaks, CutEnd, cut_end, takes_line_end, skips_quoted, text_head, takes_texts, leads_texts}
-use Rattle.vb_parse.proofs.IfTaking.{block_ends, sentence_heads, block_heads, BlocksTaken, last_apart, takes_within_place, leads_inner, loop_heads, asks_loop, takes_condition, begins_condition, if_rule, takes_if, ended}
+use Rattle.vb_parse.proofs.Placing.{begins_expression, takes_expression, takes_inside, begins_inside, closed_inside}
+use Rattle.vb_parse.proofs.Placing.{tag_ends}
+use Rattle.vb_parse.proofs.SimpleTaking.{name_head, quoted_begins}
+use Rattle.vb_parse.proofs.EndTaking.{break_heads, takes_end, begins_end, skips_quoted, text_head, takes_texts}
+use Rattle.vb_parse.proofs.EndTaking.{leads_texts}
+use Rattle.vb_parse.proofs.IfTaking.{block_ends, block_heads, BlocksTaken, last_apart, leads_inner, asks_loop}
+use Rattle.vb_parse.proofs.IfTaking.{takes_condition, begins_condition}
 
 module _ (looser : Looser) (depth : ℕ) (ip : lines.Blocks) (ir : grammar.Blocks)
     (inner : BlocksTaken (opens depth) ip ir) where
@@ -56,7 +53,8 @@ module _ (looser : Looser) (depth : ℕ) (ip : lines.Blocks) (ir : grammar.Block
   takes_place ends = takes_inside depth ends
 
   -- a block, and behind it a word
-  leads_block : {B : Type 0} {f : List Statement → Rule B} {v : Follow} (l : List ℕ) → all_have (among block_ends) l ≡ true
+  leads_block : {B : Type 0} {f : List Statement → Rule B} {v : Follow} (l : List ℕ) → all_have
+      (among block_ends) l ≡ true
       → ((x : List Statement) → BeginsIn l (f x)) → Leads block_heads (rule.◌>>=◌ ir.block f) v
   leads_block l all behind = leads_inner looser depth ip ir inner (λ x. leads_wider all (leads_begins (behind x)))
 
@@ -85,7 +83,8 @@ module _ (looser : Looser) (depth : ℕ) (ip : lines.Blocks) (ir : grammar.Block
 
   onward : Takes TurnOf (rule.◌>>=◌ (grammar.case looser depth ir) (λ x. rule.pure (Continue x))) (Before block_ends)
   onward = takes_within bind_right (takes_on_word (kind.Keyword k.Case) _ (takes_word (λ line.
-      takes_off_word (kind.Keyword k.Else) _ (leads_begins (begins_then (begins_then (begins_then (begins_inside depth))))) refl
+      takes_off_word (kind.Keyword k.Else) _ (leads_begins (begins_then (begins_then (begins_then
+      (begins_inside depth))))) refl
       (takes_map (λ found. Continue found) (takes_case_from line)))))
 
   -- "Case" "Else" and its block, as the last turn
@@ -113,11 +112,13 @@ module _ (looser : Looser) (depth : ℕ) (ip : lines.Blocks) (ir : grammar.Block
   begins_case = begins_word_then (kind.Keyword k.Case)
 
   abbrev cases_rule : Rule (List Case × Option (List Statement))
-  cases_rule = rule.◌>>=◌ (rule.many (grammar.case looser depth ir)) (λ xs. rule.◌>>=◌ (grammar.case_else looser depth ir)
+  cases_rule = rule.◌>>=◌ (rule.many (grammar.case looser depth ir)) (λ xs. rule.◌>>=◌
+      (grammar.case_else looser depth ir)
       (λ y. rule.pure (xs, y)))
 
   leads_cases : Leads cases_heads cases_rule (Before end_word)
-  leads_cases = leads_wider refl (leads_bind (leads_many begins_case) (λ xs. leads_bind leads_case_else (λ y. leads_pure)))
+  leads_cases = leads_wider refl (leads_bind (leads_many begins_case) (λ xs. leads_bind leads_case_else
+      (λ y. leads_pure)))
 
   takes_cases : Takes (spec.cases looser depth ip) cases_rule (Before end_word)
   takes_cases = record { takes = go }
@@ -126,12 +127,15 @@ module _ (looser : Looser) (depth : ℕ) (ip : lines.Blocks) (ir : grammar.Block
           → reader.until TurnOf (front ++ rest) ≡ Ok (x, rest)
       go front rest x h ok =
           let z = h.next_spells in
-          let at : Before cases_heads (z.front ++ rest) = leads_case_else.leads z.front rest z.thing z.first_spells ok in
+          let at : Before cases_heads (z.front ++ rest) = leads_case_else.leads z.front rest z.thing z.first_spells ok
+          in
           ap (reader.until TurnOf) (ap (λ t. t ++ rest) (h.split ∙ ap (λ t. h.front ++ t) (z.split
           ∙ ap (λ t. z.front ++ t) z.next_spells.0 ∙ append-nil z.front)) ∙ append_assoc h.front z.front rest)
-          ∙ until_takes TurnOf (grammar.case looser depth ir) onward (full_begins (grammar.case looser depth ir) begins_case)
+          ∙ until_takes TurnOf (grammar.case looser depth ir) onward (full_begins
+          (grammar.case looser depth ir) begins_case)
           h.thing h.front (z.front ++ rest) rest z.thing h.first_spells
-          (λ ys more w. before_wider (tag (kind.Keyword k.Case) ∷ cases_heads) block_ends refl (more ++ (z.front ++ rest))
+          (λ ys more w. before_wider (tag (kind.Keyword k.Case) ∷ cases_heads) block_ends refl (more ++
+          (z.front ++ rest))
           ((leads_many begins_case).leads more (z.front ++ rest) ys w at))
           (last.takes z.front rest (Break z.thing) (record {
             front = z.front;
@@ -166,7 +170,8 @@ module _ (looser : Looser) (depth : ℕ) (ip : lines.Blocks) (ir : grammar.Block
       (λ found. leads_begins (begins_word_then (kind.Keyword k.End))))
 
   pub takes_select : {v : Follow} → Takes (spec.select looser depth ip) (grammar.select looser depth ir) v
-  takes_select {v} = takes_gated (opens depth) (closed_next (λ line. closed_next (λ _. closed_first (closed_inside depth))))
+  takes_select {v} = takes_gated (opens depth) (closed_next (λ line. closed_next (λ _. closed_first
+      (closed_inside depth))))
       (takes_word (λ line. takes_word (λ _. takes_then {l = break_heads} (takes_place refl)
       (λ subject. takes_then {l = text_head ++ cases_heads} (takes_end refl)
       (λ _. takes_then {l = cases_heads} (takes_texts looser refl refl)
@@ -187,7 +192,8 @@ module _ (looser : Looser) (depth : ℕ) (ip : lines.Blocks) (ir : grammar.Block
       (λ found. rule.pure (Some found)))) (rule.pure None)
 
   takes_step : Takes (spec.step_part looser depth ip) step_rule (Before break_heads)
-  takes_step = takes_or (takes_on (sees_quoted (codes "step")) _ starts_one (takes_word (λ _. takes_map _ (takes_place refl))))
+  takes_step = takes_or (takes_on (sees_quoted (codes "step")) _ starts_one (takes_word (λ _. takes_map _
+      (takes_place refl))))
       (takes_off (sees_quoted (codes "step")) _ (skips_quoted (codes "step") leads_pure refl) (takes_pure None _))
 
   leads_step : Leads step_heads step_rule (Before break_heads)
@@ -197,7 +203,8 @@ module _ (looser : Looser) (depth : ℕ) (ip : lines.Blocks) (ir : grammar.Block
   next_word = tag (kind.Keyword k.Next) ∷ []
 
   abbrev for_behind : ℕ → Rule Statement
-  for_behind line = rule.◌>>=◌ (rule.one name_of) (λ variable. rule.◌>>◌ (words.symbol s.Equal) (rule.◌>>=◌ (grammar.inside
+  for_behind line = rule.◌>>=◌ (rule.one name_of) (λ variable. rule.◌>>◌ (words.symbol s.Equal) (rule.◌>>=◌
+      (grammar.inside
       looser depth ir) (λ from. rule.◌>>◌ (words.keyword k.To) (rule.◌>>=◌ (grammar.inside looser depth ir) (λ to.
       rule.◌>>=◌ step_rule (λ by. rule.◌>>◌ grammar.«end» (rule.◌>>=◌ ir.block (λ body. rule.◌>>◌ (words.keyword k.Next)
       (rule.pure (statement line (st.For variable from to by body)))))))))))
@@ -220,7 +227,8 @@ module _ (looser : Looser) (depth : ℕ) (ip : lines.Blocks) (ir : grammar.Block
       (rule.◌>>=◌ ir.block (λ body. rule.◌>>◌ (words.keyword k.Next)
       (rule.pure (statement line (st.ForEach variable group body)))))))))
 
-  takes_for_each_from : (line : ℕ) {v : Follow} → Takes (spec.for_each_from looser depth ip line) (for_each_behind line) v
+  takes_for_each_from : (line : ℕ) {v : Follow} → Takes (spec.for_each_from looser depth ip line)
+      (for_each_behind line) v
   takes_for_each_from line {v} = takes_word (λ _. takes_word (λ variable. takes_word (λ _. takes_then (takes_place refl)
       (λ group. takes_then {l = block_heads} (takes_end refl)
       (λ _. takes_then inner.block (λ body. takes_word (λ _. takes_pure _ v))
@@ -248,9 +256,11 @@ module _ (looser : Looser) (depth : ℕ) (ip : lines.Blocks) (ir : grammar.Block
   abbrev loop_word : List ℕ
   loop_word = tag (kind.Keyword k.Loop) ∷ []
 
-  takes_do_before : (line : ℕ) {v : Follow} → Takes (spec.do_before_from looser depth ip line) (rule.◌>>=◌ (grammar.condition
+  takes_do_before : (line : ℕ) {v : Follow} → Takes (spec.do_before_from looser depth ip line) (rule.◌>>=◌
+      (grammar.condition
       looser depth ir (grammar.inside looser depth ir)) (λ found. rule.◌>>◌ grammar.«end» (rule.◌>>=◌ ir.block
-      (λ body. rule.◌>>◌ (words.keyword k.Loop) (rule.pure (statement line (st.Do (repetition.Before found.1) body))))))) v
+      (λ body. rule.◌>>◌ (words.keyword k.Loop) (rule.pure (statement line (st.Do
+      (repetition.Before found.1) body))))))) v
   takes_do_before line {v} = takes_then {l = break_heads} (takes_condition looser depth ip ir inner (takes_place refl)
       (begins_inside depth))
       (λ found. takes_then {l = block_heads} (takes_end refl)
@@ -266,12 +276,15 @@ module _ (looser : Looser) (depth : ℕ) (ip : lines.Blocks) (ir : grammar.Block
   takes_loop_condition : Takes (spec.loop_condition looser depth ip) loop_rule (Before break_heads)
   takes_loop_condition = takes_or
       (takes_off sees_loop_word _ (skips (asks_loop looser depth ip ir inner) leads_pure refl) (takes_pure _ _))
-      (takes_on sees_loop_word _ (starts (asks_loop looser depth ip ir inner) (begins_then (begins_condition looser depth ip
+      (takes_on sees_loop_word _ (starts (asks_loop looser depth ip ir inner) (begins_then
+      (begins_condition looser depth ip
       ir inner)) refl)
       (takes_map _ (takes_condition looser depth ip ir inner (takes_expression depth refl) (begins_expression depth))))
 
-  takes_do_after : (line : ℕ) → Takes (spec.do_after_from looser depth ip line) (rule.◌>>◌ grammar.«end» (rule.◌>>=◌ ir.block
-      (λ body. rule.◌>>◌ (words.keyword k.Loop) (rule.◌>>=◌ loop_rule (λ repeated. rule.pure (statement line (st.Do repeated
+  takes_do_after : (line : ℕ) → Takes (spec.do_after_from looser depth ip line) (rule.◌>>◌ grammar.«end»
+      (rule.◌>>=◌ ir.block
+      (λ body. rule.◌>>◌ (words.keyword k.Loop) (rule.◌>>=◌ loop_rule (λ repeated. rule.pure (statement line
+      (st.Do repeated
       body))))))) (Before break_heads)
   takes_do_after line = takes_then {l = block_heads} (takes_end refl)
       (λ _. takes_then inner.block (λ body. takes_word (λ _. takes_map _ takes_loop_condition))
@@ -283,9 +296,11 @@ module _ (looser : Looser) (depth : ℕ) (ip : lines.Blocks) (ir : grammar.Block
       (closed_first (closed_next (λ found. closed_first (closed_inside depth))))
       (closed_next (λ _. closed_first inner.closed))))
       (takes_word (λ line. takes_or
-      (takes_on sees_loop_word _ (starts (asks_loop looser depth ip ir inner) (begins_then (begins_condition looser depth ip
+      (takes_on sees_loop_word _ (starts (asks_loop looser depth ip ir inner) (begins_then
+      (begins_condition looser depth ip
       ir inner)) refl) (takes_do_before line))
-      (takes_off sees_loop_word _ (skips (asks_loop looser depth ip ir inner) (leads_begins (begins_then begins_end)) refl)
+      (takes_off sees_loop_word _ (skips (asks_loop looser depth ip ir inner) (leads_begins
+      (begins_then begins_end)) refl)
       (takes_do_after line))))
 
   pub takes_while : {v : Follow} → Takes (spec.while looser depth ip) (grammar.while looser depth ir) v

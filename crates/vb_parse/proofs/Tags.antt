@@ -1,22 +1,7 @@
 -- Sets of the numbers of kinds of tokens.
-use Rattle.std.proofs.Common.{◌≡◌, ℕ, zero, suc, ◌<◌, ◌≤◌, ◌==◌, ◌||◌, ◌⊎◌, inl, inr, Bool, true, false, not, cond, List, [], ◌∷◌, ◌++◌, length, Option, Some, None, if◌then◌else◌, Ok, refl, sym, ap, ◌∙◌, append_assoc, append-nil, subst, length-append, ◌+◌, arith}
+use Rattle.std.proofs.Common.{◌≡◌, ℕ, ◌==◌, ◌||◌, Bool, true, false, not, cond, List, [], ◌∷◌, ◌++◌, if◌then◌else◌}
+use Rattle.std.proofs.Common.{refl, ap, ◌∙◌}
 use Rattle.std.proofs.lemmas.Bool.{eqb-true, eq-eqb}
-use Rattle.vb_value.specs.declared.token.Keyword.TheVariants as k
-use Rattle.vb_value.specs.declared.token.Symbol.TheVariants as s
-use Rattle.vb_value.specs.declared.token.Token.{Token}
-use Rattle.vb_value.specs.declared.token.TokenKind.{TokenKind}
-use Rattle.vb_value.specs.declared.token.TokenKind.TheVariants as kind
-use Rattle.vb_syntax.specs.Rules.{Tokens, Rule, Then}
-use Rattle.vb_syntax.specs.Rules as rule
-use Rattle.vb_syntax.specs.Words as words
-use Rattle.vb_syntax.specs.Words.{tag, line_of, name_of}
-use Rattle.vb_parse.specs.Reader.{Reader, next, Look, sees, passes, is_some, Turn}
-use Rattle.std.specs.declared.ops.ControlFlow.TheVariants.{Continue, Break}
-use Rattle.vb_parse.specs.Reader as reader
-use Rattle.vb_parse.specs.ReadExpressions as expressions
-use Rattle.vb_parse.proofs.Reading.{NoEmpty}
-use Rattle.vb_parse.proofs.Taking.{Follow, Any, Takes, Starts, takes_pure, takes_one, takes_bind, takes_narrow}
-use Rattle.vb_parse.proofs.Beginning.{HeadIn, Begins, begins_bind, begins_word, begins_name, name_tag}
 
 -- one of the numbers
 abbrev pub among : List ℕ → ℕ → Bool

@@ -127,7 +127,7 @@ module _ (looser : Looser) where
       → Reads (spec.behind_property looser depth before name) (quoted_rest depth before name)
   reads_behind_property depth before name =
       let fields : Reads (spec.fields_from depth before.0 (spec.field_access before.1) name)
-          (quoted_rest depth before name) =
+      (quoted_rest depth before name) =
       reads_wider (λ _ _ h. inr h) (reads_fields_from depth before.0 (spec.field_access before.1) name) in
       reads_both spec.sees_property_kind (reads_property_from looser depth (before.0, Some before.1) member.Property
       (quoted_rest depth before name) fields.lives (λ _ _ h. inl h)) fields
@@ -256,7 +256,7 @@ module _ (looser : Looser) where
   reads_other_item : (depth : ℕ) → Reads (spec.other_item looser depth) (other_item depth)
   reads_other_item depth =
       let behind : Reads (reader.◌>>=◌ read_declarations.access_word (spec.item_behind looser depth))
-          (other_item depth) =
+      (other_item depth) =
       reads_wider (item_spells depth) (reads_bind reads_access_word (reads_item_behind depth)) in
       reads_both read_declarations.sees_access behind
       (reads_both spec.sees_procedure (reads_procedure looser depth None item.Procedure (other_item depth) behind.lives
