@@ -1,3 +1,4 @@
+pub mod Meeting
 pub mod Reading
 pub mod Taking
 pub mod ExpressionReading
