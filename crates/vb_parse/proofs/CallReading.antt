@@ -31,7 +31,7 @@ use Rattle.vb_parse.proofs.Taking.{only}
 use Rattle.vb_parse.proofs.Binding.{Within, bind_right}
 use Rattle.vb_parse.proofs.Guarding.{guarded, guard_at}
 use Rattle.vb_parse.proofs.ExpressionReading.{expressions_read, reads_list_of}
-use Rattle.vb_parse.proofs.ExpressionTaking.{PathEnds}
+use Rattle.vb_parse.proofs.ExpressionEnds.{PathEnds}
 use Rattle.vb_parse.proofs.OperandReading.{rest_from, from_operand, nothing_more, reads_operators_from, empty_pair}
 use Rattle.vb_parse.proofs.OperandReading.{one_held, none_held, several_held}
 use Rattle.vb_parse.proofs.PathReading.{Grouped, Tells, path_group, tail_tells, reads_path_at, path_stops}

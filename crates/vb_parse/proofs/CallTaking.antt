@@ -30,7 +30,7 @@ use Rattle.vb_parse.specs.Runs.{opens, inside}
 use Rattle.vb_parse.proofs.Taking.{Takes, takes_narrow}
 use Rattle.vb_parse.proofs.Beginning.{HeadIn}
 use Rattle.vb_parse.proofs.Binding.{Within, bind_left}
-use Rattle.vb_parse.proofs.ExpressionTaking.{PathEnds}
+use Rattle.vb_parse.proofs.ExpressionEnds.{PathEnds}
 use Rattle.vb_parse.proofs.OperandReading.{rest_from}
 use Rattle.vb_parse.proofs.OperandTaking.{rest_ends, takes_operators_from, listed_heads, Held, first_operand}
 use Rattle.vb_parse.proofs.PathReading.{begins_named, path_group, takes_path_at}

@@ -21,7 +21,7 @@ use Rattle.vb_parse.specs.ReadDeclarations as spec
 use Rattle.vb_parse.specs.ReadDeclarations.{sees_access, begun}
 use Rattle.vb_parse.proofs.Taking.{Follow, Any, Takes, takes_pure, takes_one, takes_bind, takes_case, takes_narrow}
 use Rattle.vb_parse.proofs.Beginning.{begins_bind, begins_word, literal_tag}
-use Rattle.vb_parse.proofs.ExpressionTaking.{ArgumentsEnd, head_behind}
+use Rattle.vb_parse.proofs.ExpressionEnds.{ArgumentsEnd, head_behind}
 use Rattle.vb_parse.proofs.Binding.{Within, within_then, bind_wider, bind_left, bind_right, pure_in, pure_out, or_out}
 use Rattle.vb_parse.proofs.Binding.{or_within, first_wider}
 use Rattle.vb_parse.proofs.Tags.{among, outside, all_have}

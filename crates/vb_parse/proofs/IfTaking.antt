@@ -1,5 +1,5 @@
 -- The readers of If take whatever the grammar spells.
-use Rattle.std.proofs.Common.{◌≡◌, ℕ, not, Bool, true, List, [], ◌∷◌, ◌++◌, Option, Some, None, Ok, refl, sym, ap}
+use Rattle.std.proofs.Common.{◌≡◌, ℕ, Bool, true, List, [], ◌∷◌, ◌++◌, Option, Some, None, Ok, refl, sym, ap}
 use Rattle.std.proofs.Common.{◌∙◌, append_assoc, append-nil}
 use Rattle.vb_value.specs.declared.token.Keyword.TheVariants as k
 use Rattle.vb_value.specs.declared.token.TokenKind.TheVariants as kind
@@ -32,7 +32,7 @@ use Rattle.vb_parse.proofs.Choosing.{takes_within, takes_word, takes_then, takes
 use Rattle.vb_parse.proofs.Choosing.{takes_gated}
 use Rattle.vb_parse.proofs.Placing.{takes_inside, closed_inside, tag_ends, expression_heads}
 use Rattle.vb_parse.proofs.SimpleTaking.{simple_heads, const_heads}
-use Rattle.vb_parse.proofs.LineTaking.{TakesLine, line_heads, takes_line_if_from}
+use Rattle.vb_parse.proofs.LineTaking.{branches, TakesLine, line_heads, takes_line_if_from}
 use Rattle.vb_parse.proofs.EndTaking.{break_heads, asks_breaks, takes_end, begins_end, cut_end, takes_line_end}
 
 -- ---- what stands inside
@@ -164,13 +164,9 @@ module _ (looser : Looser) (depth : ℕ) (ip : lines.Blocks) (ir : grammar.Block
   ended takes none = takes_then takes (λ found. takes_map (λ _. found) (takes_end none))
       (λ found. leads_begins (begins_then begins_end))
 
+  -- a one-line If behind its "Then"
   abbrev line_if_behind : ℕ → Expression → Rule (Statement × Bool)
-  line_if_behind line condition = rule.◌>>=◌ ir.line (λ body. rule.◌or◌
-      (rule.pure (statement line (st.LineIf condition body.statements None), true))
-      (rule.where_true (not body.takes_else) (rule.◌>>◌ (words.keyword k.Else) (rule.◌>>=◌ ir.line (λ other. rule.pure (
-        statement line (st.LineIf condition body.statements (Some other.statements)),
-        other.takes_else,
-      ))))))
+  line_if_behind line condition = rule.◌>>=◌ ir.line (branches looser depth ip ir inner.line line condition)
 
   -- a one-line If behind its "Then", and its end
   takes_line_if_end : (line : ℕ) (condition : Expression) {v : List ℕ} → all_have (outside break_heads) v ≡ true

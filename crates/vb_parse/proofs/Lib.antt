@@ -3,6 +3,7 @@ pub mod Reading
 pub mod Taking
 pub mod ExpressionReading
 pub mod Beginning
+pub mod ExpressionEnds
 pub mod ExpressionTaking
 pub mod Turns
 pub mod Theorems

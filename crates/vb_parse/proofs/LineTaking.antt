@@ -122,7 +122,8 @@ module _ (looser : Looser) (depth : ℕ) (lp : spec.Blocks) (lr : grammar.Blocks
     (inner : TakesLine lp.line lr.line) where
   -- ---- one-line Ifs
 
-  abbrev branches : ℕ → Expression → grammar.Line → Rule (Statement × Bool)
+  -- what stands behind the first branch
+  abbrev pub branches : ℕ → Expression → grammar.Line → Rule (Statement × Bool)
   branches line condition body = rule.◌or◌
       (rule.pure (statement line (st.LineIf condition body.statements None), true))
       (rule.where_true (not body.takes_else) (rule.◌>>◌ (words.keyword k.Else) (rule.◌>>=◌ lr.line (λ other. rule.pure (

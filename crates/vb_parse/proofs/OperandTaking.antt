@@ -16,7 +16,8 @@ use Rattle.vb_parse.proofs.Taking.{Any, Takes, takes_pure, takes_one, takes_bind
 use Rattle.vb_parse.proofs.Beginning.{HeadIn}
 use Rattle.vb_parse.proofs.ExpressionReading.{Inner, Operator, reads_turn, full_turn, reads_operators}
 use Rattle.vb_parse.proofs.ExpressionReading.{operator_of_level}
-use Rattle.vb_parse.proofs.ExpressionTaking.{Ends, ends_less, turn_starts, turn_ends, Taken, takes_operators}
+use Rattle.vb_parse.proofs.ExpressionEnds.{Ends, ends_less, turn_starts, turn_ends, Taken}
+use Rattle.vb_parse.proofs.ExpressionTaking.{takes_operators}
 use Rattle.vb_parse.proofs.OperandReading.{level_rest, rest_from}
 use Rattle.vb_parse.proofs.Tags.{among}
 use Rattle.vb_parse.proofs.Following.{BeginsIn, begins_then, begins_either, begins_more, begins_word_then}

@@ -33,7 +33,8 @@ use Rattle.vb_parse.proofs.Reading.{token_of}
 use Rattle.vb_parse.proofs.Taking.{Any, Takes, takes_pure, takes_one, takes_bind, takes_case, only}
 use Rattle.vb_parse.proofs.Beginning.{HeadIn, Begins, begins_bind, begins_word, sees_true, sees_false, name_tag}
 use Rattle.vb_parse.proofs.ExpressionReading.{reads_step, full_step}
-use Rattle.vb_parse.proofs.ExpressionTaking.{PathEnds, takes_steps, answer, at_word}
+use Rattle.vb_parse.proofs.ExpressionEnds.{PathEnds, answer, at_word}
+use Rattle.vb_parse.proofs.ExpressionTaking.{takes_steps}
 use Rattle.vb_parse.proofs.Turns.{inner_at, taken_inside}
 use Rattle.vb_parse.proofs.Guarding.{many_stops}
 

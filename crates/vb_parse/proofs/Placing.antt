@@ -15,7 +15,8 @@ use Rattle.vb_parse.specs.ReadDeclarations as read_declarations
 use Rattle.vb_parse.specs.Runs.{opens, inside}
 use Rattle.vb_parse.proofs.Taking.{Follow, Takes, takes_narrow}
 use Rattle.vb_parse.proofs.Beginning.{other_level, level_tag, tag_level, tag_is_literal}
-use Rattle.vb_parse.proofs.ExpressionTaking.{Ends, expressions_taken, positive_differs, tag_is_expression}
+use Rattle.vb_parse.proofs.ExpressionEnds.{Ends, positive_differs, tag_is_expression}
+use Rattle.vb_parse.proofs.ExpressionTaking.{expressions_taken}
 use Rattle.vb_parse.proofs.Tags.{among, among_both, all_have, among_has}
 use Rattle.vb_parse.proofs.Following.{next_in, Before, BeginsIn, Closed}
 

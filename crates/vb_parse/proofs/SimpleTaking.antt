@@ -24,7 +24,7 @@ use Rattle.vb_parse.specs.ReadSimpleStatements.{zero_of, zero_by}
 use Rattle.vb_parse.specs.Runs.{opens}
 use Rattle.vb_parse.proofs.Taking.{Follow, Takes, takes_pure, takes_one, takes_narrow}
 use Rattle.vb_parse.proofs.Binding.{bind_left}
-use Rattle.vb_parse.proofs.ExpressionTaking.{PathEnds}
+use Rattle.vb_parse.proofs.ExpressionEnds.{PathEnds}
 use Rattle.vb_parse.proofs.PathReading.{takes_path_at}
 use Rattle.vb_parse.proofs.Tags.{among, outside, all_have}
 use Rattle.vb_parse.proofs.Following.{Before, BeginsIn, leads_begins, leads_pure, begins_then, begins_word_then}

@@ -12,7 +12,8 @@ use Rattle.vb_parse.specs.Reader.{Reader, Outcome, Look, and_then, next}
 use Rattle.vb_parse.specs.ReadExpressions as spec
 use Rattle.vb_parse.specs.Runs.{opens, inside}
 use Rattle.vb_parse.proofs.Reading.{Moves, moves, more_with, many_step, reads_bind, reads_word, full_word, full_bind}
-use Rattle.vb_parse.proofs.ExpressionTaking.{Taken, closed_taken, expressions_taken}
+use Rattle.vb_parse.proofs.ExpressionEnds.{Taken}
+use Rattle.vb_parse.proofs.ExpressionTaking.{closed_taken, expressions_taken}
 use Rattle.vb_parse.proofs.ExpressionReading.{Inner, Operator, closed_inner, expressions_read, reads_step, full_step}
 use Rattle.vb_parse.proofs.ExpressionReading.{reads_turn, full_turn, reads_operators, operator_of_level}
 
