@@ -1,5 +1,5 @@
 -- How readers take what the rules spell, where the next token tells the rules apart.
-use Rattle.std.proofs.Common.{◌≡◌, ℕ, zero, suc, ◌<◌, ◌≤◌, inl, inr, Bool, true, false, List, [], ◌∷◌, ◌++◌, length}
+use Rattle.std.proofs.Common.{◌+◌, ◌≡◌, ℕ, zero, suc, ◌<◌, ◌≤◌, inl, inr, Bool, true, false, List, [], ◌∷◌, ◌++◌, length}
 use Rattle.std.proofs.Common.{Option, Ok, refl, sym, ap, append_assoc, append-nil, length-append, arith}
 use Rattle.vb_value.specs.declared.token.Symbol.TheVariants as s
 use Rattle.vb_value.specs.declared.token.Token.{Token}
@@ -36,6 +36,7 @@ takes_off look p is takes = record {
   takes = λ front rest x h ok. rw (is front rest x h ok) (takes.takes front rest x h ok);
 }
 
+-- a reader that takes each of two rules
 pub takes_or : {A : Type 0} {p : Reader A} {r s : Rule A} {v : Follow} → Takes p r v → Takes p s v
     → Takes p (rule.◌or◌ r s) v
 takes_or {A} {p} {r} {s} {v} one other = record { takes = go }
@@ -51,17 +52,19 @@ takes_within wider t = record { takes = λ front rest x h ok. t.takes front rest
 
 -- ---- choices by a word
 
+-- the word that the rule begins with comes next
 pub starts_word : {B : Type 0} (kind : TokenKind) {s : ℕ → Rule B} → Starts (sees kind) (rule.◌>>=◌ (words.word kind) s)
 starts_word kind = starts (asks_kind kind) (begins_word_then kind) (all_own (tag kind ∷ []))
 
+-- the word that comes next leads to the first reader
 pub takes_on_word : {A : Type 0} (kind : TokenKind) {p : Reader A} (q : Reader A) {s : ℕ → Rule A} {v : Follow}
     → Takes p (rule.◌>>=◌ (words.word kind) s) v
     → Takes (reader.case (sees kind) p q) (rule.◌>>=◌ (words.word kind) s) v
 takes_on_word kind q takes = takes_on (sees kind) q (starts_word kind) takes
 
-pub takes_off_word : {A : Type 0} (kind : TokenKind) (p : Reader A) {q : Reader A} {l : List ℕ} {r : Rule A} {v :
-    Follow}
-    → Leads l r v → all_have (outside (tag kind ∷ [])) l ≡ true → Takes q r v
+-- no such word comes next
+pub takes_off_word : {A : Type 0} (kind : TokenKind) (p : Reader A) {q : Reader A} {l : List ℕ} {r : Rule A}
+    {v : Follow} → Leads l r v → all_have (outside (tag kind ∷ [])) l ≡ true → Takes q r v
     → Takes (reader.case (sees kind) p q) r v
 takes_off_word kind p leads all takes = takes_off (sees kind) p (skips (asks_kind kind) leads all) takes
 
@@ -72,6 +75,7 @@ pub record Chosen {A : Type 0} (p : Reader A) (l : List ℕ) (r : Rule A) (v : F
   pub takes : Takes p r v
   pub begins : BeginsIn l r
 
+-- the last choice
 pub chosen : {A : Type 0} {p : Reader A} {l : List ℕ} {r : Rule A} {v : Follow} → Takes p r v → BeginsIn l r
     → Chosen p l r v
 chosen takes begins = record { takes = takes; begins = begins }
@@ -86,12 +90,12 @@ choose_by {A} {look} {a} {m} {l} {p} {q} {r} {s} {v} asks begins own takes other
   begins = begins_either begins others.begins;
 }
 
+-- one more choice, by the word that its rule begins with
 pub choose : {A : Type 0} (kind : TokenKind) {l : List ℕ} {p q : Reader A} {f : ℕ → Rule A} {s : Rule A} {v : Follow}
     → Takes p (rule.◌>>=◌ (words.word kind) f) v → Chosen q l s v → all_have (outside (tag kind ∷ [])) l ≡ true
     → Chosen (reader.case (sees kind) p q) (tag kind ∷ l) (rule.◌or◌ (rule.◌>>=◌ (words.word kind) f) s) v
-choose kind takes others none = choose_by (asks_kind kind) (begins_word_then kind) (all_own
-    (tag kind ∷ [])) takes others
-    none
+choose kind takes others none = choose_by (asks_kind kind) (begins_word_then kind) (all_own (tag kind ∷ []))
+    takes others none
 
 -- before fewer tokens
 pub takes_before : {A : Type 0} {p : Reader A} {r : Rule A} {l m : List ℕ} → all_have (among m) l ≡ true
@@ -118,6 +122,7 @@ takes_map {A} {B} {p} {r} {v} g takes = takes_bind takes (λ x. takes_pure (g x)
 
 -- ---- constructs that open
 
+-- the reader of a rule that needs what opens
 pub takes_gated : {A : Type 0} (opens : Bool) {p : Reader A} {r : Rule A} {v : Follow} → Closed opens r → Takes p r v
     → Takes (reader.gate opens p) r v
 takes_gated true closed takes = takes
@@ -125,6 +130,18 @@ takes_gated false closed takes = record { takes = λ front rest x h ok. absurd (
 
 -- ---- any number of things
 
+-- things that are not empty are no more than their tokens
+length_many : {A : Type 0} (r : Rule A) → NoEmpty r → (xs : List A) (front : Tokens) → rule.many r front xs
+    → length xs ≤ length front
+length_many r full [] front h = omega arith
+length_many r full (x ∷ xs) front h =
+    let some : 0 < length h.front = full h.front x h.first in
+    let less : length xs ≤ length h.back = length_many r full xs h.back h.second in
+    let same : length front ≡ length (h.front ++ h.back) = ap length h.split in
+    let sum : length (h.front ++ h.back) ≡ length h.front + length h.back = length-append h.front h.back in
+    omega arith
+
+-- each thing begins where the look says so, and what stands behind them where it does not
 pub takes_each : {A : Type 0} (look : Look) {p : Reader A} {r : Rule A} {l v : List ℕ} → BeginsIn l r → Starts look r
     → ((rest : Tokens) → Before v rest → look (next rest) ≡ false) → Takes p r (Before (l ++ v))
     → Takes (reader.many look p) (rule.many r) (Before v)
@@ -132,18 +149,9 @@ takes_each {A} look {p} {r} {l} {v} begins asked stops one = record {
   takes = λ front rest xs h ok. go (length (front ++ rest)) xs front rest h ok (enough xs front rest h);
 }
   where
-    shorter : (front back : Tokens) (n : ℕ) → 0 < length front → n ≤ length back → suc n ≤ length (front ++ back)
-    shorter front back n some less = let sum = length-append front back in omega arith
-
-    count : (xs : List A) (front : Tokens) → rule.many r front xs → length xs ≤ length front
-    count [] front h = omega arith
-    count (x ∷ xs) front h = let less : suc (length xs) ≤ length (h.front ++ h.back) = shorter h.front h.back
-        (length xs)
-        (full_begins r begins h.front x h.first) (count xs h.back h.second) in
-        let same : length front ≡ length (h.front ++ h.back) = ap length h.split in omega arith
-
     enough : (xs : List A) (front rest : Tokens) → rule.many r front xs → length xs ≤ length (front ++ rest)
-    enough xs front rest h = let sum = length-append front rest in let less = count xs front h in omega arith
+    enough xs front rest h = let sum = length-append front rest in let less = length_many r
+        (full_begins r begins) xs front h in omega arith
 
     fits : (xs : List A) (back rest : Tokens) → rule.many r back xs → Before v rest → Before (l ++ v) (back ++ rest)
     fits xs back rest h ok = (leads_many begins).leads back rest xs h ok
@@ -163,9 +171,11 @@ takes_each {A} look {p} {r} {l} {v} begins asked stops one = record {
 
 -- ---- things with commas between
 
+-- the number of ","
 abbrev pub comma : ℕ
 comma = tag (kind.Symbol s.Comma)
 
+-- things that each stand behind a comma
 pub takes_more : {A : Type 0} {p : Reader A} {r : Rule A} {v : List ℕ} → Takes p r (Before (comma ∷ v))
     → all_have (outside (comma ∷ [])) v ≡ true
     → Takes (expressions.more_of p) (rule.many (rule.◌>>◌ (words.symbol s.Comma) r)) (Before v)
@@ -174,6 +184,7 @@ takes_more {A} {p} {r} {v} takes none = takes_each (sees (kind.Symbol s.Comma))
     (starts (asks_kind (kind.Symbol s.Comma)) (begins_word_then (kind.Symbol s.Comma)) refl)
     (asks_no (asks_kind (kind.Symbol s.Comma)) none) (takes_word (λ _. takes))
 
+-- things with commas between
 pub takes_list : {A : Type 0} {p : Reader A} {r : Rule A} {v : List ℕ} → Takes p r (Before (comma ∷ v))
     → all_have (outside (comma ∷ [])) v ≡ true → Takes (expressions.list_of p) (words.list_of r) (Before v)
 takes_list {A} {p} {r} {v} takes none = takes_then takes (λ first. takes_map (λ more. first ∷ more)
@@ -190,18 +201,8 @@ pub until_takes : {A B : Type 0} (turn : Reader (Turn A B)) (r : Rule A) {u : Fo
 until_takes {A} {B} turn r {u} onward full xs front behind rest y h fits last =
     go (suc (length (front ++ behind))) xs front h (enough xs front h)
   where
-    shorter : (front back : Tokens) (n : ℕ) → 0 < length front → n ≤ length back → suc n ≤ length (front ++ back)
-    shorter front back n some less = let sum = length-append front back in omega arith
-
-    count : (xs : List A) (front : Tokens) → rule.many r front xs → length xs ≤ length front
-    count [] front h = omega arith
-    count (x ∷ xs) front h = let less : suc (length xs) ≤ length (h.front ++ h.back) = shorter h.front h.back
-        (length xs)
-        (full h.front x h.first) (count xs h.back h.second) in
-        let same : length front ≡ length (h.front ++ h.back) = ap length h.split in omega arith
-
     enough : (xs : List A) (front : Tokens) → rule.many r front xs → length xs < suc (length (front ++ behind))
-    enough xs front h = let sum = length-append front behind in let less = count xs front h in omega arith
+    enough xs front h = let sum = length-append front behind in let less = length_many r full xs front h in omega arith
 
     one : (front more : Tokens) (x : A) → r front x → u more → turn (front ++ more) ≡ Ok (Continue x, more)
     one front more x h ok = onward.takes front more (Continue x) (record {

@@ -20,13 +20,12 @@ use Rattle.vb_parse.specs.ReadStatements as spec
 use Rattle.vb_parse.specs.ReadStatements.{begins_statement, kind_begins_statement, sees_const, sees_loop_word}
 use Rattle.vb_parse.proofs.Taking.{Follow, Any, Takes, takes_pure, takes_one}
 use Rattle.vb_parse.proofs.Binding.{Within}
-use Rattle.vb_parse.proofs.Tags.{among, outside, all_have, not_true, among_has}
+use Rattle.vb_parse.proofs.Tags.{or_last, among, outside, all_have, not_true, among_has}
 use Rattle.vb_parse.proofs.Following.{next_in, Before, before_head, before_wider, BeginsIn, Leads, leads_begins}
 use Rattle.vb_parse.proofs.Following.{leads_pure, leads_or, leads_bind, leads_many, begins_kind, begins_then}
 use Rattle.vb_parse.proofs.Following.{begins_word_then, Asks, asks_kind, asks_no, leads_within, Skips, starts}
 use Rattle.vb_parse.proofs.Choosing.{starts_word, takes_or, takes_within, takes_word, takes_then, takes_map}
 use Rattle.vb_parse.proofs.Choosing.{takes_each}
-use Rattle.vb_parse.proofs.Placing.{or_last}
 use Rattle.vb_parse.proofs.SimpleTaking.{name_head, quoted_tag}
 use Rattle.vb_parse.proofs.LineTaking.{Trailing, after_line}
 

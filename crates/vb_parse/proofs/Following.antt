@@ -11,10 +11,11 @@ use Rattle.vb_parse.specs.Reader.{next, Look, sees, passes, is_some}
 use Rattle.vb_parse.proofs.Reading.{NoEmpty}
 use Rattle.vb_parse.proofs.Taking.{Follow, Starts}
 use Rattle.vb_parse.proofs.Beginning.{HeadIn, Begins, begins_word, begins_name, name_tag}
-use Rattle.vb_parse.proofs.Tags.{among, outside, all_have, among_has, not_true, among_left, among_right, among_both}
+use Rattle.vb_parse.proofs.Tags.{or_last, among, outside, all_have, among_has, not_true, among_left, among_right, among_both}
 
 -- ---- what comes next
 
+-- no token, or one whose number has the property
 abbrev pub next_in : (ℕ → Bool) → Option Token → Bool
 next_in f None = true
 next_in f (Some token) = f (tag token.kind)
@@ -23,14 +24,17 @@ next_in f (Some token) = f (tag token.kind)
 pub record Before (l : List ℕ) (rest : Tokens) : Type 0 where
   pub fits : next_in (among l) (next rest) ≡ true
 
+-- a token of the set comes first
 pub before_head : (l : List ℕ) (front rest : Tokens) → HeadIn (among l) front → Before l (front ++ rest)
 before_head l front rest w = rw w.2 (record { fits = w.3 })
 
+-- the same by a wider property
 pub next_has : (f g : ℕ → Bool) (token : Option Token) → ((n : ℕ) → f n ≡ true → g n ≡ true)
     → next_in f token ≡ true → next_in g token ≡ true
 next_has f g None wider is = refl
 next_has f g (Some token) wider is = wider (tag token.kind) is
 
+-- a set within another
 pub before_wider : (l m : List ℕ) → all_have (among m) l ≡ true → (rest : Tokens) → Before l rest → Before m rest
 before_wider l m all rest b = record {
   fits = next_has (among l) (among m) (next rest) (among_has
@@ -45,21 +49,25 @@ pub record BeginsIn {A : Type 0} (l : List ℕ) (r : Rule A) : Type 0 where
 pub record Leads {A : Type 0} (l : List ℕ) (r : Rule A) (v : Follow) : Type 0 where
   pub leads : (front rest : Tokens) (x : A) → r front x → v rest → Before l (front ++ rest)
 
+-- a rule that is never empty leads to what it begins with
 pub leads_begins : {A : Type 0} {l : List ℕ} {r : Rule A} {v : Follow} → BeginsIn l r → Leads l r v
 leads_begins {A} {l} {r} {v} begins = record {
   leads = λ front rest x h ok. before_head l front rest
       (begins.head front x h);
 }
 
+-- nothing leads to what stands behind it
 pub leads_pure : {A : Type 0} {l : List ℕ} {x : A} → Leads l (rule.pure x) (Before l)
 leads_pure = record { leads = λ front rest y h ok. rw h.0 ok }
 
+-- a set within another
 pub leads_wider : {A : Type 0} {l m : List ℕ} {r : Rule A} {v : Follow} → all_have (among m) l ≡ true
     → Leads l r v → Leads m r v
 leads_wider {A} {l} {m} {r} {v} all leads = record {
   leads = λ front rest x h ok. before_wider l m all (front ++ rest) (leads.leads front rest x h ok);
 }
 
+-- a choice leads to what the one or the other leads to
 pub leads_or : {A : Type 0} {l m : List ℕ} {r s : Rule A} {v : Follow} → Leads l r v → Leads m s v
     → Leads (l ++ m) (rule.◌or◌ r s) v
 leads_or {A} {l} {m} {r} {s} {v} one other = record { leads = go }
@@ -74,6 +82,7 @@ leads_or {A} {l} {m} {r} {s} {v} one other = record { leads = go }
     go front rest x (inl h) ok = left_in (front ++ rest) (one.leads front rest x h ok)
     go front rest x (inr h) ok = right_in (front ++ rest) (other.leads front rest x h ok)
 
+-- two rules, where the second leads to what the first wants behind it
 pub leads_bind : {A B : Type 0} {l m : List ℕ} {r : Rule A} {s : A → Rule B} {v : Follow} → Leads l r (Before m)
     → ((x : A) → Leads m (s x) v) → Leads l (rule.◌>>=◌ r s) v
 leads_bind {A} {B} {l} {m} {r} {s} {v} one other = record {
@@ -82,6 +91,7 @@ leads_bind {A} {B} {l} {m} {r} {s} {v} one other = record {
       ((other h.thing).leads h.back rest x h.next_spells ok));
 }
 
+-- any number of things lead to one of them, or to what stands behind them
 pub leads_many : {A : Type 0} {l m : List ℕ} {r : Rule A} → BeginsIn m r → Leads (m ++ l) (rule.many r) (Before l)
 leads_many {A} {l} {m} {r} begins = record { leads = go }
   where
@@ -94,6 +104,7 @@ leads_many {A} {l} {m} {r} begins = record { leads = go }
 
 -- ---- with what a rule begins
 
+-- from a property of numbers to a set of them
 pub begins_in : {A : Type 0} {f : ℕ → Bool} (l : List ℕ) {r : Rule A} → ((n : ℕ) → f n ≡ true → among l n ≡ true)
     → Begins f r → BeginsIn l r
 begins_in l wider begins = record {
@@ -103,12 +114,14 @@ begins_in l wider begins = record {
 pub one_among : (m n : ℕ) → (n == m) ≡ true → among (m ∷ []) n ≡ true
 one_among m n is = rw is refl
 
+-- a word begins with itself
 pub begins_kind : (kind : TokenKind) → BeginsIn (tag kind ∷ []) (words.word kind)
 begins_kind kind = begins_in (tag kind ∷ []) (one_among (tag kind)) (begins_word kind)
 
 pub name_begins : BeginsIn (200 ∷ []) (rule.one name_of)
 name_begins = begins_in (200 ∷ []) (one_among 200) begins_name
 
+-- a choice begins as the one or the other does
 pub begins_either : {A : Type 0} {l m : List ℕ} {r s : Rule A} → BeginsIn l r → BeginsIn m s
     → BeginsIn (l ++ m) (rule.◌or◌ r s)
 begins_either {A} {l} {m} {r} {s} one other = record { head = go }
@@ -140,6 +153,7 @@ begins_leads {A} {B} {l} {m} {r} {s} one other = record { head = go }
         (one.leads h.front h.back h.thing h.first_spells behind))
         (h.split ∙ f.2)
 
+-- two rules begin as the first does
 pub begins_then : {A B : Type 0} {l : List ℕ} {r : Rule A} {s : A → Rule B} → BeginsIn l r
     → BeginsIn l (rule.◌>>=◌ r s)
 begins_then {A} {B} {l} {r} {s} begins = record {
@@ -151,16 +165,18 @@ pub begins_word_then : {B : Type 0} (kind : TokenKind) {s : ℕ → Rule B} → 
     (rule.◌>>=◌ (words.word kind) s)
 begins_word_then kind = begins_then (begins_kind kind)
 
+-- what begins with a token is not empty
 pub full_begins : {A : Type 0} {l : List ℕ} (r : Rule A) → BeginsIn l r → NoEmpty r
 full_begins r begins front x h = let w = begins.head front x h in rw w.2 (omega arith)
 
+-- a rule within another begins as that does
 pub begins_within : {A : Type 0} {l : List ℕ} {r s : Rule A} → ((front : Tokens) (x : A) → r front x → s front x)
     → BeginsIn l s → BeginsIn l r
 begins_within wider begins = record { head = λ front x h. begins.head front x (wider front x h) }
 
+-- a rule within another leads to what that leads to
 pub leads_within : {A : Type 0} {l : List ℕ} {r s : Rule A} {v : Follow} → ((front : Tokens) (x : A) → r front x
-    → s front x)
-    → Leads l s v → Leads l r v
+    → s front x) → Leads l s v → Leads l r v
 leads_within wider leads = record { leads = λ front rest x h ok. leads.leads front rest x (wider front x h) ok }
 
 -- ---- a token ahead
@@ -169,6 +185,7 @@ leads_within wider leads = record { leads = λ front rest x h ok. leads.leads fr
 pub record Ahead (l : List ℕ) (rest : Tokens) : Type 0 where
   pub head : HeadIn (among l) rest
 
+-- before any number of things and a token of the set one comes next
 pub ahead_many : {A : Type 0} {l : List ℕ} {r : Rule A} → BeginsIn l r → (xs : List A) (front behind : Tokens)
     → rule.many r front xs → Ahead l behind → Ahead l (front ++ behind)
 ahead_many begins [] front behind h ok = rw h ok
@@ -183,6 +200,7 @@ ahead_many {A} {l} {r} begins (x ∷ xs) front behind h ok = let w = begins.head
       );
     }
 
+-- a set within another
 pub begins_more : {A : Type 0} {l m : List ℕ} {r : Rule A} → all_have (among m) l ≡ true → BeginsIn l r → BeginsIn m r
 begins_more {A} {l} {m} {r} all begins = record {
   head = λ front x h. let w = begins.head front x h in
@@ -195,14 +213,17 @@ begins_more {A} {l} {m} {r} all begins = record {
 pub record Closed {A : Type 0} (opens : Bool) (r : Rule A) : Type 0 where
   pub none : opens ≡ false → (front : Tokens) (x : A) → r front x → ⊥
 
+-- two rules, of which the first needs what opens
 pub closed_first : {A B : Type 0} {opens : Bool} {r : Rule A} {s : A → Rule B} → Closed opens r
     → Closed opens (rule.◌>>=◌ r s)
 closed_first closed = record { none = λ shut front x h. closed.none shut h.front h.thing h.first_spells }
 
+-- two rules, of which the second needs what opens
 pub closed_next : {A B : Type 0} {opens : Bool} {r : Rule A} {s : A → Rule B} → ((x : A) → Closed opens (s x))
     → Closed opens (rule.◌>>=◌ r s)
 closed_next closed = record { none = λ shut front x h. (closed h.thing).none shut h.back x h.next_spells }
 
+-- a choice of two that need what opens
 pub closed_or : {A : Type 0} {opens : Bool} {r s : Rule A} → Closed opens r → Closed opens s
     → Closed opens (rule.◌or◌ r s)
 closed_or {A} {opens} {r} {s} one other = record { none = go }
@@ -218,22 +239,22 @@ pub record Asks (look : Look) (l : List ℕ) : Type 0 where
   pub none : look None ≡ false
   pub some : (token : Token) → look (Some token) ≡ among l (tag token.kind)
 
-or_none : (b : Bool) → b ≡ (b || false)
-or_none true = refl
-or_none false = refl
-
+-- whether a word comes next
 pub asks_kind : (kind : TokenKind) → Asks (sees kind) (tag kind ∷ [])
-asks_kind kind = record { none = refl; some = λ token. or_none (tag token.kind == tag kind) }
+asks_kind kind = record { none = refl; some = λ token. sym (or_last (tag token.kind == tag kind)) }
 
+-- whether a name comes next
 pub asks_name : Asks (passes name_of) (200 ∷ [])
-asks_name = record { none = refl; some = λ token. name_tag token.kind ∙ or_none (tag token.kind == 200) }
+asks_name = record { none = refl; some = λ token. name_tag token.kind ∙ sym (or_last (tag token.kind == 200)) }
 
+-- the one question or the other
 pub asks_either : {f g : Look} {l m : List ℕ} → Asks f l → Asks g m → Asks (λ token. f token || g token) (l ++ m)
 asks_either {f} {g} {l} {m} one other = record {
   none = rw (one.none, other.none) refl;
   some = λ token. rw (one.some token, other.some token) (sym (among_both l m (tag token.kind)));
 }
 
+-- what the rule begins with is asked
 pub starts : {A : Type 0} {look : Look} {a l : List ℕ} {r : Rule A} → Asks look a → BeginsIn l r
     → all_have (among a) l ≡ true → Starts look r
 starts {A} {look} {a} {l} {r} asks begins all front rest x h = let w = begins.head front x h in
@@ -248,6 +269,7 @@ starts_one {A} {B} {test} {s} front rest x h = rw (h.split, h.first_spells.alone
 abbrev pub Skips : {A : Type 0} → Look → Rule A → Follow → Type 0
 Skips {A} look r v = (front rest : Tokens) (x : A) → r front x → v rest → look (next (front ++ rest)) ≡ false
 
+-- what comes next is not asked
 pub asks_no : {look : Look} {a l : List ℕ} → Asks look a → all_have (outside a) l ≡ true → (rest : Tokens)
     → Before l rest → look (next rest) ≡ false
 asks_no {look} {a} {l} asks all rest b = go (next rest) b.fits
@@ -257,6 +279,7 @@ asks_no {look} {a} {l} asks all rest b = go (next rest) b.fits
     go (Some token) is = asks.some token
         ∙ not_true (among a (tag token.kind)) (among_has (outside a) l all (tag token.kind) is)
 
+-- what the rule leads to is not asked
 pub skips : {A : Type 0} {look : Look} {a l : List ℕ} {r : Rule A} {v : Follow} → Asks look a → Leads l r v
     → all_have (outside a) l ≡ true → Skips look r v
 skips {A} {look} {a} {l} {r} {v} asks leads all front rest x h ok =
