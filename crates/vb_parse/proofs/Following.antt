@@ -11,7 +11,8 @@ use Rattle.vb_parse.specs.Reader.{next, Look, sees, passes, is_some}
 use Rattle.vb_parse.proofs.Reading.{NoEmpty}
 use Rattle.vb_parse.proofs.Taking.{Follow, Starts}
 use Rattle.vb_parse.proofs.Beginning.{HeadIn, Begins, begins_word, begins_name, name_tag}
-use Rattle.vb_parse.proofs.Tags.{or_last, among, outside, all_have, among_has, not_true, among_left, among_right, among_both}
+use Rattle.vb_parse.proofs.Tags.{or_last, among, outside, all_have, among_has, not_true, among_left, among_right}
+use Rattle.vb_parse.proofs.Tags.{among_both}
 
 -- ---- what comes next
 
