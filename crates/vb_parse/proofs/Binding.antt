@@ -1,5 +1,5 @@
 -- Rules that are put together in another way, and spell the same.
-use Rattle.std.proofs.Common.{◌≡◌, ◌⊎◌, inl, inr, Bool, List, [], ◌∷◌, ◌++◌, refl, sym, ap, ◌∙◌, append_assoc, append-nil, subst}
+use Rattle.std.proofs.Common.{inl, inr, [], ◌++◌, refl, sym, ap, ◌∙◌, append_assoc, append-nil, subst}
 use Rattle.vb_syntax.specs.Rules.{Tokens, Rule, Then}
 use Rattle.vb_syntax.specs.Rules as rule
 

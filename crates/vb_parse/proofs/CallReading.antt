@@ -1,5 +1,6 @@
 -- What stands behind a path: the reader reads the grammar's assignments and calls.
-use Rattle.std.proofs.Common.{◌≡◌, ℕ, zero, suc, ◌<◌, ◌≤◌, ◌==◌, ◌||◌, ◌⊎◌, inl, inr, Bool, true, false, IsTrue, List, [], ◌∷◌, ◌++◌, Option, Some, None, Result, Ok, Err, refl, sym, ap, ◌∙◌, append_assoc, append-nil, subst, arith}
+use Rattle.std.proofs.Common.{◌≡◌, ℕ, zero, suc, ◌||◌, inl, inr, Bool, true, false, IsTrue, List, [], ◌∷◌, ◌++◌, refl}
+use Rattle.std.proofs.Common.{sym, ap, ◌∙◌, append_assoc, append-nil, subst, arith}
 use Rattle.vb_value.specs.declared.token.Symbol.TheVariants as s
 use Rattle.vb_value.specs.declared.token.TokenKind.TheVariants as kind
 use Rattle.vb_syntax.specs.declared.expression.Expression.{Expression}
@@ -23,14 +24,18 @@ use Rattle.vb_parse.specs.ReadExpressions.{goes_on_path}
 use Rattle.vb_parse.specs.ReadCalls as spec
 use Rattle.vb_parse.specs.ReadCalls.{Tail, plain, grouped, tail}
 use Rattle.vb_parse.specs.Runs.{opens, inside}
-use Rattle.vb_parse.proofs.Reading.{Reads, ReadsAt, Lives, wider_at, case_at, bind_at, lives_bind, reads_pure, reads_refuse, reads_same, reads_wider, reads_bind, reads_choice, reads_many, reads_word, full_bind, full_word}
+use Rattle.vb_parse.proofs.Reading.{Reads, ReadsAt, Lives, wider_at, case_at, bind_at, lives_bind, reads_pure}
+use Rattle.vb_parse.proofs.Reading.{reads_refuse, reads_same, reads_wider, reads_bind, reads_choice, reads_many}
+use Rattle.vb_parse.proofs.Reading.{reads_word, full_bind, full_word}
 use Rattle.vb_parse.proofs.Taking.{only}
-use Rattle.vb_parse.proofs.Binding.{Within, within_then, bind_wider, bind_left, bind_right}
+use Rattle.vb_parse.proofs.Binding.{Within, bind_right}
 use Rattle.vb_parse.proofs.Guarding.{guarded, guard_at}
 use Rattle.vb_parse.proofs.ExpressionReading.{expressions_read, reads_list_of}
-use Rattle.vb_parse.proofs.ExpressionTaking.{PathEnds}
-use Rattle.vb_parse.proofs.OperandReading.{rest_from, from_operand, nothing_more, reads_operators_from, empty_pair, one_held, none_held, several_held}
-use Rattle.vb_parse.proofs.PathReading.{Grouped, Tells, path_group, tail_tells, reads_path_at, path_stops, no_assignment}
+use Rattle.vb_parse.proofs.ExpressionEnds.{PathEnds}
+use Rattle.vb_parse.proofs.OperandReading.{rest_from, from_operand, nothing_more, reads_operators_from, empty_pair}
+use Rattle.vb_parse.proofs.OperandReading.{one_held, none_held, several_held}
+use Rattle.vb_parse.proofs.PathReading.{Grouped, Tells, path_group, tail_tells, reads_path_at, path_stops}
+use Rattle.vb_parse.proofs.PathReading.{no_assignment}
 use Rattle.vb_parse.proofs.Turns.{rules_inside, inner_at}
 
 -- ---- the same at a depth
@@ -161,7 +166,8 @@ module _ (looser : Looser) (depth : ℕ) where
       is _ (none_spells (x ∷ y ∷ more) (allowed, (refl, refl))) (reads_bind (gate_open looser.several allowed
       (reads_pure (x ∷ y ∷ more))) (λ given. reads_pure _))
   several_at target front x y more rest ends is false allowed = reads_same _ reader.refuse (rest_rule target) rest
-      (λ ts. ap (λ b. reader.◌>>=◌ (reader.gate b (reader.pure (x ∷ y ∷ more))) (λ given. reader.pure (statement target.0
+      (λ ts. ap (λ b. reader.◌>>=◌ (reader.gate b (reader.pure (x ∷ y ∷ more))) (λ given. reader.pure
+      (statement target.0
       (st.Call (path_of target.1 front) given))) ts) allowed) ((reads_refuse (rest_rule target)
       (lives_rest target)).meets rest)
 
@@ -181,7 +187,8 @@ module _ (looser : Looser) (depth : ℕ) where
         first_spells = nothing_more (opens depth) (rules_inside depth) 12 (e.Parenthesis x);
         next_spells = none_spells [] refl;
       }))
-      (reads_bind (reads_bind (reads_operators_from (opens depth) (inside depth) (rules_inside depth) (inner_at depth) 12
+      (reads_bind (reads_bind (reads_operators_from (opens depth) (inside depth) (rules_inside depth)
+      (inner_at depth) 12
       (omega arith) (e.Parenthesis x)) (λ first. reads_bind reads_more (λ more. reads_pure (first ∷ more))))
       (λ given. reads_pure _))
   call_at target (grouped front (x ∷ y ∷ more)) rest ends is = several_at target front x y more rest ends is
@@ -192,7 +199,8 @@ module _ (looser : Looser) (depth : ℕ) where
       → ReadsAt (spec.path_behind looser depth target) (rest_rule target) rest
   behind_at target rest ends = case_at (reader.sees (kind.Symbol s.Equal)) (assign_reader target)
       (spec.call_from looser depth target.0 target.1 target.2 (tail target.2)) (rest_rule target) rest
-      (λ _. wider_at (assign_reader target) (assign_rest target) (rest_rule target) rest (λ _ _ h. inl h) ((reads_assign target).meets rest))
+      (λ _. wider_at (assign_reader target) (assign_rest target) (rest_rule target) rest (λ _ _ h. inl h)
+      ((reads_assign target).meets rest))
       (λ differs. call_at target (tail target.2) rest (or_both _ _ ends differs) refl)
 
   pub reads_path_behind : Reads (spec.from_path looser depth) (rule.◌>>=◌ (grammar.path_at looser depth) rest_rule)
@@ -234,7 +242,7 @@ module _ (looser : Looser) (depth : ℕ) where
     pub head_spells : grammar.head_at first (target.0, target.1)
     pub steps_spell : rule.many (grammar.path_step depth) more target.2
 
-  path_parts : (front : Tokens) (target : Target) → grammar.path_at looser depth front target → Parts front target
+  pub path_parts : (front : Tokens) (target : Target) → grammar.path_at looser depth front target → Parts front target
   path_parts front target h = let g = h.next_spells in record {
     first = h.front;
     more = g.front;
@@ -245,7 +253,7 @@ module _ (looser : Looser) (depth : ℕ) where
         g.next_spells.1)) g.first_spells;
   }
 
-  path_made : (target : Target) (steps : List Step) (first before : Tokens)
+  pub path_made : (target : Target) (steps : List Step) (first before : Tokens)
       → grammar.head_at first (target.0, target.1) → rule.many (grammar.path_step depth) before steps
       → grammar.path_at looser depth (first ++ before) (target.0, target.1, steps)
   path_made target steps first before is are = record {
@@ -295,23 +303,30 @@ module _ (looser : Looser) (depth : ℕ) where
   -- the arguments that begin with the parenthesis at the end of the path
   given_held : (group back : Tokens) (held given : List Expression) → path_group depth group held
       → held_arguments held back given → grammar.arguments looser depth (group ++ back) given
-  given_held group back [] given is h = inr (inl (subst (λ t. declarations.opened depth (λ within. empty_pair (opens depth)
+  given_held group back [] given is h = inr (inl (subst (λ t. declarations.opened depth (λ within. empty_pair
+      (opens depth)
       (rules_inside depth)) t given) (sym (ap (λ t. group ++ t) h.0 ∙ append-nil group)) (subst (λ l.
       declarations.opened depth (λ within. empty_pair (opens depth) (rules_inside depth)) group l) (sym h.1)
       (pair_held depth group is))))
-  given_held group back (x ∷ []) given is h = inr (inr (inl (subst (λ t. words.list_of (grammar.expression looser depth) t
+  given_held group back (x ∷ []) given is h = inr (inr (inl (subst (λ t. words.list_of
+      (grammar.expression looser depth) t
       given) (append_assoc group h.front h.back ∙ ap (λ t. group ++ t) (sym h.split)) (record {
         front = group ++ h.front;
         back = h.back;
         thing = h.thing;
         split = refl;
-        first_spells = expression_here depth (group ++ h.front) h.thing (from_operand (opens depth) (rules_inside depth) 12
+        first_spells = expression_here depth (group ++ h.front) h.thing (from_operand (opens depth)
+            (rules_inside depth) 12
             group h.front (e.Parenthesis x) h.thing (operand_held depth group x is) h.first_spells);
         next_spells = h.next_spells;
       }))))
-  given_held group back (x ∷ y ∷ more) given is h = inr (inr (inr (h.0, subst (λ t. grammar.several looser depth t given)
-      (sym (ap (λ t. group ++ t) h.1.0 ∙ append-nil group)) (subst (λ l. grammar.several looser depth group l) (sym h.1.1)
-      (list_held depth group x y more is looser)))))
+  given_held group back (x ∷ y ∷ more) given is h = inr (inr (inr (
+    h.0,
+    subst (λ t. grammar.several looser depth t given)
+        (sym (ap (λ t. group ++ t) h.1.0 ∙ append-nil group)) (subst (λ l. grammar.several looser depth group l)
+        (sym h.1.1)
+        (list_held depth group x y more is looser)),
+  )))
 
   -- a call whose path ends in a parenthesis
   grouped_spells : (front back : Tokens) (target : Target) (init : List Step) (held : List Expression) (x : Statement)
@@ -321,17 +336,20 @@ module _ (looser : Looser) (depth : ℕ) where
   grouped_spells front back target init held x is parts ends told h =
       let both = or_false (goes_on_path (next back)) (reader.sees (kind.Symbol s.Equal) (next back)) ends in
       let given = only (held_arguments held) _ back x h in
-      let split : front ++ back ≡ (parts.first ++ told.before) ++ (told.group ++ back) = ap (λ t. t ++ back) (parts.split
+      let split : front ++ back ≡ (parts.first ++ told.before) ++ (told.group ++ back) = ap (λ t. t ++ back)
+      (parts.split
       ∙ ap (λ t. parts.first ++ t) told.split ∙ sym (append_assoc parts.first told.before told.group))
       ∙ append_assoc (parts.first ++ told.before) told.group back in
       subst (λ y. grammar.Call looser depth (front ++ back) y) (sym h.next_spells.1)
-      (call_made front back (parts.first ++ told.before) (told.group ++ back) target (target.0, target.1, init) h.thing is
+      (call_made front back (parts.first ++ told.before) (told.group ++ back) target
+      (target.0, target.1, init) h.thing is
       both.0 both.1 split (path_made target init parts.first told.before parts.head_spells told.steps_spell)
       (given_held told.group back held h.thing told.group_spells given)
       (λ _. begins_group told.group back held told.group_spells))
 
   rest_spells : (front back : Tokens) (target : Target) (x : Statement) → grammar.path_at looser depth front target
-      → rest_rule target back x → rule.◌or◌ (grammar.assignment looser depth) (grammar.Call looser depth) (front ++ back) x
+      → rest_rule target back x → rule.◌or◌ (grammar.assignment looser depth) (grammar.Call looser depth)
+      (front ++ back) x
   rest_spells front back target x is (inl h) = inl (record {
     front = front;
     back = back;
@@ -346,7 +364,8 @@ module _ (looser : Looser) (depth : ℕ) where
       parts : Parts front target
       parts = path_parts front target is
 
-      go : (t : Tail) → Tells (grammar.path_step depth) (path_group depth) parts.more target.2 t → call_rest target t back x
+      go : (t : Tail) → Tells (grammar.path_step depth) (path_group depth) parts.more target.2 t
+          → call_rest target t back x
           → grammar.Call looser depth (front ++ back) x
       go plain told w = plain_spells front back target x is h.0 told w
       go (grouped init held) told w = grouped_spells front back target init held x is parts h.0 told w

@@ -1,14 +1,11 @@
 -- The readers of declarations read the grammar's declarations.
-use Rattle.std.proofs.Common.{◌≡◌, ℕ, ℤ, pos, zero, suc, ◌<◌, ◌⊎◌, inl, inr, Bool, true, false, List, [], ◌∷◌, Option, Some, None, refl, arith}
+use Rattle.std.proofs.Common.{ℕ, ℤ, pos, zero, suc, inl, inr, true, false, List, [], Option, Some, None, refl}
 use Rattle.vb_value.specs.declared.token.Keyword.TheVariants as k
 use Rattle.vb_value.specs.declared.token.Symbol.TheVariants as s
 use Rattle.vb_value.specs.declared.token.TokenKind.TheVariants as kind
 use Rattle.vb_syntax.specs.declared.declaration.Access.{Access}
 use Rattle.vb_syntax.specs.declared.declaration.Access.TheVariants as access
-use Rattle.vb_syntax.specs.declared.declaration.Constant.{Constant}
 use Rattle.vb_syntax.specs.declared.declaration.ConstantValue.TheVariants as value
-use Rattle.vb_syntax.specs.declared.declaration.Declared.{Declared}
-use Rattle.vb_syntax.specs.declared.declaration.Parameter.{Parameter}
 use Rattle.vb_syntax.specs.declared.expression.Literal.TheVariants as literal
 use Rattle.vb_syntax.specs.Rules.{Tokens, Rule}
 use Rattle.vb_syntax.specs.Rules as rule
@@ -20,8 +17,10 @@ use Rattle.vb_parse.specs.Reader.{Reader}
 use Rattle.vb_parse.specs.Reader as reader
 use Rattle.vb_parse.specs.ReadExpressions as expressions
 use Rattle.vb_parse.specs.ReadDeclarations as spec
-use Rattle.vb_parse.proofs.Reading.{Reads, Lives, NoEmpty, reads_pure, reads_refuse, reads_wider, reads_bind, reads_one, reads_choice, reads_both, reads_many, reads_word, reads_name, full_one, full_bind, full_word, token_of}
-use Rattle.vb_parse.proofs.Binding.{Within, within_then, bind_wider, bind_left, bind_right, pure_in, pure_out, or_out, or_within, first_wider}
+use Rattle.vb_parse.proofs.Reading.{Reads, Lives, reads_pure, reads_refuse, reads_wider, reads_bind, reads_one}
+use Rattle.vb_parse.proofs.Reading.{reads_choice, reads_both, reads_word, reads_name, token_of}
+use Rattle.vb_parse.proofs.Binding.{Within, within_then, bind_wider, bind_left, bind_right, pure_in, pure_out, or_out}
+use Rattle.vb_parse.proofs.Binding.{or_within, first_wider}
 use Rattle.vb_parse.proofs.ExpressionReading.{reads_list_of}
 
 -- ---- constructs that open
@@ -66,7 +65,8 @@ reads_held_bounds = reads_bind (reads_word (kind.Symbol s.Open))
 
 -- [ "(" [ number { "," number } ] ")" ]
 abbrev pub bounds_behind : ℕ → Rule (Option (List ℤ))
-bounds_behind depth = rule.◌or◌ (rule.pure None) (rule.◌>>=◌ (grammar.bounds depth) (λ numbers. rule.pure (Some numbers)))
+bounds_behind depth = rule.◌or◌ (rule.pure None) (rule.◌>>=◌ (grammar.bounds depth) (λ numbers. rule.pure
+    (Some numbers)))
 
 pub reads_bounds_behind : (depth : ℕ) → Reads (spec.bounds_behind depth) (bounds_behind depth)
 reads_bounds_behind depth = reads_both (reader.sees (kind.Symbol s.Open))

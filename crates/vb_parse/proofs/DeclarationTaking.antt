@@ -1,5 +1,6 @@
 -- The readers of declarations take whatever the grammar spells.
-use Rattle.std.proofs.Common.{◌≡◌, ℕ, ℤ, zero, suc, ◌==◌, ◌||◌, inl, inr, Bool, true, false, List, [], ◌∷◌, ◌++◌, Option, Some, None, refl, sym, ap, ◌∙◌, subst, append-nil}
+use Rattle.std.proofs.Common.{◌≡◌, ℕ, ℤ, ◌==◌, inl, inr, true, false, List, [], ◌∷◌, Option, Some, None, refl, sym}
+use Rattle.std.proofs.Common.{ap, ◌∙◌, subst, append-nil}
 use Rattle.vb_value.specs.declared.token.Keyword.TheVariants as k
 use Rattle.vb_value.specs.declared.token.Symbol.TheVariants as s
 use Rattle.vb_value.specs.declared.token.TokenKind.{TokenKind}
@@ -19,10 +20,16 @@ use Rattle.vb_parse.specs.ReadExpressions as expressions
 use Rattle.vb_parse.specs.ReadDeclarations as spec
 use Rattle.vb_parse.specs.ReadDeclarations.{sees_access, begun}
 use Rattle.vb_parse.proofs.Taking.{Follow, Any, Takes, takes_pure, takes_one, takes_bind, takes_case, takes_narrow}
-use Rattle.vb_parse.proofs.Beginning.{HeadIn, begins_bind, begins_word, literal_tag}
-use Rattle.vb_parse.proofs.ExpressionTaking.{ArgumentsEnd, head_behind}
-use Rattle.vb_parse.proofs.Binding.{Within, within_then, bind_wider, bind_left, bind_right, pure_in, pure_out, or_out, or_within, first_wider}
-use Rattle.vb_parse.proofs.Following.{among, outside, all_have, Before, BeginsIn, Leads, leads_begins, leads_pure, leads_or, leads_bind, leads_many, begins_kind, begins_then, begins_word_then, begins_either, begins_leads, name_begins, Asks, asks_kind, asks_either, Skips, skips, starts, takes_on, takes_off, takes_on_word, takes_off_word, takes_or, takes_within, takes_word, takes_then, takes_map, takes_list, before_head, comma}
+use Rattle.vb_parse.proofs.Beginning.{begins_bind, begins_word, literal_tag}
+use Rattle.vb_parse.proofs.ExpressionEnds.{ArgumentsEnd, head_behind}
+use Rattle.vb_parse.proofs.Binding.{Within, within_then, bind_wider, bind_left, bind_right, pure_in, pure_out, or_out}
+use Rattle.vb_parse.proofs.Binding.{or_within, first_wider}
+use Rattle.vb_parse.proofs.Tags.{among, outside, all_have}
+use Rattle.vb_parse.proofs.Following.{Before, BeginsIn, leads_begins, leads_pure, leads_or, begins_then}
+use Rattle.vb_parse.proofs.Following.{begins_word_then, begins_either, begins_leads, name_begins, Asks, asks_kind}
+use Rattle.vb_parse.proofs.Following.{asks_either, skips, starts, before_head}
+use Rattle.vb_parse.proofs.Choosing.{takes_on, takes_on_word, takes_off_word, takes_or, takes_word, takes_then}
+use Rattle.vb_parse.proofs.Choosing.{takes_map, takes_list, comma}
 use Rattle.vb_parse.proofs.Placing.{takes_opened, begins_opened, literal_heads, heads_literal}
 
 abbrev pub opening : List ℕ
@@ -108,7 +115,8 @@ begins_bounds depth = begins_opened depth (λ within. begins_word_then (kind.Sym
 
 -- [ "(" [ number { "," number } ] ")" ]
 abbrev pub bounds_behind : ℕ → Rule (Option (List ℤ))
-bounds_behind depth = rule.◌or◌ (rule.pure None) (rule.◌>>=◌ (grammar.bounds depth) (λ numbers. rule.pure (Some numbers)))
+bounds_behind depth = rule.◌or◌ (rule.pure None) (rule.◌>>=◌ (grammar.bounds depth) (λ numbers. rule.pure
+    (Some numbers)))
 
 pub takes_bounds_behind : (depth : ℕ) {v : List ℕ} → all_have (outside opening) v ≡ true
     → Takes (spec.bounds_behind depth) (bounds_behind depth) (Before v)
@@ -132,8 +140,13 @@ takes_declared depth none = takes_word (λ name. takes_declared_from depth name 
 
 pub literal_begins : BeginsIn literal_heads (rule.one literal_of)
 literal_begins = record {
-  head = λ front x h. (h.token, [], h.alone, heads_literal (tag h.token.kind) ∙ sym (literal_tag h.token.kind)
-      ∙ ap is_some h.passes);
+  head = λ front x h. (
+    h.token,
+    [],
+    h.alone,
+    heads_literal (tag h.token.kind) ∙ sym (literal_tag h.token.kind)
+        ∙ ap is_some h.passes,
+  );
 }
 
 pub takes_constant_value : {v : Follow} → Takes spec.constant_value grammar.constant_value v
@@ -161,7 +174,8 @@ takes_array_mark : (depth : ℕ) {v : List ℕ} → all_have (outside opening) v
 takes_array_mark depth none = takes_or
     (takes_off_word (kind.Symbol s.Open) _ leads_pure none (takes_pure tt _))
     (takes_on (sees (kind.Symbol s.Open)) _
-    (starts (asks_kind (kind.Symbol s.Open)) (begins_opened depth (λ within. begins_word_then (kind.Symbol s.Open))) refl)
+    (starts (asks_kind (kind.Symbol s.Open)) (begins_opened depth (λ within. begins_word_then
+    (kind.Symbol s.Open))) refl)
     (takes_opened depth (λ within. takes_word (λ _. takes_word (λ _. takes_pure tt _)))))
 
 pub takes_parameter : (depth : ℕ) {v : List ℕ} → all_have (outside opening) v ≡ true
@@ -170,7 +184,8 @@ takes_parameter depth none = takes_then takes_passing
     (λ by_value. takes_word (λ name. takes_map _ (takes_array_mark depth none)))
     (λ by_value. leads_begins (begins_then name_begins))
 
-parameter_begins : (depth : ℕ) → BeginsIn (tag (kind.Keyword k.ByVal) ∷ tag (kind.Keyword k.ByRef) ∷ 200 ∷ []) (grammar.parameter depth)
+parameter_begins : (depth : ℕ) → BeginsIn (tag (kind.Keyword k.ByVal) ∷ tag (kind.Keyword k.ByRef) ∷ 200 ∷ [])
+    (grammar.parameter depth)
 parameter_begins depth = begins_leads
     (leads_or (leads_begins (begins_word_then (kind.Keyword k.ByVal)))
     (leads_or (leads_begins (begins_word_then (kind.Keyword k.ByRef))) (leads_pure {l = name_head})))
@@ -181,5 +196,6 @@ pub takes_parameters : (depth : ℕ) {v : List ℕ} → all_have (outside openin
 takes_parameters depth none = takes_or
     (takes_off_word (kind.Symbol s.Open) _ leads_pure none (takes_pure [] _))
     (takes_on (sees (kind.Symbol s.Open)) _
-    (starts (asks_kind (kind.Symbol s.Open)) (begins_opened depth (λ within. begins_word_then (kind.Symbol s.Open))) refl)
+    (starts (asks_kind (kind.Symbol s.Open)) (begins_opened depth (λ within. begins_word_then
+    (kind.Symbol s.Open))) refl)
     (takes_opened depth (λ within. takes_parentheses (takes_parameter within refl) (parameter_begins within) refl)))

@@ -1,5 +1,6 @@
 -- The readers of expressions read the grammar's expressions.
-use Rattle.std.proofs.Common.{◌≡◌, ℕ, zero, suc, ◌<◌, ◌≤◌, ◌==◌, inl, inr, Bool, true, false, IsTrue, [], ◌∷◌, Some, refl, arith}
+use Rattle.std.proofs.Common.{◌≡◌, ℕ, zero, suc, ◌<◌, ◌≤◌, ◌==◌, inl, inr, Bool, true, false, IsTrue, [], ◌∷◌, Some}
+use Rattle.std.proofs.Common.{refl, arith}
 use Rattle.vb_value.specs.declared.operator.Op2.{Op2}
 use Rattle.vb_value.specs.declared.operator.Op2.TheVariants as op
 use Rattle.vb_value.specs.declared.token.Keyword.TheVariants as k
@@ -20,7 +21,9 @@ use Rattle.vb_syntax.specs.Expressions.{operator_at, operation, chain, path_of, 
 use Rattle.vb_parse.specs.Reader.{Reader}
 use Rattle.vb_parse.specs.Reader as reader
 use Rattle.vb_parse.specs.ReadExpressions as spec
-use Rattle.vb_parse.proofs.Reading.{Reads, Lives, NoEmpty, reads_pure, reads_wider, reads_bind, reads_one, reads_choice, reads_both, reads_gate, reads_many, reads_word, reads_name, full_one, full_bind, full_word, token_of}
+use Rattle.vb_parse.proofs.Reading.{Reads, Lives, NoEmpty, reads_pure, reads_wider, reads_bind, reads_one}
+use Rattle.vb_parse.proofs.Reading.{reads_choice, reads_both, reads_gate, reads_many, reads_word, reads_name}
+use Rattle.vb_parse.proofs.Reading.{full_one, full_bind, full_word, token_of}
 
 pub reads_list_of : {A : Type 0} {p : Reader A} {r : Rule A} → Reads p r → Reads (spec.list_of p) (words.list_of r)
 reads_list_of {A} {p} {r} reads =

@@ -1,97 +1,22 @@
--- What may stand behind a rule, by the numbers of the kinds of tokens, and how readers take what the rules spell there.
-use Rattle.std.proofs.Common.{◌≡◌, ℕ, zero, suc, ◌<◌, ◌≤◌, ◌==◌, ◌||◌, ◌⊎◌, inl, inr, Bool, true, false, not, cond, List, [], ◌∷◌, ◌++◌, length, Option, Some, None, if◌then◌else◌, Ok, refl, sym, ap, ◌∙◌, append_assoc, append-nil, subst, length-append, ◌+◌, arith}
-use Rattle.std.proofs.lemmas.Bool.{eqb-true, eq-eqb}
-use Rattle.vb_value.specs.declared.token.Keyword.TheVariants as k
-use Rattle.vb_value.specs.declared.token.Symbol.TheVariants as s
+-- What may stand behind a rule, and with what it begins, by the numbers of the kinds of tokens.
+use Rattle.std.proofs.Common.{◌≡◌, ℕ, ◌==◌, ◌||◌, inl, inr, Bool, true, false, List, [], ◌∷◌, ◌++◌, Option, Some}
+use Rattle.std.proofs.Common.{None, refl, sym, ap, ◌∙◌, append_assoc, append-nil, subst, arith}
 use Rattle.vb_value.specs.declared.token.Token.{Token}
 use Rattle.vb_value.specs.declared.token.TokenKind.{TokenKind}
-use Rattle.vb_value.specs.declared.token.TokenKind.TheVariants as kind
 use Rattle.vb_syntax.specs.Rules.{Tokens, Rule, Then}
 use Rattle.vb_syntax.specs.Rules as rule
 use Rattle.vb_syntax.specs.Words as words
 use Rattle.vb_syntax.specs.Words.{tag, line_of, name_of}
-use Rattle.vb_parse.specs.Reader.{Reader, next, Look, sees, passes, is_some, Turn}
-use Rattle.std.specs.declared.ops.ControlFlow.TheVariants.{Continue, Break}
-use Rattle.vb_parse.specs.Reader as reader
-use Rattle.vb_parse.specs.ReadExpressions as expressions
+use Rattle.vb_parse.specs.Reader.{next, Look, sees, passes, is_some}
 use Rattle.vb_parse.proofs.Reading.{NoEmpty}
-use Rattle.vb_parse.proofs.Taking.{Follow, Any, Takes, Starts, takes_pure, takes_one, takes_bind, takes_narrow}
-use Rattle.vb_parse.proofs.Beginning.{HeadIn, Begins, begins_bind, begins_word, begins_name, name_tag}
-
--- ---- sets of numbers
-
--- one of the numbers
-abbrev pub among : List ℕ → ℕ → Bool
-among [] n = false
-among (m ∷ more) n = n == m || among more n
-
--- none of the numbers
-abbrev pub outside : List ℕ → ℕ → Bool
-outside l n = not (among l n)
-
--- whether each of the numbers has the property
-abbrev pub all_have : (ℕ → Bool) → List ℕ → Bool
-all_have f [] = true
-all_have f (m ∷ more) = if f m then all_have f more else false
-
-pub among_has : (f : ℕ → Bool) (l : List ℕ) → all_have f l ≡ true → (n : ℕ) → among l n ≡ true → f n ≡ true
-among_has f [] all n is = absurd cc
-among_has f (m ∷ more) all n is = go (f m) refl (n == m) refl all is (λ all is. among_has f more all n is)
-  where
-    go : (b : Bool) → f m ≡ b → (c : Bool) → (n == m) ≡ c → cond b (all_have f more) false ≡ true
-        → (c || among more n) ≡ true → (all_have f more ≡ true → among more n ≡ true → f n ≡ true) → f n ≡ true
-    go true has true at _ _ later = ap f (eqb-true n m at) ∙ has
-    go true has false at all is later = later all is
-    go false has c at all is later = absurd cc
-
-pub not_true : (b : Bool) → not b ≡ true → b ≡ false
-not_true true e = absurd cc
-not_true false e = refl
-
-among_left : (l m : List ℕ) (n : ℕ) → among l n ≡ true → among (l ++ m) n ≡ true
-among_left [] m n is = absurd cc
-among_left (a ∷ l) m n is = go (n == a) is (among_left l m n)
-  where
-    go : (b : Bool) → (b || among l n) ≡ true → (among l n ≡ true → among (l ++ m) n ≡ true)
-        → (b || among (l ++ m) n) ≡ true
-    go true _ later = refl
-    go false is later = later is
-
-among_right : (l m : List ℕ) (n : ℕ) → among m n ≡ true → among (l ++ m) n ≡ true
-among_right [] m n is = is
-among_right (a ∷ l) m n is = go (n == a) (among_right l m n is)
-  where
-    go : (b : Bool) → among (l ++ m) n ≡ true → (b || among (l ++ m) n) ≡ true
-    go true later = refl
-    go false later = later
-
-pub among_both : (l m : List ℕ) (n : ℕ) → among (l ++ m) n ≡ (among l n || among m n)
-among_both [] m n = refl
-among_both (a ∷ l) m n = go (n == a) (among_both l m n)
-  where
-    go : (b : Bool) → among (l ++ m) n ≡ (among l n || among m n)
-        → (b || among (l ++ m) n) ≡ ((b || among l n) || among m n)
-    go true later = refl
-    go false later = later
-
--- a set has its own numbers, and those of a part
-all_more : (f g : ℕ → Bool) (l : List ℕ) → ((n : ℕ) → f n ≡ true → g n ≡ true) → all_have f l ≡ true
-    → all_have g l ≡ true
-all_more f g [] wider all = refl
-all_more f g (m ∷ l) wider all = go (f m) refl all (all_more f g l wider)
-  where
-    go : (b : Bool) → f m ≡ b → cond b (all_have f l) false ≡ true → (all_have f l ≡ true → all_have g l ≡ true)
-        → cond (g m) (all_have g l) false ≡ true
-    go true has all later = rw (wider m has) (later all)
-    go false has all later = absurd cc
-
-all_own : (l : List ℕ) → all_have (among l) l ≡ true
-all_own [] = refl
-all_own (m ∷ l) = rw (eq-eqb m m refl) (all_more (among l) (among (m ∷ l)) l (λ n is. among_right (m ∷ []) l n is)
-    (all_own l))
+use Rattle.vb_parse.proofs.Taking.{Follow, Starts}
+use Rattle.vb_parse.proofs.Beginning.{HeadIn, Begins, begins_word, begins_name, name_tag}
+use Rattle.vb_parse.proofs.Tags.{or_last, among, outside, all_have, among_has, not_true, among_left, among_right}
+use Rattle.vb_parse.proofs.Tags.{among_both}
 
 -- ---- what comes next
 
+-- no token, or one whose number has the property
 abbrev pub next_in : (ℕ → Bool) → Option Token → Bool
 next_in f None = true
 next_in f (Some token) = f (tag token.kind)
@@ -100,16 +25,22 @@ next_in f (Some token) = f (tag token.kind)
 pub record Before (l : List ℕ) (rest : Tokens) : Type 0 where
   pub fits : next_in (among l) (next rest) ≡ true
 
+-- a token of the set comes first
 pub before_head : (l : List ℕ) (front rest : Tokens) → HeadIn (among l) front → Before l (front ++ rest)
 before_head l front rest w = rw w.2 (record { fits = w.3 })
 
+-- the same by a wider property
 pub next_has : (f g : ℕ → Bool) (token : Option Token) → ((n : ℕ) → f n ≡ true → g n ≡ true)
     → next_in f token ≡ true → next_in g token ≡ true
 next_has f g None wider is = refl
 next_has f g (Some token) wider is = wider (tag token.kind) is
 
+-- a set within another
 pub before_wider : (l m : List ℕ) → all_have (among m) l ≡ true → (rest : Tokens) → Before l rest → Before m rest
-before_wider l m all rest b = record { fits = next_has (among l) (among m) (next rest) (among_has (among m) l all) b.fits }
+before_wider l m all rest b = record {
+  fits = next_has (among l) (among m) (next rest) (among_has
+      (among m) l all) b.fits;
+}
 
 -- What the rule spells begins with a token of one of the kinds with these numbers.
 pub record BeginsIn {A : Type 0} (l : List ℕ) (r : Rule A) : Type 0 where
@@ -119,18 +50,25 @@ pub record BeginsIn {A : Type 0} (l : List ℕ) (r : Rule A) : Type 0 where
 pub record Leads {A : Type 0} (l : List ℕ) (r : Rule A) (v : Follow) : Type 0 where
   pub leads : (front rest : Tokens) (x : A) → r front x → v rest → Before l (front ++ rest)
 
+-- a rule that is never empty leads to what it begins with
 pub leads_begins : {A : Type 0} {l : List ℕ} {r : Rule A} {v : Follow} → BeginsIn l r → Leads l r v
-leads_begins {A} {l} {r} {v} begins = record { leads = λ front rest x h ok. before_head l front rest (begins.head front x h) }
+leads_begins {A} {l} {r} {v} begins = record {
+  leads = λ front rest x h ok. before_head l front rest
+      (begins.head front x h);
+}
 
+-- nothing leads to what stands behind it
 pub leads_pure : {A : Type 0} {l : List ℕ} {x : A} → Leads l (rule.pure x) (Before l)
 leads_pure = record { leads = λ front rest y h ok. rw h.0 ok }
 
+-- a set within another
 pub leads_wider : {A : Type 0} {l m : List ℕ} {r : Rule A} {v : Follow} → all_have (among m) l ≡ true
     → Leads l r v → Leads m r v
 leads_wider {A} {l} {m} {r} {v} all leads = record {
   leads = λ front rest x h ok. before_wider l m all (front ++ rest) (leads.leads front rest x h ok);
 }
 
+-- a choice leads to what the one or the other leads to
 pub leads_or : {A : Type 0} {l m : List ℕ} {r s : Rule A} {v : Follow} → Leads l r v → Leads m s v
     → Leads (l ++ m) (rule.◌or◌ r s) v
 leads_or {A} {l} {m} {r} {s} {v} one other = record { leads = go }
@@ -145,6 +83,7 @@ leads_or {A} {l} {m} {r} {s} {v} one other = record { leads = go }
     go front rest x (inl h) ok = left_in (front ++ rest) (one.leads front rest x h ok)
     go front rest x (inr h) ok = right_in (front ++ rest) (other.leads front rest x h ok)
 
+-- two rules, where the second leads to what the first wants behind it
 pub leads_bind : {A B : Type 0} {l m : List ℕ} {r : Rule A} {s : A → Rule B} {v : Follow} → Leads l r (Before m)
     → ((x : A) → Leads m (s x) v) → Leads l (rule.◌>>=◌ r s) v
 leads_bind {A} {B} {l} {m} {r} {s} {v} one other = record {
@@ -153,6 +92,7 @@ leads_bind {A} {B} {l} {m} {r} {s} {v} one other = record {
       ((other h.thing).leads h.back rest x h.next_spells ok));
 }
 
+-- any number of things lead to one of them, or to what stands behind them
 pub leads_many : {A : Type 0} {l m : List ℕ} {r : Rule A} → BeginsIn m r → Leads (m ++ l) (rule.many r) (Before l)
 leads_many {A} {l} {m} {r} begins = record { leads = go }
   where
@@ -165,6 +105,7 @@ leads_many {A} {l} {m} {r} begins = record { leads = go }
 
 -- ---- with what a rule begins
 
+-- from a property of numbers to a set of them
 pub begins_in : {A : Type 0} {f : ℕ → Bool} (l : List ℕ) {r : Rule A} → ((n : ℕ) → f n ≡ true → among l n ≡ true)
     → Begins f r → BeginsIn l r
 begins_in l wider begins = record {
@@ -174,12 +115,14 @@ begins_in l wider begins = record {
 pub one_among : (m n : ℕ) → (n == m) ≡ true → among (m ∷ []) n ≡ true
 one_among m n is = rw is refl
 
+-- a word begins with itself
 pub begins_kind : (kind : TokenKind) → BeginsIn (tag kind ∷ []) (words.word kind)
 begins_kind kind = begins_in (tag kind ∷ []) (one_among (tag kind)) (begins_word kind)
 
 pub name_begins : BeginsIn (200 ∷ []) (rule.one name_of)
 name_begins = begins_in (200 ∷ []) (one_among 200) begins_name
 
+-- a choice begins as the one or the other does
 pub begins_either : {A : Type 0} {l m : List ℕ} {r s : Rule A} → BeginsIn l r → BeginsIn m s
     → BeginsIn (l ++ m) (rule.◌or◌ r s)
 begins_either {A} {l} {m} {r} {s} one other = record { head = go }
@@ -197,7 +140,8 @@ begins_leads {A} {B} {l} {m} {r} {s} one other = record { head = go }
         → HeadIn (among l) front
     some front token back b e = (token, back, e, sym (ap (λ t. next_in (among l) (next t)) e) ∙ b.fits)
 
-    first : (front back : Tokens) → HeadIn (among m) back → (token : Token) × (rest : Tokens) × (front ++ back ≡ token ∷ rest)
+    first : (front back : Tokens) → HeadIn (among m) back → (token : Token) × (rest : Tokens) ×
+        (front ++ back ≡ token ∷ rest)
     first [] back w = (w.0, w.1, w.2)
     first (t ∷ front) back w = (t, front ++ back, refl)
 
@@ -206,9 +150,11 @@ begins_leads {A} {B} {l} {m} {r} {s} one other = record { head = go }
         let w = (other h.thing).head h.back x h.next_spells in
         let behind : Before m h.back = subst (λ t. Before m t) (append-nil h.back) (before_head m h.back [] w) in
         let f = first h.front h.back w in
-        some front f.0 f.1 (subst (λ t. Before l t) (sym h.split) (one.leads h.front h.back h.thing h.first_spells behind))
+        some front f.0 f.1 (subst (λ t. Before l t) (sym h.split)
+        (one.leads h.front h.back h.thing h.first_spells behind))
         (h.split ∙ f.2)
 
+-- two rules begin as the first does
 pub begins_then : {A B : Type 0} {l : List ℕ} {r : Rule A} {s : A → Rule B} → BeginsIn l r
     → BeginsIn l (rule.◌>>=◌ r s)
 begins_then {A} {B} {l} {r} {s} begins = record {
@@ -220,8 +166,72 @@ pub begins_word_then : {B : Type 0} (kind : TokenKind) {s : ℕ → Rule B} → 
     (rule.◌>>=◌ (words.word kind) s)
 begins_word_then kind = begins_then (begins_kind kind)
 
+-- what begins with a token is not empty
 pub full_begins : {A : Type 0} {l : List ℕ} (r : Rule A) → BeginsIn l r → NoEmpty r
 full_begins r begins front x h = let w = begins.head front x h in rw w.2 (omega arith)
+
+-- a rule within another begins as that does
+pub begins_within : {A : Type 0} {l : List ℕ} {r s : Rule A} → ((front : Tokens) (x : A) → r front x → s front x)
+    → BeginsIn l s → BeginsIn l r
+begins_within wider begins = record { head = λ front x h. begins.head front x (wider front x h) }
+
+-- a rule within another leads to what that leads to
+pub leads_within : {A : Type 0} {l : List ℕ} {r s : Rule A} {v : Follow} → ((front : Tokens) (x : A) → r front x
+    → s front x) → Leads l s v → Leads l r v
+leads_within wider leads = record { leads = λ front rest x h ok. leads.leads front rest x (wider front x h) ok }
+
+-- ---- a token ahead
+
+-- a token comes next, of one of the kinds with these numbers
+pub record Ahead (l : List ℕ) (rest : Tokens) : Type 0 where
+  pub head : HeadIn (among l) rest
+
+-- before any number of things and a token of the set one comes next
+pub ahead_many : {A : Type 0} {l : List ℕ} {r : Rule A} → BeginsIn l r → (xs : List A) (front behind : Tokens)
+    → rule.many r front xs → Ahead l behind → Ahead l (front ++ behind)
+ahead_many begins [] front behind h ok = rw h ok
+ahead_many {A} {l} {r} begins (x ∷ xs) front behind h ok = let w = begins.head h.front x h.first in
+    record {
+      head = (
+        w.0,
+        w.1 ++ (h.back ++ behind),
+        ap (λ t. t ++ behind) h.split ∙ append_assoc h.front h.back behind
+            ∙ ap (λ t. t ++ (h.back ++ behind)) w.2,
+        w.3,
+      );
+    }
+
+-- a set within another
+pub begins_more : {A : Type 0} {l m : List ℕ} {r : Rule A} → all_have (among m) l ≡ true → BeginsIn l r → BeginsIn m r
+begins_more {A} {l} {m} {r} all begins = record {
+  head = λ front x h. let w = begins.head front x h in
+      (w.0, w.1, w.2, among_has (among m) l all (tag w.0.kind) w.3);
+}
+
+-- ---- where nothing opens
+
+-- a rule that nothing is spelled by where nothing opens
+pub record Closed {A : Type 0} (opens : Bool) (r : Rule A) : Type 0 where
+  pub none : opens ≡ false → (front : Tokens) (x : A) → r front x → ⊥
+
+-- two rules, of which the first needs what opens
+pub closed_first : {A B : Type 0} {opens : Bool} {r : Rule A} {s : A → Rule B} → Closed opens r
+    → Closed opens (rule.◌>>=◌ r s)
+closed_first closed = record { none = λ shut front x h. closed.none shut h.front h.thing h.first_spells }
+
+-- two rules, of which the second needs what opens
+pub closed_next : {A B : Type 0} {opens : Bool} {r : Rule A} {s : A → Rule B} → ((x : A) → Closed opens (s x))
+    → Closed opens (rule.◌>>=◌ r s)
+closed_next closed = record { none = λ shut front x h. (closed h.thing).none shut h.back x h.next_spells }
+
+-- a choice of two that need what opens
+pub closed_or : {A : Type 0} {opens : Bool} {r s : Rule A} → Closed opens r → Closed opens s
+    → Closed opens (rule.◌or◌ r s)
+closed_or {A} {opens} {r} {s} one other = record { none = go }
+  where
+    go : opens ≡ false → (front : Tokens) (x : A) → rule.◌or◌ r s front x → ⊥
+    go shut front x (inl h) = one.none shut front x h
+    go shut front x (inr h) = other.none shut front x h
 
 -- ---- questions to the next token
 
@@ -230,22 +240,22 @@ pub record Asks (look : Look) (l : List ℕ) : Type 0 where
   pub none : look None ≡ false
   pub some : (token : Token) → look (Some token) ≡ among l (tag token.kind)
 
-or_none : (b : Bool) → b ≡ (b || false)
-or_none true = refl
-or_none false = refl
-
+-- whether a word comes next
 pub asks_kind : (kind : TokenKind) → Asks (sees kind) (tag kind ∷ [])
-asks_kind kind = record { none = refl; some = λ token. or_none (tag token.kind == tag kind) }
+asks_kind kind = record { none = refl; some = λ token. sym (or_last (tag token.kind == tag kind)) }
 
+-- whether a name comes next
 pub asks_name : Asks (passes name_of) (200 ∷ [])
-asks_name = record { none = refl; some = λ token. name_tag token.kind ∙ or_none (tag token.kind == 200) }
+asks_name = record { none = refl; some = λ token. name_tag token.kind ∙ sym (or_last (tag token.kind == 200)) }
 
+-- the one question or the other
 pub asks_either : {f g : Look} {l m : List ℕ} → Asks f l → Asks g m → Asks (λ token. f token || g token) (l ++ m)
 asks_either {f} {g} {l} {m} one other = record {
   none = rw (one.none, other.none) refl;
   some = λ token. rw (one.some token, other.some token) (sym (among_both l m (tag token.kind)));
 }
 
+-- what the rule begins with is asked
 pub starts : {A : Type 0} {look : Look} {a l : List ℕ} {r : Rule A} → Asks look a → BeginsIn l r
     → all_have (among a) l ≡ true → Starts look r
 starts {A} {look} {a} {l} {r} asks begins all front rest x h = let w = begins.head front x h in
@@ -260,6 +270,7 @@ starts_one {A} {B} {test} {s} front rest x h = rw (h.split, h.first_spells.alone
 abbrev pub Skips : {A : Type 0} → Look → Rule A → Follow → Type 0
 Skips {A} look r v = (front rest : Tokens) (x : A) → r front x → v rest → look (next (front ++ rest)) ≡ false
 
+-- what comes next is not asked
 pub asks_no : {look : Look} {a l : List ℕ} → Asks look a → all_have (outside a) l ≡ true → (rest : Tokens)
     → Before l rest → look (next rest) ≡ false
 asks_no {look} {a} {l} asks all rest b = go (next rest) b.fits
@@ -269,253 +280,8 @@ asks_no {look} {a} {l} asks all rest b = go (next rest) b.fits
     go (Some token) is = asks.some token
         ∙ not_true (among a (tag token.kind)) (among_has (outside a) l all (tag token.kind) is)
 
+-- what the rule leads to is not asked
 pub skips : {A : Type 0} {look : Look} {a l : List ℕ} {r : Rule A} {v : Follow} → Asks look a → Leads l r v
     → all_have (outside a) l ≡ true → Skips look r v
 skips {A} {look} {a} {l} {r} {v} asks leads all front rest x h ok =
     asks_no asks all (front ++ rest) (leads.leads front rest x h ok)
-
--- ---- choices
-
--- the look leads to the first reader
-pub takes_on : {A : Type 0} (look : Look) {p : Reader A} (q : Reader A) {r : Rule A} {v : Follow} → Starts look r
-    → Takes p r v → Takes (reader.case look p q) r v
-takes_on look q is takes = record {
-  takes = λ front rest x h ok. rw (is front rest x h) (takes.takes front rest x h ok);
-}
-
--- the look leads past the first reader
-pub takes_off : {A : Type 0} (look : Look) (p : Reader A) {q : Reader A} {r : Rule A} {v : Follow} → Skips look r v
-    → Takes q r v → Takes (reader.case look p q) r v
-takes_off look p is takes = record {
-  takes = λ front rest x h ok. rw (is front rest x h ok) (takes.takes front rest x h ok);
-}
-
-pub takes_or : {A : Type 0} {p : Reader A} {r s : Rule A} {v : Follow} → Takes p r v → Takes p s v
-    → Takes p (rule.◌or◌ r s) v
-takes_or {A} {p} {r} {s} {v} one other = record { takes = go }
-  where
-    go : (front rest : Tokens) (x : A) → rule.◌or◌ r s front x → v rest → p (front ++ rest) ≡ Ok (x, rest)
-    go front rest x (inl h) ok = one.takes front rest x h ok
-    go front rest x (inr h) ok = other.takes front rest x h ok
-
--- a rule within another
-pub takes_within : {A : Type 0} {p : Reader A} {r s : Rule A} {v : Follow} → ((front : Tokens) (x : A)
-    → r front x → s front x) → Takes p s v → Takes p r v
-takes_within wider t = record { takes = λ front rest x h ok. t.takes front rest x (wider front x h) ok }
-
--- ---- one rule behind another
-
--- a token, and what stands behind it
-pub takes_word : {A B : Type 0} {test : Token → Option A} {f : A → Reader B} {s : A → Rule B} {v : Follow}
-    → ((x : A) → Takes (f x) (s x) v) → Takes (reader.◌>>=◌ (reader.one test) f) (rule.◌>>=◌ (rule.one test) s) v
-takes_word {A} {B} {test} {f} {s} {v} second = takes_bind (takes_one test Any) second (λ _ _ _ _ _ _. tt)
-
--- what leads on to the second
-pub takes_then : {A B : Type 0} {p : Reader A} {f : A → Reader B} {r : Rule A} {s : A → Rule B} {l : List ℕ}
-    {v : Follow} → Takes p r (Before l) → ((x : A) → Takes (f x) (s x) v) → ((x : A) → Leads l (s x) v)
-    → Takes (reader.◌>>=◌ p f) (rule.◌>>=◌ r s) v
-takes_then first second leads = takes_bind first second (λ x y back rest h ok. (leads x).leads back rest y h ok)
-
--- a thing that is turned into another
-pub takes_map : {A B : Type 0} {p : Reader A} {r : Rule A} {v : Follow} (g : A → B) → Takes p r v
-    → Takes (reader.◌>>=◌ p (λ x. reader.pure (g x))) (rule.◌>>=◌ r (λ x. rule.pure (g x))) v
-takes_map {A} {B} {p} {r} {v} g takes = takes_bind takes (λ x. takes_pure (g x) v) (λ x y back rest h ok. rw h.0 ok)
-
--- ---- any number of things
-
-pub takes_each : {A : Type 0} (look : Look) {p : Reader A} {r : Rule A} {l v : List ℕ} → BeginsIn l r → Starts look r
-    → ((rest : Tokens) → Before v rest → look (next rest) ≡ false) → Takes p r (Before (l ++ v))
-    → Takes (reader.many look p) (rule.many r) (Before v)
-takes_each {A} look {p} {r} {l} {v} begins asked stops one = record {
-  takes = λ front rest xs h ok. go (length (front ++ rest)) xs front rest h ok (enough xs front rest h);
-}
-  where
-    shorter : (front back : Tokens) (n : ℕ) → 0 < length front → n ≤ length back → suc n ≤ length (front ++ back)
-    shorter front back n some less = let sum = length-append front back in omega arith
-
-    count : (xs : List A) (front : Tokens) → rule.many r front xs → length xs ≤ length front
-    count [] front h = omega arith
-    count (x ∷ xs) front h = let less : suc (length xs) ≤ length (h.front ++ h.back) = shorter h.front h.back (length xs)
-        (full_begins r begins h.front x h.first) (count xs h.back h.second) in
-        let same : length front ≡ length (h.front ++ h.back) = ap length h.split in omega arith
-
-    enough : (xs : List A) (front rest : Tokens) → rule.many r front xs → length xs ≤ length (front ++ rest)
-    enough xs front rest h = let sum = length-append front rest in let less = count xs front h in omega arith
-
-    fits : (xs : List A) (back rest : Tokens) → rule.many r back xs → Before v rest → Before (l ++ v) (back ++ rest)
-    fits xs back rest h ok = (leads_many begins).leads back rest xs h ok
-
-    go : (n : ℕ) (xs : List A) (front rest : Tokens) → rule.many r front xs → Before v rest → length xs ≤ n
-        → reader.many_from look p n (front ++ rest) ≡ Ok (xs, rest)
-    go zero [] front rest h ok less = rw h refl
-    go (suc n) [] front rest h ok less = rw (h, stops rest ok) refl
-    go zero (x ∷ xs) front rest h ok less = absurd (omega arith)
-    go (suc n) (x ∷ xs) front rest h ok less = rw (
-      h.split,
-      append_assoc h.front h.back rest,
-      asked h.front (h.back ++ rest) x h.first,
-      one.takes h.front (h.back ++ rest) x h.first (fits xs h.back rest h.second ok),
-      go n xs h.back rest h.second ok (omega arith),
-    ) refl
-
--- ---- things with commas between
-
-abbrev pub comma : ℕ
-comma = tag (kind.Symbol s.Comma)
-
-pub takes_more : {A : Type 0} {p : Reader A} {r : Rule A} {v : List ℕ} → Takes p r (Before (comma ∷ v))
-    → all_have (outside (comma ∷ [])) v ≡ true
-    → Takes (expressions.more_of p) (rule.many (rule.◌>>◌ (words.symbol s.Comma) r)) (Before v)
-takes_more {A} {p} {r} {v} takes none = takes_each (sees (kind.Symbol s.Comma))
-    (begins_word_then (kind.Symbol s.Comma))
-    (starts (asks_kind (kind.Symbol s.Comma)) (begins_word_then (kind.Symbol s.Comma)) refl)
-    (asks_no (asks_kind (kind.Symbol s.Comma)) none) (takes_word (λ _. takes))
-
-pub takes_list : {A : Type 0} {p : Reader A} {r : Rule A} {v : List ℕ} → Takes p r (Before (comma ∷ v))
-    → all_have (outside (comma ∷ [])) v ≡ true → Takes (expressions.list_of p) (words.list_of r) (Before v)
-takes_list {A} {p} {r} {v} takes none = takes_then takes (λ first. takes_map (λ more. first ∷ more) (takes_more takes none))
-    (λ first. leads_bind (leads_many (begins_word_then (kind.Symbol s.Comma))) (λ more. leads_pure))
-
--- ---- choices by a word
-
-pub starts_word : {B : Type 0} (kind : TokenKind) {s : ℕ → Rule B} → Starts (sees kind) (rule.◌>>=◌ (words.word kind) s)
-starts_word kind = starts (asks_kind kind) (begins_word_then kind) (all_own (tag kind ∷ []))
-
-pub takes_on_word : {A : Type 0} (kind : TokenKind) {p : Reader A} (q : Reader A) {s : ℕ → Rule A} {v : Follow}
-    → Takes p (rule.◌>>=◌ (words.word kind) s) v
-    → Takes (reader.case (sees kind) p q) (rule.◌>>=◌ (words.word kind) s) v
-takes_on_word kind q takes = takes_on (sees kind) q (starts_word kind) takes
-
-pub takes_off_word : {A : Type 0} (kind : TokenKind) (p : Reader A) {q : Reader A} {l : List ℕ} {r : Rule A} {v : Follow}
-    → Leads l r v → all_have (outside (tag kind ∷ [])) l ≡ true → Takes q r v
-    → Takes (reader.case (sees kind) p q) r v
-takes_off_word kind p leads all takes = takes_off (sees kind) p (skips (asks_kind kind) leads all) takes
-
--- ---- several choices, one behind the other
-
--- The reader takes what the rule spells, which begins with tokens of these kinds.
-pub record Chosen {A : Type 0} (p : Reader A) (l : List ℕ) (r : Rule A) (v : Follow) : Type 0 where
-  pub takes : Takes p r v
-  pub begins : BeginsIn l r
-
-pub chosen : {A : Type 0} {p : Reader A} {l : List ℕ} {r : Rule A} {v : Follow} → Takes p r v → BeginsIn l r
-    → Chosen p l r v
-chosen takes begins = record { takes = takes; begins = begins }
-
--- one more choice, before the others
-pub choose_by : {A : Type 0} {look : Look} {a m l : List ℕ} {p q : Reader A} {r s : Rule A} {v : Follow}
-    → Asks look a → BeginsIn m r → all_have (among a) m ≡ true → Takes p r v → Chosen q l s v
-    → all_have (outside a) l ≡ true → Chosen (reader.case look p q) (m ++ l) (rule.◌or◌ r s) v
-choose_by {A} {look} {a} {m} {l} {p} {q} {r} {s} {v} asks begins own takes others none = record {
-  takes = takes_or (takes_on look q (starts asks begins own) takes)
-      (takes_off look p (skips asks (leads_begins others.begins) none) others.takes);
-  begins = begins_either begins others.begins;
-}
-
-pub choose : {A : Type 0} (kind : TokenKind) {l : List ℕ} {p q : Reader A} {f : ℕ → Rule A} {s : Rule A} {v : Follow}
-    → Takes p (rule.◌>>=◌ (words.word kind) f) v → Chosen q l s v → all_have (outside (tag kind ∷ [])) l ≡ true
-    → Chosen (reader.case (sees kind) p q) (tag kind ∷ l) (rule.◌or◌ (rule.◌>>=◌ (words.word kind) f) s) v
-choose kind takes others none = choose_by (asks_kind kind) (begins_word_then kind) (all_own (tag kind ∷ [])) takes others
-    none
-
-pub begins_within : {A : Type 0} {l : List ℕ} {r s : Rule A} → ((front : Tokens) (x : A) → r front x → s front x)
-    → BeginsIn l s → BeginsIn l r
-begins_within wider begins = record { head = λ front x h. begins.head front x (wider front x h) }
-
-pub leads_within : {A : Type 0} {l : List ℕ} {r s : Rule A} {v : Follow} → ((front : Tokens) (x : A) → r front x → s front x)
-    → Leads l s v → Leads l r v
-leads_within wider leads = record { leads = λ front rest x h ok. leads.leads front rest x (wider front x h) ok }
-
--- before fewer tokens
-pub takes_before : {A : Type 0} {p : Reader A} {r : Rule A} {l m : List ℕ} → all_have (among m) l ≡ true
-    → Takes p r (Before m) → Takes p r (Before l)
-takes_before {A} {p} {r} {l} {m} all takes = takes_narrow (before_wider l m all) takes
-
--- ---- loops that their last turn ends
-
--- The turn takes each thing as one to go on behind, and what stands behind them as the last.
-pub until_takes : {A B : Type 0} (turn : Reader (Turn A B)) (r : Rule A) {u : Follow}
-    → Takes turn (rule.◌>>=◌ r (λ x. rule.pure (Continue x))) u → NoEmpty r → (xs : List A) (front behind rest : Tokens)
-    (y : B) → rule.many r front xs → ((ys : List A) (more : Tokens) → rule.many r more ys → u (more ++ behind))
-    → turn behind ≡ Ok (Break y, rest) → reader.until turn (front ++ behind) ≡ Ok ((xs, y), rest)
-until_takes {A} {B} turn r {u} onward full xs front behind rest y h fits last =
-    go (suc (length (front ++ behind))) xs front h (enough xs front h)
-  where
-    shorter : (front back : Tokens) (n : ℕ) → 0 < length front → n ≤ length back → suc n ≤ length (front ++ back)
-    shorter front back n some less = let sum = length-append front back in omega arith
-
-    count : (xs : List A) (front : Tokens) → rule.many r front xs → length xs ≤ length front
-    count [] front h = omega arith
-    count (x ∷ xs) front h = let less : suc (length xs) ≤ length (h.front ++ h.back) = shorter h.front h.back (length xs)
-        (full h.front x h.first) (count xs h.back h.second) in
-        let same : length front ≡ length (h.front ++ h.back) = ap length h.split in omega arith
-
-    enough : (xs : List A) (front : Tokens) → rule.many r front xs → length xs < suc (length (front ++ behind))
-    enough xs front h = let sum = length-append front behind in let less = count xs front h in omega arith
-
-    one : (front more : Tokens) (x : A) → r front x → u more → turn (front ++ more) ≡ Ok (Continue x, more)
-    one front more x h ok = onward.takes front more (Continue x) (record {
-      front = front;
-      back = [];
-      thing = x;
-      split = sym (append-nil front);
-      first_spells = h;
-      next_spells = (refl, refl);
-    }) ok
-
-    go : (n : ℕ) (xs : List A) (front : Tokens) → rule.many r front xs → length xs < n
-        → reader.until_from turn n (front ++ behind) ≡ Ok ((xs, y), rest)
-    go zero xs front h less = absurd (omega arith)
-    go (suc n) [] front h less = rw (h, last) refl
-    go (suc n) (x ∷ xs) front h less = rw (
-      h.split,
-      append_assoc h.front h.back behind,
-      one h.front (h.back ++ behind) x h.first (fits xs h.back h.second),
-      go n xs h.back h.second (omega arith),
-    ) refl
-
--- ---- a token ahead
-
--- a token comes next, of one of the kinds with these numbers
-pub record Ahead (l : List ℕ) (rest : Tokens) : Type 0 where
-  pub head : HeadIn (among l) rest
-
-pub ahead_many : {A : Type 0} {l : List ℕ} {r : Rule A} → BeginsIn l r → (xs : List A) (front behind : Tokens)
-    → rule.many r front xs → Ahead l behind → Ahead l (front ++ behind)
-ahead_many begins [] front behind h ok = rw h ok
-ahead_many {A} {l} {r} begins (x ∷ xs) front behind h ok = let w = begins.head h.front x h.first in
-    record {
-      head = (w.0, w.1 ++ (h.back ++ behind), ap (λ t. t ++ behind) h.split ∙ append_assoc h.front h.back behind
-          ∙ ap (λ t. t ++ (h.back ++ behind)) w.2, w.3);
-    }
-
-pub begins_more : {A : Type 0} {l m : List ℕ} {r : Rule A} → all_have (among m) l ≡ true → BeginsIn l r → BeginsIn m r
-begins_more {A} {l} {m} {r} all begins = record {
-  head = λ front x h. let w = begins.head front x h in
-      (w.0, w.1, w.2, among_has (among m) l all (tag w.0.kind) w.3);
-}
-
--- a rule that nothing is spelled by where nothing opens
-pub record Closed {A : Type 0} (opens : Bool) (r : Rule A) : Type 0 where
-  pub none : opens ≡ false → (front : Tokens) (x : A) → r front x → ⊥
-
-pub closed_first : {A B : Type 0} {opens : Bool} {r : Rule A} {s : A → Rule B} → Closed opens r
-    → Closed opens (rule.◌>>=◌ r s)
-closed_first closed = record { none = λ shut front x h. closed.none shut h.front h.thing h.first_spells }
-
-pub closed_next : {A B : Type 0} {opens : Bool} {r : Rule A} {s : A → Rule B} → ((x : A) → Closed opens (s x))
-    → Closed opens (rule.◌>>=◌ r s)
-closed_next closed = record { none = λ shut front x h. (closed h.thing).none shut h.back x h.next_spells }
-
-pub closed_or : {A : Type 0} {opens : Bool} {r s : Rule A} → Closed opens r → Closed opens s
-    → Closed opens (rule.◌or◌ r s)
-closed_or {A} {opens} {r} {s} one other = record { none = go }
-  where
-    go : opens ≡ false → (front : Tokens) (x : A) → rule.◌or◌ r s front x → ⊥
-    go shut front x (inl h) = one.none shut front x h
-    go shut front x (inr h) = other.none shut front x h
-
-pub takes_gated : {A : Type 0} (opens : Bool) {p : Reader A} {r : Rule A} {v : Follow} → Closed opens r → Takes p r v
-    → Takes (reader.gate opens p) r v
-takes_gated true closed takes = takes
-takes_gated false closed takes = record { takes = λ front rest x h ok. absurd (closed.none refl front x h) }

@@ -1,5 +1,6 @@
 -- What is known of the next token, where a loop has stopped or a rule begins.
-use Rattle.std.proofs.Common.{◌≡◌, ℕ, zero, suc, ◌<◌, ◌≤◌, Bool, true, false, cond, List, [], ◌∷◌, ◌++◌, length, Option, Some, None, Result, Ok, Err, refl, sym, ap, ◌∙◌, arith}
+use Rattle.std.proofs.Common.{◌≡◌, ℕ, zero, suc, ◌<◌, ◌≤◌, Bool, true, false, cond, List, [], ◌∷◌, ◌++◌, length, None}
+use Rattle.std.proofs.Common.{Ok, Err, refl, sym, ap, ◌∙◌, arith}
 use Rattle.vb_syntax.specs.Rules.{Tokens, Rule}
 use Rattle.vb_parse.specs.Reader.{Outcome, Reader, and_then, next, Look}
 use Rattle.vb_parse.specs.Reader as reader

@@ -1,5 +1,6 @@
 -- The reader of a line reads the grammar's line, and a ":" that stands behind it.
-use Rattle.std.proofs.Common.{◌≡◌, ℕ, zero, suc, ◌<◌, ◌||◌, not, ◌⊎◌, inl, inr, Bool, true, false, IsTrue, List, [], ◌∷◌, ◌++◌, Option, Some, None, refl, sym, ap, ◌∙◌, append-nil, subst, arith}
+use Rattle.std.proofs.Common.{◌≡◌, ℕ, zero, suc, ◌||◌, not, inl, inr, Bool, true, false, IsTrue, [], ◌∷◌, ◌++◌, Some}
+use Rattle.std.proofs.Common.{None, refl, sym, ap, ◌∙◌, append-nil, subst}
 use Rattle.std.specs.declared.ops.ControlFlow.TheVariants.{Continue, Break}
 use Rattle.vb_value.specs.declared.token.Keyword.TheVariants as k
 use Rattle.vb_value.specs.declared.token.Symbol.TheVariants as s
@@ -18,9 +19,12 @@ use Rattle.vb_parse.specs.Reader as reader
 use Rattle.vb_parse.specs.ReadLines as spec
 use Rattle.vb_parse.specs.ReadLines.{LineRead, LastRead}
 use Rattle.vb_parse.specs.Runs.{opens, inside}
-use Rattle.vb_parse.proofs.Reading.{Reads, Lives, NoEmpty, lives_bind, reads_pure, reads_refuse, reads_wider, reads_bind, reads_one, reads_choice, reads_both, reads_gate, reads_many, reads_word, full_one, full_bind, full_word, token_of}
+use Rattle.vb_parse.proofs.Reading.{Reads, Lives, NoEmpty, reads_pure, reads_refuse, reads_wider, reads_bind, reads_one}
+use Rattle.vb_parse.proofs.Reading.{reads_choice, reads_both, reads_many, reads_word, full_one, full_bind, full_word}
+use Rattle.vb_parse.proofs.Reading.{token_of}
 use Rattle.vb_parse.proofs.Taking.{only}
-use Rattle.vb_parse.proofs.Binding.{Within, within_then, bind_wider, first_wider, bind_left, bind_right, pure_in, pure_out}
+use Rattle.vb_parse.proofs.Binding.{Within, within_then, bind_wider, first_wider, bind_left, bind_right, pure_in}
+use Rattle.vb_parse.proofs.Binding.{pure_out}
 use Rattle.vb_parse.proofs.Until.{turn_rule, until_rule, reads_until}
 use Rattle.vb_parse.proofs.ExpressionReading.{expressions_read}
 use Rattle.vb_parse.proofs.CallReading.{or_false}
@@ -114,7 +118,8 @@ pub record InnerBlocks (depth : ℕ) (bp : spec.Blocks) (br : grammar.Blocks) : 
   pub line : IsTrue (opens depth) → Reads bp.line (trailed line_told br.line)
 
 module _ (looser : Looser) (depth : ℕ) (bp : spec.Blocks) (br : grammar.Blocks) (inner : InnerBlocks depth bp br) where
-  pub reads_inside : IsTrue (opens depth) → Reads (spec.inside_expression looser depth bp) (grammar.inside looser depth br)
+  pub reads_inside : IsTrue (opens depth) → Reads (spec.inside_expression looser depth bp)
+      (grammar.inside looser depth br)
   reads_inside is = go depth is
     where
       go : (d : ℕ) → IsTrue (opens d) → Reads (inside d).expression (grammar.inside looser d br)
@@ -127,11 +132,13 @@ module _ (looser : Looser) (depth : ℕ) (bp : spec.Blocks) (br : grammar.Blocks
   -- what stands behind the first branch
   abbrev pub rest_rule : ℕ → Expression → LineRead → Rule LastRead
   rest_rule line condition body = rule.◌or◌ (rule.pure (none_else line condition body, true, body.2))
-      (rule.where_true (not (body.2 || body.1)) (rule.◌>>◌ (words.keyword k.Else) (rule.◌>>=◌ (trailed line_told br.line)
+      (rule.where_true (not (body.2 || body.1)) (rule.◌>>◌ (words.keyword k.Else) (rule.◌>>=◌
+      (trailed line_told br.line)
       (λ other. rule.pure (statement line (st.LineIf condition body.0 (Some other.0)), other.1, other.2)))))
 
   reads_else_line : IsTrue (opens depth) → (line : ℕ) (condition : Expression) (body : LineRead) (b : Bool)
-      → (body.2 || body.1) ≡ b → Reads (spec.else_line looser depth bp b line condition body) (rest_rule line condition body)
+      → (body.2 || body.1) ≡ b → Reads (spec.else_line looser depth bp b line condition body)
+      (rest_rule line condition body)
   reads_else_line is line condition body true e = reads_wider (λ _ _ h. inl h) (reads_pure _)
   reads_else_line is line condition body false e =
       let parts = or_false body.2 body.1 e in
@@ -146,7 +153,9 @@ module _ (looser : Looser) (depth : ℕ) (bp : spec.Blocks) (br : grammar.Blocks
   else_rule line condition body = rule.◌or◌
       (rule.pure (statement line (st.LineIf condition body.statements None), true))
       (rule.where_true (not body.takes_else) (rule.◌>>◌ (words.keyword k.Else) (rule.◌>>=◌ br.line (λ other. rule.pure (
-      statement line (st.LineIf condition body.statements (Some other.statements)), other.takes_else)))))
+        statement line (st.LineIf condition body.statements (Some other.statements)),
+        other.takes_else,
+      )))))
 
   abbrev with_colon : Statement × Bool → Rule LastRead
   with_colon last = rule.◌>>=◌ maybe_colon (λ colon. rule.pure (last_told last colon))
@@ -168,11 +177,15 @@ module _ (looser : Looser) (depth : ℕ) (bp : spec.Blocks) (br : grammar.Blocks
         next_spells = w;
       }))
       go (inr w) = let parts = not_or h.thing body.takes_else w.0 in
-          let gone : front ≡ h.back = h.split ∙ ap (λ t. t ++ h.back) (no_colon h.front h.thing h.first_spells parts.0) in
+          let gone : front ≡ h.back = h.split ∙ ap (λ t. t ++ h.back) (no_colon h.front h.thing h.first_spells
+          parts.0) in
           first_wider (λ _ _ g. inr (parts.1, g)) front x (within_then (bind_wider (λ _. within_then trailed_part
           trailed_made)) bind_left front x (subst (λ t. rule.◌>>◌ (words.keyword k.Else) (rule.◌>>=◌ (trailed line_told
-          br.line) (λ other. rule.pure (statement line (st.LineIf condition body.statements (Some other.0)), other.1,
-          other.2))) t x) (sym gone) w.1))
+          br.line) (λ other. rule.pure (
+            statement line (st.LineIf condition body.statements (Some other.0)),
+            other.1,
+            other.2,
+          ))) t x) (sym gone) w.1))
 
   line_if_spells : (line : ℕ) (condition : Expression)
       → Within (rule.◌>>=◌ (trailed line_told br.line) (rest_rule line condition))
@@ -189,7 +202,8 @@ module _ (looser : Looser) (depth : ℕ) (bp : spec.Blocks) (br : grammar.Blocks
   -- a one-line If, with the ":" behind it
   reads_line_if_open : IsTrue (opens depth) → Reads (spec.line_if_open looser depth bp)
       (trailed last_told (grammar.line_if looser depth br))
-  reads_line_if_open is = reads_wider (within_then (bind_wider (λ line. within_then (bind_wider (λ condition. bind_left))
+  reads_line_if_open is = reads_wider (within_then (bind_wider (λ line. within_then (bind_wider
+      (λ condition. bind_left))
       bind_left)) bind_left) (reads_bind (reads_word (kind.Keyword k.If)) (λ line. reads_bind (reads_inside is)
       (λ condition. reads_bind (reads_word (kind.Keyword k.Then)) (λ _. reads_line_if_from is line condition))))
 
@@ -285,7 +299,8 @@ module _ (looser : Looser) (depth : ℕ) (bp : spec.Blocks) (br : grammar.Blocks
           })))
       go (inr p) = subst (λ u. line_turn_rule front u) (sym p.1) (ended false (inr (p.0, refl)))
 
-  turn_line_if : Within (rule.◌>>=◌ (trailed last_told (grammar.line_if looser depth br)) (λ found. rule.pure (Break found)))
+  turn_line_if : Within (rule.◌>>=◌ (trailed last_told (grammar.line_if looser depth br)) (λ found. rule.pure
+      (Break found)))
       line_turn_rule
   turn_line_if front t h = subst (λ u. line_turn_rule front u) (sym h.next_spells.1) (first_wider (λ _ _ g. inr g) front
       h.thing (only (trailed last_told (grammar.line_if looser depth br)) Break front t h))
@@ -303,7 +318,10 @@ module _ (looser : Looser) (depth : ℕ) (bp : spec.Blocks) (br : grammar.Blocks
   -- ---- lines
 
   line_spells : Within (rule.◌>>=◌ (until_rule first_rule (trailed last_told last_rule)) (λ found. rule.pure (
-      found.0 ++ found.1.0 ∷ [], found.1.1, found.1.2))) (trailed line_told (grammar.line looser depth br))
+    found.0 ++ found.1.0 ∷ [],
+    found.1.1,
+    found.1.2,
+  ))) (trailed line_told (grammar.line looser depth br))
   line_spells = within_then bind_right (within_then (bind_wider (λ first. within_then bind_right (within_then
       (bind_wider (λ last. pure_out)) (within_then trailed_part trailed_made)))) bind_left)
 

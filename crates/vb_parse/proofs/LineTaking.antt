@@ -1,5 +1,6 @@
 -- The readers of lines take whatever the grammar spells, and a ":" behind it that belongs to what ends the line.
-use Rattle.std.proofs.Common.{◌≡◌, ℕ, zero, suc, ◌==◌, ◌||◌, not, inl, inr, Bool, true, false, IsTrue, cond, List, [], ◌∷◌, ◌++◌, Option, Some, None, Ok, refl, sym, ap, ◌∙◌, subst, append_assoc, append-nil}
+use Rattle.std.proofs.Common.{◌≡◌, ℕ, ◌||◌, not, inl, inr, Bool, true, false, IsTrue, cond, List, [], ◌∷◌, ◌++◌}
+use Rattle.std.proofs.Common.{Option, Some, None, Ok, refl, sym, ap, ◌∙◌, subst, append_assoc, append-nil}
 use Rattle.std.specs.declared.ops.ControlFlow.TheVariants.{Continue, Break}
 use Rattle.vb_value.specs.declared.token.Keyword.TheVariants as k
 use Rattle.vb_value.specs.declared.token.Symbol.TheVariants as s
@@ -17,16 +18,19 @@ use Rattle.vb_syntax.specs.SimpleStatements.{Looser, statement, simple}
 use Rattle.vb_syntax.specs.Statements as grammar
 use Rattle.vb_parse.specs.Reader.{Reader, Turn, and_then, next, sees}
 use Rattle.vb_parse.specs.Reader as reader
-use Rattle.vb_parse.specs.ReadSimpleStatements as statements
 use Rattle.vb_parse.specs.ReadLines as spec
 use Rattle.vb_parse.specs.ReadLines.{begins_line_statement, kind_begins_line_statement, LineRead, LastRead}
 use Rattle.vb_parse.specs.Runs.{opens}
-use Rattle.vb_parse.proofs.Reading.{NoEmpty}
-use Rattle.vb_parse.proofs.Taking.{Follow, Any, Takes, takes_pure, takes_one}
-use Rattle.vb_parse.proofs.Binding.{Within, within_then, bind_right, bind_wider, pure_in, pure_out}
+use Rattle.vb_parse.proofs.Taking.{Any, Takes, takes_one}
+use Rattle.vb_parse.proofs.Binding.{within_then, bind_right, bind_wider, pure_out}
 use Rattle.vb_parse.proofs.Beginning.{HeadIn}
-use Rattle.vb_parse.proofs.Following.{among, outside, all_have, Before, before_head, before_wider, BeginsIn, Leads, leads_begins, begins_kind, begins_then, begins_word_then, begins_either, begins_more, full_begins, Asks, asks_kind, asks_no, Skips, skips, starts, starts_word, takes_on_word, takes_off_word, takes_within, takes_word, takes_then, Ahead, ahead_many, until_takes, Closed, closed_first, closed_next}
-use Rattle.vb_parse.proofs.Placing.{takes_inside, begins_inside, closed_inside}
+use Rattle.vb_parse.proofs.Tags.{among}
+use Rattle.vb_parse.proofs.Following.{Before, before_head, before_wider, BeginsIn, leads_begins, begins_kind}
+use Rattle.vb_parse.proofs.Following.{begins_then, begins_word_then, begins_either, begins_more, full_begins, Asks}
+use Rattle.vb_parse.proofs.Following.{asks_kind, asks_no, skips, starts, Ahead, ahead_many, Closed, closed_first}
+use Rattle.vb_parse.proofs.Following.{closed_next}
+use Rattle.vb_parse.proofs.Choosing.{starts_word, takes_within, until_takes}
+use Rattle.vb_parse.proofs.Placing.{takes_inside, closed_inside}
 use Rattle.vb_parse.proofs.CallTaking.{statement_ends}
 use Rattle.vb_parse.proofs.SimpleTaking.{simple_heads, takes_simple, begins_simple}
 
@@ -73,7 +77,8 @@ trailing_word {A} {C} {D} {test} {f} {g} {e} {y} second = record {
   takes = λ front colon rest x taken h trails ok.
       ap (λ t. and_then (reader.one test t) f) (ap (λ t. t ++ (colon ++ rest)) h.split
       ∙ append_assoc h.front h.back (colon ++ rest))
-      ∙ ap (λ o. and_then o f) ((takes_one test Any).takes h.front (h.back ++ (colon ++ rest)) h.thing h.first_spells tt)
+      ∙ ap (λ o. and_then o f) ((takes_one test Any).takes h.front (h.back ++
+      (colon ++ rest)) h.thing h.first_spells tt)
       ∙ (second h.thing).takes h.back colon rest x taken h.next_spells trails ok;
 }
 
@@ -85,7 +90,8 @@ trailing_map {A} {B} {C} {D} {p} {r} {e} {y} f g {more_e} {more_y} same reads in
   takes = λ front colon rest x taken h trails ok.
       ap (λ t. and_then (p (t ++ (colon ++ rest))) (λ z. reader.pure (f z))) (h.split ∙ ap (λ t. h.front ++ t)
       h.next_spells.0 ∙ append-nil h.front)
-      ∙ ap (λ o. and_then o (λ z. reader.pure (f z))) (inner.takes h.front colon rest h.thing taken h.first_spells trails
+      ∙ ap (λ o. and_then o (λ z. reader.pure (f z))) (inner.takes h.front colon rest h.thing taken h.first_spells
+      trails
       (subst (λ b. Before (after_line b taken) rest) (ap more_e h.next_spells.1 ∙ same h.thing) ok))
       ∙ ap (λ z. Ok (z, rest)) (reads h.thing taken ∙ ap (λ z. more_y z taken) (sym h.next_spells.1));
 }
@@ -112,10 +118,12 @@ line_tag _ = refl
 pub asks_line : Asks begins_line_statement line_heads
 asks_line = record { none = refl; some = λ token. line_tag token.kind }
 
-module _ (looser : Looser) (depth : ℕ) (lp : spec.Blocks) (lr : grammar.Blocks) (inner : TakesLine lp.line lr.line) where
+module _ (looser : Looser) (depth : ℕ) (lp : spec.Blocks) (lr : grammar.Blocks)
+    (inner : TakesLine lp.line lr.line) where
   -- ---- one-line Ifs
 
-  abbrev branches : ℕ → Expression → grammar.Line → Rule (Statement × Bool)
+  -- what stands behind the first branch
+  abbrev pub branches : ℕ → Expression → grammar.Line → Rule (Statement × Bool)
   branches line condition body = rule.◌or◌
       (rule.pure (statement line (st.LineIf condition body.statements None), true))
       (rule.where_true (not body.takes_else) (rule.◌>>◌ (words.keyword k.Else) (rule.◌>>=◌ lr.line (λ other. rule.pure (
@@ -163,7 +171,8 @@ module _ (looser : Looser) (depth : ℕ) (lp : spec.Blocks) (lr : grammar.Blocks
   not_true true is = absurd cc
   not_true false is = refl
 
-  pub takes_line_if_from : (line : ℕ) (condition : Expression) → TakesLast (spec.line_if_from looser depth lp line condition)
+  pub takes_line_if_from : (line : ℕ) (condition : Expression) → TakesLast
+      (spec.line_if_from looser depth lp line condition)
       (rule.◌>>=◌ lr.line (branches line condition))
   takes_line_if_from line condition = record { takes = go }
     where
@@ -174,7 +183,8 @@ module _ (looser : Looser) (depth : ℕ) (lp : spec.Blocks) (lr : grammar.Blocks
       go front colon rest x taken h trails ok = which h.next_spells
         where
           which : branches line condition h.thing h.back x
-              → spec.line_if_from looser depth lp line condition (front ++ (colon ++ rest)) ≡ Ok ((x.0, x.1, taken), rest)
+              → spec.line_if_from looser depth lp line condition (front ++ (colon ++ rest)) ≡ Ok
+              ((x.0, x.1, taken), rest)
           which (inl w) =
               let ends : Before (after_line true taken) rest = subst (λ y. Before (after_line y.1 taken) rest) w.1 ok in
               ap (λ t. spec.line_if_from looser depth lp line condition (t ++ (colon ++ rest))) (h.split
@@ -195,7 +205,8 @@ module _ (looser : Looser) (depth : ℕ) (lp : spec.Blocks) (lr : grammar.Blocks
               (subst (λ b. Before (after_line b false) behind) (sym closes) head) in
               ap (spec.line_if_from looser depth lp line condition) (ap (λ t. t ++ (colon ++ rest)) h.split
               ∙ append_assoc h.front h.back (colon ++ rest))
-              ∙ ap (λ o. and_then o (λ body. spec.else_line looser depth lp (body.2 || body.1) line condition body)) first
+              ∙ ap (λ o. and_then o (λ body. spec.else_line looser depth lp
+              (body.2 || body.1) line condition body)) first
               ∙ ap (λ b. spec.else_line looser depth lp b line condition (
                 h.thing.statements,
                 h.thing.takes_else,
@@ -213,7 +224,8 @@ module _ (looser : Looser) (depth : ℕ) (lp : spec.Blocks) (lr : grammar.Blocks
 
   takes_line_if : TakesLast (spec.line_if looser depth lp) (grammar.line_if looser depth lr)
   takes_line_if = trailing_gated (opens depth) closed_line_if (trailing_word (λ line. trailing_bind
-      (takes_inside depth refl) (begins_from line) (λ condition. trailing_word (λ _. takes_line_if_from line condition))))
+      (takes_inside depth refl) (begins_from line) (λ condition. trailing_word
+      (λ _. takes_line_if_from line condition))))
 
   -- ---- lines
 
@@ -230,22 +242,27 @@ module _ (looser : Looser) (depth : ℕ) (lp : spec.Blocks) (lr : grammar.Blocks
   -- a simple statement, and what the turn does behind it
   simple_turn : (front rest : Tokens) (x : Statement) → simple looser depth front x → Before statement_ends rest
       → TurnOf (front ++ rest) ≡ spec.behind_simple looser depth lp x rest
-  simple_turn front rest x h ok = rw (skips (asks_kind (kind.Keyword k.If)) (leads_begins {v = Any} (begins_simple looser
+  simple_turn front rest x h ok = rw (skips (asks_kind (kind.Keyword k.If)) (leads_begins {v = Any}
+      (begins_simple looser
       depth)) refl front rest x h tt) (ap (λ o. and_then o (spec.behind_simple looser depth lp))
       ((takes_simple looser depth).takes front rest x h ok))
 
-  colon_ends : (colon rest : Tokens) (line : ℕ) → words.symbol s.Colon colon line → Before statement_ends (colon ++ rest)
+  colon_ends : (colon rest : Tokens) (line : ℕ) → words.symbol s.Colon colon line → Before statement_ends
+      (colon ++ rest)
   colon_ends colon rest line h = before_wider (tag (kind.Symbol s.Colon) ∷ []) statement_ends refl (colon ++ rest)
       (before_head (tag (kind.Symbol s.Colon) ∷ []) colon rest ((begins_kind (kind.Symbol s.Colon)).head colon line h))
 
   -- behind a ":" a statement comes, or none
   behind_colon : (colon rest : Tokens) (line : ℕ) (x : Statement) (begins : Bool) → words.symbol s.Colon colon line
       → begins_line_statement (next rest) ≡ begins
-      → spec.behind_simple looser depth lp x (colon ++ rest) ≡ cond begins (Ok (Continue x, rest)) (Ok (Break (
-        x,
-        false,
-        true,
-      ), rest))
+      → spec.behind_simple looser depth lp x (colon ++ rest) ≡ cond begins (Ok (Continue x, rest)) (Ok (
+        Break (
+          x,
+          false,
+          true,
+        ),
+        rest,
+      ))
   behind_colon colon rest line x begins h is = rw (
     starts (asks_kind (kind.Symbol s.Colon)) (begins_kind (kind.Symbol s.Colon)) refl colon rest line h,
     (takes_one (words.line_of (tag (kind.Symbol s.Colon))) Any).takes colon rest line h tt,
@@ -257,16 +274,19 @@ module _ (looser : Looser) (depth : ℕ) (lp : spec.Blocks) (lr : grammar.Blocks
 
   -- a statement and the ":" before the next one
   onward : Takes TurnOf (rule.◌>>=◌ first_rule (λ x. rule.pure (Continue x))) (Ahead line_heads)
-  onward = takes_within (within_then bind_right (bind_wider (λ found. within_then bind_right (bind_wider (λ _. pure_out)))))
+  onward = takes_within (within_then bind_right (bind_wider (λ found. within_then bind_right (bind_wider
+      (λ _. pure_out)))))
       (record { takes = go })
     where
       go : (front rest : Tokens) (x : Turn Statement LastRead) → rule.◌>>=◌ (simple looser depth)
           (λ found. rule.◌>>◌ (words.symbol s.Colon) (rule.pure (Continue found))) front x → Ahead line_heads rest
           → TurnOf (front ++ rest) ≡ Ok (x, rest)
       go front rest x h ahead = let c = h.next_spells in
-          ap TurnOf (ap (λ t. t ++ rest) (h.split ∙ ap (λ t. h.front ++ t) (c.split ∙ ap (λ t. c.front ++ t) c.next_spells.0
+          ap TurnOf (ap (λ t. t ++ rest) (h.split ∙ ap (λ t. h.front ++ t) (c.split ∙ ap
+          (λ t. c.front ++ t) c.next_spells.0
           ∙ append-nil c.front)) ∙ append_assoc h.front c.front rest)
-          ∙ simple_turn h.front (c.front ++ rest) h.thing h.first_spells (colon_ends c.front rest c.thing c.first_spells)
+          ∙ simple_turn h.front (c.front ++ rest) h.thing h.first_spells
+          (colon_ends c.front rest c.thing c.first_spells)
           ∙ behind_colon c.front rest c.thing h.thing true c.first_spells (statement_ahead rest ahead)
           ∙ ap (λ y. Ok (y, rest)) (sym c.next_spells.1)
 
@@ -274,7 +294,8 @@ module _ (looser : Looser) (depth : ℕ) (lp : spec.Blocks) (lr : grammar.Blocks
   last_simple : (front colon rest : Tokens) (x : Statement) (taken : Bool) → simple looser depth front x
       → Trailing taken colon → Before (after_line false taken) rest
       → TurnOf (front ++ (colon ++ rest)) ≡ Ok (Break (x, false, taken), rest)
-  last_simple front colon rest x true h trails ok = simple_turn front (colon ++ rest) x h (colon_ends colon rest trails.0
+  last_simple front colon rest x true h trails ok = simple_turn front (colon ++ rest) x h
+      (colon_ends colon rest trails.0
       trails.1) ∙ behind_colon colon rest trails.0 x false trails.1 (asks_no asks_line refl rest ok)
   last_simple front colon rest x false h trails ok = ap (λ t. TurnOf (front ++ (t ++ rest))) trails
       ∙ simple_turn front rest x h (before_wider (after_line false false) statement_ends refl rest ok)
@@ -286,12 +307,15 @@ module _ (looser : Looser) (depth : ℕ) (lp : spec.Blocks) (lr : grammar.Blocks
       go : (front colon rest : Tokens) (x : Statement × Bool) (taken : Bool) → last_rule front x → Trailing taken colon
           → Before (after_line x.1 taken) rest → TurnOf (front ++ (colon ++ rest)) ≡ Ok (Break (x.0, x.1, taken), rest)
       go front colon rest x taken (inl h) trails ok =
-          ap (λ t. TurnOf (t ++ (colon ++ rest))) (h.split ∙ ap (λ t. h.front ++ t) h.next_spells.0 ∙ append-nil h.front)
-          ∙ last_simple h.front colon rest h.thing taken h.first_spells trails (subst (λ y. Before (after_line y.1 taken)
+          ap (λ t. TurnOf (t ++ (colon ++ rest))) (h.split ∙ ap (λ t. h.front ++ t) h.next_spells.0
+          ∙ append-nil h.front)
+          ∙ last_simple h.front colon rest h.thing taken h.first_spells trails (subst (λ y. Before
+          (after_line y.1 taken)
           rest) h.next_spells.1 ok)
           ∙ ap (λ y. Ok (Break (y.0, y.1, taken), rest)) (sym h.next_spells.1)
       go front colon rest x taken (inr h) trails ok = rw (starts_word (kind.Keyword k.If) front (colon ++ rest) x h)
-          (ap (λ o. and_then o (λ found. reader.pure (Break found))) (takes_line_if.takes front colon rest x taken h trails
+          (ap (λ o. and_then o (λ found. reader.pure (Break found)))
+          (takes_line_if.takes front colon rest x taken h trails
           ok))
 
   first_begins : BeginsIn line_heads first_rule
@@ -324,7 +348,8 @@ module _ (looser : Looser) (depth : ℕ) (lp : spec.Blocks) (lr : grammar.Blocks
             head = (head.0, head.1 ++ (colon ++ rest), ap (λ t. t ++ (colon ++ rest)) head.2, head.3);
           } in
           ap (spec.line looser depth lp) (ap (λ t. t ++ (colon ++ rest)) (h.split ∙ ap (λ t. h.front ++ t) (z.split
-          ∙ ap (λ t. z.front ++ t) z.next_spells.0 ∙ append-nil z.front)) ∙ append_assoc h.front z.front (colon ++ rest))
+          ∙ ap (λ t. z.front ++ t) z.next_spells.0 ∙ append-nil z.front)) ∙ append_assoc h.front z.front
+          (colon ++ rest))
           ∙ ap (λ o. and_then o (λ found. reader.pure (found.0 ++ found.1.0 ∷ [], found.1.1, found.1.2)))
           (until_takes TurnOf first_rule onward (full_begins first_rule first_begins) h.thing h.front behind rest
           (z.thing.0, z.thing.1, taken) h.first_spells (λ ys more w. ahead_many first_begins ys more behind w ahead)

@@ -1,36 +1,23 @@
 -- An expression of which the first operand is known, and what a parenthesis at the end of a path may be else.
-use Rattle.std.proofs.Common.{◌≡◌, ℕ, zero, suc, ◌<◌, ◌≤◌, ◌==◌, ◌||◌, ◌⊎◌, inl, inr, Bool, true, false, IsTrue, List, [], ◌∷◌, ◌++◌, Option, Some, None, Result, Ok, Err, refl, sym, ap, ◌∙◌, append_assoc, append-nil, subst, arith}
+use Rattle.std.proofs.Common.{◌≡◌, ℕ, zero, suc, ◌≤◌, ◌==◌, inl, inr, Bool, true, false, List, [], ◌∷◌, ◌++◌, refl, sym}
+use Rattle.std.proofs.Common.{ap, ◌∙◌, append_assoc, append-nil, subst, arith}
 use Rattle.vb_value.specs.declared.token.Symbol.TheVariants as s
-use Rattle.vb_value.specs.declared.token.TokenKind.TheVariants as kind
 use Rattle.vb_syntax.specs.declared.expression.Expression.{Expression}
 use Rattle.vb_syntax.specs.declared.expression.Expression.TheVariants as e
-use Rattle.vb_syntax.specs.declared.expression.PathHead.{PathHead}
-use Rattle.vb_syntax.specs.declared.expression.Step.{Step}
-use Rattle.vb_syntax.specs.declared.statement.Statement.{Statement}
-use Rattle.vb_syntax.specs.declared.statement.StatementKind.TheVariants as st
 use Rattle.vb_syntax.specs.Rules.{Tokens, Rule}
 use Rattle.vb_syntax.specs.Rules as rule
 use Rattle.vb_syntax.specs.Words as words
 use Rattle.vb_syntax.specs.Expressions as expressions
 use Rattle.vb_syntax.specs.Expressions.{chain, path_of, not_level, last_level}
-use Rattle.vb_syntax.specs.Declarations as declarations
-use Rattle.vb_syntax.specs.SimpleStatements as grammar
-use Rattle.vb_syntax.specs.SimpleStatements.{Looser, ends_in_group, statement}
 use Rattle.vb_parse.specs.Reader.{Reader, Look, next}
 use Rattle.vb_parse.specs.Reader as reader
 use Rattle.vb_parse.specs.ReadExpressions as read
 use Rattle.vb_parse.specs.ReadExpressions.{goes_on_path}
 use Rattle.vb_parse.specs.ReadCalls as spec
 use Rattle.vb_parse.specs.ReadCalls.{Tail, plain, grouped, tail}
-use Rattle.vb_parse.specs.Runs.{opens, inside}
-use Rattle.vb_parse.proofs.Reading.{Reads, ReadsAt, Lives, wider_at, case_at, bind_at, reads_pure, reads_refuse, reads_wider, reads_bind, reads_choice, reads_many, reads_word, full_bind, full_word}
-use Rattle.vb_parse.proofs.Taking.{only}
-use Rattle.vb_parse.proofs.Binding.{Within, within_then, bind_wider, bind_left, bind_right, pure_gone}
-use Rattle.vb_parse.proofs.Guarding.{guarded, guard_at}
-use Rattle.vb_parse.proofs.ExpressionReading.{Inner, Operator, expressions_read, reads_list_of, reads_turn, full_turn, reads_operators, operator_of_level}
-use Rattle.vb_parse.proofs.ExpressionTaking.{PathEnds}
-use Rattle.vb_parse.proofs.PathReading.{Grouped, Tells, path_group, tail_tells, reads_path_at, path_stops, no_assignment}
-use Rattle.vb_parse.proofs.Turns.{rules_inside, inner_at}
+use Rattle.vb_parse.proofs.Reading.{Reads, reads_pure, reads_bind, reads_many}
+use Rattle.vb_parse.proofs.ExpressionReading.{Inner, Operator, reads_turn, full_turn, reads_operators}
+use Rattle.vb_parse.proofs.ExpressionReading.{operator_of_level}
 
 -- ---- an expression of which the first operand is known
 
@@ -103,7 +90,8 @@ module _ (o : Bool) (ip : read.Inside) (ir : expressions.Inside) (inner : Inner 
       → Reads (spec.level_from o ip is_not level p first) (level_rest o ir is_not level r first)
   reads_level_from true level first has reads = reads_pure first
   reads_level_from false level {p} {r} first has reads = reads_bind
-      (reads_many (reader.passes (expressions.operator_at level)) (reads_turn level (has refl) reads) (full_turn level r)
+      (reads_many (reader.passes (expressions.operator_at level)) (reads_turn level (has refl) reads)
+      (full_turn level r)
       refl)
       (λ more. reads_pure (chain first more))
 
@@ -120,7 +108,8 @@ module _ (o : Bool) (ir : expressions.Inside) where
   one_in_list : (front : Tokens) (x : Expression) → words.list_of ir.expression front (x ∷ []) → ir.expression front x
   one_in_list front x h = go h.next_spells.thing h.next_spells.first_spells h.next_spells.next_spells
     where
-      go : (more : List Expression) → rule.many (rule.◌>>◌ (words.symbol s.Comma) ir.expression) h.next_spells.front more
+      go : (more : List Expression) → rule.many (rule.◌>>◌ (words.symbol s.Comma) ir.expression) h.next_spells.front
+          more
           → rule.pure (h.thing ∷ more) h.next_spells.back (x ∷ []) → ir.expression front x
       go [] none is = let same : x ≡ h.thing = cc in
           let whole : front ≡ h.front = h.split ∙ ap (λ t. h.front ++ t) (h.next_spells.split
@@ -199,7 +188,8 @@ module _ (o : Bool) (ir : expressions.Inside) where
       (λ rest. rule.pure (first ∷ rest)))) front (x ∷ y ∷ more)
   several_in_list front x y more h = go h.next_spells.thing h.next_spells.first_spells h.next_spells.next_spells
     where
-      go : (rest : List Expression) → rule.many (rule.◌>>◌ (words.symbol s.Comma) ir.expression) h.next_spells.front rest
+      go : (rest : List Expression) → rule.many (rule.◌>>◌ (words.symbol s.Comma) ir.expression) h.next_spells.front
+          rest
           → rule.pure (h.thing ∷ rest) h.next_spells.back (x ∷ y ∷ more)
           → rule.◌>>=◌ ir.expression (λ first. rule.◌>>◌ (words.symbol s.Comma) (rule.◌>>=◌ (words.list_of
           ir.expression) (λ rest. rule.pure (first ∷ rest)))) front (x ∷ y ∷ more)
@@ -270,7 +260,8 @@ module _ (o : Bool) (ir : expressions.Inside) where
           ir.expression) (λ rest. rule.pure (first ∷ rest)))) h.1.next_spells.front (x ∷ y ∷ more)
           → rule.◌>>=◌ ir.expression (λ first. rule.◌>>◌ (words.symbol s.Comma) (rule.◌>>=◌ (words.list_of
           ir.expression) (λ rest. rule.◌>>◌ (words.symbol s.Close) (rule.pure (first ∷ rest))))) h.1.back (x ∷ y ∷ more)
-      whole w = let g = h.1.next_spells in let c = w.next_spells in let l = c.next_spells in let close = g.next_spells in
+      whole w = let g = h.1.next_spells in let c = w.next_spells in let l = c.next_spells in let close = g.next_spells
+          in
           record {
             front = w.front;
             back = w.back ++ g.back;

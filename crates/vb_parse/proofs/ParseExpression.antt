@@ -1,17 +1,20 @@
 -- What the parser answers, from what its readers read.
-use Rattle.std.proofs.Common.{◌≡◌, ℕ, suc, ◌<◌, ◌≤◌, ◌⊎◌, [], ◌∷◌, length, Ok, Err, refl, arith}
+use Rattle.std.proofs.Common.{◌≡◌, ℕ, suc, ◌<◌, ◌≤◌, ◌⊎◌, [], length, Ok, Err, refl}
 use Rattle.vb_syntax.specs.declared.expression.Expression.{Expression}
 use Rattle.vb_syntax.specs.Rules.{Tokens}
 use Rattle.vb_syntax.specs.Expressions.{SpellsExpression}
-use Rattle.vb_syntax.specs.Faults.{IsFault, WouldGoOn, fault_line}
+use Rattle.vb_syntax.specs.Faults.{IsFault, fault_line}
 use Rattle.vb_parse.specs.declared.fault.ParseFault.TheVariants as kind
 use Rattle.vb_parse.specs.Outcome.{HasFault, Leaves}
-use Rattle.vb_parse.specs.Reader.{Outcome, Reader}
+use Rattle.vb_parse.specs.Reader.{Reader}
 use Rattle.vb_parse.specs.ReadExpressions as spec
 use Rattle.vb_parse.specs.ReadExpressions.{whole_expression}
 use Rattle.vb_parse.proofs.ExpressionReading.{expressions_read}
-use Rattle.vb_parse.proofs.ExpressionTaking.{Ends, expressions_taken}
-use Rattle.vb_parse.proofs.Theorems.{Fits, fits, unique, sound, stops_at_fault, spelled_or_fault, spelled_no_fault, fault_unique, looser_reads, looser_further, looser_stops}
+use Rattle.vb_parse.proofs.ExpressionEnds.{Ends}
+use Rattle.vb_parse.proofs.ExpressionTaking.{expressions_taken}
+use Rattle.vb_parse.proofs.Telling.{would_go_on, would_not_go_on}
+use Rattle.vb_parse.proofs.Theorems.{Fits, fits, unique, sound, stops_at_fault, spelled_or_fault, spelled_no_fault}
+use Rattle.vb_parse.proofs.Theorems.{fault_unique}
 
 abbrev reader_at : ℕ → Reader Expression
 reader_at depth = (spec.expressions depth).expression
@@ -61,51 +64,18 @@ expression_none depth tokens left y read h = spelled_no_fault (SpellsExpression 
 
 -- ---- kinds
 
-module _ (depth deeper : ℕ) (tokens left : Tokens) (count : ℕ) (f : IsFault (SpellsExpression depth) tokens left) where
-  too_deep : Leaves (whole_expression deeper tokens) count → count < length left
-      → WouldGoOn (SpellsExpression deeper) f.front left
-  too_deep leaves less = go (whole_expression deeper tokens) refl leaves
-    where
-      some : (rest : Tokens) (g : IsFault (SpellsExpression depth) tokens rest) (x : Expression)
-          → SpellsExpression deeper tokens x → 0 < length rest
-          → WouldGoOn (SpellsExpression deeper) g.front rest
-      some [] g x h h0 = absurd (omega arith)
-      some (token ∷ rest) g x h h0 = looser_reads (SpellsExpression depth)
-          (SpellsExpression deeper) tokens token rest x g h
-
-      go : (o : Outcome Expression) → whole_expression deeper tokens ≡ o → Leaves o count
-          → WouldGoOn (SpellsExpression deeper) f.front left
-      go (Ok q) is none = some left f q.0 (expression_sound deeper tokens q.1 q.0 is) (omega arith)
-      go (Err other) is same = looser_further (SpellsExpression depth)
-          (SpellsExpression deeper) tokens left other f (expression_stops deeper tokens other is)
-          (omega arith)
-
-  no_deeper : Leaves (whole_expression deeper tokens) count → length left ≤ count
-      → ¬ (WouldGoOn (SpellsExpression deeper) f.front left)
-  no_deeper leaves more = go (whole_expression deeper tokens) refl leaves
-    where
-      nothing : (rest : Tokens) (g : IsFault (SpellsExpression depth) tokens rest) → length rest ≤ 0
-          → ¬ (WouldGoOn (SpellsExpression deeper) g.front rest)
-      nothing [] g h0 = λ w. w
-      nothing (token ∷ rest) g h0 = absurd (omega arith)
-
-      go : (o : Outcome Expression) → whole_expression deeper tokens ≡ o → Leaves o count
-          → ¬ (WouldGoOn (SpellsExpression deeper) f.front left)
-      go (Ok q) is none = nothing left f (omega arith)
-      go (Err other) is same = looser_stops (SpellsExpression depth)
-          (SpellsExpression deeper) tokens left other f (expression_stops deeper tokens other is)
-          (omega arith)
-
 pub fault_too_deep : (depth : ℕ) (tokens left : Tokens) (count line : ℕ)
     → whole_expression depth tokens ≡ Err left → Leaves (whole_expression (suc depth) tokens) count
     → count < length left → line ≡ fault_line tokens left
     → HasFault SpellsExpression depth tokens kind.TooDeep line
+unfolding whole_expression
 fault_too_deep depth tokens left count line read leaves less at =
     let f : IsFault (SpellsExpression depth) tokens left = expression_stops depth tokens left read in
     record {
       left = left;
       fault = f;
-      is_kind = too_deep depth (suc depth) tokens left count f leaves less;
+      is_kind = would_go_on (SpellsExpression depth) (reader_at (suc depth)) (SpellsExpression (suc depth))
+          (expression_fits (suc depth)) tokens left count f leaves less;
       in_line = at;
     }
 
@@ -113,12 +83,14 @@ pub fault_unexpected : (depth : ℕ) (tokens left : Tokens) (count line : ℕ)
     → whole_expression depth tokens ≡ Err left → Leaves (whole_expression (suc depth) tokens) count
     → length left ≤ count → line ≡ fault_line tokens left
     → HasFault SpellsExpression depth tokens kind.Unexpected line
+unfolding whole_expression
 fault_unexpected depth tokens left count line read leaves more at =
     let f : IsFault (SpellsExpression depth) tokens left = expression_stops depth tokens left read in
     record {
       left = left;
       fault = f;
-      is_kind = no_deeper depth (suc depth) tokens left count f leaves more;
+      is_kind = would_not_go_on (SpellsExpression depth) (reader_at (suc depth)) (SpellsExpression (suc depth))
+          (expression_fits (suc depth)) tokens left count f leaves more;
       in_line = at;
     }
 

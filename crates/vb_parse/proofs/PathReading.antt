@@ -1,12 +1,12 @@
 -- The longest path at the front, and what its steps end in.
-use Rattle.std.proofs.Common.{◌≡◌, ℕ, zero, suc, ◌<◌, ◌==◌, ◌||◌, ◌⊎◌, inl, inr, Bool, true, false, IsTrue, List, [], ◌∷◌, ◌++◌, Option, Some, None, Result, Ok, Err, refl, sym, ap, ◌∙◌, append_assoc, append-nil, subst, arith}
+use Rattle.std.proofs.Common.{◌≡◌, ℕ, zero, suc, ◌==◌, inl, inr, Bool, true, false, List, [], ◌∷◌, ◌++◌, Some, Ok, Err}
+use Rattle.std.proofs.Common.{refl, sym, ap, ◌∙◌, append_assoc, append-nil, subst}
 use Rattle.std.proofs.lemmas.Bool.{eqb-true}
 use Rattle.vb_value.specs.declared.token.Keyword.TheVariants as k
 use Rattle.vb_value.specs.declared.token.Symbol.TheVariants as s
 use Rattle.vb_value.specs.declared.token.TokenKind.{TokenKind}
 use Rattle.vb_value.specs.declared.token.TokenKind.TheVariants as kind
 use Rattle.vb_syntax.specs.declared.expression.Expression.{Expression}
-use Rattle.vb_syntax.specs.declared.expression.Expression.TheVariants as e
 use Rattle.vb_syntax.specs.declared.expression.Expression.TheOpen.{Step-F}
 use Rattle.vb_syntax.specs.declared.expression.PathHead.{PathHead}
 use Rattle.vb_syntax.specs.declared.expression.PathHead.TheVariants as head
@@ -18,7 +18,6 @@ use Rattle.vb_syntax.specs.Rules as rule
 use Rattle.vb_syntax.specs.Words as words
 use Rattle.vb_syntax.specs.Words.{tag, name_of, name_of_kind}
 use Rattle.vb_syntax.specs.Expressions as expressions
-use Rattle.vb_syntax.specs.Declarations as declarations
 use Rattle.vb_syntax.specs.SimpleStatements as grammar
 use Rattle.vb_syntax.specs.SimpleStatements.{Looser, named_at, ends_in_group}
 use Rattle.vb_parse.specs.Reader.{Reader, Outcome, and_then, next}
@@ -28,11 +27,14 @@ use Rattle.vb_parse.specs.ReadExpressions.{goes_on_path}
 use Rattle.vb_parse.specs.ReadCalls as spec
 use Rattle.vb_parse.specs.ReadCalls.{Tail, plain, grouped, tail}
 use Rattle.vb_parse.specs.Runs.{opens, inside}
-use Rattle.vb_parse.proofs.Reading.{Reads, NoEmpty, Moves, moves, ok_tail, reads_pure, reads_bind, reads_one, reads_choice, reads_many, reads_word, reads_name, full_one, full_bind, full_word, token_of}
-use Rattle.vb_parse.proofs.Taking.{Follow, Any, Takes, takes_pure, takes_one, takes_bind, takes_case, only}
+use Rattle.vb_parse.proofs.Reading.{Reads, NoEmpty, Moves, moves, ok_tail, reads_pure, reads_bind, reads_one}
+use Rattle.vb_parse.proofs.Reading.{reads_choice, reads_many, reads_word, reads_name, full_one, full_bind, full_word}
+use Rattle.vb_parse.proofs.Reading.{token_of}
+use Rattle.vb_parse.proofs.Taking.{Any, Takes, takes_pure, takes_one, takes_bind, takes_case, only}
 use Rattle.vb_parse.proofs.Beginning.{HeadIn, Begins, begins_bind, begins_word, sees_true, sees_false, name_tag}
 use Rattle.vb_parse.proofs.ExpressionReading.{reads_step, full_step}
-use Rattle.vb_parse.proofs.ExpressionTaking.{PathEnds, takes_steps, answer, at_word}
+use Rattle.vb_parse.proofs.ExpressionEnds.{PathEnds, answer, at_word}
+use Rattle.vb_parse.proofs.ExpressionTaking.{takes_steps}
 use Rattle.vb_parse.proofs.Turns.{inner_at, taken_inside}
 use Rattle.vb_parse.proofs.Guarding.{many_stops}
 
@@ -92,7 +94,8 @@ path_stops depth tokens rest x e = head (spec.head_at tokens) e
     more found behind (Ok q) is e =
         let same : q.1 ≡ rest = ok_tail (found.0, found.1, q.0) x q.1 rest e in
         ap (λ t. goes_on_path (next t)) (sym same)
-        ∙ many_stops goes_on_path (read.step (opens depth) (inside depth)) (moves_path_step depth) refl behind q.0 q.1 is
+        ∙ many_stops goes_on_path (read.step (opens depth) (inside depth)) (moves_path_step depth) refl behind q.0 q.1
+        is
     more found behind (Err w) is e = absurd cc
 
     head : (o : Outcome (ℕ × PathHead))
@@ -103,7 +106,8 @@ path_stops depth tokens rest x e = head (spec.head_at tokens) e
 
 -- ---- the longest path is taken
 
-named-tag : (kind : TokenKind) (line : ℕ) (found : ℕ × PathHead) → grammar.named_by (name_of_kind kind) line ≡ Some found
+named-tag : (kind : TokenKind) (line : ℕ) (found : ℕ × PathHead) → grammar.named_by
+    (name_of_kind kind) line ≡ Some found
     → (tag kind == 200) ≡ true
 named-tag (kind.Name text bracketed) line found e = refl
 named-tag (kind.Keyword keyword) line found e = absurd cc
@@ -227,8 +231,10 @@ module _ (o : Bool) (ir : expressions.Inside) where
   tail_tells_of [] front h = refl
   tail_tells_of (x ∷ []) front h = subst (λ t. Tells (expressions.step o ir) (expressions.group o ir) t (x ∷ []) (tail (
       x ∷ []))) (sym (h.split ∙ ap (λ t. h.front ++ t) h.second ∙ append-nil h.front)) (tells_one x h.front h.first)
-  tail_tells_of (x ∷ y ∷ more) front h = subst (λ t. Tells (expressions.step o ir) (expressions.group o ir) t (x ∷ y ∷ more)
-      (tail (x ∷ y ∷ more))) (sym h.split) (tells_more x h.front h.back (y ∷ more) (tail (y ∷ more)) h.first (tail_tells_of
+  tail_tells_of (x ∷ y ∷ more) front h = subst (λ t. Tells (expressions.step o ir) (expressions.group o ir) t
+      (x ∷ y ∷ more)
+      (tail (x ∷ y ∷ more))) (sym h.split) (tells_more x h.front h.back (y ∷ more) (tail (y ∷ more)) h.first
+      (tail_tells_of
       (y ∷ more) h.back h.second) refl)
 
 -- a parenthesis at the end of a path

@@ -1,28 +1,28 @@
 -- Readers of expressions and of what opens, before what may stand behind them.
-use Rattle.std.proofs.Common.{◌≡◌, ℕ, zero, suc, ◌<◌, ◌≤◌, ◌==◌, ◌||◌, inl, inr, Bool, true, false, not, cond, IsTrue, List, [], ◌∷◌, ◌++◌, Option, Some, None, if◌then◌else◌, Ok, refl, sym, ap, ◌∙◌, arith}
+use Rattle.std.proofs.Common.{◌≡◌, ℕ, zero, suc, ◌<◌, ◌==◌, Bool, true, false, cond, List, [], ◌∷◌, ◌++◌}
+use Rattle.std.proofs.Common.{Option, Some, None, if◌then◌else◌, refl, ap, ◌∙◌}
 use Rattle.std.proofs.lemmas.Bool.{eqb-true}
 use Rattle.vb_value.specs.declared.token.Token.{Token}
-use Rattle.vb_syntax.specs.declared.expression.Expression.{Expression}
 use Rattle.vb_syntax.specs.Rules.{Tokens, Rule}
-use Rattle.vb_syntax.specs.Rules as rule
-use Rattle.vb_syntax.specs.Words as words
 use Rattle.vb_syntax.specs.Words.{tag}
 use Rattle.vb_syntax.specs.Expressions as grammar
 use Rattle.vb_syntax.specs.Expressions.{operator_of, operator_at}
 use Rattle.vb_syntax.specs.Declarations as declarations
 use Rattle.vb_parse.specs.Reader.{Reader, next, passes}
-use Rattle.vb_parse.specs.Reader as reader
 use Rattle.vb_parse.specs.ReadExpressions as spec
 use Rattle.vb_parse.specs.ReadExpressions.{goes_on_path}
 use Rattle.vb_parse.specs.ReadDeclarations as read_declarations
 use Rattle.vb_parse.specs.Runs.{opens, inside}
 use Rattle.vb_parse.proofs.Taking.{Follow, Takes, takes_narrow}
-use Rattle.vb_parse.proofs.Beginning.{HeadIn, Begins, other_level, level_of, level_tag, tag_level, tag_is_literal}
-use Rattle.vb_parse.proofs.ExpressionTaking.{Ends, expressions_taken, positive_differs, tag_is_expression}
-use Rattle.vb_parse.proofs.Following.{among, among_both, all_have, among_has, next_in, Before, BeginsIn, Leads, Closed}
+use Rattle.vb_parse.proofs.Beginning.{other_level, level_tag, tag_level, tag_is_literal}
+use Rattle.vb_parse.proofs.ExpressionEnds.{Ends, positive_differs, tag_is_expression}
+use Rattle.vb_parse.proofs.ExpressionTaking.{expressions_taken}
+use Rattle.vb_parse.proofs.Tags.{or_last, among, among_both, all_have, among_has}
+use Rattle.vb_parse.proofs.Following.{next_in, Before, BeginsIn, Closed}
 
 -- ---- what ends an expression
 
+-- tokens that go on neither with a path nor with an operator
 abbrev pub tag_ends : ℕ → Bool
 tag_ends n = if n == 115 then false else (if n == 112 then false else tag_level n == 0)
 
@@ -36,8 +36,13 @@ ends_facts n is = go (n == 115) refl (n == 112) refl is
     go false point true at is = absurd cc
     go false point false paren is = (point, paren, eqb-true (tag_level n) 0 is)
 
+-- before such tokens an expression ends
 pub ends_before : (v : List ℕ) → all_have tag_ends v ≡ true → (rest : Tokens) → Before v rest → Ends 12 rest
-ends_before v all rest b = record { path = path (next rest) b.fits; quiet = λ n some less. quiet n some (next rest) b.fits }
+ends_before v all rest b = record {
+  path = path (next rest) b.fits;
+  quiet = λ n some less. quiet n some
+      (next rest) b.fits;
+}
   where
     facts : (token : Token) → among v (tag token.kind) ≡ true → ((tag token.kind == 115) ≡ false)
         × ((tag token.kind == 112) ≡ false) × (tag_level (tag token.kind) ≡ 0)
@@ -55,6 +60,7 @@ ends_before v all rest b = record { path = path (next rest) b.fits; quiet = λ n
 
 -- ---- expressions
 
+-- an expression, before tokens that end it
 pub takes_expression : (depth : ℕ) {v : List ℕ} → all_have tag_ends v ≡ true
     → Takes (spec.expressions depth).expression (grammar.expressions depth).expression (Before v)
 takes_expression depth {v} all = takes_narrow (ends_before v all) ((expressions_taken depth).expression refl)
@@ -70,10 +76,6 @@ path_heads = 200 ∷ 28 ∷ 116 ∷ []
 -- the numbers of the tokens that begin an expression
 abbrev pub expression_heads : List ℕ
 expression_heads = 32 ∷ ((literal_heads ++ (33 ∷ 30 ∷ [])) ++ (path_heads ++ (112 ∷ 110 ∷ [])))
-
-pub or_last : (b : Bool) → (b || false) ≡ b
-or_last true = refl
-or_last false = refl
 
 pub heads_literal : (n : ℕ) → among literal_heads n ≡ tag_is_literal n
 heads_literal n = rw (or_last (n == 203)) refl
@@ -109,6 +111,7 @@ begins_inside (suc depth) = begins_expression depth
 
 -- ---- constructs that open
 
+-- a construct that opens
 pub takes_opened : {A : Type 0} (depth : ℕ) {p : ℕ → Reader A} {r : ℕ → Rule A} {v : Follow}
     → ((within : ℕ) → Takes (p within) (r within) v) → Takes (read_declarations.opened depth p)
     (declarations.opened depth r) v
@@ -120,11 +123,11 @@ pub begins_opened : {A : Type 0} (depth : ℕ) {r : ℕ → Rule A} {l : List �
 begins_opened zero begins = record { head = λ front x h. absurd h }
 begins_opened (suc depth) begins = begins depth
 
-pub closed_inside : (depth : ℕ) → Closed (opens depth) (declarations.opened depth
-    (λ within. (grammar.expressions within).expression))
-closed_inside zero = record { none = λ shut front x h. h }
-closed_inside (suc depth) = record { none = λ shut front x h. absurd cc }
-
+-- what opens needs that one more may open
 pub closed_opened : {A : Type 0} (depth : ℕ) (r : ℕ → Rule A) → Closed (opens depth) (declarations.opened depth r)
 closed_opened zero r = record { none = λ shut front x h. h }
 closed_opened (suc depth) r = record { none = λ shut front x h. absurd cc }
+
+pub closed_inside : (depth : ℕ) → Closed (opens depth) (declarations.opened depth
+    (λ within. (grammar.expressions within).expression))
+closed_inside depth = closed_opened depth (λ within. (grammar.expressions within).expression)

@@ -1,18 +1,9 @@
 -- The readers of procedures and properties read the grammar's.
-use Rattle.std.proofs.Common.{◌≡◌, ℕ, zero, suc, ◌<◌, ◌⊎◌, inl, inr, Bool, true, false, cond, IsTrue, List, [], ◌∷◌, Option, Some, None, refl, codes, arith}
+use Rattle.std.proofs.Common.{◌≡◌, ℕ, zero, suc, inl, inr, Bool, true, false, cond, List, Option, Some, None, refl}
+use Rattle.std.proofs.Common.{codes}
 use Rattle.vb_value.specs.declared.token.Keyword.TheVariants as k
-use Rattle.vb_value.specs.declared.token.Token.{Token}
 use Rattle.vb_value.specs.declared.token.TokenKind.TheVariants as kind
 use Rattle.vb_syntax.specs.declared.declaration.Access.{Access}
-use Rattle.vb_syntax.specs.declared.declaration.Access.TheVariants as access
-use Rattle.vb_syntax.specs.declared.statement.Statement.{Statement}
-use Rattle.vb_syntax.specs.declared.unit.Class.{Class}
-use Rattle.vb_syntax.specs.declared.unit.ClassMember.{ClassMember}
-use Rattle.vb_syntax.specs.declared.unit.ClassMember.TheVariants as member
-use Rattle.vb_syntax.specs.declared.unit.FieldAccess.{FieldAccess}
-use Rattle.vb_syntax.specs.declared.unit.FieldAccess.TheVariants as field
-use Rattle.vb_syntax.specs.declared.unit.Item.{Item}
-use Rattle.vb_syntax.specs.declared.unit.Item.TheVariants as item
 use Rattle.vb_syntax.specs.declared.unit.Procedure.{Procedure}
 use Rattle.vb_syntax.specs.declared.unit.ProcedureKind.{ProcedureKind}
 use Rattle.vb_syntax.specs.declared.unit.ProcedureKind.TheVariants as procedure_kind
@@ -29,20 +20,17 @@ use Rattle.vb_syntax.specs.Statements as statements
 use Rattle.vb_syntax.specs.Units as grammar
 use Rattle.vb_parse.specs.Reader.{Reader, Look, next, and_then}
 use Rattle.vb_parse.specs.Reader as reader
-use Rattle.vb_parse.specs.ReadDeclarations as read_declarations
 use Rattle.vb_parse.specs.ReadDeclarations.{begun}
-use Rattle.vb_parse.specs.ReadLines as lines
-use Rattle.vb_parse.specs.ReadSimpleStatements as read_simple
 use Rattle.vb_parse.specs.Runs.{opens}
 use Rattle.vb_parse.specs.ReadUnits as spec
 use Rattle.vb_parse.specs.ReadUnits.{procedure_word}
-use Rattle.vb_parse.proofs.Reading.{Reads, Lives, NoEmpty, reads_pure, reads_refuse, reads_same, reads_wider, reads_bind, reads_one, reads_choice, reads_both, reads_many, reads_word, reads_name, full_one, full_bind, full_word, token_of}
-use Rattle.vb_parse.proofs.Binding.{Within, within_then, bind_wider, first_wider, bind_left, bind_right, pure_in, pure_out, bind_or, or_out, or_wider, or_within}
-use Rattle.vb_parse.proofs.ExpressionReading.{reads_list_of}
-use Rattle.vb_parse.proofs.DeclarationReading.{reads_opened, reads_opened_then, bounds_behind, reads_declared_from, reads_declared, reads_access_word, with_access, without_access, reads_parameters}
-use Rattle.vb_parse.proofs.SimpleReading.{full_or, reads_property_word, const_behind, reads_const_from}
+use Rattle.vb_parse.proofs.Reading.{Reads, Lives, NoEmpty, reads_pure, reads_same, reads_bind, reads_one, reads_choice}
+use Rattle.vb_parse.proofs.Reading.{reads_both, reads_word, reads_name, full_bind, full_word, token_of}
+use Rattle.vb_parse.proofs.Binding.{Within, within_then, bind_wider, first_wider, bind_or, or_wider}
+use Rattle.vb_parse.proofs.DeclarationReading.{reads_opened_then, with_access, without_access, reads_parameters}
+use Rattle.vb_parse.proofs.SimpleReading.{full_or, reads_property_word}
 use Rattle.vb_parse.proofs.LineReading.{reads_end}
-use Rattle.vb_parse.proofs.StatementReading.{reads_loose_texts, blocks_read, inner_blocks, reads_sentence, full_sentence, lives_sentence}
+use Rattle.vb_parse.proofs.StatementReading.{blocks_read}
 
 -- ---- rules that open
 
@@ -111,7 +99,8 @@ plain_name text front x h = record { token = h.token; alone = h.alone; passes = 
 
 pub reads_quoted_name : Reads (reader.one (spec.quoted_name (codes "property"))) (rule.one (spec.quoted_name (codes
     "property")))
-reads_quoted_name = reads_one (spec.quoted_name (codes "property")) (token_of (kind.Name (codes "property") false)) (codes
+reads_quoted_name = reads_one (spec.quoted_name (codes "property")) (token_of (kind.Name (codes "property") false))
+    (codes
     "property") refl
 
 -- ---- procedures
@@ -138,7 +127,8 @@ module _ (looser : Looser) where
   procedure_open which depth before = declarations.opened depth (λ within. rule.◌>>=◌ (words.keyword (procedure_word
       which)) (λ line. procedure_rest which within (begun before line)))
 
-  pub reads_procedure_of : {B : Type 0} (which : ProcedureKind) (depth : ℕ) (before : Option (ℕ × Access)) (made : Procedure
+  pub reads_procedure_of : {B : Type 0} (which : ProcedureKind) (depth : ℕ) (before : Option (ℕ × Access))
+      (made : Procedure
       → B) (whole : Rule B) → Lives whole
       → Within (rule.◌>>=◌ (procedure_open which depth before) (λ found. rule.pure (made found))) whole
       → Reads (reader.◌>>=◌ (spec.procedure_of looser which depth before) (λ found. reader.pure (made found))) whole
@@ -163,7 +153,8 @@ module _ (looser : Looser) where
       (reads_procedure_of procedure_kind.Function depth before made whole lives (within_then (first_wider
       (λ _ _ h. inr h)) wider))
 
-  pub procedure_behind : (depth : ℕ) → Within (rule.◌>>=◌ declarations.access_word (λ before. either_open depth (Some before)))
+  pub procedure_behind : (depth : ℕ) → Within (rule.◌>>=◌ declarations.access_word (λ before. either_open depth
+      (Some before)))
       (grammar.procedure looser depth)
   procedure_behind depth = within_then bind_or (or_wider
       (opened_behind (words.keyword k.Sub) (procedure_rest procedure_kind.Sub) depth)
@@ -176,7 +167,8 @@ module _ (looser : Looser) where
 
   pub full_procedure : (depth : ℕ) → NoEmpty (grammar.procedure looser depth)
   full_procedure depth = full_or _ _
-      (full_opened depth (λ within. full_bind _ _ (full_with_access (words.keyword k.Sub) (full_word (kind.Keyword k.Sub)))))
+      (full_opened depth (λ within. full_bind _ _ (full_with_access (words.keyword k.Sub) (full_word
+      (kind.Keyword k.Sub)))))
       (full_opened depth (λ within. full_bind _ _ (full_with_access (words.keyword k.Function) (full_word (kind.Keyword
       k.Function)))))
 
@@ -186,7 +178,8 @@ module _ (looser : Looser) where
   abbrev pub property_rest : ℕ → ℕ × Option Access → Rule Property
   property_rest within first = rule.◌>>=◌ (grammar.kind_of_property looser) (λ which. rule.◌>>=◌ (rule.one name_of)
       (λ name. rule.◌>>=◌ (declarations.parameters within) (λ given. rule.◌>>◌ statements.«end» (rule.◌>>=◌
-      (grammar.block looser within) (λ body. rule.◌>>◌ (words.keyword k.End) (rule.◌>>◌ (simple.quoted (codes "property"))
+      (grammar.block looser within) (λ body. rule.◌>>◌ (words.keyword k.End) (rule.◌>>◌ (simple.quoted
+      (codes "property"))
       (rule.pure (record {
         line = first.0;
         access = first.1;
@@ -208,7 +201,8 @@ module _ (looser : Looser) where
 
   pub reads_property_open : (within : ℕ) (first : ℕ × Option Access)
       → Reads (spec.property_from looser (suc within) first) (property_rest within first)
-  reads_property_open within first = reads_bind reads_kind_of_property (λ which. reads_bind reads_name (λ name. reads_bind
+  reads_property_open within first = reads_bind reads_kind_of_property (λ which. reads_bind reads_name
+      (λ name. reads_bind
       (reads_parameters within) (λ given. reads_bind reads_end (λ _. reads_bind (reads_block within) (λ body. reads_bind
       (reads_word (kind.Keyword k.End)) (λ _. reads_bind reads_property_word (λ _. reads_pure _)))))))
 
@@ -222,11 +216,13 @@ module _ (looser : Looser) where
       (spec.quoted_name (codes "property"))) (λ _. property_open depth (before.0, Some before.1))))
       (grammar.property looser depth)
   property_behind zero = λ front x h. absurd h.next_spells.next_spells
-  property_behind (suc within) = within_then (bind_wider (λ before. word_of_name {r = property_rest within (before.0, Some before.1)}
+  property_behind (suc within) = within_then (bind_wider (λ before. word_of_name {r = property_rest within
+      (before.0, Some before.1)}
       (codes "property")))
       (with_access {next = property_rest within})
 
-  pub property_alone : (depth : ℕ) → Within (rule.where_true (opens depth) (rule.◌>>=◌ (simple.quoted (codes "property"))
+  pub property_alone : (depth : ℕ) → Within (rule.where_true (opens depth) (rule.◌>>=◌ (simple.quoted
+      (codes "property"))
       (λ line. property_open depth (line, None)))) (grammar.property looser depth)
   property_alone zero = λ front x h. absurd h.1.next_spells
   property_alone (suc within) = λ front x h. without_access {next = property_rest within} front x h.1

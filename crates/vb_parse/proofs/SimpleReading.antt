@@ -1,5 +1,6 @@
 -- The readers of statements that hold no other read the grammar's.
-use Rattle.std.proofs.Common.{◌≡◌, ℕ, ℤ, pos, zero, suc, ◌<◌, ◌+◌, ◌⊎◌, inl, inr, Bool, true, false, List, [], ◌∷◌, ◌++◌, length, length-append, Option, Some, None, refl, ap, ◌∙◌, codes, arith}
+use Rattle.std.proofs.Common.{◌≡◌, ℕ, ℤ, pos, zero, suc, ◌<◌, ◌+◌, inl, inr, true, false, [], length, length-append}
+use Rattle.std.proofs.Common.{Option, Some, None, refl, ap, ◌∙◌, codes, arith}
 use Rattle.vb_value.specs.declared.token.Keyword.TheVariants as k
 use Rattle.vb_value.specs.declared.token.Symbol.TheVariants as s
 use Rattle.vb_value.specs.declared.token.TokenKind.TheVariants as kind
@@ -19,10 +20,13 @@ use Rattle.vb_parse.specs.Reader as reader
 use Rattle.vb_parse.specs.ReadDeclarations as read_declarations
 use Rattle.vb_parse.specs.ReadDeclarations.{begun}
 use Rattle.vb_parse.specs.ReadSimpleStatements as spec
-use Rattle.vb_parse.proofs.Reading.{Reads, Lives, NoEmpty, reads_pure, reads_refuse, reads_wider, reads_bind, reads_one, reads_choice, reads_both, reads_word, reads_name, full_one, full_bind, full_word, token_of}
+use Rattle.vb_parse.proofs.Reading.{Reads, Lives, NoEmpty, reads_pure, reads_refuse, reads_wider, reads_bind, reads_one}
+use Rattle.vb_parse.proofs.Reading.{reads_choice, reads_both, reads_word, reads_name, full_one, full_bind, full_word}
+use Rattle.vb_parse.proofs.Reading.{token_of}
 use Rattle.vb_parse.proofs.Binding.{Within, bind_right}
 use Rattle.vb_parse.proofs.ExpressionReading.{expressions_read, reads_list_of}
-use Rattle.vb_parse.proofs.DeclarationReading.{reads_access_word, with_access, without_access, reads_constant, reads_declared}
+use Rattle.vb_parse.proofs.DeclarationReading.{reads_access_word, with_access, without_access, reads_constant}
+use Rattle.vb_parse.proofs.DeclarationReading.{reads_declared}
 use Rattle.vb_parse.proofs.PathReading.{reads_path_at, full_path_at}
 use Rattle.vb_parse.proofs.CallReading.{reads_here, reads_value_behind, reads_from_path}
 
@@ -63,9 +67,11 @@ reads_const_from before = reads_bind (reads_word (kind.Keyword k.Const))
 
 -- ---- statements
 
-pub reads_exit_statement : (looser : Looser) (depth : ℕ) → Reads spec.exit_statement (grammar.exit_statement looser depth)
+pub reads_exit_statement : (looser : Looser) (depth : ℕ) → Reads spec.exit_statement
+    (grammar.exit_statement looser depth)
 reads_exit_statement looser depth = reads_bind (reads_word (kind.Keyword k.Exit)) (λ line. reads_bind
-    (reads_choice (reader.sees (kind.Keyword k.Do)) (reads_bind (reads_word (kind.Keyword k.Do)) (λ _. reads_pure exit.Do))
+    (reads_choice (reader.sees (kind.Keyword k.Do)) (reads_bind (reads_word (kind.Keyword k.Do))
+    (λ _. reads_pure exit.Do))
     (reads_choice (reader.sees (kind.Keyword k.For)) (reads_bind (reads_word (kind.Keyword k.For))
     (λ _. reads_pure exit.For))
     (reads_choice (reader.sees (kind.Keyword k.Sub)) (reads_bind (reads_word (kind.Keyword k.Sub))
@@ -149,11 +155,14 @@ module _ (looser : Looser) (depth : ℕ) where
       (reads_call_path looser depth))
       (reads_both (reader.sees (kind.Keyword k.Exit)) (reads_wider (λ _ _ h. inr (inr (inr (inr (inr (inr (inl h)))))))
       (reads_exit_statement looser depth))
-      (reads_both (reader.sees (kind.Keyword k.On)) (reads_wider (λ _ _ h. inr (inr (inr (inr (inr (inr (inr (inl h))))))))
+      (reads_both (reader.sees (kind.Keyword k.On)) (reads_wider (λ _ _ h. inr (inr (inr (inr (inr (inr (inr
+      (inl h))))))))
       (reads_on_error looser depth))
-      (reads_both (reader.sees (kind.Keyword k.Erase)) (reads_wider (λ _ _ h. inr (inr (inr (inr (inr (inr (inr (inr (inl
+      (reads_both (reader.sees (kind.Keyword k.Erase)) (reads_wider (λ _ _ h. inr (inr (inr (inr (inr (inr (inr (inr
+      (inl
       h))))))))) (reads_erase looser depth))
-      (reads_both (reader.sees (kind.PageText [])) (reads_wider (λ _ _ h. inr (inr (inr (inr (inr (inr (inr (inr (inr (inl
+      (reads_both (reader.sees (kind.PageText [])) (reads_wider (λ _ _ h. inr (inr (inr (inr (inr (inr (inr (inr (inr
+      (inl
       h)))))))))) (reads_page_text looser depth))
       (reads_both (reader.sees kind.PageWrite) (reads_wider (λ _ _ h. inr (inr (inr (inr (inr (inr (inr (inr (inr (inr
       h)))))))))) (reads_page_write looser depth))

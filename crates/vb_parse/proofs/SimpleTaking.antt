@@ -1,11 +1,9 @@
 -- The readers of statements that hold no other take whatever the grammar spells.
-use Rattle.std.proofs.Common.{◌≡◌, ℕ, ℤ, pos, zero, suc, ◌==◌, ◌||◌, inl, inr, Bool, true, false, List, [], ◌∷◌, ◌++◌, Option, Some, None, Ok, refl, sym, ap, ◌∙◌, codes, append_assoc}
+use Rattle.std.proofs.Common.{◌≡◌, ℕ, inl, inr, true, false, List, [], ◌∷◌, ◌++◌, Option, Some, None, refl, ap, codes}
 use Rattle.vb_value.specs.declared.token.Keyword.TheVariants as k
 use Rattle.vb_value.specs.declared.token.Symbol.TheVariants as s
-use Rattle.vb_value.specs.declared.token.Token.{Token}
 use Rattle.vb_value.specs.declared.token.TokenKind.{TokenKind}
 use Rattle.vb_value.specs.declared.token.TokenKind.TheVariants as kind
-use Rattle.vb_syntax.specs.declared.expression.PathHead.{PathHead}
 use Rattle.vb_syntax.specs.declared.declaration.Access.{Access}
 use Rattle.vb_syntax.specs.declared.statement.Statement.{Statement}
 use Rattle.vb_syntax.specs.declared.statement.StatementKind.TheVariants as st
@@ -13,7 +11,7 @@ use Rattle.vb_syntax.specs.Rules.{Tokens, Rule}
 use Rattle.vb_syntax.specs.Rules as rule
 use Rattle.vb_syntax.specs.Words as words
 use Rattle.vb_syntax.specs.Words.{tag, name_of}
-use Rattle.vb_syntax.specs.Declarations.{opened, constant, number_of}
+use Rattle.vb_syntax.specs.Declarations.{opened, constant}
 use Rattle.vb_syntax.specs.Expressions.{expressions}
 use Rattle.vb_syntax.specs.SimpleStatements as grammar
 use Rattle.vb_syntax.specs.SimpleStatements.{Looser, quoted_at, line_of_quoted, text_at, text_of_kind}
@@ -24,13 +22,20 @@ use Rattle.vb_parse.specs.ReadCalls as calls
 use Rattle.vb_parse.specs.ReadSimpleStatements as spec
 use Rattle.vb_parse.specs.ReadSimpleStatements.{zero_of, zero_by}
 use Rattle.vb_parse.specs.Runs.{opens}
-use Rattle.vb_parse.proofs.Taking.{Follow, Any, Takes, takes_pure, takes_one, takes_bind, takes_narrow}
-use Rattle.vb_parse.proofs.Binding.{Within, bind_left}
-use Rattle.vb_parse.proofs.ExpressionTaking.{PathEnds}
+use Rattle.vb_parse.proofs.Taking.{Follow, Takes, takes_pure, takes_one, takes_narrow}
+use Rattle.vb_parse.proofs.Binding.{bind_left}
+use Rattle.vb_parse.proofs.ExpressionEnds.{PathEnds}
 use Rattle.vb_parse.proofs.PathReading.{takes_path_at}
-use Rattle.vb_parse.proofs.Following.{among, outside, all_have, Before, BeginsIn, Leads, leads_begins, leads_pure, leads_or, leads_bind, begins_then, begins_word_then, begins_either, begins_within, name_begins, asks_kind, asks_either, asks_no, skips, starts, takes_on, takes_off, takes_on_word, takes_off_word, takes_or, takes_within, takes_word, takes_then, takes_map, takes_list, Chosen, chosen, choose, choose_by, closed_first, closed_next, takes_gated}
+use Rattle.vb_parse.proofs.Tags.{among, outside, all_have}
+use Rattle.vb_parse.proofs.Following.{Before, BeginsIn, leads_begins, leads_pure, begins_then, begins_word_then}
+use Rattle.vb_parse.proofs.Following.{begins_either, begins_within, name_begins, asks_kind, asks_either, asks_no}
+use Rattle.vb_parse.proofs.Following.{skips, starts, closed_first, closed_next}
+use Rattle.vb_parse.proofs.Choosing.{takes_on, takes_off, takes_on_word, takes_off_word, takes_or, takes_within}
+use Rattle.vb_parse.proofs.Choosing.{takes_word, takes_then, takes_map, takes_list, Chosen, chosen, choose, choose_by}
+use Rattle.vb_parse.proofs.Choosing.{takes_gated}
 use Rattle.vb_parse.proofs.Placing.{closed_opened, takes_expression, takes_opened, tag_ends, path_heads}
-use Rattle.vb_parse.proofs.DeclarationTaking.{closing, access_heads, takes_access_word, begins_access, asks_access, access_apart, takes_declared, takes_constant}
+use Rattle.vb_parse.proofs.DeclarationTaking.{closing, access_heads, takes_access_word, begins_access, asks_access}
+use Rattle.vb_parse.proofs.DeclarationTaking.{access_apart, takes_declared, takes_constant}
 use Rattle.vb_parse.proofs.CallTaking.{statement_ends, takes_path_statement, begins_path_statement}
 
 -- ---- with what a rule begins
@@ -108,14 +113,16 @@ takes_zero = record {
 
 path_before : (v : List ℕ) → all_have (outside (115 ∷ 112 ∷ [])) v ≡ true → (rest : Tokens) → Before v rest
     → PathEnds rest
-path_before v none rest ok = asks_no (asks_either (asks_kind (kind.Symbol s.PathPoint)) (asks_kind (kind.Symbol s.Open)))
+path_before v none rest ok = asks_no (asks_either (asks_kind (kind.Symbol s.PathPoint)) (asks_kind
+    (kind.Symbol s.Open)))
     none rest ok
 
 module _ (looser : Looser) (depth : ℕ) where
   takes_dim : Takes (spec.dim depth) (grammar.dim looser depth) (Before statement_ends)
   takes_dim = takes_word (λ line. takes_map _ (takes_list (takes_declared depth refl) refl))
 
-  takes_resized_bounds : {v : Follow} → Takes (spec.resized_bounds depth) (opened depth (λ within. rule.◌>>◌ (words.symbol
+  takes_resized_bounds : {v : Follow} → Takes (spec.resized_bounds depth) (opened depth (λ within. rule.◌>>◌
+      (words.symbol
       s.Open) (rule.◌>>=◌ (words.list_of (expressions within).expression) (λ found. rule.◌>>◌ (words.symbol s.Close)
       (rule.pure found))))) v
   takes_resized_bounds = takes_opened depth (λ within. takes_word (λ _. takes_then {l = closing}
@@ -131,7 +138,8 @@ module _ (looser : Looser) (depth : ℕ) where
       (takes_off_word (kind.Keyword k.Preserve) _ leads_pure refl (takes_pure false _))
 
   takes_redim : Takes (spec.redim depth) (grammar.redim looser depth) (Before statement_ends)
-  takes_redim = takes_gated (opens depth) (closed_next (λ line. closed_next (λ kept. closed_first (closed_first (closed_next
+  takes_redim = takes_gated (opens depth) (closed_next (λ line. closed_next (λ kept. closed_first (closed_first
+      (closed_next
       (λ name. closed_first (closed_opened depth _))))))) (takes_word (λ line. takes_then takes_preserve
       (λ kept. takes_map _ (takes_list takes_resized refl))
       (λ kept. leads_begins (begins_then (begins_then (begins_then name_begins))))))
@@ -200,7 +208,8 @@ module _ (looser : Looser) (depth : ℕ) where
   simple_asked front x (inr (inr (inr (inr (inr (inl h)))))) = inr (inr (inr (inl h)))
   simple_asked front x (inr (inr (inr (inr (inr (inr (inl h))))))) = inr (inr (inr (inr (inl h))))
   simple_asked front x (inr (inr (inr (inr (inr (inr (inr (inl h)))))))) = inr (inr (inr (inr (inr (inl h)))))
-  simple_asked front x (inr (inr (inr (inr (inr (inr (inr (inr (inl h))))))))) = inr (inr (inr (inr (inr (inr (inl h))))))
+  simple_asked front x (inr (inr (inr (inr (inr (inr (inr (inr (inl h))))))))) = inr (inr (inr (inr (inr (inr
+      (inl h))))))
   simple_asked front x (inr (inr (inr (inr (inr (inr (inr (inr (inr (inl h)))))))))) = inr (inr (inr (inr (inr (inr (inr
       (inl h)))))))
   simple_asked front x (inr (inr (inr (inr (inr (inr (inr (inr (inr (inr h)))))))))) = inr (inr (inr (inr (inr (inr (inr

@@ -1,12 +1,12 @@
 -- The readers of statements that hold others, and of blocks, read the grammar's.
-use Rattle.std.proofs.Common.{◌≡◌, ℕ, zero, suc, ◌<◌, ◌⊎◌, inl, inr, Bool, true, false, IsTrue, List, [], ◌∷◌, ◌++◌, Option, Some, None, refl, sym, ap, ◌∙◌, append_assoc, append-nil, subst, codes, arith}
+use Rattle.std.proofs.Common.{ℕ, zero, suc, inl, inr, Bool, true, false, IsTrue, List, [], ◌∷◌, ◌++◌, Option, Some}
+use Rattle.std.proofs.Common.{None, refl, sym, ap, ◌∙◌, append_assoc, append-nil, subst, codes}
 use Rattle.std.specs.declared.ops.ControlFlow.TheVariants.{Continue, Break}
 use Rattle.vb_value.specs.declared.token.Keyword.TheVariants as k
 use Rattle.vb_value.specs.declared.token.Symbol.TheVariants as s
 use Rattle.vb_value.specs.declared.token.TokenKind.TheVariants as kind
 use Rattle.vb_syntax.specs.declared.expression.Expression.{Expression}
 use Rattle.vb_syntax.specs.declared.statement.Case.{Case, roll-Case}
-use Rattle.vb_syntax.specs.declared.statement.Repetition.{Repetition}
 use Rattle.vb_syntax.specs.declared.statement.Repetition.TheVariants as repetition
 use Rattle.vb_syntax.specs.declared.statement.Statement.{Statement}
 use Rattle.vb_syntax.specs.declared.statement.StatementKind.TheVariants as st
@@ -20,15 +20,18 @@ use Rattle.vb_parse.specs.Reader.{Reader, Turn}
 use Rattle.vb_parse.specs.Reader as reader
 use Rattle.vb_parse.specs.ReadLines as lines
 use Rattle.vb_parse.specs.ReadStatements as spec
-use Rattle.vb_parse.specs.Runs.{opens, inside}
-use Rattle.vb_parse.proofs.Reading.{Reads, Lives, NoEmpty, lives_bind, reads_pure, reads_refuse, reads_wider, reads_bind, reads_one, reads_choice, reads_both, reads_gate, reads_many, reads_word, reads_name, full_one, full_bind, full_word, token_of}
-use Rattle.vb_parse.proofs.Taking.{only}
-use Rattle.vb_parse.proofs.Binding.{Within, within_then, bind_wider, first_wider, bind_left, bind_right, pure_in, pure_out, bind_or, or_wider, or_within}
+use Rattle.vb_parse.specs.Runs.{opens}
+use Rattle.vb_parse.proofs.Reading.{Reads, Lives, NoEmpty, reads_pure, reads_wider, reads_bind, reads_one, reads_choice}
+use Rattle.vb_parse.proofs.Reading.{reads_both, reads_gate, reads_many, reads_word, reads_name, full_bind, full_word}
+use Rattle.vb_parse.proofs.Reading.{token_of}
+use Rattle.vb_parse.proofs.Binding.{Within, within_then, bind_wider, first_wider, bind_left, bind_right, pure_in}
+use Rattle.vb_parse.proofs.Binding.{pure_out, bind_or, or_wider, or_within}
 use Rattle.vb_parse.proofs.Until.{turn_rule, until_rule, reads_until, onward_turn, last_turn, until_apart}
 use Rattle.vb_parse.proofs.ExpressionReading.{reads_list_of}
 use Rattle.vb_parse.proofs.CallReading.{reads_here}
 use Rattle.vb_parse.proofs.SimpleReading.{full_or, reads_const, reads_simple, lives_simple, full_simple}
-use Rattle.vb_parse.proofs.LineReading.{reads_end, reads_line_end, maybe_colon, trailed, line_told, last_told, InnerBlocks, reads_inside, else_rule, reads_line_if_from, reads_line}
+use Rattle.vb_parse.proofs.LineReading.{reads_end, reads_line_end, maybe_colon, InnerBlocks, reads_inside, else_rule}
+use Rattle.vb_parse.proofs.LineReading.{reads_line_if_from, reads_line}
 
 -- ---- texts that say nothing
 
@@ -115,7 +118,8 @@ module _ (looser : Looser) (depth : ℕ) (bp : lines.Blocks) (br : grammar.Block
   -- a statement that holds others, where one more construct may open
   reads_compound : {p : Reader Statement} {r : Rule Statement} → Within r (grammar.compound looser depth br)
       → (IsTrue (opens depth) → Reads p r) → Reads (reader.gate (opens depth) p) statement_rule
-  reads_compound wider reads = reads_gate (opens depth) lives_statement (λ front x h. inr (inl (wider front x h.1))) reads
+  reads_compound wider reads = reads_gate (opens depth) lives_statement (λ front x h. inr (inl
+      (wider front x h.1))) reads
 
   -- ---- If
 
@@ -161,11 +165,13 @@ module _ (looser : Looser) (depth : ℕ) (bp : lines.Blocks) (br : grammar.Block
   case_rest line = rule.◌>>=◌ (words.list_of (grammar.inside looser depth br)) (λ values. rule.◌>>◌ grammar.«end»
       (rule.◌>>=◌ br.block (λ body. rule.pure (roll-Case (record { line = line; values = values; body = body })))))
 
-  case_else_turn : Within (rule.◌>>◌ (words.keyword k.Case) (rule.◌>>=◌ else_block (λ body. rule.pure (Break (Some body)))))
+  case_else_turn : Within (rule.◌>>◌ (words.keyword k.Case) (rule.◌>>=◌ else_block (λ body. rule.pure (Break
+      (Some body)))))
       case_turn_rule
   case_else_turn = within_then (within_then (bind_wider (λ _. within_then bind_right (within_then (bind_wider
       (λ _. within_then bind_right (within_then (bind_wider (λ _. within_then (bind_wider (λ body. pure_in)) bind_left))
-      bind_left))) bind_left))) bind_left) (within_then (first_wider (λ _ _ h. inl h)) (last_turn _ {s = case_else_rule}))
+      bind_left))) bind_left))) bind_left) (within_then (first_wider (λ _ _ h. inl h)) (last_turn _
+      {s = case_else_rule}))
 
   case_of_turn : Within (rule.◌>>=◌ (words.keyword k.Case) (λ line. rule.◌>>=◌ (case_rest line)
       (λ found. rule.pure (Continue found)))) case_turn_rule
@@ -175,7 +181,8 @@ module _ (looser : Looser) (depth : ℕ) (bp : lines.Blocks) (br : grammar.Block
   no_case_turn front t h = subst (λ u. case_turn_rule front u) (sym h.1) (inr (h.0, refl))
 
   reads_case_turn : IsTrue (opens depth) → Reads (spec.case_turn looser depth bp) case_turn_rule
-  reads_case_turn is = reads_wider (or_within (within_then bind_or (or_within case_else_turn case_of_turn)) no_case_turn)
+  reads_case_turn is = reads_wider (or_within (within_then bind_or (or_within case_else_turn case_of_turn))
+      no_case_turn)
       (reads_choice (reader.sees (kind.Keyword k.Case))
       (reads_bind (reads_word (kind.Keyword k.Case)) (λ line. reads_choice (reader.sees (kind.Keyword k.Else))
       (reads_bind (reads_bind (reads_word (kind.Keyword k.Else)) (λ _. reads_bind reads_end (λ _. inner.block is)))
@@ -239,7 +246,8 @@ module _ (looser : Looser) (depth : ℕ) (bp : lines.Blocks) (br : grammar.Block
       (λ group. reads_body is (λ body. reads_bind (reads_word (kind.Keyword k.Next)) (λ _. reads_pure _))))))
 
   reads_for : Reads (spec.for looser depth bp) statement_rule
-  reads_for = reads_compound {r = rule.◌>>=◌ (words.keyword k.For) (λ line. rule.◌or◌ (for_each_rest line) (for_rest line))}
+  reads_for = reads_compound {r = rule.◌>>=◌ (words.keyword k.For) (λ line. rule.◌or◌ (for_each_rest line)
+      (for_rest line))}
       (λ front x h. either front x (bind_or front x h)) (λ is. reads_bind (reads_word (kind.Keyword k.For))
       (λ line. reads_choice (reader.sees (kind.Keyword k.Each)) (reads_for_each_from is line) (reads_for_from is line)))
     where
@@ -249,7 +257,8 @@ module _ (looser : Looser) (depth : ℕ) (bp : lines.Blocks) (br : grammar.Block
       either front x (inr h) = inr (inr (inl h))
 
   reads_do_loop : Reads (spec.do_loop looser depth bp) statement_rule
-  reads_do_loop = reads_compound (λ _ _ h. inr (inr (inr (inr (inl h))))) (λ is. reads_bind (reads_word (kind.Keyword k.Do))
+  reads_do_loop = reads_compound (λ _ _ h. inr (inr (inr (inr (inl h))))) (λ is. reads_bind (reads_word
+      (kind.Keyword k.Do))
       (λ line. reads_choice spec.sees_loop_word
       (reads_bind (reads_condition looser depth br (reads_within is)) (λ found. reads_body is (λ body. reads_bind
       (reads_word (kind.Keyword k.Loop)) (λ _. reads_pure _))))
@@ -261,7 +270,8 @@ module _ (looser : Looser) (depth : ℕ) (bp : lines.Blocks) (br : grammar.Block
       (λ repeated. reads_pure _))))))
 
   reads_while : Reads (spec.while looser depth bp) statement_rule
-  reads_while = reads_compound (λ _ _ h. inr (inr (inr (inr (inr (inl h)))))) (λ is. reads_bind (reads_word (kind.Keyword
+  reads_while = reads_compound (λ _ _ h. inr (inr (inr (inr (inr (inl h)))))) (λ is. reads_bind (reads_word
+      (kind.Keyword
       k.While)) (λ line. reads_bind (reads_within is) (λ condition. reads_body is (λ body. reads_bind
       (reads_word (kind.Keyword k.Wend)) (λ _. reads_pure _)))))
 
@@ -307,9 +317,11 @@ module _ (looser : Looser) (depth : ℕ) (bp : lines.Blocks) (br : grammar.Block
   if_spells : Within (rule.◌>>=◌ (words.keyword k.If) (λ line. rule.◌>>=◌ (grammar.inside looser depth br)
       (λ condition. rule.◌>>◌ (words.keyword k.Then) (if_from_rule line condition)))) (grammar.sentence looser depth br)
   unfolding block_if_rest
-  if_spells = within_then (bind_wider (λ line. within_then (bind_wider (λ condition. bind_or)) bind_or)) (within_then bind_or
+  if_spells = within_then (bind_wider (λ line. within_then (bind_wider (λ condition. bind_or)) bind_or))
+      (within_then bind_or
       (or_wider
-      (within_then (within_then (bind_wider (λ line. within_then (bind_wider (λ condition. bind_left)) bind_left)) bind_left)
+      (within_then (within_then (bind_wider (λ line. within_then (bind_wider (λ condition. bind_left)) bind_left))
+      bind_left)
       (first_wider (λ _ _ h. inr (inl (inl h)))))
       (within_then (bind_wider (λ line. within_then (bind_wider (λ condition. bind_left)) bind_left)) bind_left)))
 
@@ -331,7 +343,8 @@ module _ (looser : Looser) (depth : ℕ) (bp : lines.Blocks) (br : grammar.Block
 
   full_const : NoEmpty (simple.const looser depth)
   full_const = full_bind _ _ (full_or _ _ (full_bind _ _ (full_word (kind.Keyword k.Public)))
-      (full_or _ _ (full_bind _ _ (full_word (kind.Keyword k.Private))) (full_bind _ _ (full_word (kind.Keyword k.Const)))))
+      (full_or _ _ (full_bind _ _ (full_word (kind.Keyword k.Private))) (full_bind _ _ (full_word
+      (kind.Keyword k.Const)))))
 
   full_compound : NoEmpty (grammar.compound looser depth br)
   full_compound = full_or _ _ (full_bind _ _ (full_word (kind.Keyword k.If)))
@@ -343,7 +356,8 @@ module _ (looser : Looser) (depth : ℕ) (bp : lines.Blocks) (br : grammar.Block
       (full_bind _ _ (full_word (kind.Keyword k.With))))))))
 
   pub full_sentence : NoEmpty (grammar.sentence looser depth br)
-  full_sentence = full_or _ _ (full_bind _ _ (full_or _ _ full_const (full_or _ _ full_compound (full_simple looser depth))))
+  full_sentence = full_or _ _ (full_bind _ _ (full_or _ _ full_const (full_or _ _ full_compound
+      (full_simple looser depth))))
       (full_bind _ _ (full_bind _ _ (full_word (kind.Keyword k.If))))
 
   pub reads_block : Reads (spec.block looser depth bp) (grammar.block looser depth br)

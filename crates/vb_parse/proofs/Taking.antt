@@ -1,5 +1,6 @@
 -- A reader takes what a rule spells, whatever fits behind it.
-use Rattle.std.proofs.Common.{◌≡◌, inl, inr, Bool, true, false, IsTrue, cond, List, [], ◌∷◌, ◌++◌, Option, None, Ok, refl, sym, ap, ◌∙◌, append_assoc, append-nil, subst}
+use Rattle.std.proofs.Common.{◌≡◌, inl, inr, Bool, true, false, IsTrue, cond, List, [], ◌∷◌, ◌++◌, Option, None, Ok}
+use Rattle.std.proofs.Common.{refl, sym, ap, ◌∙◌, append_assoc, append-nil, subst}
 use Rattle.vb_value.specs.declared.token.Token.{Token}
 use Rattle.vb_syntax.specs.Rules.{Tokens, Rule, Then, One}
 use Rattle.vb_syntax.specs.Rules as rule

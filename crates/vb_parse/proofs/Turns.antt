@@ -1,5 +1,6 @@
 -- Loops that read, and where the readers of a depth come from.
-use Rattle.std.proofs.Common.{◌≡◌, ℕ, zero, suc, ◌+◌, ◌<◌, ◌≢◌, ◌==◌, Bool, true, false, cond, List, [], ◌∷◌, ◌++◌, None, Ok, Err, refl, sym, ap, ◌∙◌, append_assoc, subst, arith}
+use Rattle.std.proofs.Common.{◌≡◌, ℕ, zero, suc, ◌+◌, ◌<◌, ◌≢◌, ◌==◌, Bool, true, false, cond, List, [], ◌∷◌, ◌++◌}
+use Rattle.std.proofs.Common.{None, Ok, Err, refl, sym, ap, ◌∙◌, append_assoc, subst, arith}
 use Rattle.std.proofs.lemmas.Bool.{eqb-true}
 use Rattle.vb_value.specs.declared.token.Symbol.TheVariants as s
 use Rattle.vb_value.specs.declared.token.TokenKind.TheVariants as kind
@@ -11,8 +12,10 @@ use Rattle.vb_parse.specs.Reader.{Reader, Outcome, Look, and_then, next}
 use Rattle.vb_parse.specs.ReadExpressions as spec
 use Rattle.vb_parse.specs.Runs.{opens, inside}
 use Rattle.vb_parse.proofs.Reading.{Moves, moves, more_with, many_step, reads_bind, reads_word, full_word, full_bind}
-use Rattle.vb_parse.proofs.ExpressionTaking.{Taken, closed_taken, expressions_taken}
-use Rattle.vb_parse.proofs.ExpressionReading.{Inner, Operator, closed_inner, expressions_read, reads_step, full_step, reads_turn, full_turn, reads_operators, operator_of_level}
+use Rattle.vb_parse.proofs.ExpressionEnds.{Taken}
+use Rattle.vb_parse.proofs.ExpressionTaking.{closed_taken, expressions_taken}
+use Rattle.vb_parse.proofs.ExpressionReading.{Inner, Operator, closed_inner, expressions_read, reads_step, full_step}
+use Rattle.vb_parse.proofs.ExpressionReading.{reads_turn, full_turn, reads_operators, operator_of_level}
 
 -- one turn of a loop that reads into a list
 pub list_turn : {A B : Type 0} (look : Look) (p : Reader A) → Moves p → look None ≡ false → (f : List A

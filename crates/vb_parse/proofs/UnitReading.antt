@@ -1,12 +1,9 @@
 -- The readers of classes, items and units read the grammar's.
-use Rattle.std.proofs.Common.{◌≡◌, ℕ, zero, suc, ◌<◌, ◌⊎◌, inl, inr, Bool, true, false, IsTrue, List, [], ◌∷◌, Option, Some, None, refl, codes, arith}
+use Rattle.std.proofs.Common.{ℕ, zero, suc, inl, inr, true, false, List, ◌∷◌, Some, None, refl, codes}
 use Rattle.vb_value.specs.declared.token.Keyword.TheVariants as k
 use Rattle.vb_value.specs.declared.token.Symbol.TheVariants as s
 use Rattle.vb_value.specs.declared.token.TokenKind.TheVariants as kind
 use Rattle.vb_syntax.specs.declared.declaration.Access.{Access}
-use Rattle.vb_syntax.specs.declared.declaration.Access.TheVariants as access
-use Rattle.vb_syntax.specs.declared.declaration.Declared.{Declared}
-use Rattle.vb_syntax.specs.declared.statement.Statement.{Statement}
 use Rattle.vb_syntax.specs.declared.unit.Class.{Class}
 use Rattle.vb_syntax.specs.declared.unit.ClassMember.{ClassMember}
 use Rattle.vb_syntax.specs.declared.unit.ClassMember.TheVariants as member
@@ -14,7 +11,6 @@ use Rattle.vb_syntax.specs.declared.unit.FieldAccess.{FieldAccess}
 use Rattle.vb_syntax.specs.declared.unit.FieldAccess.TheVariants as field
 use Rattle.vb_syntax.specs.declared.unit.Item.{Item}
 use Rattle.vb_syntax.specs.declared.unit.Item.TheVariants as item
-use Rattle.vb_syntax.specs.declared.unit.Unit.{Unit as Script}
 use Rattle.vb_syntax.specs.Rules.{Tokens, Rule}
 use Rattle.vb_syntax.specs.Rules as rule
 use Rattle.vb_syntax.specs.Words as words
@@ -30,16 +26,22 @@ use Rattle.vb_parse.specs.ReadExpressions as read
 use Rattle.vb_parse.specs.ReadDeclarations as read_declarations
 use Rattle.vb_parse.specs.ReadDeclarations.{begun}
 use Rattle.vb_parse.specs.ReadLines as lines
-use Rattle.vb_parse.specs.ReadSimpleStatements as read_simple
 use Rattle.vb_parse.specs.ReadUnits as spec
-use Rattle.vb_parse.proofs.Reading.{Reads, Lives, NoEmpty, reads_pure, reads_refuse, reads_wider, reads_bind, reads_one, reads_choice, reads_both, reads_many, reads_word, reads_name, full_one, full_bind, full_word, token_of}
-use Rattle.vb_parse.proofs.Binding.{Within, within_then, bind_wider, first_wider, bind_left, bind_right, pure_in, pure_out, bind_or, or_out, or_wider, or_within}
+use Rattle.vb_parse.proofs.Reading.{Reads, Lives, NoEmpty, reads_pure, reads_refuse, reads_wider, reads_bind, reads_one}
+use Rattle.vb_parse.proofs.Reading.{reads_choice, reads_both, reads_many, reads_word, reads_name, full_one, full_bind}
+use Rattle.vb_parse.proofs.Reading.{full_word, token_of}
+use Rattle.vb_parse.proofs.Binding.{Within, within_then, bind_wider, first_wider, bind_left, bind_right, pure_in}
+use Rattle.vb_parse.proofs.Binding.{pure_out, bind_or, or_out, or_within}
 use Rattle.vb_parse.proofs.ExpressionReading.{reads_list_of}
-use Rattle.vb_parse.proofs.DeclarationReading.{reads_opened_then, bounds_behind, reads_declared_from, reads_declared, reads_access_word, with_access}
+use Rattle.vb_parse.proofs.DeclarationReading.{reads_opened_then, bounds_behind, reads_declared_from, reads_declared}
+use Rattle.vb_parse.proofs.DeclarationReading.{reads_access_word, with_access}
 use Rattle.vb_parse.proofs.SimpleReading.{full_or, reads_property_word, const_behind, reads_const_from}
 use Rattle.vb_parse.proofs.LineReading.{reads_end}
-use Rattle.vb_parse.proofs.StatementReading.{reads_loose_texts, inner_blocks, reads_sentence, full_sentence, lives_sentence}
-use Rattle.vb_parse.proofs.ProcedureReading.{full_opened, full_with_access, either_open, reads_procedure, procedure_behind, procedure_alone, full_procedure, property_open, reads_property_open, reads_property_from, plain_name, reads_quoted_name, property_behind, property_alone}
+use Rattle.vb_parse.proofs.StatementReading.{reads_loose_texts, inner_blocks, reads_sentence, full_sentence}
+use Rattle.vb_parse.proofs.ProcedureReading.{full_opened, full_with_access, either_open, reads_procedure}
+use Rattle.vb_parse.proofs.ProcedureReading.{procedure_behind, procedure_alone, full_procedure, property_open}
+use Rattle.vb_parse.proofs.ProcedureReading.{reads_property_open, reads_property_from, plain_name, reads_quoted_name}
+use Rattle.vb_parse.proofs.ProcedureReading.{property_behind, property_alone}
 
 -- ---- fields
 
@@ -65,18 +67,23 @@ reads_fields_from depth line access name = reads_bind (reads_declared_from depth
 
 -- a name, and the fields of which it is the first's
 pub named_fields : (depth line : ℕ) (access : FieldAccess)
-    → Within (rule.◌>>=◌ (rule.one name_of) (λ name. fields_rest depth line access name)) (fields_of depth (line, access))
+    → Within (rule.◌>>=◌ (rule.one name_of) (λ name. fields_rest depth line access name)) (fields_of depth
+    (line, access))
 named_fields depth line access = within_then bind_left (within_then (bind_wider (λ first. within_then (bind_wider
     (λ more. pure_in)) bind_left)) bind_left)
 
 module _ (looser : Looser) where
   -- "Public" or "Private" before fields
-  pub access_fields : (depth : ℕ) → Within (rule.◌>>=◌ declarations.access_word (λ before. fields_of depth (before.0,
-      spec.field_access before.1))) (grammar.fields looser depth)
+  pub access_fields : (depth : ℕ) → Within (rule.◌>>=◌ declarations.access_word (λ before. fields_of depth (
+    before.0,
+    spec.field_access before.1,
+  ))) (grammar.fields looser depth)
   access_fields depth = within_then or_out (or_within
-      (within_then bind_right (within_then (bind_wider (λ line. within_then pure_out (pure_in {y = (line, field.Public)})))
+      (within_then bind_right (within_then (bind_wider (λ line. within_then pure_out (pure_in {y =
+      (line, field.Public)})))
       (within_then bind_left (first_wider (λ _ _ h. inr (inl h))))))
-      (within_then bind_right (within_then (bind_wider (λ line. within_then pure_out (pure_in {y = (line, field.Private)})))
+      (within_then bind_right (within_then (bind_wider (λ line. within_then pure_out (pure_in {y =
+      (line, field.Private)})))
       (within_then bind_left (first_wider (λ _ _ h. inr (inr h)))))))
 
   dim_fields : (depth : ℕ) → Within (rule.◌>>=◌ (words.keyword k.Dim) (λ line. rule.◌>>=◌ (rule.one name_of)
@@ -119,7 +126,8 @@ module _ (looser : Looser) where
   reads_behind_property : (depth : ℕ) (before : ℕ × Access) (name : List ℕ)
       → Reads (spec.behind_property looser depth before name) (quoted_rest depth before name)
   reads_behind_property depth before name =
-      let fields : Reads (spec.fields_from depth before.0 (spec.field_access before.1) name) (quoted_rest depth before name) =
+      let fields : Reads (spec.fields_from depth before.0 (spec.field_access before.1) name)
+      (quoted_rest depth before name) =
       reads_wider (λ _ _ h. inr h) (reads_fields_from depth before.0 (spec.field_access before.1) name) in
       reads_both spec.sees_property_kind (reads_property_from looser depth (before.0, Some before.1) member.Property
       (quoted_rest depth before name) fields.lives (λ _ _ h. inl h)) fields
@@ -130,10 +138,12 @@ module _ (looser : Looser) where
       let fields : Reads (reader.◌>>=◌ (reader.one name_of) (λ name. spec.fields_from depth before.0 (spec.field_access
       before.1) name)) (member_behind depth before) = reads_wider (λ _ _ h. inr (inr h)) (reads_bind reads_name
       (λ name. reads_fields_from depth before.0 (spec.field_access before.1) name)) in
-      reads_both spec.sees_procedure (reads_procedure looser depth (Some before) member.Method (member_behind depth before)
+      reads_both spec.sees_procedure (reads_procedure looser depth (Some before) member.Method
+      (member_behind depth before)
       fields.lives (λ _ _ h. inl h))
       (reads_both (reader.passes (quoted_at (codes "property")))
-      (reads_wider (λ _ _ h. inr (inl h)) (reads_bind reads_quoted_name (λ name. reads_behind_property depth before name)))
+      (reads_wider (λ _ _ h. inr (inl h)) (reads_bind reads_quoted_name (λ name. reads_behind_property depth before
+      name)))
       fields)
 
   quoted_spells : (depth : ℕ) → Within (rule.◌>>=◌ declarations.access_word (λ before. rule.◌>>=◌ (rule.one
@@ -166,7 +176,8 @@ module _ (looser : Looser) where
   reads_class_member depth = reads_both read_declarations.sees_access
       (reads_wider (member_spells depth) (reads_bind reads_access_word (reads_behind_access depth)))
       (reads_both (reader.sees (kind.Keyword k.Dim)) (reads_wider (λ _ _ h. inl h) (reads_dim_fields depth))
-      (reads_both spec.sees_procedure (reads_procedure looser depth None member.Method (grammar.class_member looser depth)
+      (reads_both spec.sees_procedure (reads_procedure looser depth None member.Method
+      (grammar.class_member looser depth)
       (lives_member depth) (within_then (first_wider (procedure_alone looser depth)) (λ _ _ h. inr (inl h))))
       (reads_property_alone depth)))
 
@@ -186,9 +197,12 @@ module _ (looser : Looser) where
       → Within (rule.◌>>=◌ (grammar.class looser depth) (λ found. rule.pure (made found))) whole
       → Reads (reader.◌>>=◌ (spec.class looser depth) (λ found. reader.pure (made found))) whole
   reads_class depth made whole lives wider = reads_opened_then depth lives wider
-      (λ within. reads_bind (reads_word (kind.Keyword k.Class)) (λ line. reads_bind reads_name (λ name. reads_bind reads_end
-      (λ _. reads_bind (reads_loose_texts looser) (λ _. reads_bind (reads_many spec.begins_member (reads_member_line within)
-      (full_bind _ _ (full_member within)) refl) (λ members. reads_bind (reads_word (kind.Keyword k.End)) (λ _. reads_bind
+      (λ within. reads_bind (reads_word (kind.Keyword k.Class)) (λ line. reads_bind reads_name
+      (λ name. reads_bind reads_end
+      (λ _. reads_bind (reads_loose_texts looser) (λ _. reads_bind (reads_many spec.begins_member
+      (reads_member_line within)
+      (full_bind _ _ (full_member within)) refl) (λ members. reads_bind (reads_word (kind.Keyword k.End))
+      (λ _. reads_bind
       (reads_word (kind.Keyword k.Class)) (λ _. reads_pure _))))))))
       (λ found. reads_pure (made found))
 
@@ -214,7 +228,8 @@ module _ (looser : Looser) where
       (λ found. rule.pure (item.Variables before.0 before.1 found))
 
   abbrev item_behind : ℕ → ℕ × Access → Rule Item
-  item_behind depth before = rule.◌or◌ (rule.◌>>=◌ (rule.◌>>=◌ (words.keyword k.Const) (λ line. const_behind (begun (Some
+  item_behind depth before = rule.◌or◌ (rule.◌>>=◌ (rule.◌>>=◌ (words.keyword k.Const) (λ line. const_behind (begun
+      (Some
       before) line))) (λ found. rule.pure (item.Statement found)))
       (rule.◌or◌ (rule.◌>>=◌ (either_open looser depth (Some before)) (λ found. rule.pure (item.Procedure found)))
       (variables_behind depth before))
@@ -227,7 +242,8 @@ module _ (looser : Looser) where
       (reads_bind (reads_list_of (reads_declared depth)) (λ found. reads_pure _)) in
       reads_both (reader.sees (kind.Keyword k.Const)) (reads_wider (λ _ _ h. inl h) (reads_bind (reads_const_from (Some
       before)) (λ found. reads_pure (item.Statement found))))
-      (reads_both spec.sees_procedure (reads_procedure looser depth (Some before) item.Procedure (item_behind depth before)
+      (reads_both spec.sees_procedure (reads_procedure looser depth (Some before) item.Procedure
+      (item_behind depth before)
       variables.lives (λ _ _ h. inr (inl h))) variables)
 
   item_spells : (depth : ℕ) → Within (rule.◌>>=◌ declarations.access_word (item_behind depth)) (other_item depth)
@@ -239,7 +255,8 @@ module _ (looser : Looser) where
 
   reads_other_item : (depth : ℕ) → Reads (spec.other_item looser depth) (other_item depth)
   reads_other_item depth =
-      let behind : Reads (reader.◌>>=◌ read_declarations.access_word (spec.item_behind looser depth)) (other_item depth) =
+      let behind : Reads (reader.◌>>=◌ read_declarations.access_word (spec.item_behind looser depth))
+      (other_item depth) =
       reads_wider (item_spells depth) (reads_bind reads_access_word (reads_item_behind depth)) in
       reads_both read_declarations.sees_access behind
       (reads_both spec.sees_procedure (reads_procedure looser depth None item.Procedure (other_item depth) behind.lives
@@ -256,7 +273,8 @@ module _ (looser : Looser) where
 
   const_spells : (depth : ℕ) → Within (rule.◌>>=◌ (const_item depth) ended) (grammar.item_line looser depth)
   const_spells depth = within_then made_ended (within_then (within_then (bind_wider (λ found. within_then (bind_wider
-      (λ _. pure_in)) bind_left)) bind_left) (λ front x h. inl (first_wider (λ _ _ g. inl (first_wider (λ _ _ w. inl w) _ _
+      (λ _. pure_in)) bind_left)) bind_left) (λ front x h. inl (first_wider (λ _ _ g. inl (first_wider
+      (λ _ _ w. inl w) _ _
       g)) front x h)))
 
   line_spells : (depth : ℕ) → Within (rule.◌>>=◌ (other_item depth) ended) (grammar.item_line looser depth)

@@ -1,5 +1,6 @@
 -- Loops that their last turn ends.
-use Rattle.std.proofs.Common.{◌≡◌, ℕ, zero, suc, ◌+◌, ◌<◌, ◌≤◌, Bool, true, false, cond, List, [], ◌∷◌, ◌++◌, length, Option, Some, None, Result, Ok, Err, refl, sym, ap, ◌∙◌, append_assoc, append-nil, subst, length-append, arith}
+use Rattle.std.proofs.Common.{◌≡◌, ℕ, zero, suc, ◌+◌, ◌<◌, ◌≤◌, List, [], ◌∷◌, ◌++◌, length, Ok, Err, refl, sym, ap}
+use Rattle.std.proofs.Common.{◌∙◌, append_assoc, append-nil, subst, length-append, arith}
 use Rattle.std.specs.declared.ops.ControlFlow.TheVariants.{Continue, Break}
 use Rattle.vb_syntax.specs.Rules.{Tokens, Rule, Then}
 use Rattle.vb_syntax.specs.Rules as rule
@@ -206,7 +207,8 @@ reads_until {A} {B} {turn} {r} {s} reads full lives = record {
 -- a turn by what its thing is made of
 pub onward_turn : {A B : Type 0} {r : Rule A} (s : Rule B)
     → Within (rule.◌>>=◌ r (λ x. rule.pure (Continue x))) (turn_rule r s)
-onward_turn {A} {B} {r} s front t h = subst (λ u. turn_rule r s front u) (sym h.next_spells.1) (only r Continue front t h)
+onward_turn {A} {B} {r} s front t h = subst (λ u. turn_rule r s front u) (sym h.next_spells.1)
+    (only r Continue front t h)
 
 pub last_turn : {A B : Type 0} (r : Rule A) {s : Rule B}
     → Within (rule.◌>>=◌ s (λ y. rule.pure (Break y))) (turn_rule r s)
