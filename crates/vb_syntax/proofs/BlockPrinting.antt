@@ -1,5 +1,6 @@
 -- What is printed of statements that hold others, of lines and of blocks is spelled so.
-use Rattle.std.proofs.Common.{◌≡◌, ℕ, zero, suc, Bool, true, false, List, [], ◌∷◌, ◌++◌, map, Option, Some, None, ◌⊎◌, inl, inr, refl, sym, ap, ◌∙◌, append-nil, append_assoc, subst, codes}
+use Rattle.std.proofs.Common.{◌≡◌, ℕ, zero, suc, Bool, true, false, List, [], ◌∷◌, ◌++◌, map, Option, Some, None}
+use Rattle.std.proofs.Common.{◌⊎◌, inl, inr, refl, sym, ap, ◌∙◌, append-nil, append_assoc, subst, codes}
 use Rattle.std.proofs.lemmas.List.{map-append}
 use Rattle.std.specs.List.{flat_map}
 use Rattle.std.specs.Option.{option_map}
@@ -28,7 +29,8 @@ use Rattle.vb_syntax.specs.PrintingStatements.{statement_words, else_if_words, c
 use Rattle.vb_syntax.proofs.StatementWords as shown
 use Rattle.vb_syntax.proofs.Again.{Again, AgainTail, again, self, tail_of, again_pure, again_bind, again_changed}
 use Rattle.vb_syntax.proofs.Again.{again_given, again_last, again_or, again_where, again_none, again_opened, again_many}
-use Rattle.vb_syntax.proofs.Again.{again_word, behind, word_shown, again_keyword, again_symbol, quoted_shown, again_listed}
+use Rattle.vb_syntax.proofs.Again.{again_word, behind, word_shown, again_keyword, again_symbol, quoted_shown}
+use Rattle.vb_syntax.proofs.Again.{again_listed}
 use Rattle.vb_syntax.proofs.SimplePrinting.{again_name, again_expression}
 use Rattle.vb_syntax.proofs.SimpleStatementPrinting.{again_const, again_simple}
 
@@ -111,7 +113,8 @@ module _ (depth : ℕ) (inner : Blocks) (within : BlocksAgain inner) where
       (λ condition. again_keyword k.Then line (again_bind (within.line line) (λ body. again_or
       (again_pure (shown.words-line_if line condition body.statements None ∙ simp append_assoc refl))
       (again_where (again_keyword k.Else line (again_last (within.line line)
-      (λ other. shown.words-line_if line condition body.statements (Some other.statements) ∙ simp append_assoc refl)))))))))
+      (λ other. shown.words-line_if line condition body.statements (Some other.statements)
+      ∙ simp append_assoc refl)))))))))
 
   again_line : (line : ℕ) → Again (statements.line strict depth inner) (λ found. line_words line (map statement_words
       found.statements))
@@ -258,7 +261,8 @@ module _ (depth : ℕ) (inner : Blocks) (within : BlocksAgain inner) where
       (again_changed (λ found. condition_words line found.1) (λ found. (line, found.1))
       (condition_shown (statements.inside strict depth inner) again_inside line) (λ found tokens y h. h)
       (λ found. behind (line_end line ∷ []) tt (end_shown line) (again_bind (within.block line) (λ body.
-      again_keyword k.Loop line (again_pure (shown.words-do line (repetition.Before found.1) body ∙ simp append_assoc refl))))))
+      again_keyword k.Loop line (again_pure (shown.words-do line (repetition.Before found.1) body
+      ∙ simp append_assoc refl))))))
       (behind (line_end line ∷ []) tt (end_shown line) (again_bind (within.block line) (λ body.
       again_keyword k.Loop line (again_given (λ found. before_words line found ≡ []) again_behind_loop (not_before line)
       (λ repeated none. again_pure (shown.words-do line repeated body ∙ simp (append-nil, none) refl))))))))
@@ -271,7 +275,8 @@ module _ (depth : ℕ) (inner : Blocks) (within : BlocksAgain inner) where
   again_with : Again (statements.with_block strict depth inner) statement_words
   again_with = again (again_bind (again_word (kind.Keyword k.With)) (λ line. again_bind (again_inside line)
       (λ subject. behind (line_end line ∷ []) tt (end_shown line) (again_bind (within.block line) (λ body.
-      again_keyword k.End line (again_keyword k.With line (again_pure (shown.words-with line subject body ∙ simp append_assoc refl))))))))
+      again_keyword k.End line (again_keyword k.With line (again_pure (shown.words-with line subject body
+      ∙ simp append_assoc refl))))))))
 
   -- ---- blocks
 

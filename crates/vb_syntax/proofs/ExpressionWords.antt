@@ -50,7 +50,8 @@ module _ (line : ℕ) where
       ≡ symbol line s.Open ∷ expression_words line inner ++ symbol line s.Close ∷ []
   words-parenthesis inner = ap (expression_words line) (sym (e.rolls-Parenthesis inner))
       ∙ fold-roll-Expression Tokens Tokens Tokens Tokens
-      (expression_layer line) (step_layer line) (operation_layer line) (path_layer line) (Expression-F.Parenthesis inner)
+      (expression_layer line) (step_layer line) (operation_layer line) (path_layer line)
+      (Expression-F.Parenthesis inner)
 
   pub words-negative : (operand : Expression) → expression_words line (e.Negative operand)
       ≡ symbol line s.Minus ∷ expression_words line operand

@@ -15,7 +15,8 @@ pub record Prints {A : Type 0} (r : Rule A) (print : A → Tokens) : Type 0 wher
   pub same : (tokens : Tokens) (x : A) → r tokens x → kinds (print x) ≡ kinds tokens
 
 -- the words `tail` behind others, of which `before` makes the whole
-pub record TailWords {A : Type 0} (before : Tokens → Tokens) (print : A → Tokens) (tokens : Tokens) (x : A) : Type 0 where
+pub record TailWords {A : Type 0} (before : Tokens → Tokens) (print : A → Tokens) (tokens : Tokens) (x : A)
+    : Type 0 where
   pub tail : Tokens
   pub whole : print x ≡ before tail
   pub same : kinds tail ≡ kinds tokens

@@ -1,5 +1,7 @@
 -- What is printed of declarations and of statements that hold no other is spelled so.
-use Rattle.std.proofs.Common.{◌≡◌, ℕ, ℤ, zero, suc, Bool, true, false, IsTrue, List, [], ◌∷◌, ◌++◌, map, Option, Some, None, ◌⊎◌, inl, inr, refl, sym, ap, ◌∙◌, append-nil, append_assoc, subst, codes}
+use Rattle.std.proofs.Common.{◌≡◌, ℕ, ℤ, zero, suc, Bool, true, false, IsTrue, List, [], ◌∷◌, ◌++◌, map, Option}
+use Rattle.std.proofs.Common.{Some, None, ◌⊎◌, inl, inr, refl, sym, ap, ◌∙◌, append-nil, append_assoc, subst}
+use Rattle.std.proofs.Common.{codes}
 use Rattle.std.specs.List.{flat_map}
 use Rattle.vb_value.specs.declared.token.Keyword.{Keyword}
 use Rattle.vb_value.specs.declared.token.Keyword.TheVariants as k
@@ -36,14 +38,17 @@ use Rattle.vb_syntax.specs.SimpleStatements.{statement, named_by, head_at, path_
 use Rattle.vb_syntax.specs.PrintingWords.{printed, keyword, symbol, name, quoted, listed, literal_word}
 use Rattle.vb_syntax.specs.PrintingExpressions.{head_words, expression_words, path_words, path_step_words}
 use Rattle.vb_syntax.specs.PrintingStatements as print
-use Rattle.vb_syntax.specs.PrintingStatements.{access_words, bound_words, declared_words, constant_value_words, constant_words, resized_words, statement_words}
+use Rattle.vb_syntax.specs.PrintingStatements.{access_words, bound_words, declared_words, constant_value_words}
+use Rattle.vb_syntax.specs.PrintingStatements.{constant_words, resized_words, statement_words}
 use Rattle.vb_syntax.proofs.Alike.{Blind}
 use Rattle.vb_syntax.proofs.ExpressionWords as shown
 use Rattle.vb_syntax.proofs.StatementWords as shown_statements
 use Rattle.vb_syntax.proofs.ExpressionPrinting.{blind_name, blind_literal, blind_step, expressions_blind, blind_closed}
-use Rattle.vb_syntax.proofs.ExpressionPrinting.{prints_name, prints_literal, prints_step, expressions_print, prints_closed}
+use Rattle.vb_syntax.proofs.ExpressionPrinting.{prints_name, prints_literal, prints_step, expressions_print}
+use Rattle.vb_syntax.proofs.ExpressionPrinting.{prints_closed}
 use Rattle.vb_syntax.proofs.Prints.{Prints}
-use Rattle.vb_syntax.proofs.Again.{Again, AgainTail, TailAgain, again, tail_of, alike, again_pure, again_bind, again_last, again_or}
+use Rattle.vb_syntax.proofs.Again.{Again, AgainTail, TailAgain, again, tail_of, alike, again_pure, again_bind}
+use Rattle.vb_syntax.proofs.Again.{again_last, again_or}
 use Rattle.vb_syntax.proofs.Again.{again_where, again_none, again_opened, again_many, again_word, behind, word_shown}
 use Rattle.vb_syntax.proofs.Again.{again_keyword, again_symbol, quoted_shown, again_listed, again_some}
 

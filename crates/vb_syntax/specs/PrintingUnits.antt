@@ -24,7 +24,8 @@ use Rattle.vb_syntax.specs.declared.unit.PropertyKind.TheVariants as property_ki
 use Rattle.vb_syntax.specs.declared.unit.Unit.{Unit as Script}
 use Rattle.vb_syntax.specs.Rules.{Tokens}
 use Rattle.vb_syntax.specs.PrintingWords.{keyword, symbol, name, quoted, listed}
-use Rattle.vb_syntax.specs.PrintingStatements.{access_words, declared_words, line_end, block_words, statement_words, body_words}
+use Rattle.vb_syntax.specs.PrintingStatements.{access_words, declared_words, line_end, block_words}
+use Rattle.vb_syntax.specs.PrintingStatements.{statement_words, body_words}
 
 -- ---- procedures
 
