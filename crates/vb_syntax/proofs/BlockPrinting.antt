@@ -1,6 +1,6 @@
 -- What is printed of statements that hold others, of lines and of blocks is spelled so.
 use Rattle.std.proofs.Common.{◌≡◌, ℕ, zero, suc, Bool, true, false, List, [], ◌∷◌, ◌++◌, map, Option, Some, None}
-use Rattle.std.proofs.Common.{◌⊎◌, inl, inr, refl, sym, ap, ◌∙◌, append-nil, append_assoc, subst, codes}
+use Rattle.std.proofs.Common.{inl, inr, refl, sym, ap, ◌∙◌, append-nil, append_assoc, subst, codes}
 use Rattle.std.proofs.lemmas.List.{map-append}
 use Rattle.std.specs.List.{flat_map}
 use Rattle.std.specs.Option.{option_map}
@@ -12,11 +12,9 @@ use Rattle.vb_syntax.specs.declared.expression.Expression.{Expression}
 use Rattle.vb_syntax.specs.declared.statement.Condition.{Condition}
 use Rattle.vb_syntax.specs.declared.statement.Repetition.{Repetition}
 use Rattle.vb_syntax.specs.declared.statement.Repetition.TheVariants as repetition
-use Rattle.vb_syntax.specs.declared.statement.Statement.{Statement}
-use Rattle.vb_syntax.specs.Rules.{Tokens, Rule, pure, none, ◌>>=◌, ◌>>◌, ◌or◌, one, many}
-use Rattle.vb_syntax.specs.Words as words
+use Rattle.vb_syntax.specs.Rules.{Tokens, Rule, pure, ◌>>=◌, ◌>>◌, ◌or◌}
 use Rattle.vb_syntax.specs.Expressions.{expressions}
-use Rattle.vb_syntax.specs.SimpleStatements.{simple, quoted}
+use Rattle.vb_syntax.specs.SimpleStatements.{quoted}
 use Rattle.vb_syntax.specs.Statements as statements
 use Rattle.vb_syntax.specs.Statements.{Blocks, Line, «end», no_blocks, blocks, blocks_here, blocks_inside}
 use Rattle.vb_syntax.specs.Units.{strict}
@@ -24,10 +22,10 @@ use Rattle.vb_syntax.specs.PrintingWords.{printed, keyword, symbol, name, joined
 use Rattle.vb_syntax.specs.PrintingWords as words_of
 use Rattle.vb_syntax.specs.PrintingExpressions.{expression_words}
 use Rattle.vb_syntax.specs.PrintingStatements.{loop_keyword, condition_words, before_words, after_words, step_words}
-use Rattle.vb_syntax.specs.PrintingStatements.{line_end, block_words, line_words, else_words, case_else_words}
+use Rattle.vb_syntax.specs.PrintingStatements.{line_end, line_words, else_words, case_else_words}
 use Rattle.vb_syntax.specs.PrintingStatements.{statement_words, else_if_words, case_words, body_words}
 use Rattle.vb_syntax.proofs.StatementWords as shown
-use Rattle.vb_syntax.proofs.Again.{Again, AgainTail, again, self, tail_of, again_pure, again_bind, again_changed}
+use Rattle.vb_syntax.proofs.Again.{Again, again, self, again_pure, again_bind, again_changed}
 use Rattle.vb_syntax.proofs.Again.{again_given, again_last, again_or, again_where, again_none, again_opened, again_many}
 use Rattle.vb_syntax.proofs.Again.{again_word, behind, word_shown, again_keyword, again_symbol, quoted_shown}
 use Rattle.vb_syntax.proofs.Again.{again_listed}

@@ -1,19 +1,19 @@
 -- What is printed of a call statement is spelled so. It is alike to the beginning of what spelled the statement, so it
 -- is no assignment.
 use Rattle.std.proofs.Common.{◌≡◌, ℕ, zero, suc, Bool, true, false, IsTrue, List, [], ◌∷◌, ◌++◌, map, Option, Some}
-use Rattle.std.proofs.Common.{None, ◌⊎◌, inl, inr, refl, sym, ap, ◌∙◌, append-nil, append_assoc, subst}
+use Rattle.std.proofs.Common.{None, inl, inr, refl, sym, ap, ◌∙◌, append-nil, append_assoc, subst}
 use Rattle.vb_value.specs.declared.token.Keyword.TheVariants as k
 use Rattle.vb_value.specs.declared.token.Symbol.TheVariants as s
 use Rattle.vb_value.specs.declared.token.Token.{Token}
 use Rattle.vb_value.specs.declared.token.TokenKind.{TokenKind}
 use Rattle.vb_value.specs.declared.token.TokenKind.TheVariants as kind
 use Rattle.vb_syntax.specs.declared.expression.Expression.{Expression}
-use Rattle.vb_syntax.specs.declared.expression.Path.{Path as Paths, out-Path, out-roll-Path}
+use Rattle.vb_syntax.specs.declared.expression.Path.{out-Path, out-roll-Path}
 use Rattle.vb_syntax.specs.declared.expression.PathHead.{PathHead}
 use Rattle.vb_syntax.specs.declared.expression.PathHead.TheVariants as head
 use Rattle.vb_syntax.specs.declared.expression.Step.{Step}
 use Rattle.vb_syntax.specs.declared.statement.Statement.{Statement}
-use Rattle.vb_syntax.specs.Rules.{Tokens, Rule, pure, ◌>>◌, ◌or◌, one}
+use Rattle.vb_syntax.specs.Rules.{Tokens, Rule, pure, ◌>>◌, one}
 use Rattle.vb_syntax.specs.Words as words
 use Rattle.vb_syntax.specs.Words.{name_of, name_of_kind}
 use Rattle.vb_syntax.specs.Declarations.{opened}
@@ -27,14 +27,14 @@ use Rattle.vb_syntax.specs.PrintingStatements.{empty_group, argument_words, stat
 use Rattle.vb_syntax.proofs.Alike.{plain, kinds, kinds-append, parts, Turns, turns, turns_word, turns_pure}
 use Rattle.vb_syntax.proofs.Alike.{turns_bind, turns_or}
 use Rattle.vb_syntax.proofs.Alike.{turns_one, blind_many}
-use Rattle.vb_syntax.proofs.PrintedWords.{kinds-symbol, kinds-keyword, kinds-name}
+use Rattle.vb_syntax.proofs.PrintedWords.{kinds-symbol, kinds-keyword}
 use Rattle.vb_syntax.proofs.Prints.{Prints, prints, tail, prints_pure, prints_bind, prints_last, prints_or, prints_many}
 use Rattle.vb_syntax.proofs.Prints.{prints_symbol, prints_listed}
 use Rattle.vb_syntax.proofs.ExpressionWords as shown
 use Rattle.vb_syntax.proofs.StatementWords as shown_statements
 use Rattle.vb_syntax.proofs.ExpressionPrinting.{blind_name, prints_name, expressions_print, name-plain}
 use Rattle.vb_syntax.proofs.Again.{Again, again, again_pure, again_opened, again_symbol, again_listed, word_shown}
-use Rattle.vb_syntax.proofs.SimplePrinting.{path_at_words, again_path_at, again_expression, step_blind, step_prints}
+use Rattle.vb_syntax.proofs.SimplePrinting.{again_path_at, again_expression, step_blind, step_prints}
 
 -- ---- what begins with a path and "="
 

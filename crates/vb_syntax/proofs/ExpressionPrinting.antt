@@ -1,13 +1,12 @@
 -- What is printed of an expression is spelled so: it is alike to what spelled the expression, and the grammar of
 -- expressions looks at nothing else.
-use Rattle.std.proofs.Common.{◌≡◌, ℕ, zero, suc, ◌==◌, Bool, true, false, List, [], ◌∷◌, ◌++◌, map, Option, Some}
-use Rattle.std.proofs.Common.{None, refl, sym, ap, ◌∙◌, append-nil}
+use Rattle.std.proofs.Common.{◌≡◌, ℕ, zero, suc, ◌==◌, Bool, true, false, List, [], ◌∷◌, ◌++◌, map, Option}
+use Rattle.std.proofs.Common.{refl, sym, ap, ◌∙◌, append-nil}
 use Rattle.std.specs.List.{flat_map}
 use Rattle.vb_value.specs.declared.operator.Op2.{Op2}
 use Rattle.vb_value.specs.declared.operator.Op2.TheVariants as op
 use Rattle.vb_value.specs.declared.token.Keyword.TheVariants as k
 use Rattle.vb_value.specs.declared.token.Symbol.TheVariants as s
-use Rattle.vb_value.specs.declared.token.Token.{Token}
 use Rattle.vb_value.specs.declared.token.TokenKind.{TokenKind}
 use Rattle.vb_value.specs.declared.token.TokenKind.TheVariants as kind
 use Rattle.vb_syntax.specs.declared.expression.Expression.{Expression}
@@ -15,9 +14,7 @@ use Rattle.vb_syntax.specs.declared.expression.Expression.TheVariants as e
 use Rattle.vb_syntax.specs.declared.expression.Literal.{Literal}
 use Rattle.vb_syntax.specs.declared.expression.Literal.TheVariants as literal
 use Rattle.vb_syntax.specs.declared.expression.Operation.{Operation}
-use Rattle.vb_syntax.specs.declared.expression.PathHead.{PathHead}
 use Rattle.vb_syntax.specs.declared.expression.PathHead.TheVariants as head
-use Rattle.vb_syntax.specs.declared.expression.Step.{Step}
 use Rattle.vb_syntax.specs.declared.expression.Step.TheVariants as behind
 use Rattle.vb_syntax.specs.Rules.{Tokens, Rule, one}
 use Rattle.vb_syntax.specs.Words as words
@@ -28,7 +25,7 @@ use Rattle.vb_syntax.specs.Expressions.{chain, operation, path_of}
 use Rattle.vb_syntax.specs.PrintingWords.{printed as word_at, name, listed, literal_word, operator_word}
 use Rattle.vb_syntax.specs.PrintingExpressions.{head_words, expression_words, path_words, path_step_words}
 use Rattle.vb_syntax.specs.PrintingExpressions.{operation_words}
-use Rattle.vb_syntax.proofs.Alike.{plain, kinds, Blind, blind_pure, blind_none, blind_one, blind_bind, blind_after}
+use Rattle.vb_syntax.proofs.Alike.{plain, Blind, blind_pure, blind_none, blind_one, blind_bind}
 use Rattle.vb_syntax.proofs.Alike.{blind_or, blind_where, blind_many, blind_keyword, blind_symbol}
 use Rattle.vb_syntax.proofs.PrintedWords.{kinds-name, kinds-literal, kinds-operator}
 use Rattle.vb_syntax.proofs.Prints.{Prints, PrintsTail, prints, tail, prints_pure, prints_bind, prints_last}

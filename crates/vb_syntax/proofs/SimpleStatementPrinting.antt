@@ -1,13 +1,11 @@
 -- What is printed of a statement that holds no other is spelled so.
-use Rattle.std.proofs.Common.{◌≡◌, ℕ, pos, Bool, true, false, List, [], ◌∷◌, ◌++◌, map, refl, sym, ap, ◌∙◌}
+use Rattle.std.proofs.Common.{ℕ, pos, true, false, List, [], ◌∷◌, ◌++◌, map, refl, sym, ap, ◌∙◌}
 use Rattle.std.proofs.Common.{append-nil, append_assoc, codes}
 use Rattle.vb_value.specs.declared.token.Keyword.TheVariants as k
 use Rattle.vb_value.specs.declared.token.Symbol.TheVariants as s
 use Rattle.vb_value.specs.declared.token.TokenKind.TheVariants as kind
 use Rattle.vb_syntax.specs.declared.expression.Expression.{Expression}
-use Rattle.vb_syntax.specs.declared.statement.Statement.{Statement}
-use Rattle.vb_syntax.specs.declared.statement.ExitKind.TheVariants as exit
-use Rattle.vb_syntax.specs.Rules.{Tokens, Rule, pure, ◌>>=◌, ◌>>◌, ◌or◌, one}
+use Rattle.vb_syntax.specs.Rules.{Rule, pure, ◌>>=◌, ◌>>◌, ◌or◌}
 use Rattle.vb_syntax.specs.Words as words
 use Rattle.vb_syntax.specs.Words.{name_of}
 use Rattle.vb_syntax.specs.Declarations.{opened}
@@ -20,7 +18,7 @@ use Rattle.vb_syntax.specs.PrintingStatements.{access_words, constant_words, dec
 use Rattle.vb_syntax.specs.PrintingStatements.{preserve_words}
 use Rattle.vb_syntax.specs.PrintingStatements.{exit_word, name_words, statement_words}
 use Rattle.vb_syntax.proofs.StatementWords as shown
-use Rattle.vb_syntax.proofs.Again.{Again, AgainTail, again, self, tail_of, again_pure, again_bind, again_changed}
+use Rattle.vb_syntax.proofs.Again.{Again, again, self, again_pure, again_bind, again_changed}
 use Rattle.vb_syntax.proofs.Again.{again_last}
 use Rattle.vb_syntax.proofs.Again.{again_or, again_opened, again_word, behind, word_shown, again_keyword}
 use Rattle.vb_syntax.proofs.Again.{again_symbol, quoted_shown}

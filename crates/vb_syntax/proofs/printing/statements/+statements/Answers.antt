@@ -1,4 +1,4 @@
-use Rattle.std.proofs.Common.{◌≡◌, List, ◌++◌, map, refl}
+use Rattle.std.proofs.Common.{◌≡◌, ◌++◌, map, refl}
 use Rattle.std.specs.Option.{option_map}
 use Rattle.vb_syntax.specs.PrintingStatements as spec
 use Rattle.vb_syntax.specs.PrintingStatements.{statement_words}
