@@ -1,13 +1,14 @@
 -- Words that are alike: they differ in their places, lines and brackets alone. Rules that ask for nothing else spell
 -- the same with words that are alike.
-use Rattle.std.proofs.Common.{◌≡◌, ℕ, Bool, true, false, List, [], ◌∷◌, ◌++◌, map, cond, ◌==◌, Option, Some, None, ◌⊎◌, inl, inr, refl, sym, ap, ◌∙◌, subst}
+use Rattle.std.proofs.Common.{◌≡◌, ℕ, Bool, true, false, List, [], ◌∷◌, ◌++◌, map, cond, ◌==◌, Option, Some, None}
+use Rattle.std.proofs.Common.{inl, inr, refl, sym, ap, ◌∙◌}
 use Rattle.std.proofs.lemmas.List.{map-append}
 use Rattle.vb_value.specs.declared.token.Keyword.{Keyword}
 use Rattle.vb_value.specs.declared.token.Symbol.{Symbol}
 use Rattle.vb_value.specs.declared.token.Token.{Token}
 use Rattle.vb_value.specs.declared.token.TokenKind.{TokenKind}
 use Rattle.vb_value.specs.declared.token.TokenKind.TheVariants as kind
-use Rattle.vb_syntax.specs.Rules.{Tokens, Rule, Then, One, Cut, pure, none, ◌>>=◌, ◌>>◌, ◌or◌, one, many, where_true}
+use Rattle.vb_syntax.specs.Rules.{Tokens, Rule, pure, none, ◌>>=◌, ◌>>◌, ◌or◌, one, many, where_true}
 use Rattle.vb_syntax.specs.Words.{word, line_of, tag, keyword, symbol}
 
 -- what a word is, as if each name stood in brackets

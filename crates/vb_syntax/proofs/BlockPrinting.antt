@@ -1,5 +1,6 @@
 -- What is printed of statements that hold others, of lines and of blocks is spelled so.
-use Rattle.std.proofs.Common.{◌≡◌, ℕ, zero, suc, Bool, true, false, List, [], ◌∷◌, ◌++◌, map, Option, Some, None, ◌⊎◌, inl, inr, refl, sym, ap, ◌∙◌, append-nil, append_assoc, subst, codes}
+use Rattle.std.proofs.Common.{◌≡◌, ℕ, zero, suc, Bool, true, false, List, [], ◌∷◌, ◌++◌, map, Option, Some, None}
+use Rattle.std.proofs.Common.{inl, inr, refl, sym, ap, ◌∙◌, append-nil, append_assoc, subst, codes}
 use Rattle.std.proofs.lemmas.List.{map-append}
 use Rattle.std.specs.List.{flat_map}
 use Rattle.std.specs.Option.{option_map}
@@ -11,11 +12,9 @@ use Rattle.vb_syntax.specs.declared.expression.Expression.{Expression}
 use Rattle.vb_syntax.specs.declared.statement.Condition.{Condition}
 use Rattle.vb_syntax.specs.declared.statement.Repetition.{Repetition}
 use Rattle.vb_syntax.specs.declared.statement.Repetition.TheVariants as repetition
-use Rattle.vb_syntax.specs.declared.statement.Statement.{Statement}
-use Rattle.vb_syntax.specs.Rules.{Tokens, Rule, pure, none, ◌>>=◌, ◌>>◌, ◌or◌, one, many}
-use Rattle.vb_syntax.specs.Words as words
+use Rattle.vb_syntax.specs.Rules.{Tokens, Rule, pure, ◌>>=◌, ◌>>◌, ◌or◌}
 use Rattle.vb_syntax.specs.Expressions.{expressions}
-use Rattle.vb_syntax.specs.SimpleStatements.{simple, quoted}
+use Rattle.vb_syntax.specs.SimpleStatements.{quoted}
 use Rattle.vb_syntax.specs.Statements as statements
 use Rattle.vb_syntax.specs.Statements.{Blocks, Line, «end», no_blocks, blocks, blocks_here, blocks_inside}
 use Rattle.vb_syntax.specs.Units.{strict}
@@ -23,12 +22,13 @@ use Rattle.vb_syntax.specs.PrintingWords.{printed, keyword, symbol, name, joined
 use Rattle.vb_syntax.specs.PrintingWords as words_of
 use Rattle.vb_syntax.specs.PrintingExpressions.{expression_words}
 use Rattle.vb_syntax.specs.PrintingStatements.{loop_keyword, condition_words, before_words, after_words, step_words}
-use Rattle.vb_syntax.specs.PrintingStatements.{line_end, block_words, line_words, else_words, case_else_words}
+use Rattle.vb_syntax.specs.PrintingStatements.{line_end, line_words, else_words, case_else_words}
 use Rattle.vb_syntax.specs.PrintingStatements.{statement_words, else_if_words, case_words, body_words}
 use Rattle.vb_syntax.proofs.StatementWords as shown
-use Rattle.vb_syntax.proofs.Again.{Again, AgainTail, again, self, tail_of, again_pure, again_bind, again_changed}
+use Rattle.vb_syntax.proofs.Again.{Again, again, self, again_pure, again_bind, again_changed}
 use Rattle.vb_syntax.proofs.Again.{again_given, again_last, again_or, again_where, again_none, again_opened, again_many}
-use Rattle.vb_syntax.proofs.Again.{again_word, behind, word_shown, again_keyword, again_symbol, quoted_shown, again_listed}
+use Rattle.vb_syntax.proofs.Again.{again_word, behind, word_shown, again_keyword, again_symbol, quoted_shown}
+use Rattle.vb_syntax.proofs.Again.{again_listed}
 use Rattle.vb_syntax.proofs.SimplePrinting.{again_name, again_expression}
 use Rattle.vb_syntax.proofs.SimpleStatementPrinting.{again_const, again_simple}
 
@@ -111,7 +111,8 @@ module _ (depth : ℕ) (inner : Blocks) (within : BlocksAgain inner) where
       (λ condition. again_keyword k.Then line (again_bind (within.line line) (λ body. again_or
       (again_pure (shown.words-line_if line condition body.statements None ∙ simp append_assoc refl))
       (again_where (again_keyword k.Else line (again_last (within.line line)
-      (λ other. shown.words-line_if line condition body.statements (Some other.statements) ∙ simp append_assoc refl)))))))))
+      (λ other. shown.words-line_if line condition body.statements (Some other.statements)
+      ∙ simp append_assoc refl)))))))))
 
   again_line : (line : ℕ) → Again (statements.line strict depth inner) (λ found. line_words line (map statement_words
       found.statements))
@@ -258,7 +259,8 @@ module _ (depth : ℕ) (inner : Blocks) (within : BlocksAgain inner) where
       (again_changed (λ found. condition_words line found.1) (λ found. (line, found.1))
       (condition_shown (statements.inside strict depth inner) again_inside line) (λ found tokens y h. h)
       (λ found. behind (line_end line ∷ []) tt (end_shown line) (again_bind (within.block line) (λ body.
-      again_keyword k.Loop line (again_pure (shown.words-do line (repetition.Before found.1) body ∙ simp append_assoc refl))))))
+      again_keyword k.Loop line (again_pure (shown.words-do line (repetition.Before found.1) body
+      ∙ simp append_assoc refl))))))
       (behind (line_end line ∷ []) tt (end_shown line) (again_bind (within.block line) (λ body.
       again_keyword k.Loop line (again_given (λ found. before_words line found ≡ []) again_behind_loop (not_before line)
       (λ repeated none. again_pure (shown.words-do line repeated body ∙ simp (append-nil, none) refl))))))))
@@ -271,7 +273,8 @@ module _ (depth : ℕ) (inner : Blocks) (within : BlocksAgain inner) where
   again_with : Again (statements.with_block strict depth inner) statement_words
   again_with = again (again_bind (again_word (kind.Keyword k.With)) (λ line. again_bind (again_inside line)
       (λ subject. behind (line_end line ∷ []) tt (end_shown line) (again_bind (within.block line) (λ body.
-      again_keyword k.End line (again_keyword k.With line (again_pure (shown.words-with line subject body ∙ simp append_assoc refl))))))))
+      again_keyword k.End line (again_keyword k.With line (again_pure (shown.words-with line subject body
+      ∙ simp append_assoc refl))))))))
 
   -- ---- blocks
 

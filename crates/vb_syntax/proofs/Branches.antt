@@ -1,5 +1,6 @@
 -- What is printed of the statements that may have a last part: with it and without it.
-use Rattle.std.proofs.Common.{◌≡◌, ℕ, List, [], ◌∷◌, ◌++◌, map, Option, Some, None, Result, refl, sym, ap, ◌∙◌, append_assoc, append-nil}
+use Rattle.std.proofs.Common.{◌≡◌, ℕ, List, [], ◌∷◌, ◌++◌, map, Option, Some, None, Result, sym, ap, ◌∙◌}
+use Rattle.std.proofs.Common.{append_assoc, append-nil}
 use Rattle.std.specs.List.{flat_map}
 use Rattle.std.specs.Option.{option_map}
 use Rattle.vb_value.specs.declared.memory.Memory.{Memory}
@@ -48,7 +49,8 @@ line_else_added result line kind condition then otherwise body old middle new is
 
 -- an `If` on several lines
 pub if_added : (result : Result (Unit {0}) Memory) (line : ℕ) (kind : StatementKind) (condition : Expression)
-    (then : List Statement) (others : List ElseIf) (otherwise : Option (List Statement)) (old first second third new : Tokens)
+    (then : List Statement) (others : List ElseIf) (otherwise : Option (List Statement))
+    (old first second third new : Tokens)
     → kind ≡ st.If condition then others otherwise
     → first ≡ old ++ keyword line k.If ∷ (expression_words line condition
     ++ keyword line k.Then ∷ line_end line ∷ body_words line then)

@@ -1,18 +1,19 @@
--- What is printed of a call statement is spelled so. What is printed is alike to the beginning of what spelled it, so it
+-- What is printed of a call statement is spelled so. It is alike to the beginning of what spelled the statement, so it
 -- is no assignment.
-use Rattle.std.proofs.Common.{◌≡◌, ℕ, zero, suc, Bool, true, false, IsTrue, List, [], ◌∷◌, ◌++◌, map, Option, Some, None, ◌⊎◌, inl, inr, refl, sym, ap, ◌∙◌, append-nil, append_assoc, subst}
+use Rattle.std.proofs.Common.{◌≡◌, ℕ, zero, suc, Bool, true, false, IsTrue, List, [], ◌∷◌, ◌++◌, map, Option, Some}
+use Rattle.std.proofs.Common.{None, inl, inr, refl, sym, ap, ◌∙◌, append-nil, append_assoc, subst}
 use Rattle.vb_value.specs.declared.token.Keyword.TheVariants as k
 use Rattle.vb_value.specs.declared.token.Symbol.TheVariants as s
 use Rattle.vb_value.specs.declared.token.Token.{Token}
 use Rattle.vb_value.specs.declared.token.TokenKind.{TokenKind}
 use Rattle.vb_value.specs.declared.token.TokenKind.TheVariants as kind
 use Rattle.vb_syntax.specs.declared.expression.Expression.{Expression}
-use Rattle.vb_syntax.specs.declared.expression.Path.{Path as Paths, out-Path, out-roll-Path}
+use Rattle.vb_syntax.specs.declared.expression.Path.{out-Path, out-roll-Path}
 use Rattle.vb_syntax.specs.declared.expression.PathHead.{PathHead}
 use Rattle.vb_syntax.specs.declared.expression.PathHead.TheVariants as head
 use Rattle.vb_syntax.specs.declared.expression.Step.{Step}
 use Rattle.vb_syntax.specs.declared.statement.Statement.{Statement}
-use Rattle.vb_syntax.specs.Rules.{Tokens, Rule, pure, ◌>>◌, ◌or◌, one}
+use Rattle.vb_syntax.specs.Rules.{Tokens, Rule, pure, ◌>>◌, one}
 use Rattle.vb_syntax.specs.Words as words
 use Rattle.vb_syntax.specs.Words.{name_of, name_of_kind}
 use Rattle.vb_syntax.specs.Declarations.{opened}
@@ -23,16 +24,17 @@ use Rattle.vb_syntax.specs.Units.{strict}
 use Rattle.vb_syntax.specs.PrintingWords.{keyword, symbol, listed}
 use Rattle.vb_syntax.specs.PrintingExpressions.{expression_words, path_words, head_words, path_step_words}
 use Rattle.vb_syntax.specs.PrintingStatements.{empty_group, argument_words, statement_words}
-use Rattle.vb_syntax.proofs.Alike.{plain, kinds, kinds-append, parts, Turns, turns, turns_word, turns_pure, turns_bind, turns_or}
+use Rattle.vb_syntax.proofs.Alike.{plain, kinds, kinds-append, parts, Turns, turns, turns_word, turns_pure}
+use Rattle.vb_syntax.proofs.Alike.{turns_bind, turns_or}
 use Rattle.vb_syntax.proofs.Alike.{turns_one, blind_many}
-use Rattle.vb_syntax.proofs.PrintedWords.{kinds-symbol, kinds-keyword, kinds-name}
+use Rattle.vb_syntax.proofs.PrintedWords.{kinds-symbol, kinds-keyword}
 use Rattle.vb_syntax.proofs.Prints.{Prints, prints, tail, prints_pure, prints_bind, prints_last, prints_or, prints_many}
 use Rattle.vb_syntax.proofs.Prints.{prints_symbol, prints_listed}
 use Rattle.vb_syntax.proofs.ExpressionWords as shown
 use Rattle.vb_syntax.proofs.StatementWords as shown_statements
 use Rattle.vb_syntax.proofs.ExpressionPrinting.{blind_name, prints_name, expressions_print, name-plain}
 use Rattle.vb_syntax.proofs.Again.{Again, again, again_pure, again_opened, again_symbol, again_listed, word_shown}
-use Rattle.vb_syntax.proofs.SimplePrinting.{path_at_words, again_path_at, again_expression, step_blind, step_prints}
+use Rattle.vb_syntax.proofs.SimplePrinting.{again_path_at, again_expression, step_blind, step_prints}
 
 -- ---- what begins with a path and "="
 
@@ -55,7 +57,8 @@ turns_head = turns_or turns_named (turns_or (turns_bind (turns_word (kind.Keywor
 
 turns_assigned : (looser : Looser) (depth : ℕ) → Turns (statements.path_at looser depth >> words.symbol s.Equal)
     (statements.path_at looser depth >> words.symbol s.Equal)
-turns_assigned looser depth = turns_bind (turns_bind turns_head (λ x y. turns_bind (turns (blind_many (step_blind depth)))
+turns_assigned looser depth = turns_bind (turns_bind turns_head
+    (λ x y. turns_bind (turns (blind_many (step_blind depth)))
     (λ steps other. turns_pure (x.0, x.1, steps) (y.0, y.1, other)))) (λ _ _. turns_word (kind.Symbol s.Equal))
 
 -- what begins words begins those that are alike and go on
@@ -93,7 +96,8 @@ empty_group_rule depth = opened depth (λ within. do words.symbol s.Open; words.
 
 empty_again : (line depth : ℕ) (back : Tokens) (given : List Expression) → empty_group_rule depth back given
     → empty_group_rule depth (empty_group line true) given
-empty_again line depth back given h = (again (again_opened depth (λ within. again_symbol s.Open line (again_symbol s.Close
+empty_again line depth back given h = (again (again_opened depth
+    (λ within. again_symbol s.Open line (again_symbol s.Close
     line (again_pure {print = λ _. empty_group line true} refl))))).spelled back given h
 
 empty_kinds : (line depth : ℕ) (back : Tokens) (given : List Expression) → empty_group_rule depth back given
@@ -131,7 +135,14 @@ module _ (line : ℕ) (depth : ℕ) (head : PathHead) (steps : List Step) (back 
     spells = inr (inl (empty_again line depth back [] h));
     rest = [];
     same = empty_kinds line depth back [] h;
-    parenthesis = λ t. (symbol line s.Open ∷ [], symbol line s.Close ∷ [], line, word_shown (kind.Symbol s.Open) line, refl);
+    parenthesis = λ t. (
+      symbol line s.Open ∷ [],
+      symbol line s.Close ∷ [],
+      line,
+      word_shown
+          (kind.Symbol s.Open) line,
+      refl,
+    );
   }
   empty_words h false is = record {
     spells = inl (refl, refl);
@@ -147,7 +158,8 @@ module _ (line : ℕ) (depth : ℕ) (head : PathHead) (steps : List Step) (back 
       let print : Prints (words.list_of (expressions depth).expression) (λ xs. listed line (map (expression_words line)
       xs)) = prints_listed line (expression_words line) (expressions_print line depth).expression in
       let same = print.same back (first ∷ more) h in record {
-        spells = inr (inr (inl ((again_listed line (expression_words line) (again_expression line depth)).spelled back (first
+        spells = inr (inr (inl ((again_listed line (expression_words line)
+            (again_expression line depth)).spelled back (first
             ∷ more) h)));
         rest = [];
         same = sym same ∙ ap kinds (sym (append-nil _));

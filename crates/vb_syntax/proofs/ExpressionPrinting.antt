@@ -1,12 +1,12 @@
 -- What is printed of an expression is spelled so: it is alike to what spelled the expression, and the grammar of
 -- expressions looks at nothing else.
-use Rattle.std.proofs.Common.{◌≡◌, ℕ, zero, suc, ◌==◌, Bool, true, false, List, [], ◌∷◌, ◌++◌, map, Option, Some, None, refl, sym, ap, ◌∙◌, append-nil}
+use Rattle.std.proofs.Common.{◌≡◌, ℕ, zero, suc, ◌==◌, Bool, true, false, List, [], ◌∷◌, ◌++◌, map, Option}
+use Rattle.std.proofs.Common.{refl, sym, ap, ◌∙◌, append-nil}
 use Rattle.std.specs.List.{flat_map}
 use Rattle.vb_value.specs.declared.operator.Op2.{Op2}
 use Rattle.vb_value.specs.declared.operator.Op2.TheVariants as op
 use Rattle.vb_value.specs.declared.token.Keyword.TheVariants as k
 use Rattle.vb_value.specs.declared.token.Symbol.TheVariants as s
-use Rattle.vb_value.specs.declared.token.Token.{Token}
 use Rattle.vb_value.specs.declared.token.TokenKind.{TokenKind}
 use Rattle.vb_value.specs.declared.token.TokenKind.TheVariants as kind
 use Rattle.vb_syntax.specs.declared.expression.Expression.{Expression}
@@ -14,9 +14,7 @@ use Rattle.vb_syntax.specs.declared.expression.Expression.TheVariants as e
 use Rattle.vb_syntax.specs.declared.expression.Literal.{Literal}
 use Rattle.vb_syntax.specs.declared.expression.Literal.TheVariants as literal
 use Rattle.vb_syntax.specs.declared.expression.Operation.{Operation}
-use Rattle.vb_syntax.specs.declared.expression.PathHead.{PathHead}
 use Rattle.vb_syntax.specs.declared.expression.PathHead.TheVariants as head
-use Rattle.vb_syntax.specs.declared.expression.Step.{Step}
 use Rattle.vb_syntax.specs.declared.expression.Step.TheVariants as behind
 use Rattle.vb_syntax.specs.Rules.{Tokens, Rule, one}
 use Rattle.vb_syntax.specs.Words as words
@@ -25,11 +23,13 @@ use Rattle.vb_syntax.specs.Expressions as grammar
 use Rattle.vb_syntax.specs.Expressions.{Inside, closed, expressions, operator_of, operator_at, at_level, not_level}
 use Rattle.vb_syntax.specs.Expressions.{chain, operation, path_of}
 use Rattle.vb_syntax.specs.PrintingWords.{printed as word_at, name, listed, literal_word, operator_word}
-use Rattle.vb_syntax.specs.PrintingExpressions.{head_words, expression_words, path_words, path_step_words, operation_words}
-use Rattle.vb_syntax.proofs.Alike.{plain, kinds, Blind, blind_pure, blind_none, blind_one, blind_bind, blind_after}
+use Rattle.vb_syntax.specs.PrintingExpressions.{head_words, expression_words, path_words, path_step_words}
+use Rattle.vb_syntax.specs.PrintingExpressions.{operation_words}
+use Rattle.vb_syntax.proofs.Alike.{plain, Blind, blind_pure, blind_none, blind_one, blind_bind}
 use Rattle.vb_syntax.proofs.Alike.{blind_or, blind_where, blind_many, blind_keyword, blind_symbol}
 use Rattle.vb_syntax.proofs.PrintedWords.{kinds-name, kinds-literal, kinds-operator}
-use Rattle.vb_syntax.proofs.Prints.{Prints, PrintsTail, prints, tail, prints_pure, prints_bind, prints_last, prints_keyword}
+use Rattle.vb_syntax.proofs.Prints.{Prints, PrintsTail, prints, tail, prints_pure, prints_bind, prints_last}
+use Rattle.vb_syntax.proofs.Prints.{prints_keyword}
 use Rattle.vb_syntax.proofs.Prints.{prints_symbol, prints_or, prints_where, prints_none, prints_many, prints_listed}
 use Rattle.vb_syntax.proofs.ExpressionWords as printed
 
@@ -102,13 +102,15 @@ module _ (opens : Bool) (inside : Inside) (within : BlindInside inside) where
       → Blind (grammar.one_level opens inside negates level tighter)
   blind_one_level true level tighter a = blind_or (blind_where (blind_keyword k.Not (blind_bind within.negated
       (λ x. blind_pure (e.Not x))))) a
-  blind_one_level false level tighter a = blind_bind a (λ first. blind_bind (blind_many (blind_bind (blind_operator level)
+  blind_one_level false level tighter a = blind_bind a
+      (λ first. blind_bind (blind_many (blind_bind (blind_operator level)
       (λ operator. blind_bind a (λ right. blind_pure (operation operator right))))) (λ more. blind_pure (chain first
       more)))
 
   blind_operators : (level : ℕ) → Blind (grammar.operators opens inside level)
   blind_operators zero = blind_primary
-  blind_operators (suc level) = blind_one_level (suc level == not_level) (suc level) (grammar.operators opens inside level)
+  blind_operators (suc level) = blind_one_level (suc level == not_level) (suc level)
+      (grammar.operators opens inside level)
       (blind_operators level)
 
   blind_here : BlindInside (grammar.rules_here opens inside)
@@ -145,7 +147,10 @@ module _ (line : ℕ) where
       (prints_symbol s.WithPoint line (prints_last prints_name (λ text. refl)))))
 
   pub prints_literal : Prints (one literal_of) (λ found. word_at line (literal_word found) ∷ [])
-  prints_literal = record { same = λ tokens found h. ap (λ l. l ∷ []) (literal_plain found) ∙ sym (kinds-literal tokens found h) }
+  prints_literal = record {
+    same = λ tokens found h. ap (λ l. l ∷ []) (literal_plain found)
+        ∙ sym (kinds-literal tokens found h);
+  }
 
   prints_operator : (level : ℕ) → Prints (one (operator_at level)) (λ found. word_at line (operator_word found) ∷ [])
   prints_operator level = record {

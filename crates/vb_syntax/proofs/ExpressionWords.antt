@@ -1,5 +1,5 @@
 -- The words of each form of an expression, from the fold that defines them.
-use Rattle.std.proofs.Common.{◌≡◌, ℕ, List, [], ◌∷◌, ◌++◌, map, refl, sym, ap, ◌∙◌}
+use Rattle.std.proofs.Common.{◌≡◌, ℕ, List, [], ◌∷◌, ◌++◌, map, sym, ap, ◌∙◌}
 use Rattle.std.specs.List.{flat_map}
 use Rattle.vb_value.specs.declared.operator.Op2.{Op2}
 use Rattle.vb_value.specs.declared.token.Keyword.TheVariants as k
@@ -7,11 +7,11 @@ use Rattle.vb_value.specs.declared.token.Symbol.TheVariants as s
 use Rattle.vb_syntax.specs.declared.expression.Expression.{Expression}
 use Rattle.vb_syntax.specs.declared.expression.Expression.TheFolds.{fold-roll-Expression, fold-roll-Operation}
 use Rattle.vb_syntax.specs.declared.expression.Expression.TheFolds.{fold-roll-Path, fold-roll-Step}
-use Rattle.vb_syntax.specs.declared.expression.Expression.TheOpen.{Expression-F, Step-F, Path-F, Operation-F}
+use Rattle.vb_syntax.specs.declared.expression.Expression.TheOpen.{Expression-F, Step-F}
 use Rattle.vb_syntax.specs.declared.expression.Expression.TheVariants as e
 use Rattle.vb_syntax.specs.declared.expression.Literal.{Literal}
-use Rattle.vb_syntax.specs.declared.expression.Operation.{Operation, roll-Operation}
-use Rattle.vb_syntax.specs.declared.expression.Path.{Path, roll-Path}
+use Rattle.vb_syntax.specs.declared.expression.Operation.{Operation}
+use Rattle.vb_syntax.specs.declared.expression.Path.{Path}
 use Rattle.vb_syntax.specs.declared.expression.PathHead.{PathHead}
 use Rattle.vb_syntax.specs.declared.expression.Step.{Step}
 use Rattle.vb_syntax.specs.declared.expression.Step.TheVariants as behind
@@ -50,7 +50,8 @@ module _ (line : ℕ) where
       ≡ symbol line s.Open ∷ expression_words line inner ++ symbol line s.Close ∷ []
   words-parenthesis inner = ap (expression_words line) (sym (e.rolls-Parenthesis inner))
       ∙ fold-roll-Expression Tokens Tokens Tokens Tokens
-      (expression_layer line) (step_layer line) (operation_layer line) (path_layer line) (Expression-F.Parenthesis inner)
+      (expression_layer line) (step_layer line) (operation_layer line) (path_layer line)
+      (Expression-F.Parenthesis inner)
 
   pub words-negative : (operand : Expression) → expression_words line (e.Negative operand)
       ≡ symbol line s.Minus ∷ expression_words line operand

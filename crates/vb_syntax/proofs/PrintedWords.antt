@@ -1,5 +1,6 @@
 -- Words that a rule asks for are printed as they are.
-use Rattle.std.proofs.Common.{◌≡◌, ℕ, ◌+◌, ◌<◌, ◌==◌, Bool, true, false, cond, List, [], ◌∷◌, ◌++◌, length, Option, Some, None, refl, sym, ap, ◌∙◌, arith}
+use Rattle.std.proofs.Common.{◌≡◌, ℕ, ◌<◌, ◌==◌, Bool, true, false, cond, List, [], ◌∷◌, Option}
+use Rattle.std.proofs.Common.{Some, None, refl, ap, ◌∙◌, arith}
 use Rattle.std.proofs.lemmas.Bool.{eqb-true}
 use denote.Enum.Declared.{tag_of, variants}
 use denote.Enum.Enum.{tag_below}
@@ -17,12 +18,12 @@ use Rattle.vb_value.specs.declared.token.TokenKind.{TokenKind}
 use Rattle.vb_value.specs.declared.token.TokenKind.TheVariants as kind
 use Rattle.vb_syntax.specs.declared.expression.Literal.{Literal}
 use Rattle.vb_syntax.specs.declared.expression.Literal.TheVariants as literal
-use Rattle.vb_syntax.specs.Rules.{Tokens, Rule, one}
+use Rattle.vb_syntax.specs.Rules.{Tokens, one}
 use Rattle.vb_syntax.specs.Words.{tag, line_of, name_of, name_of_kind, literal_of, literal_of_kind, literal_of_keyword}
 use Rattle.vb_syntax.specs.Words as words
 use Rattle.vb_syntax.specs.Expressions.{operator_of, keyword_operator, symbol_operator, operator_at, at_level}
 use Rattle.vb_syntax.specs.PrintingWords.{literal_word, operator_word}
-use Rattle.vb_syntax.proofs.Alike.{plain, plain_kind, kinds}
+use Rattle.vb_syntax.proofs.Alike.{plain, kinds}
 
 keyword_below : (keyword : Keyword) → tag_of keywords.the_type keyword < 54
 keyword_below keyword = tag_below (variants keywords.the_type) (keywords.the_type.to keyword)

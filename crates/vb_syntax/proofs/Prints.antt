@@ -1,13 +1,13 @@
 -- A rule prints what it spells: the printed words are alike to those that it was spelled with.
-use Rattle.std.proofs.Common.{◌≡◌, ℕ, Bool, List, [], ◌∷◌, ◌++◌, map, ◌⊎◌, inl, inr, refl, sym, ap, ◌∙◌, append-nil}
+use Rattle.std.proofs.Common.{◌≡◌, ℕ, Bool, List, [], ◌∷◌, ◌++◌, map, inl, inr, refl, sym, ap, ◌∙◌, append-nil}
 use Rattle.std.specs.List.{flat_map}
 use Rattle.vb_value.specs.declared.token.Keyword.{Keyword}
 use Rattle.vb_value.specs.declared.token.Symbol.{Symbol}
 use Rattle.vb_value.specs.declared.token.Symbol.TheVariants as s
-use Rattle.vb_syntax.specs.Rules.{Tokens, Rule, Then, pure, none, ◌>>=◌, ◌>>◌, ◌or◌, many, where_true}
+use Rattle.vb_syntax.specs.Rules.{Tokens, Rule, pure, none, ◌>>=◌, ◌>>◌, ◌or◌, many, where_true}
 use Rattle.vb_syntax.specs.Words as words
 use Rattle.vb_syntax.specs.PrintingWords.{keyword, symbol, listed}
-use Rattle.vb_syntax.proofs.Alike.{kinds, kinds-append, Blind}
+use Rattle.vb_syntax.proofs.Alike.{kinds, kinds-append}
 use Rattle.vb_syntax.proofs.PrintedWords.{kinds-keyword, kinds-symbol}
 
 -- what the rule spells has words that are alike to those that spelled it
@@ -15,7 +15,8 @@ pub record Prints {A : Type 0} (r : Rule A) (print : A → Tokens) : Type 0 wher
   pub same : (tokens : Tokens) (x : A) → r tokens x → kinds (print x) ≡ kinds tokens
 
 -- the words `tail` behind others, of which `before` makes the whole
-pub record TailWords {A : Type 0} (before : Tokens → Tokens) (print : A → Tokens) (tokens : Tokens) (x : A) : Type 0 where
+pub record TailWords {A : Type 0} (before : Tokens → Tokens) (print : A → Tokens) (tokens : Tokens) (x : A)
+    : Type 0 where
   pub tail : Tokens
   pub whole : print x ≡ before tail
   pub same : kinds tail ≡ kinds tokens

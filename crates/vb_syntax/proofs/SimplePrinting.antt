@@ -1,51 +1,39 @@
 -- What is printed of declarations and of statements that hold no other is spelled so.
-use Rattle.std.proofs.Common.{◌≡◌, ℕ, ℤ, zero, suc, Bool, true, false, IsTrue, List, [], ◌∷◌, ◌++◌, map, Option, Some, None, ◌⊎◌, inl, inr, refl, sym, ap, ◌∙◌, append-nil, append_assoc, subst, codes}
+use Rattle.std.proofs.Common.{◌≡◌, ℕ, zero, suc, true, false, List, [], ◌∷◌, ◌++◌, map}
+use Rattle.std.proofs.Common.{Some, None, inl, inr, refl, sym, append-nil, subst}
 use Rattle.std.specs.List.{flat_map}
-use Rattle.vb_value.specs.declared.token.Keyword.{Keyword}
 use Rattle.vb_value.specs.declared.token.Keyword.TheVariants as k
-use Rattle.vb_value.specs.declared.token.Symbol.{Symbol}
 use Rattle.vb_value.specs.declared.token.Symbol.TheVariants as s
 use Rattle.vb_value.specs.declared.token.Token.{Token}
 use Rattle.vb_value.specs.declared.token.TokenKind.{TokenKind}
 use Rattle.vb_value.specs.declared.token.TokenKind.TheVariants as kind
-use Rattle.vb_syntax.specs.declared.declaration.Access.{Access}
-use Rattle.vb_syntax.specs.declared.declaration.Access.TheVariants as access
-use Rattle.vb_syntax.specs.declared.declaration.Constant.{Constant}
 use Rattle.vb_syntax.specs.declared.declaration.ConstantValue.{ConstantValue}
 use Rattle.vb_syntax.specs.declared.declaration.ConstantValue.TheVariants as value
-use Rattle.vb_syntax.specs.declared.declaration.Declared.{Declared}
-use Rattle.vb_syntax.specs.declared.expression.Expression.{Expression}
-use Rattle.vb_syntax.specs.declared.expression.Literal.{Literal}
 use Rattle.vb_syntax.specs.declared.expression.PathHead.{PathHead}
 use Rattle.vb_syntax.specs.declared.expression.PathHead.TheVariants as head
 use Rattle.vb_syntax.specs.declared.expression.Step.{Step}
-use Rattle.vb_syntax.specs.declared.statement.ExitKind.{ExitKind}
-use Rattle.vb_syntax.specs.declared.statement.ExitKind.TheVariants as exit
-use Rattle.vb_syntax.specs.declared.statement.Resized.{Resized}
-use Rattle.vb_syntax.specs.declared.statement.Statement.{Statement}
-use Rattle.vb_syntax.specs.declared.statement.StatementKind.TheVariants as st
-use Rattle.vb_syntax.specs.Rules.{Tokens, Rule, pure, none, ◌>>=◌, ◌>>◌, ◌or◌, one, many, where_true}
+use Rattle.vb_syntax.specs.Rules.{Tokens, Rule, pure, ◌>>=◌, ◌or◌, one}
 use Rattle.vb_syntax.specs.Words.{name_of, literal_of}
-use Rattle.vb_syntax.specs.Words as words
 use Rattle.vb_syntax.specs.Declarations as declarations
 use Rattle.vb_syntax.specs.Declarations.{with_access, number_of, negative_of, negative_of_kind}
-use Rattle.vb_syntax.specs.Expressions as grammar
 use Rattle.vb_syntax.specs.Expressions.{expressions, path_of, closed}
 use Rattle.vb_syntax.specs.SimpleStatements as statements
 use Rattle.vb_syntax.specs.SimpleStatements.{statement, named_by, head_at, path_step, Looser}
-use Rattle.vb_syntax.specs.PrintingWords.{printed, keyword, symbol, name, quoted, listed, literal_word}
+use Rattle.vb_syntax.specs.PrintingWords.{printed, keyword, symbol, name, listed, literal_word}
 use Rattle.vb_syntax.specs.PrintingExpressions.{head_words, expression_words, path_words, path_step_words}
 use Rattle.vb_syntax.specs.PrintingStatements as print
-use Rattle.vb_syntax.specs.PrintingStatements.{access_words, bound_words, declared_words, constant_value_words, constant_words, resized_words, statement_words}
+use Rattle.vb_syntax.specs.PrintingStatements.{access_words, bound_words, declared_words, constant_value_words}
+use Rattle.vb_syntax.specs.PrintingStatements.{constant_words, resized_words, statement_words}
 use Rattle.vb_syntax.proofs.Alike.{Blind}
 use Rattle.vb_syntax.proofs.ExpressionWords as shown
-use Rattle.vb_syntax.proofs.StatementWords as shown_statements
 use Rattle.vb_syntax.proofs.ExpressionPrinting.{blind_name, blind_literal, blind_step, expressions_blind, blind_closed}
-use Rattle.vb_syntax.proofs.ExpressionPrinting.{prints_name, prints_literal, prints_step, expressions_print, prints_closed}
+use Rattle.vb_syntax.proofs.ExpressionPrinting.{prints_name, prints_literal, prints_step, expressions_print}
+use Rattle.vb_syntax.proofs.ExpressionPrinting.{prints_closed}
 use Rattle.vb_syntax.proofs.Prints.{Prints}
-use Rattle.vb_syntax.proofs.Again.{Again, AgainTail, TailAgain, again, tail_of, alike, again_pure, again_bind, again_last, again_or}
-use Rattle.vb_syntax.proofs.Again.{again_where, again_none, again_opened, again_many, again_word, behind, word_shown}
-use Rattle.vb_syntax.proofs.Again.{again_keyword, again_symbol, quoted_shown, again_listed, again_some}
+use Rattle.vb_syntax.proofs.Again.{Again, AgainTail, TailAgain, again, alike, again_pure, again_bind}
+use Rattle.vb_syntax.proofs.Again.{again_last, again_or}
+use Rattle.vb_syntax.proofs.Again.{again_opened, again_many, again_word, behind, word_shown}
+use Rattle.vb_syntax.proofs.Again.{again_symbol, again_some}
 
 pub again_name : (line : ℕ) → Again (one name_of) (λ text. name line text ∷ [])
 again_name line = alike blind_name (prints_name line)

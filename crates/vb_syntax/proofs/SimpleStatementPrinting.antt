@@ -1,12 +1,11 @@
 -- What is printed of a statement that holds no other is spelled so.
-use Rattle.std.proofs.Common.{◌≡◌, ℕ, pos, Bool, true, false, List, [], ◌∷◌, ◌++◌, map, refl, sym, ap, ◌∙◌, append-nil, append_assoc, codes}
+use Rattle.std.proofs.Common.{ℕ, pos, true, false, List, [], ◌∷◌, ◌++◌, map, refl, sym, ap, ◌∙◌}
+use Rattle.std.proofs.Common.{append-nil, append_assoc, codes}
 use Rattle.vb_value.specs.declared.token.Keyword.TheVariants as k
 use Rattle.vb_value.specs.declared.token.Symbol.TheVariants as s
 use Rattle.vb_value.specs.declared.token.TokenKind.TheVariants as kind
 use Rattle.vb_syntax.specs.declared.expression.Expression.{Expression}
-use Rattle.vb_syntax.specs.declared.statement.Statement.{Statement}
-use Rattle.vb_syntax.specs.declared.statement.ExitKind.TheVariants as exit
-use Rattle.vb_syntax.specs.Rules.{Tokens, Rule, pure, ◌>>=◌, ◌>>◌, ◌or◌, one}
+use Rattle.vb_syntax.specs.Rules.{Rule, pure, ◌>>=◌, ◌>>◌, ◌or◌}
 use Rattle.vb_syntax.specs.Words as words
 use Rattle.vb_syntax.specs.Words.{name_of}
 use Rattle.vb_syntax.specs.Declarations.{opened}
@@ -15,11 +14,14 @@ use Rattle.vb_syntax.specs.SimpleStatements as statements
 use Rattle.vb_syntax.specs.Units.{strict}
 use Rattle.vb_syntax.specs.PrintingWords.{printed, keyword, symbol, quoted, listed}
 use Rattle.vb_syntax.specs.PrintingExpressions.{expression_words, path_words}
-use Rattle.vb_syntax.specs.PrintingStatements.{access_words, constant_words, declared_words, resized_words, preserve_words}
+use Rattle.vb_syntax.specs.PrintingStatements.{access_words, constant_words, declared_words, resized_words}
+use Rattle.vb_syntax.specs.PrintingStatements.{preserve_words}
 use Rattle.vb_syntax.specs.PrintingStatements.{exit_word, name_words, statement_words}
 use Rattle.vb_syntax.proofs.StatementWords as shown
-use Rattle.vb_syntax.proofs.Again.{Again, AgainTail, again, self, tail_of, again_pure, again_bind, again_changed, again_last}
-use Rattle.vb_syntax.proofs.Again.{again_or, again_opened, again_word, behind, word_shown, again_keyword, again_symbol, quoted_shown}
+use Rattle.vb_syntax.proofs.Again.{Again, again, self, again_pure, again_bind, again_changed}
+use Rattle.vb_syntax.proofs.Again.{again_last}
+use Rattle.vb_syntax.proofs.Again.{again_or, again_opened, again_word, behind, word_shown, again_keyword}
+use Rattle.vb_syntax.proofs.Again.{again_symbol, quoted_shown}
 use Rattle.vb_syntax.proofs.Again.{again_listed}
 use Rattle.vb_syntax.proofs.SimplePrinting.{again_name, again_expression, again_access, again_declared, again_constant}
 use Rattle.vb_syntax.proofs.SimplePrinting.{again_path_at, path_shown}
@@ -43,7 +45,8 @@ module _ (depth : ℕ) where
   again_const = again (again_bind (again_access (words.keyword k.Const) (λ line. keyword line k.Const)
       (word_shown (kind.Keyword k.Const))) (λ first. again_last
       (again_listed first.0 (constant_words first.0) (again_constant first.0))
-      (λ constants. shown.words-const first.0 first.1 constants ∙ sym (append_assoc (access_words first.0 first.1) _ _))))
+      (λ constants. shown.words-const first.0 first.1 constants
+      ∙ sym (append_assoc (access_words first.0 first.1) _ _))))
 
   again_dim : Again (statements.dim strict depth) statement_words
   again_dim = again (again_bind (again_word (kind.Keyword k.Dim)) (λ line. again_last
@@ -120,4 +123,5 @@ module _ (depth : ℕ) where
   pub again_simple : Again (statements.simple strict depth) statement_words
   again_simple = again (again_or (self again_dim) (again_or (self again_redim) (again_or (self again_set)
       (again_or (self again_assignment) (again_or (self (again_call depth)) (again_or (self again_call_path)
-      (again_or (self again_exit) (again_or (self again_on_error) (again_or (self again_erase) (self again_page))))))))))
+      (again_or (self again_exit) (again_or (self again_on_error) (again_or (self again_erase)
+      (self again_page))))))))))

@@ -1,17 +1,12 @@
 -- What is printed of procedures, classes and units is spelled so.
-use Rattle.std.proofs.Common.{◌≡◌, ℕ, zero, suc, Bool, true, false, List, [], ◌∷◌, ◌++◌, map, ◌⊎◌, inl, inr, refl, sym, ap, ◌∙◌, append_assoc, codes}
+use Rattle.std.proofs.Common.{◌≡◌, ℕ, Bool, true, false, List, [], ◌∷◌, ◌++◌, map, inl, inr, refl}
+use Rattle.std.proofs.Common.{append_assoc, codes}
 use Rattle.vb_value.specs.declared.token.Keyword.TheVariants as k
 use Rattle.vb_value.specs.declared.token.Symbol.TheVariants as s
 use Rattle.vb_value.specs.declared.token.TokenKind.TheVariants as kind
 use Rattle.vb_syntax.specs.declared.declaration.Parameter.{Parameter}
-use Rattle.vb_syntax.specs.declared.unit.Class.{Class}
-use Rattle.vb_syntax.specs.declared.unit.ClassMember.{ClassMember}
-use Rattle.vb_syntax.specs.declared.unit.Item.{Item}
-use Rattle.vb_syntax.specs.declared.unit.Item.TheVariants as item
-use Rattle.vb_syntax.specs.declared.unit.Procedure.{Procedure}
-use Rattle.vb_syntax.specs.declared.unit.Property.{Property}
 use Rattle.vb_syntax.specs.declared.unit.Unit.{Unit as Script}
-use Rattle.vb_syntax.specs.Rules.{Tokens, Rule, pure, ◌>>=◌, ◌>>◌, ◌or◌, one, many}
+use Rattle.vb_syntax.specs.Rules.{Tokens, Rule, pure, ◌>>=◌, ◌>>◌, ◌or◌}
 use Rattle.vb_syntax.specs.Words as words
 use Rattle.vb_syntax.specs.Declarations as declarations
 use Rattle.vb_syntax.specs.Declarations.{opened}
@@ -21,15 +16,18 @@ use Rattle.vb_syntax.specs.Units as units
 use Rattle.vb_syntax.specs.Units.{strict, Derives}
 use Rattle.vb_syntax.specs.PrintingWords.{printed, keyword, symbol, name, listed}
 use Rattle.vb_syntax.specs.PrintingWords as words_of
-use Rattle.vb_syntax.specs.PrintingStatements.{access_words, declared_words, line_end, statement_words, body_words}
-use Rattle.vb_syntax.specs.PrintingUnits.{passing_words, parameter_words, parameters_words, procedure_words, property_word}
-use Rattle.vb_syntax.specs.PrintingUnits.{property_words, field_word, member_words, class_words, access_word, item_words}
+use Rattle.vb_syntax.specs.PrintingStatements.{declared_words, line_end}
+use Rattle.vb_syntax.specs.PrintingUnits.{passing_words, parameter_words, parameters_words, procedure_words}
+use Rattle.vb_syntax.specs.PrintingUnits.{property_word}
+use Rattle.vb_syntax.specs.PrintingUnits.{property_words, field_word, member_words, class_words, access_word}
+use Rattle.vb_syntax.specs.PrintingUnits.{item_words}
 use Rattle.vb_syntax.specs.PrintingUnits.{option_words, print_of}
-use Rattle.vb_syntax.proofs.Again.{Again, AgainTail, again, self, tail_of, again_pure, again_bind, again_last, again_or}
-use Rattle.vb_syntax.proofs.Again.{again_opened, again_many, again_word, behind, word_shown, again_keyword, again_symbol}
+use Rattle.vb_syntax.proofs.Again.{Again, again, self, again_pure, again_bind, again_last, again_or}
+use Rattle.vb_syntax.proofs.Again.{again_opened, again_many, again_word, behind, word_shown, again_keyword}
+use Rattle.vb_syntax.proofs.Again.{again_symbol}
 use Rattle.vb_syntax.proofs.Again.{quoted_shown, again_listed, again_some}
 use Rattle.vb_syntax.proofs.SimplePrinting.{again_name, again_access, again_declared}
-use Rattle.vb_syntax.proofs.BlockPrinting.{BlocksAgain, end_shown, again_sentence, blocks_again, blocks_inside_again}
+use Rattle.vb_syntax.proofs.BlockPrinting.{end_shown, again_sentence, blocks_again, blocks_inside_again}
 
 -- ---- procedures
 
@@ -148,8 +146,10 @@ again_variables depth = again (again_bind again_word_of (λ first. again_last
 again_item_line : (depth : ℕ) → Again (units.item_line strict depth) (λ found. item_words found ++ line_end 1 ∷ [])
 again_item_line depth = again (again_or
     (again_last (again_sentence depth (blocks_inside strict depth) (blocks_inside_again depth) 1) (λ found. refl))
-    (again_or (again_bind (again_variables depth) (λ found. behind (line_end 1 ∷ []) tt (end_shown 1) (again_pure refl)))
-    (again_or (again_bind (again_procedure depth) (λ found. behind (line_end 1 ∷ []) tt (end_shown 1) (again_pure refl)))
+    (again_or (again_bind (again_variables depth)
+    (λ found. behind (line_end 1 ∷ []) tt (end_shown 1) (again_pure refl)))
+    (again_or (again_bind (again_procedure depth)
+    (λ found. behind (line_end 1 ∷ []) tt (end_shown 1) (again_pure refl)))
     (again_bind (again_class depth) (λ found. behind (line_end 1 ∷ []) tt (end_shown 1) (again_pure refl))))))
 
 again_unit : (depth : ℕ) → Again (units.unit strict depth) print_of

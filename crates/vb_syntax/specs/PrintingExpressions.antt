@@ -1,11 +1,12 @@
 -- How expressions are printed: the words of each construct in the grammar's order. All stand in one line.
-use Rattle.std.specs.Prelude.{ℕ, List, [], ◌∷◌, ◌++◌}
+use Rattle.std.specs.Prelude.{ℕ, [], ◌∷◌, ◌++◌}
 use Rattle.std.specs.List.{flat_map}
 use Rattle.vb_value.specs.declared.token.Keyword.TheVariants as k
 use Rattle.vb_value.specs.declared.token.Symbol.TheVariants as s
 use Rattle.vb_syntax.specs.declared.expression.Expression.{Expression}
 use Rattle.vb_syntax.specs.declared.expression.Expression.TheOpen.{Expression-F, Operation-F, Path-F, Step-F}
-use Rattle.vb_syntax.specs.declared.expression.Expression.TheFolds.{fold-Expression, fold-Operation, fold-Path, fold-Step}
+use Rattle.vb_syntax.specs.declared.expression.Expression.TheFolds.{fold-Expression, fold-Operation, fold-Path}
+use Rattle.vb_syntax.specs.declared.expression.Expression.TheFolds.{fold-Step}
 use Rattle.vb_syntax.specs.declared.expression.Operation.{Operation}
 use Rattle.vb_syntax.specs.declared.expression.Path.{Path}
 use Rattle.vb_syntax.specs.declared.expression.PathHead.{PathHead}

@@ -6,7 +6,6 @@ use Rattle.vb_value.specs.declared.token.Keyword.TheVariants as k
 use Rattle.vb_value.specs.declared.token.Symbol.TheVariants as s
 use Rattle.vb_syntax.specs.declared.declaration.Access.{Access}
 use Rattle.vb_syntax.specs.declared.declaration.Access.TheVariants as access
-use Rattle.vb_syntax.specs.declared.declaration.Declared.{Declared}
 use Rattle.vb_syntax.specs.declared.declaration.Parameter.{Parameter}
 use Rattle.vb_syntax.specs.declared.unit.Class.{Class}
 use Rattle.vb_syntax.specs.declared.unit.ClassMember.{ClassMember}
@@ -24,7 +23,8 @@ use Rattle.vb_syntax.specs.declared.unit.PropertyKind.TheVariants as property_ki
 use Rattle.vb_syntax.specs.declared.unit.Unit.{Unit as Script}
 use Rattle.vb_syntax.specs.Rules.{Tokens}
 use Rattle.vb_syntax.specs.PrintingWords.{keyword, symbol, name, quoted, listed}
-use Rattle.vb_syntax.specs.PrintingStatements.{access_words, declared_words, line_end, block_words, statement_words, body_words}
+use Rattle.vb_syntax.specs.PrintingStatements.{access_words, declared_words, line_end, block_words}
+use Rattle.vb_syntax.specs.PrintingStatements.{statement_words, body_words}
 
 -- ---- procedures
 

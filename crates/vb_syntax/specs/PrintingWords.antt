@@ -1,6 +1,6 @@
 -- How words are printed. What the grammar leaves free is chosen here: every word of a statement stands in the line of
 -- the statement, at no place of its own, and each name stands in brackets, so that no name is read as a quoted word.
-use Rattle.std.specs.Prelude.{ℕ, ℤ, Bool, true, false, List, [], ◌∷◌, ◌++◌, Option, Some, None}
+use Rattle.std.specs.Prelude.{ℕ, Bool, true, false, List, [], ◌∷◌, ◌++◌}
 use Rattle.std.specs.List.{flat_map}
 use Rattle.vb_value.specs.declared.operator.Op2.{Op2}
 use Rattle.vb_value.specs.declared.operator.Op2.TheVariants as op

@@ -1,5 +1,5 @@
 -- Procedures, classes and whole units: which token lists spell which of them, and which faults they have.
-use Rattle.std.specs.Prelude.{ℕ, zero, suc, Bool, true, false, List, [], codes}
+use Rattle.std.specs.Prelude.{ℕ, Bool, true, false, List, codes}
 use Rattle.vb_value.specs.declared.token.Keyword.TheVariants as k
 use Rattle.vb_syntax.specs.declared.statement.Statement.{Statement}
 use Rattle.vb_syntax.specs.declared.unit.Class.{Class}

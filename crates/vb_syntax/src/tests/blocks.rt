@@ -167,18 +167,33 @@ fn each_block_is_printed(rt: HostRuntime) -> Result<(), Fail> {
         ),
         (Form::ShortIf, "2| If [a] Then ; End If 1| ;"),
         (Form::LineIf, "2| If [a] Then [c] = 1 : [d] = 1 1| ;"),
-        (Form::LineIfElse, "2| If [a] Then [c] = 1 : [d] = 1 Else [b] = 1 1| ;"),
-        (Form::Select, "2| Select Case [a] ; 3| Case 1 , 2 ; 4| [b] = 1 3| ; 2| End Select 1| ;"),
+        (
+            Form::LineIfElse,
+            "2| If [a] Then [c] = 1 : [d] = 1 Else [b] = 1 1| ;",
+        ),
+        (
+            Form::Select,
+            "2| Select Case [a] ; 3| Case 1 , 2 ; 4| [b] = 1 3| ; 2| End Select 1| ;",
+        ),
         (
             Form::SelectElse,
             "2| Select Case [a] ; 3| Case 1 , 2 ; 4| [b] = 1 3| ; 2| Case Else ; 5| [b] = 1 2| ; End Select 1| ;",
         ),
         (Form::For, "2| For [i] = 1 To 9 ; 3| [b] = 1 2| ; Next 1| ;"),
-        (Form::ForStep, "2| For [i] = 1 To 9 Step 2 ; 3| [b] = 1 2| ; Next 1| ;"),
-        (Form::ForEach, "2| For Each [i] In [a] ; 3| [b] = 1 2| ; Next 1| ;"),
+        (
+            Form::ForStep,
+            "2| For [i] = 1 To 9 Step 2 ; 3| [b] = 1 2| ; Next 1| ;",
+        ),
+        (
+            Form::ForEach,
+            "2| For Each [i] In [a] ; 3| [b] = 1 2| ; Next 1| ;",
+        ),
         (Form::Do, "2| Do ; 3| [b] = 1 2| ; Loop 1| ;"),
         (Form::DoWhile, "2| Do While [a] ; 3| [b] = 1 2| ; Loop 1| ;"),
-        (Form::LoopUntil, "2| Do ; 3| [b] = 1 2| ; Loop 4| Until [a] 1| ;"),
+        (
+            Form::LoopUntil,
+            "2| Do ; 3| [b] = 1 2| ; Loop 4| Until [a] 1| ;",
+        ),
         (Form::While, "2| While [a] ; 3| [b] = 1 2| ; Wend 1| ;"),
         (Form::With, "2| With [a] ; 3| [b] = 1 2| ; End With 1| ;"),
     ];

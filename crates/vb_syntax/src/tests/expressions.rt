@@ -92,7 +92,9 @@ fn tree(alloc: Global, form: Form) -> Result<Expression, Memory> {
         Form::Long => Expression::Literal(Literal::Long(70_000)),
         Form::Text => Expression::Literal(Literal::Text(text(alloc, "x y")?)),
         Form::Nothing => Expression::Nothing,
-        Form::New => Expression::New { class: text(alloc, "C")? },
+        Form::New => Expression::New {
+            class: text(alloc, "C")?,
+        },
         Form::Path => long_path(alloc)?,
         Form::WithPath => with_path(alloc)?,
         Form::Quoted => variable(alloc, "Step")?,

@@ -122,13 +122,17 @@ fn tree(alloc: Global, form: Form) -> Result<Kind, Memory> {
         Form::Erase => names(alloc),
         Form::Call(count) => call(alloc, count),
         Form::CallOfItem => call_of_item(alloc),
-        Form::CallPath => Ok(Kind::CallPath { callee: indexed(alloc, "s")? }),
+        Form::CallPath => Ok(Kind::CallPath {
+            callee: indexed(alloc, "s")?,
+        }),
         Form::Set => set(alloc),
         Form::Assign => Ok(assign(alloc, 2, "a")?.kind),
         Form::Exit(kind) => Ok(Kind::Exit { kind }),
         Form::ResumeNext => Ok(Kind::OnErrorResumeNext),
         Form::GoToZero => Ok(Kind::OnErrorGoToZero),
-        Form::PageText => Ok(Kind::PageText { text: text(alloc, "<p>")? }),
+        Form::PageText => Ok(Kind::PageText {
+            text: text(alloc, "<p>")?,
+        }),
     }
 }
 
@@ -136,7 +140,10 @@ fn tree(alloc: Global, form: Form) -> Result<Kind, Memory> {
 fn each_plain_statement_is_printed(rt: HostRuntime) -> Result<(), Fail> {
     let alloc = rt.alloc();
     let cases = [
-        (Form::Const, "2| Public Const [a] = 1 , [b] = - 2 , [c] = - 70000& 1| ;"),
+        (
+            Form::Const,
+            "2| Public Const [a] = 1 , [b] = - 2 , [c] = - 70000& 1| ;",
+        ),
         (Form::Dim, "2| Dim [a] , [b] ( 2& , 3& ) , [c] ( ) 1| ;"),
         (Form::ReDim, "2| ReDim [a] ( 1 , 2 ) 1| ;"),
         (Form::ReDimPreserve, "2| ReDim Preserve [a] ( 1 , 2 ) 1| ;"),

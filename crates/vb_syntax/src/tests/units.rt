@@ -118,12 +118,27 @@ fn each_item_is_printed(rt: HostRuntime) -> Result<(), Fail> {
     let alloc = rt.alloc();
     let cases = [
         (Form::Variables, "2| Private [v] 1| ;"),
-        (Form::Sub, "2| Private Sub [s] ( ByVal [x] , [y] ) ; 3| [b] = 1 2| ; End Sub 1| ;"),
+        (
+            Form::Sub,
+            "2| Private Sub [s] ( ByVal [x] , [y] ) ; 3| [b] = 1 2| ; End Sub 1| ;",
+        ),
         (Form::Function, "2| Function [f] ; End Function 1| ;"),
-        (Form::Fields(FieldAccess::Dim), "2| Class [C] ; 3| Dim [v] 2| ; End Class 1| ;"),
-        (Form::Fields(FieldAccess::Public), "2| Class [C] ; 3| Public [v] 2| ; End Class 1| ;"),
-        (Form::Fields(FieldAccess::Private), "2| Class [C] ; 3| Private [v] 2| ; End Class 1| ;"),
-        (Form::Method, "2| Class [C] ; Function [f] ; End Function ; End Class 1| ;"),
+        (
+            Form::Fields(FieldAccess::Dim),
+            "2| Class [C] ; 3| Dim [v] 2| ; End Class 1| ;",
+        ),
+        (
+            Form::Fields(FieldAccess::Public),
+            "2| Class [C] ; 3| Public [v] 2| ; End Class 1| ;",
+        ),
+        (
+            Form::Fields(FieldAccess::Private),
+            "2| Class [C] ; 3| Private [v] 2| ; End Class 1| ;",
+        ),
+        (
+            Form::Method,
+            "2| Class [C] ; Function [f] ; End Function ; End Class 1| ;",
+        ),
         (
             Form::Property(PropertyKind::Get),
             "2| Class [C] ; 4| Public Property Get [p] ; End Property 2| ; End Class 1| ;",
@@ -160,7 +175,8 @@ fn script(alloc: Global) -> Result<Unit, Memory> {
 #[test]
 fn a_unit_is_printed(rt: HostRuntime) -> Result<(), Fail> {
     let alloc = rt.alloc();
-    let words = "1| Option Explicit ; 2| Function [f] ; End Function 1| ; 2| Class [C] ; 3| Dim [v] 2| ; End Class 1| ;";
+    let words =
+        "1| Option Explicit ; 2| Function [f] ; End Function 1| ; 2| Class [C] ; 3| Dim [v] 2| ; End Class 1| ;";
     let shown = unit_words(alloc, &script(alloc)?)?;
     assert_eq!(rt; shown.as_str(), words);
     let nothing = Unit {

@@ -1,11 +1,13 @@
-use Rattle.std.proofs.Common.{◌≡◌, List, ◌++◌, map, refl}
+use Rattle.std.proofs.Common.{◌≡◌, ◌++◌, map, refl}
 use Rattle.std.specs.Option.{option_map}
 use Rattle.vb_syntax.specs.PrintingStatements as spec
 use Rattle.vb_syntax.specs.PrintingStatements.{statement_words}
 use Rattle.vb_syntax.proofs.Branches.{part_added, part_missing, line_else_added, if_added, select_added}
 use Rattle.vb_syntax.proofs.printing.statements.+statements.Goals as goal
-use Rattle.vb_syntax.proofs.printing.statements.+statements.Goals.{print_kind-in-Some+in_ok-print_else-in-If, print_kind-in_default}
-use Rattle.vb_syntax.proofs.printing.statements.+statements.Goals.{print_kind-in-Some-otherwise-2+in_ok-print_case_else-in-Select, print_kind-in_default-otherwise}
+use Rattle.vb_syntax.proofs.printing.statements.+statements.Goals.{print_kind-in-Some+in_ok-print_else-in-If}
+use Rattle.vb_syntax.proofs.printing.statements.+statements.Goals.{print_kind-in_default}
+use Rattle.vb_syntax.proofs.printing.statements.+statements.Goals.{print_kind-in-Some-otherwise-2+in_ok-print_case_else-in-Select}
+use Rattle.vb_syntax.proofs.printing.statements.+statements.Goals.{print_kind-in_default-otherwise}
 
 pub print_kind-returns-in-Some-otherwise : goal.print_kind-returns-in-Some-otherwise
 print_kind-returns-in-Some-otherwise t c = line_else_added c.print_line_else.result c.args.line c.args.kind.now
