@@ -11,3 +11,12 @@ pub mod PrintingExpressions
 pub mod PrintingStatements
 pub mod PrintingUnits
 pub mod PrintingOutcome
+pub mod ScopeNames
+pub mod ScopeMembers
+pub mod ScopeNotes
+pub mod ScopeUnits
+pub mod Scopes
+pub mod ScopeFaults
+pub mod ScopeTrees
+pub mod ScopePrograms
+pub mod Scope
