@@ -6,6 +6,19 @@ pub mod Beginning
 pub mod ExpressionEnds
 pub mod ExpressionTaking
 pub mod Turns
+pub mod Depths
+pub mod Lengths
+pub mod Commas
+pub mod CallTurns
+pub mod Untils
+pub mod LineLengths
+pub mod Lines
+pub mod StatementLengths
+pub mod UnitLengths
+pub mod Cases
+pub mod SimpleLengths
+pub mod ExpressionLengths
+pub mod DeclarationLengths
 pub mod Theorems
 pub mod ParseExpression
 pub mod Binding
@@ -39,3 +52,4 @@ pub mod ClassTaking
 pub mod UnitTaking
 pub mod Telling
 pub mod ParseUnit
+mod ParseScript

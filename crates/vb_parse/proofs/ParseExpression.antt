@@ -5,7 +5,7 @@ use Rattle.vb_syntax.specs.Rules.{Tokens}
 use Rattle.vb_syntax.specs.Expressions.{SpellsExpression}
 use Rattle.vb_syntax.specs.Faults.{IsFault, fault_line}
 use Rattle.vb_parse.specs.declared.fault.ParseFault.TheVariants as kind
-use Rattle.vb_parse.specs.Outcome.{HasFault, Leaves}
+use Rattle.vb_parse.specs.Outcome.{HasFault, IsKind, Leaves}
 use Rattle.vb_parse.specs.Reader.{Reader}
 use Rattle.vb_parse.specs.ReadExpressions as spec
 use Rattle.vb_parse.specs.ReadExpressions.{whole_expression}
@@ -67,7 +67,7 @@ expression_none depth tokens left y read h = spelled_no_fault (SpellsExpression 
 pub fault_too_deep : (depth : ℕ) (tokens left : Tokens) (count line : ℕ)
     → whole_expression depth tokens ≡ Err left → Leaves (whole_expression (suc depth) tokens) count
     → count < length left → line ≡ fault_line tokens left
-    → HasFault SpellsExpression depth tokens kind.TooDeep line
+    → HasFault (SpellsExpression depth) (IsKind SpellsExpression depth) tokens kind.TooDeep line
 unfolding whole_expression
 fault_too_deep depth tokens left count line read leaves less at =
     let f : IsFault (SpellsExpression depth) tokens left = expression_stops depth tokens left read in
@@ -82,7 +82,7 @@ fault_too_deep depth tokens left count line read leaves less at =
 pub fault_unexpected : (depth : ℕ) (tokens left : Tokens) (count line : ℕ)
     → whole_expression depth tokens ≡ Err left → Leaves (whole_expression (suc depth) tokens) count
     → length left ≤ count → line ≡ fault_line tokens left
-    → HasFault SpellsExpression depth tokens kind.Unexpected line
+    → HasFault (SpellsExpression depth) (IsKind SpellsExpression depth) tokens kind.Unexpected line
 unfolding whole_expression
 fault_unexpected depth tokens left count line read leaves more at =
     let f : IsFault (SpellsExpression depth) tokens left = expression_stops depth tokens left read in

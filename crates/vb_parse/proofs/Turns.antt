@@ -2,8 +2,6 @@
 use Rattle.std.proofs.Common.{◌≡◌, ℕ, zero, suc, ◌+◌, ◌<◌, ◌≢◌, ◌==◌, Bool, true, false, cond, List, [], ◌∷◌, ◌++◌}
 use Rattle.std.proofs.Common.{None, Ok, Err, refl, sym, ap, ◌∙◌, append_assoc, subst, arith}
 use Rattle.std.proofs.lemmas.Bool.{eqb-true}
-use Rattle.vb_value.specs.declared.token.Symbol.TheVariants as s
-use Rattle.vb_value.specs.declared.token.TokenKind.TheVariants as kind
 use Rattle.vb_syntax.specs.Rules.{Tokens}
 use Rattle.vb_syntax.specs.Expressions as grammar
 use Rattle.vb_syntax.specs.Expressions.{not_level}
@@ -11,7 +9,7 @@ use Rattle.vb_parse.specs.Reader as reader
 use Rattle.vb_parse.specs.Reader.{Reader, Outcome, Look, and_then, next}
 use Rattle.vb_parse.specs.ReadExpressions as spec
 use Rattle.vb_parse.specs.Runs.{opens, inside}
-use Rattle.vb_parse.proofs.Reading.{Moves, moves, more_with, many_step, reads_bind, reads_word, full_word, full_bind}
+use Rattle.vb_parse.proofs.Reading.{Moves, moves, more_with, many_step}
 use Rattle.vb_parse.proofs.ExpressionEnds.{Taken}
 use Rattle.vb_parse.proofs.ExpressionTaking.{closed_taken, expressions_taken}
 use Rattle.vb_parse.proofs.ExpressionReading.{Inner, Operator, closed_inner, expressions_read, reads_step, full_step}
@@ -52,6 +50,11 @@ found_turn look p mv quiet f whole found new tokens rest x inv is read e =
     and_same (Ok q) e = ap (λ y. Ok (y, q.1)) (e q.0)
     and_same (Err w) e = refl
 
+-- what is read, and nothing behind it
+pub and_nothing : {A : Type 0} (o : Outcome A) → o ≡ and_then o reader.pure
+and_nothing (Ok read) = refl
+and_nothing (Err rest) = refl
+
 -- the rules inside a construct
 abbrev pub rules_inside : ℕ → grammar.Inside
 rules_inside zero = grammar.closed
@@ -71,10 +74,6 @@ expressions_at zero = refl
 expressions_at (suc depth) = refl
 
 -- ---- what is read in a turn takes a token
-
-pub comma_moves : (depth : ℕ) → Moves (spec.comma_and (spec.expressions depth).expression)
-comma_moves depth = moves _ _ (reads_bind (reads_word (kind.Symbol s.Comma))
-    (λ _. (expressions_read depth).expression refl)) (full_bind _ _ (full_word (kind.Symbol s.Comma)))
 
 pub step_moves : (depth : ℕ) → Moves (spec.step (opens depth) (inside depth))
 step_moves depth = moves _ _ (reads_step (opens depth) (inside depth) (rules_inside depth) (inner_at depth))

@@ -8,3 +8,5 @@ pub mod ReadLines
 pub mod ReadStatements
 pub mod ReadUnits
 pub mod Outcome
+pub mod Heads
+pub mod Nests

@@ -3,6 +3,8 @@ use Rattle.std.specs.Prelude.{◌≡◌, ℕ, zero, suc, Bool, true, false, Resu
 use Rattle.vb_syntax.specs.Rules.{Tokens}
 use Rattle.vb_parse.specs.declared.cursor.Stop.{Stop}
 use Rattle.vb_parse.specs.declared.cursor.Stop.TheVariants.{Fault, Memory}
+use Rattle.vb_syntax.specs.SimpleStatements.{Looser}
+use Rattle.vb_parse.specs.declared.looser.Looser.{Looser as Allowed}
 use Rattle.vb_parse.specs.Reader.{Outcome}
 use Rattle.vb_parse.specs.ReadExpressions.{Inside, closed, expressions}
 
@@ -25,3 +27,7 @@ opens (suc depth) = true
 abbrev pub inside : ℕ → Inside
 inside zero = closed
 inside (suc depth) = expressions depth
+
+-- what is allowed beyond the grammar
+abbrev pub rules : Allowed → Looser
+rules allowed = record { several = allowed.several; texts = allowed.texts }

@@ -142,7 +142,7 @@ fn operator_at(kind: &TokenKind, level: u32) -> Option<Op2>
 
 impl<'a> Cursor<'a> {
     /// Whether a word of this kind comes next.
-    fn sees(&self, kind: &TokenKind) -> bool
+    pub fn sees(&self, kind: &TokenKind) -> bool
         ensures { result ≡ reader.sees kind.now (reader.next self.now.rest.now) }
     {
         match self.rest {
@@ -192,7 +192,7 @@ impl<'a> Cursor<'a> {
     }
 
     /// Takes a word of this kind, and answers its line.
-    fn word(&mut self, kind: &TokenKind) -> Result<u32, Stop>
+    pub fn word(&mut self, kind: &TokenKind) -> Result<u32, Stop>
         ensures { Runs (reader.word kind.now self.old.rest.now) result self.new.rest.now }
     {
         match self.rest {

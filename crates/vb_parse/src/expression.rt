@@ -1,6 +1,6 @@
 //! Reading expressions. Each function reads what the rule of its name spells, where `depth` more constructs
 //! may open.
-ghost use Rattle.std.specs.Prelude.{◌≡◌, ◌≤◌, ◌<◌, ◌≢◌, ◌+◌, IfOk};
+ghost use Rattle.std.specs.Prelude.{◌≡◌, ◌≤◌, ◌<◌, ◌≢◌, ◌+◌, ◌∷◌, IfOk};
 ghost use Rattle.vb_syntax.specs.Expressions.{chain};
 ghost use Rattle.vb_parse.specs.Reader as reader;
 ghost use Rattle.vb_parse.specs.ReadExpressions as spec;
@@ -12,9 +12,9 @@ use vb_syntax::{Expression, Operation, Path, PathHead, Step};
 use vb_value::{Boxed, Keyword, List, Memory, Symbol};
 
 /// The level of `Not`, counted from the tightest.
-const NOT_LEVEL: u32 = 7;
+pub const NOT_LEVEL: u32 = 7;
 /// The level of `Imp`, the loosest.
-const LAST_LEVEL: u32 = 12;
+pub const LAST_LEVEL: u32 = 12;
 
 #[cycle(expression)]
 fn group(alloc: Global, cursor: &mut Cursor<'_>, depth: u32) -> Result<List<Expression>, Stop>
@@ -34,13 +34,29 @@ fn group(alloc: Global, cursor: &mut Cursor<'_>, depth: u32) -> Result<List<Expr
     Ok(arguments)
 }
 
+/// Expressions with commas between.
 #[cycle(expression)]
-fn list(alloc: Global, cursor: &mut Cursor<'_>, depth: u32) -> Result<List<Expression>, Stop>
+pub fn list(alloc: Global, cursor: &mut Cursor<'_>, depth: u32) -> Result<List<Expression>, Stop>
     ensures { Runs (spec.list_of (spec.expressions depth).expression
         cursor.old.rest.now) result cursor.new.rest.now }
 {
+    let first = expression(alloc, cursor, depth)?;
+    list_from(alloc, cursor, depth, first)
+}
+
+/// Expressions with commas between, of which the first was read.
+#[cycle(expression)]
+pub fn list_from(
+    alloc: Global,
+    cursor: &mut Cursor<'_>,
+    depth: u32,
+    first: Expression,
+) -> Result<List<Expression>, Stop>
+    ensures { Runs ((reader.◌>>=◌ (spec.more_of (spec.expressions depth).expression)
+        (λ more. reader.pure (first ∷ more))) cursor.old.rest.now) result cursor.new.rest.now }
+{
     let mut found = List::new(alloc);
-    found.push(expression(alloc, cursor, depth)?)?;
+    found.push(first)?;
     while cursor.sees_symbol(Symbol::Comma) {
         cursor.symbol(Symbol::Comma)?;
         found.push(expression(alloc, cursor, depth)?)?;
@@ -61,8 +77,9 @@ fn step(alloc: Global, cursor: &mut Cursor<'_>, depth: u32) -> Result<Step, Stop
     }
 }
 
+/// What stands behind the head of a path.
 #[cycle(expression)]
-fn steps(alloc: Global, cursor: &mut Cursor<'_>, depth: u32) -> Result<List<Step>, Stop>
+pub fn steps(alloc: Global, cursor: &mut Cursor<'_>, depth: u32) -> Result<List<Step>, Stop>
     ensures { Runs (spec.steps (opens depth) (inside depth)
         cursor.old.rest.now) result cursor.new.rest.now }
 {
@@ -73,6 +90,7 @@ fn steps(alloc: Global, cursor: &mut Cursor<'_>, depth: u32) -> Result<List<Step
     Ok(found)
 }
 
+/// Where a path begins.
 fn path_head(cursor: &mut Cursor<'_>) -> Result<PathHead, Stop>
     ensures { Runs (spec.path_head cursor.old.rest.now) result cursor.new.rest.now }
 {
@@ -204,8 +222,9 @@ fn operation(
     Ok(Operation { operator, operand })
 }
 
+/// The operators of a level, with their right operands.
 #[cycle(expression)]
-fn operations(
+pub fn operations(
     alloc: Global,
     cursor: &mut Cursor<'_>,
     depth: u32,
@@ -223,7 +242,8 @@ fn operations(
     Ok(found)
 }
 
-fn chain(alloc: Global, first: Expression, rest: List<Operation>) -> Result<Expression, Memory>
+/// An operand and the operations behind it.
+pub fn chain(alloc: Global, first: Expression, rest: List<Operation>) -> Result<Expression, Memory>
     ensures { IfOk result (λ x. x ≡ chain first rest) }
 {
     if rest.is_empty() {
@@ -275,6 +295,7 @@ fn operators(
     }
 }
 
+/// An expression.
 #[cycle(expression)]
 pub fn expression(alloc: Global, cursor: &mut Cursor<'_>, depth: u32) -> Result<Expression, Stop>
     ensures { Runs ((spec.expressions depth).expression

@@ -7,6 +7,11 @@ use vb_value::Memory;
 pub enum ParseFault {
     /// With one more construct open at this place the word could stand here.
     TooDeep,
+    /// The word could stand here if the parenthesis of the call statement before it could hold several arguments:
+    /// `f(1, 2)` wants `f 1, 2` or `Call f(1, 2)`.
+    CallParens,
+    /// Text of the page inside Class, or between `Select Case` and its first `Case`.
+    TextHere,
     /// No word like this may stand here, or one is missing.
     Unexpected,
 }

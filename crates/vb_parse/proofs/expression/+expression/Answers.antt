@@ -1,12 +1,12 @@
-use Rattle.std.proofs.Common.{◌≡◌, refl, sym, ap, ◌∙◌, ◌+◌, ◌-◌, arith}
-use Rattle.vb_value.specs.declared.token.Symbol.TheVariants as s
-use Rattle.vb_value.specs.declared.token.TokenKind.TheVariants as kind
+use Rattle.std.proofs.Common.{◌≡◌, refl, sym, ◌∙◌, ◌+◌, ◌-◌, arith}
 use Rattle.vb_syntax.specs.Expressions.{operator_at}
 use Rattle.vb_parse.specs.Reader as reader
 use Rattle.vb_parse.specs.Reader.{and_then}
 use Rattle.vb_parse.specs.ReadExpressions as spec
 use Rattle.vb_parse.specs.Runs.{opens, inside}
-use Rattle.vb_parse.proofs.Turns.{found_turn, comma_moves, step_moves, turn_moves, expressions_at, operators_chained}
+use Rattle.vb_parse.proofs.Turns.{found_turn, step_moves, turn_moves, expressions_at, operators_chained}
+use Rattle.vb_parse.proofs.Commas.{comma_less, comma_turn}
+use Rattle.vb_parse.proofs.ExpressionLengths.{keeps_expression}
 use Rattle.vb_parse.proofs.expression.+expression.Goals as goal
 
 pub expression-returns : goal.expression-returns
@@ -18,17 +18,14 @@ not_operand-returns t c = rw (expressions_at c.args.depth) c.operators.ensures
 pub minus_operand-returns : goal.minus_operand-returns
 minus_operand-returns t c = rw (expressions_at c.args.depth) c.primary.ensures
 
-pub list-loop-alloc-smaller : goal.list-loop-alloc-smaller
-list-loop-alloc-smaller t c = comma_moves c.args.depth _ _ _ (ap (λ o. and_then o (λ _. (spec.expressions
-    c.args.depth).expression)) c.in_ok-symbol.ensures ∙ c.in_ok-expression-2.ensures)
+pub list_from-loop-alloc-smaller : goal.list_from-loop-alloc-smaller
+list_from-loop-alloc-smaller t c = comma_less (keeps_expression c.args.depth) _ _ _ _ _ c.in_ok-symbol.ensures
+    c.in_ok-expression.ensures
 
-pub list-loop-alloc-preserved : goal.list-loop-alloc-preserved
-list-loop-alloc-preserved t c = found_turn (reader.sees (kind.Symbol s.Comma))
-    (spec.comma_and (spec.expressions c.args.depth).expression)
-    (comma_moves c.args.depth) refl (λ l. l) _ c.loop-alloc.found _ c.loop-alloc.cursor.rest.now _ _
-    c.loop-alloc.invariant (sym c.sees_symbol.ensures
-    ∙ c.loop-alloc-test.true) (ap (λ o. and_then o (λ _. (spec.expressions c.args.depth).expression))
-    c.in_ok-symbol.ensures ∙ c.in_ok-expression-2.ensures) c.in_ok-push-2.ensures
+pub list_from-loop-alloc-preserved : goal.list_from-loop-alloc-preserved
+list_from-loop-alloc-preserved t c = comma_turn (keeps_expression c.args.depth) (λ l. l) _ c.loop-alloc.found _
+    c.loop-alloc.cursor.rest.now _ _ _ _ c.loop-alloc.invariant (sym c.sees_symbol.ensures
+    ∙ c.loop-alloc-test.true) c.in_ok-symbol.ensures c.in_ok-expression.ensures c.in_ok-push-2.ensures
 
 pub steps-loop-alloc-smaller : goal.steps-loop-alloc-smaller
 steps-loop-alloc-smaller t c = step_moves c.args.depth _ _ _ c.in_ok-step.ensures

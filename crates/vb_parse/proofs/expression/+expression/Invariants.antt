@@ -1,13 +1,14 @@
-use Rattle.std.proofs.Common.{◌≡◌, ◌+◌, ◌*◌, length, ◌++◌}
-use Rattle.vb_value.specs.declared.token.Symbol.TheVariants as s
-use Rattle.vb_value.specs.declared.token.TokenKind.TheVariants as kind
+use Rattle.std.proofs.Common.{◌≡◌, ◌+◌, ◌*◌, length, ◌∷◌, ◌++◌}
 use Rattle.vb_parse.specs.Reader as reader
 use Rattle.vb_parse.specs.ReadExpressions as spec
 use Rattle.vb_parse.specs.Runs.{opens, inside}
 use Rattle.vb_parse.proofs.expression.+expression.Given as goal
 
 abbrev pub decreases-list : goal.decreases-list
-decreases-list l = l.depth * 70 + 61
+decreases-list l = l.depth * 70 + 62
+
+abbrev pub decreases-list_from : goal.decreases-list_from
+decreases-list_from l = l.depth * 70 + 61
 
 abbrev pub decreases-expression : goal.decreases-expression
 decreases-expression l = l.depth * 70 + 59
@@ -54,14 +55,14 @@ decreases-negative l = l.depth * 70 + 5
 abbrev pub decreases-negated : goal.decreases-negated
 decreases-negated l = l.depth * 70 + 5
 
-abbrev pub invariant-list-loop-alloc : goal.invariant-list-loop-alloc
-invariant-list-loop-alloc l = spec.list_of (spec.expressions l.fn.depth).expression l.fn.cursor.rest.now ≡
-    reader.and_then (reader.many (reader.sees (kind.Symbol s.Comma))
-    (spec.comma_and (spec.expressions l.fn.depth).expression) l.cursor.rest.now)
+abbrev pub invariant-list_from-loop-alloc : goal.invariant-list_from-loop-alloc
+invariant-list_from-loop-alloc l = (reader.◌>>=◌ (spec.more_of (spec.expressions l.fn.depth).expression)
+    (λ more. reader.pure (l.fn.first ∷ more))) l.fn.cursor.rest.now
+    ≡ reader.and_then (spec.more_of (spec.expressions l.fn.depth).expression l.cursor.rest.now)
     (λ more. reader.pure (l.found ++ more))
 
-abbrev pub decreases-list-loop-alloc : goal.decreases-list-loop-alloc
-decreases-list-loop-alloc l = length l.cursor.rest.now
+abbrev pub decreases-list_from-loop-alloc : goal.decreases-list_from-loop-alloc
+decreases-list_from-loop-alloc l = length l.cursor.rest.now
 
 abbrev pub invariant-steps-loop-alloc : goal.invariant-steps-loop-alloc
 invariant-steps-loop-alloc l = spec.steps (opens l.fn.depth)

@@ -1,0 +1,95 @@
+-- Loops over the parts of If and Select, and over statements.
+use Rattle.std.proofs.Common.{◌≡◌, ◌<◌, ℕ, length, Bool, true, false, cond, List, [], ◌∷◌, ◌++◌, Option, Some, None}
+use Rattle.std.proofs.Common.{Ok, Err, sym, ap, ◌∙◌}
+use Rattle.std.proofs.lemmas.Bool.{false≢true}
+use Rattle.std.specs.declared.ops.ControlFlow.TheVariants.{Continue, Break}
+use Rattle.vb_value.specs.declared.token.Keyword.TheVariants as k
+use Rattle.vb_value.specs.declared.token.TokenKind.TheVariants as kind
+use Rattle.vb_syntax.specs.declared.statement.Case.{Case}
+use Rattle.vb_syntax.specs.declared.statement.Statement.{Statement}
+use Rattle.vb_syntax.specs.Rules.{Tokens}
+use Rattle.vb_syntax.specs.SimpleStatements.{Looser}
+use Rattle.vb_parse.specs.Reader as reader
+use Rattle.vb_parse.specs.Reader.{Reader, Outcome, Turn, and_then, next}
+use Rattle.vb_parse.specs.ReadLines.{Blocks}
+use Rattle.vb_parse.specs.ReadStatements as spec
+use Rattle.vb_parse.specs.ReadStatements.{blocks_inside}
+use Rattle.vb_parse.proofs.Until.{OnwardMoves}
+use Rattle.vb_parse.proofs.Untils.{until_more}
+use Rattle.vb_parse.proofs.StatementLengths.{moves_case_open}
+
+-- what the turns of Select give
+abbrev pub cases_value : List Case → Option (List Statement) → List Case × Option (List Statement)
+cases_value found otherwise = (found, otherwise)
+
+-- whether a turn is the last
+abbrev is_last : {A B : Type 0} → Turn A B → Bool
+is_last (Continue x) = false
+is_last (Break last) = true
+
+abbrev ends : {A B : Type 0} → Outcome (Turn A B) → Bool
+ends (Ok read) = is_last read.0
+ends (Err rest) = false
+
+no_end : {A B : Type 0} (x : A) (last : B) (tokens rest : Tokens)
+    → Path (Outcome (Turn A B)) (Ok (Break last, tokens)) (Ok (Continue x, rest)) → ⊥
+no_end x last tokens rest e = false≢true (sym (ap ends e))
+
+module _ (looser : Looser) (depth : ℕ) where
+  abbrev inner : Blocks
+  inner = blocks_inside looser depth
+
+  abbrev Part : Type 0
+  Part = Turn Case (Option (List Statement))
+
+  -- a part behind its first word
+  abbrev part_from : ℕ → Reader Part
+  part_from line = reader.case (reader.sees (kind.Keyword k.Else))
+      (reader.◌>>=◌ (spec.case_else looser depth inner) (λ body. reader.pure (Break (Some body))))
+      (reader.◌>>=◌ (spec.case_from looser depth inner line) (λ found. reader.pure (Continue found)))
+
+  abbrev part_open : Reader Part
+  part_open = reader.◌>>=◌ (reader.keyword k.Case) part_from
+
+  onward : OnwardMoves (spec.case_turn looser depth inner)
+  onward tokens x rest e = go (reader.sees (kind.Keyword k.Case) (next tokens)) e
+    where
+      go : (b : Bool) → cond b (part_open tokens) (Ok (Break None, tokens)) ≡ Ok (Continue x, rest)
+          → length rest < length tokens
+      go true e = (moves_case_open looser depth).moves tokens (Continue x) rest e
+      go false e = absurd (no_end x None tokens rest e)
+
+  -- a "Case" that is not the last part
+  turn_case : (tokens middle rest : Tokens) (line : ℕ) (x : Case)
+      → reader.sees (kind.Keyword k.Case) (next tokens) ≡ true → reader.keyword k.Case tokens ≡ Ok (line, middle)
+      → reader.sees (kind.Keyword k.Else) (next middle) ≡ false
+      → spec.case_from looser depth inner line middle ≡ Ok (x, rest)
+      → spec.case_turn looser depth inner tokens ≡ Ok (Continue x, rest)
+  turn_case tokens middle rest line x is word no_else from =
+      ap (λ b. cond b (part_open tokens) (Ok (Break None, tokens))) is
+      ∙ ap (λ o. and_then o part_from) word
+      ∙ ap (λ b. cond b (and_then (spec.case_else looser depth inner middle) (λ body. reader.pure (Break (Some body))))
+      (and_then (spec.case_from looser depth inner line middle) (λ found. reader.pure (Continue found)))) no_else
+      ∙ ap (λ o. and_then o (λ found. reader.pure (Continue found))) from
+
+  -- a turn takes a token
+  pub cases_less : (tokens middle rest : Tokens) (line : ℕ) (x : Case)
+      → reader.sees (kind.Keyword k.Case) (next tokens) ≡ true → reader.keyword k.Case tokens ≡ Ok (line, middle)
+      → reader.sees (kind.Keyword k.Else) (next middle) ≡ false
+      → spec.case_from looser depth inner line middle ≡ Ok (x, rest) → length rest < length tokens
+  cases_less tokens middle rest line x is word no_else from =
+      onward tokens x rest (turn_case tokens middle rest line x is word no_else from)
+
+  module _ (whole : Outcome (List Case × Option (List Statement))) (found : List Case) (tokens : Tokens) where
+    -- what is left to read of Select
+    abbrev pub Left : List Case → Tokens → Type 0
+    Left done from = whole ≡ and_then (spec.cases looser depth inner from)
+        (λ more. reader.pure (cases_value (done ++ more.0) more.1))
+
+    pub cases_more : (new : List Case) (middle rest : Tokens) (line : ℕ) (x : Case) → Left found tokens
+        → reader.sees (kind.Keyword k.Case) (next tokens) ≡ true → reader.keyword k.Case tokens ≡ Ok (line, middle)
+        → reader.sees (kind.Keyword k.Else) (next middle) ≡ false
+        → spec.case_from looser depth inner line middle ≡ Ok (x, rest) → new ≡ found ++ x ∷ [] → Left new rest
+    cases_more new middle rest line x inv is word no_else from e =
+        until_more (spec.case_turn looser depth inner) onward cases_value whole found tokens rest new x inv
+        (turn_case tokens middle rest line x is word no_else from) e

@@ -1,0 +1,96 @@
+//! The parser of scripts: a whole list of words, read to its end.
+ghost use Rattle.std.specs.Prelude.{◌≡◌, IfOk};
+ghost use Rattle.vb_syntax.specs.declared.unit.Unit.{Unit as Script};
+ghost use Rattle.vb_syntax.specs.Units.{Derives};
+ghost use Rattle.vb_parse.specs.Outcome.{Finds, HasFault, IsUnitKind, Leaves, OnFault};
+ghost use Rattle.vb_parse.specs.Outcome as spec;
+ghost use Rattle.vb_parse.specs.ReadUnits.{whole_unit};
+ghost use Rattle.vb_parse.specs.Runs.{Runs, rules};
+
+use crate::cursor::{Cursor, Stop};
+use crate::fault::{ParseFault, ParseStop};
+use crate::looser::Looser;
+use crate::unit::unit;
+use crate::whole_expression::{DEPTH, fault_line};
+use std::alloc::Global;
+use vb_syntax::Unit;
+use vb_value::{Memory, Token};
+
+/// The grammar as it is.
+const STRICT: Looser = Looser {
+    several: false,
+    texts: false,
+};
+/// The grammar with several expressions in the parenthesis of a call statement.
+const SEVERAL: Looser = Looser {
+    several: true,
+    texts: false,
+};
+/// The grammar with text inside Class and in the head of Select.
+const TEXTS: Looser = Looser {
+    several: false,
+    texts: true,
+};
+
+/// Reads a whole list of words as a script, or leaves the words from the faulty one on.
+#[tactic(auto, unfolding(crate::specs::ReadUnits::whole_unit))]
+fn read(alloc: Global, cursor: &mut Cursor<'_>, looser: Looser, depth: u32) -> Result<Unit, Stop>
+    ensures { Runs (whole_unit (rules looser) depth cursor.old.rest.now) result cursor.new.rest.now }
+{
+    let found = unit(alloc, cursor, looser, depth)?;
+    cursor.at_end()?;
+    Ok(found)
+}
+
+/// How many words are left where this is allowed.
+fn left_by(alloc: Global, tokens: &[Token], looser: Looser, depth: u32) -> Result<usize, Memory>
+    ensures { IfOk result (λ count. Leaves (whole_unit (rules looser) depth tokens.now) count) }
+{
+    let mut cursor = Cursor { rest: tokens };
+    match read(alloc, &mut cursor, looser, depth) {
+        Ok(_) => Ok(0),
+        Err(Stop::Fault) => Ok(cursor.rest.len()),
+        Err(Stop::Memory) => Err(Memory),
+    }
+}
+
+/// The kind of a fault, by how many words are left, and how many where more is allowed.
+fn kind_by(left: usize, deeper: usize, several: usize, texts: usize) -> ParseFault
+    ensures { result ≡ spec.kind_by left deeper several texts }
+{
+    if deeper < left {
+        ParseFault::TooDeep
+    } else if several < left {
+        ParseFault::CallParens
+    } else if texts < left {
+        ParseFault::TextHere
+    } else {
+        ParseFault::Unexpected
+    }
+}
+
+/// Reads the words of a script, of which at most 200 constructs may be open at one place: blocks, bodies of procedures
+/// and classes, one-line Ifs, parentheses, `Not` and the leading minus (VBScript 5.6 language reference,
+/// "Statements"). At a fault it reads up to three times more, to tell the fault's kind.
+#[tactic(auto, using(crate::proofs::ParseScript::script_sound, crate::proofs::ParseScript::script_fault))]
+pub fn parse(alloc: Global, tokens: &[Token]) -> Result<Unit, ParseStop>
+    ensures unit { IfOk result (λ unit. Derives tokens.now unit) }
+    ensures only { (unit : Script) → Derives tokens.now unit → Finds result unit }
+    ensures fault { OnFault result (λ kind line. HasFault Derives IsUnitKind tokens.now kind line) }
+{
+    let mut cursor = Cursor { rest: tokens };
+    match read(alloc, &mut cursor, STRICT, DEPTH) {
+        Ok(found) => Ok(found),
+        Err(Stop::Memory) => Err(ParseStop::Memory),
+        Err(Stop::Fault) => {
+            let left = cursor.rest;
+            let deeper = left_by(alloc, tokens, STRICT, DEPTH + 1)?;
+            let several = left_by(alloc, tokens, SEVERAL, DEPTH)?;
+            let texts = left_by(alloc, tokens, TEXTS, DEPTH)?;
+            Err(ParseStop::Fault {
+                kind: kind_by(left.len(), deeper, several, texts),
+                line: fault_line(tokens, left),
+            })
+        }
+    }
+}
