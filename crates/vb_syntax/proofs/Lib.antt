@@ -12,4 +12,3 @@ pub mod BlockPrinting
 pub mod UnitPrinting
 pub mod Adding
 pub mod Literals
-pub mod Branches

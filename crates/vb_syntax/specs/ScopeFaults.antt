@@ -172,10 +172,14 @@ abbrev pub after_members : SoFar → List ClassMember → SoFar
 after_members before [] = before
 after_members before (member ∷ members) = after_members (after_member before member) members
 
+-- the names of a script behind a class, which has a scope of its own
+abbrev pub after_class : List Name → Class → List Name
+after_class names class = (after_members (fresh names) class.members).names
+
 -- the names of a script behind what stands inside an item
 abbrev pub after_inside : List Name → Item → List Name
 after_inside names (item.Procedure found) = after_body names (body_of false found)
-after_inside names (item.Class found) = (after_members (fresh names) found.members).names
+after_inside names (item.Class found) = after_class names found
 after_inside names _ = names
 
 -- behind an item
@@ -216,10 +220,14 @@ module _ (explicit : Bool) (page : PageScope) where
   members_faults class before (member ∷ members) =
       member_faults class before member ++ members_faults class (after_member before member) members
 
+  -- the faults in a class
+  abbrev pub class_faults : List Name → Class → Faults
+  class_faults names class = members_faults (class_scope class) (fresh names) class.members
+
   -- the faults inside an item
   abbrev pub inside_faults : List Name → Item → Faults
   inside_faults names (item.Procedure found) = body_faults no_class names (body_of false found)
-  inside_faults names (item.Class found) = members_faults (class_scope found) (fresh names) found.members
+  inside_faults names (item.Class found) = class_faults names found
   inside_faults names _ = []
 
   -- the faults of an item: what it says on the page, and then what stands inside

@@ -92,13 +92,20 @@ module _ (explicit : Bool) (page : PageScope) (names : List Name) where
   fields_of (member.Fields line access fields) = map (field_of access) fields
   fields_of _ = []
 
+  -- a method
+  abbrev pub method_of : ClassScope → Procedure → ResolvedProcedure
+  method_of class found = procedure_in class found.access (kind_of found.kind) found.name (body_of true found)
+
+  -- an accessor of a property
+  abbrev pub property_of : ClassScope → Property → ResolvedProcedure
+  property_of class found =
+      procedure_in class found.access (kind_of_property found.kind) found.name (body_of_property found)
+
   -- the method or property that a member is
   abbrev pub procedure_member : ClassScope → ClassMember → List ResolvedProcedure
   procedure_member class (member.Fields line access fields) = []
-  procedure_member class (member.Method found) =
-      procedure_in class found.access (kind_of found.kind) found.name (body_of true found) ∷ []
-  procedure_member class (member.Property found) =
-      procedure_in class found.access (kind_of_property found.kind) found.name (body_of_property found) ∷ []
+  procedure_member class (member.Method found) = method_of class found ∷ []
+  procedure_member class (member.Property found) = property_of class found ∷ []
 
   -- a class
   abbrev pub class_of : Class → ResolvedClass

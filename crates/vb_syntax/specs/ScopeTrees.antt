@@ -1,7 +1,6 @@
 -- Expressions and statements with each name as what it stands for, by recursion over them.
-use Rattle.std.specs.Prelude.{ℕ, Bool, true, false, if◌then◌else◌, List, [], ◌∷◌, ◌++◌, map, take, drop}
+use Rattle.std.specs.Prelude.{ℕ, ◌-◌, Bool, true, false, not, ◌&&◌, nat_lt, if◌then◌else◌, List, [], ◌∷◌, ◌++◌, map}
 use Rattle.std.specs.Prelude.{Option, Some, None}
-use Rattle.std.specs.List.{flat_map}
 use Rattle.vb_syntax.specs.declared.expression.Expression.{Expression, out-Expression}
 use Rattle.vb_syntax.specs.declared.expression.Expression.TheOpen.{Expression-F, Operation-F, Path-F, Step-F}
 use Rattle.vb_syntax.specs.declared.expression.Expression.TheFolds.{fold-Expression, fold-Operation, fold-Path, fold-Step}
@@ -59,17 +58,18 @@ abbrev pub StepPair : Type 0
 StepPair = Shape × ResolvedStep
 
 -- whether a step is a parenthesis
-abbrev pub is_group_shape : Shape → Bool
-is_group_shape shape.Group = true
-is_group_shape (shape.Member name) = false
+abbrev pub is_parenthesis : Shape → Bool
+is_parenthesis shape.Group = true
+is_parenthesis (shape.Member name) = false
 
--- a parenthesis
-abbrev pub kept_group : StepPair → List ResolvedStep
-kept_group step = if is_group_shape step.0 then step.1 ∷ [] else []
+-- what stays of a step: of those that say which member is meant, the parentheses alone
+abbrev pub kept_step : Bool → StepPair → List ResolvedStep
+kept_step says_member step = if says_member && not (is_parenthesis step.0) then [] else step.1 ∷ []
 
--- The steps that stay where so many of them say which member is meant: the parentheses of those, and the others.
+-- the steps that stay where so many of them say which member is meant
 abbrev pub kept : ℕ → List StepPair → List ResolvedStep
-kept count steps = flat_map kept_group (take count steps) ++ map (λ (step : StepPair). step.1) (drop count steps)
+kept count [] = []
+kept count (step ∷ steps) = kept_step (nat_lt 0 count) step ++ kept (count - 1) steps
 
 -- what the steps look like
 abbrev pub shapes : List StepPair → List Shape
@@ -81,35 +81,40 @@ is_called as_a.Callee [] = true
 is_called used (shape.Group ∷ more) = true
 is_called used _ = false
 
--- a path of a head, of which so many steps say which member it is
-abbrev pub resolved_path : Head → ℕ → List StepPair → ResolvedPath
-resolved_path begin count steps = roll-Path (record { head = begin; steps = kept count steps })
+-- where a path begins in a program, and how many steps of the path say so
+abbrev pub Beginning : Type 0
+Beginning = Head × ℕ
+
+-- a path of this beginning
+abbrev pub resolved_path : Beginning → List StepPair → ResolvedPath
+resolved_path begin steps = roll-Path (record { head = begin.0; steps = kept begin.1 steps })
+
+-- a path that begins with what a name stands for, or with a member of Err
+abbrev pub named_head : Named → List Shape → Beginning
+named_head named.Err steps = (begins.Err (err_meant steps).0, (err_meant steps).1)
+named_head found steps = (begins.Named found, 0)
 
 -- `names` are all names of the script, and `scopes` those in which the place stands.
 module _ (names : List Name) (scopes : Scopes) where
-  -- a path that begins with what a name stands for, or with a member of Err
-  abbrev pub named_path : Named → List StepPair → ResolvedPath
-  named_path named.Err steps =
-      resolved_path (begins.Err (err_meant (shapes steps)).0) (err_meant (shapes steps)).1 steps
-  named_path found steps = resolved_path (begins.Named found) 0 steps
-
   -- a path that begins with a member of an object of the page
-  abbrev pub member_path : Name → List StepPair → Meant → ResolvedPath
-  member_path name steps None = resolved_path (begins.Named (named.Unknown (name_number names name))) 0 steps
-  member_path name steps (Some found) = resolved_path (begins.Member found.0) found.1 steps
+  abbrev pub member_head : Name → Meant → Beginning
+  member_head name None = (begins.Named (named.Unknown (name_number names name)), 0)
+  member_head name (Some found) = (begins.Member found.0, found.1)
 
   -- a path that begins with an object of the page, or with another name
-  abbrev pub object_path : PathUse → Name → List StepPair → Option PageObject → ResolvedPath
-  object_path used name steps None =
-      named_path (named_in names scopes (is_called used (shapes steps)) name) steps
-  object_path used name steps (Some object) =
-      member_path name steps (member_meant object (is_group used) (shapes steps))
+  abbrev pub object_head : PathUse → Name → List Shape → Option PageObject → Beginning
+  object_head used name steps None = named_head (named_in names scopes (is_called used steps) name) steps
+  object_head used name steps (Some object) = member_head name (member_meant object (is_group used) steps)
 
-  -- a path, by where it begins
-  abbrev pub headed_path : PathUse → PathHead → List StepPair → ResolvedPath
-  headed_path used (head.Name name) steps = object_path used name steps (object_in scopes name)
-  headed_path used head.Me steps = resolved_path begins.Me 0 steps
-  headed_path used (head.With name) steps = resolved_path (begins.With (name_number names name)) 0 steps
+  -- a path that begins with a name
+  abbrev pub name_head : PathUse → Name → List Shape → Beginning
+  name_head used name steps = object_head used name steps (object_in scopes name)
+
+  -- where a path begins
+  abbrev pub head_of : PathUse → PathHead → List Shape → Beginning
+  head_of used (head.Name name) steps = name_head used name steps
+  head_of used head.Me steps = (begins.Me, 0)
+  head_of used (head.With name) steps = (begins.With (name_number names name), 0)
 
   -- ---- expressions
 
@@ -120,7 +125,7 @@ module _ (names : List Name) (scopes : Scopes) where
 
   -- a path, by how it is used
   abbrev pub path_layer : Path-F Resolved StepPair ResolvedOperation (PathUse → ResolvedPath) → PathUse → ResolvedPath
-  path_layer path used = headed_path used path.head path.steps
+  path_layer path used = resolved_path (head_of used path.head (shapes path.steps)) path.steps
 
   -- an operator with its operand
   abbrev pub operation_layer

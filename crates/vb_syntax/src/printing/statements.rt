@@ -1,6 +1,7 @@
 //! Statements and blocks as words.
 ghost use Rattle.std.specs.Prelude.{◌≡◌, ◌∷◌, ◌++◌, [], map, Some};
 ghost use Rattle.std.specs.List.{flat_map};
+ghost use Rattle.std.specs.Option.{option_map};
 ghost use Rattle.vb_value.specs.declared.token.Keyword.TheVariants as k;
 ghost use Rattle.vb_syntax.specs.Rules.{Tokens};
 ghost use Rattle.vb_syntax.specs.PrintingWords.{keyword};
@@ -49,36 +50,17 @@ fn print_kind(words: &mut List<Token>, line: u32, kind: &Kind) -> Result<(), Mem
             then,
             others,
             otherwise,
-        } => {
-            print_then(words, line, then, condition)?;
-            print_else_ifs(words, others)?;
-            if let Some(body) = otherwise {
-                print_else(words, line, body)?;
-            }
-            print_end(words, line, Keyword::If)
-        }
+        } => { print_if(words, line, then, others, otherwise, condition) }
         Kind::LineIf {
             condition,
             then,
             otherwise,
-        } => {
-            print_line_then(words, line, then, condition)?;
-            match otherwise {
-                Some(body) => print_line_else(words, line, body),
-                None => Ok(()),
-            }
-        }
+        } => { print_line_if(words, line, then, otherwise, condition) }
         Kind::Select {
             subject,
             cases,
             otherwise,
-        } => {
-            print_select(words, line, cases, subject)?;
-            if let Some(body) = otherwise {
-                print_case_else(words, line, body)?;
-            }
-            print_end(words, line, Keyword::Select)
-        }
+        } => { print_select(words, line, cases, otherwise, subject) }
         Kind::For {
             variable,
             from,
@@ -139,6 +121,27 @@ fn print_line(
     Ok(())
 }
 
+/// Adds an `If` on several lines.
+#[cycle(statements)]
+fn print_if(
+    words: &mut List<Token>,
+    line: u32,
+    then: &List<Statement>,
+    others: &List<ElseIf>,
+    otherwise: &Option<List<Statement>>,
+    condition: &Expression,
+) -> Result<(), Memory>
+    ensures { Adds result words.old words.new (spec.kind_layer (layer.If condition.now (map statement_words then.now)
+        (map spec.else_if_words others.now) (option_map (map statement_words) otherwise.now)) line) }
+{
+    print_then(words, line, then, condition)?;
+    print_else_ifs(words, others)?;
+    if let Some(body) = otherwise {
+        print_else(words, line, body)?;
+    }
+    print_end(words, line, Keyword::If)
+}
+
 /// Adds an `If` on several lines as far as its first block.
 #[cycle(statements)]
 fn print_then(
@@ -186,6 +189,25 @@ fn print_else(words: &mut List<Token>, line: u32, body: &List<Statement>) -> Res
     print_body(words, line, body)
 }
 
+/// Adds an `If` on one line.
+#[cycle(statements)]
+fn print_line_if(
+    words: &mut List<Token>,
+    line: u32,
+    then: &List<Statement>,
+    otherwise: &Option<List<Statement>>,
+    condition: &Expression,
+) -> Result<(), Memory>
+    ensures { Adds result words.old words.new (spec.kind_layer (layer.LineIf condition.now
+        (map statement_words then.now) (option_map (map statement_words) otherwise.now)) line) }
+{
+    print_line_then(words, line, then, condition)?;
+    match otherwise {
+        Some(body) => print_line_else(words, line, body),
+        None => Ok(()),
+    }
+}
+
 /// Adds an `If` on one line as far as its `Else`.
 #[cycle(statements)]
 fn print_line_then(
@@ -210,9 +232,28 @@ fn print_line_else(words: &mut List<Token>, line: u32, body: &List<Statement>) -
     print_line(words, line, body)
 }
 
-/// Adds a `Select` as far as its last `Case` with values.
+/// Adds a `Select`.
 #[cycle(statements)]
 fn print_select(
+    words: &mut List<Token>,
+    line: u32,
+    cases: &List<Case>,
+    otherwise: &Option<List<Statement>>,
+    subject: &Expression,
+) -> Result<(), Memory>
+    ensures { Adds result words.old words.new (spec.kind_layer (layer.Select subject.now
+        (map spec.case_words cases.now) (option_map (map statement_words) otherwise.now)) line) }
+{
+    print_cases(words, line, cases, subject)?;
+    if let Some(body) = otherwise {
+        print_case_else(words, line, body)?;
+    }
+    print_end(words, line, Keyword::Select)
+}
+
+/// Adds a `Select` as far as its last `Case` with values.
+#[cycle(statements)]
+fn print_cases(
     words: &mut List<Token>,
     line: u32,
     cases: &List<Case>,
