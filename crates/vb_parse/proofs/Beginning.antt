@@ -1,5 +1,5 @@
 -- With which tokens a rule begins, by the numbers of their kinds.
-use Rattle.std.proofs.Common.{◌≡◌, ℕ, ◌==◌, ◌||◌, inl, inr, Bool, true, false, cond, List, [], ◌∷◌, ◌++◌, Option}
+use Rattle.std.proofs.Common.{◌≡◌, ℕ, pos, ◌==◌, ◌||◌, inl, inr, Bool, true, false, cond, List, [], ◌∷◌, ◌++◌, Option}
 use Rattle.std.proofs.Common.{Some, None, if◌then◌else◌, refl, sym, ap, ◌∙◌}
 use Rattle.std.proofs.lemmas.Bool.{eqb-true}
 use Rattle.vb_value.specs.declared.operator.Op2.{Op2}
@@ -55,11 +55,12 @@ line_of-tag n token line e = go (tag token.kind == n) refl e
 pub begins_word : (kind : TokenKind) → Begins (λ n. n == tag kind) (words.word kind)
 begins_word kind = record { head = λ front x h. (h.token, [], h.alone, line_of-tag (tag kind) h.token x h.passes) }
 
-name-tag : (kind : TokenKind) (name : List ℕ) → name_of_kind kind ≡ Some name → (tag kind == 200) ≡ true
+name-tag : (word : TokenKind) (name : List ℕ) → name_of_kind word ≡ Some name
+    → (tag word == tag (kind.Name [] false)) ≡ true
 name-tag (kind.Name text bracketed) name e = refl
 name-tag _ name e = absurd cc
 
-pub begins_name : Begins (λ n. n == 200) (rule.one name_of)
+pub begins_name : Begins (λ n. n == tag (kind.Name [] false)) (rule.one name_of)
 begins_name = record { head = λ front x h. (h.token, [], h.alone, name-tag h.token.kind x h.passes) }
 
 -- a property of numbers at the one that it is asked of
@@ -85,7 +86,9 @@ sees_false f kind front rest w not = rw w.2 (differs f (tag w.0.kind) (tag kind)
 
 -- the values that are written down
 abbrev pub tag_is_literal : ℕ → Bool
-tag_is_literal n = n == 12 || (n == 17 || (n == 34 || (n == 48 || (n == 201 || (n == 202 || n == 203)))))
+tag_is_literal n = n == tag (kind.Keyword k.Empty) || (n == tag (kind.Keyword k.False)
+    || (n == tag (kind.Keyword k.Null) || (n == tag (kind.Keyword k.True)
+    || (n == tag (kind.Integer (pos 0)) || (n == tag (kind.Long (pos 0)) || n == tag (kind.String []))))))
 
 pub literal_tag : (kind : TokenKind) → is_some (literal_of_kind kind) ≡ tag_is_literal (tag kind)
 literal_tag (kind.Keyword k.True) = refl
@@ -94,21 +97,33 @@ literal_tag (kind.Symbol s.Open) = refl
 literal_tag (kind.Symbol _) = refl
 literal_tag _ = refl
 
-pub name_tag : (kind : TokenKind) → is_some (name_of_kind kind) ≡ (tag kind == 200)
+pub name_tag : (word : TokenKind) → is_some (name_of_kind word) ≡ (tag word == tag (kind.Name [] false))
 name_tag (kind.Keyword k.And) = refl
 name_tag (kind.Keyword _) = refl
 name_tag (kind.Symbol s.Open) = refl
 name_tag (kind.Symbol _) = refl
 name_tag _ = refl
 
+-- the operators that compare
+abbrev pub tag_is_comparison : ℕ → Bool
+tag_is_comparison n = n == tag (kind.Symbol s.Equal) || (n == tag (kind.Symbol s.NotEqual)
+    || (n == tag (kind.Symbol s.Less) || (n == tag (kind.Symbol s.Greater)
+    || (n == tag (kind.Symbol s.AtMost) || (n == tag (kind.Symbol s.AtLeast) || n == tag (kind.Keyword k.Is))))))
+
 -- the levels of the operators
 abbrev pub tag_level : ℕ → ℕ
 tag_level n =
-    if n == 114 then 1 else (if n == 103 then 2 else (if n == 29 then 3 else (if n == 113 || n == 110 then 4
-    else (if n == 100 then 5 else
-    (if n == 107 || (n == 111 || (n == 109 || (n == 108 || (n == 101 || (n == 102 || n == 25))))) then 6 else
-    (if n == 0 then 8 else (if n == 37 then 9 else (if n == 53 then 10 else (if n == 14 then 11 else (if n ==
-    23 then 12 else 0))))))))))
+    if n == tag (kind.Symbol s.Star) then 1
+    else (if n == tag (kind.Symbol s.Backslash) then 2
+    else (if n == tag (kind.Keyword k.Mod) then 3
+    else (if n == tag (kind.Symbol s.Plus) || n == tag (kind.Symbol s.Minus) then 4
+    else (if n == tag (kind.Symbol s.Ampersand) then 5
+    else (if tag_is_comparison n then 6
+    else (if n == tag (kind.Keyword k.And) then 8
+    else (if n == tag (kind.Keyword k.Or) then 9
+    else (if n == tag (kind.Keyword k.Xor) then 10
+    else (if n == tag (kind.Keyword k.Eqv) then 11
+    else (if n == tag (kind.Keyword k.Imp) then 12 else 0))))))))))
 
 abbrev pub level_of : Option (ℕ × Op2) → ℕ
 level_of None = 0

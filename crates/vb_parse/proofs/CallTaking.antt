@@ -40,8 +40,8 @@ use Rattle.vb_parse.proofs.CallReading.{Target, path_parts, path_made, more_argu
 use Rattle.vb_parse.proofs.Turns.{rules_inside, inner_at, taken_inside}
 use Rattle.vb_parse.proofs.Tags.{among, outside, all_have, among_has}
 use Rattle.vb_parse.proofs.Following.{Before, before_head, BeginsIn, Leads, leads_begins, leads_pure, leads_bind}
-use Rattle.vb_parse.proofs.Following.{leads_many, begins_in, one_among, begins_then, begins_either, begins_word_then}
-use Rattle.vb_parse.proofs.Following.{Asks, asks_kind, asks_either, asks_no, begins_kind, starts}
+use Rattle.vb_parse.proofs.Following.{leads_many, begins_in, one_among, name_head, begins_then, begins_either}
+use Rattle.vb_parse.proofs.Following.{begins_word_then, Asks, asks_kind, asks_either, asks_no, begins_kind, starts}
 use Rattle.vb_parse.proofs.Choosing.{takes_or, takes_on_word, takes_within, takes_word, takes_then, takes_map}
 use Rattle.vb_parse.proofs.Choosing.{takes_list, takes_more}
 use Rattle.vb_parse.proofs.Placing.{path_heads, ends_before, takes_expression, expression_heads}
@@ -50,16 +50,20 @@ use Rattle.vb_parse.proofs.Placing.{path_heads, ends_before, takes_expression, e
 abbrev pub statement_ends : List ℕ
 statement_ends = tag (kind.Symbol s.Colon) ∷ tag kind.LineEnd ∷ tag (kind.Keyword k.Else) ∷ []
 
-named_begins : BeginsIn (200 ∷ []) (rule.one named_at)
-named_begins = begins_in (200 ∷ []) (one_among 200) begins_named
+named_begins : BeginsIn name_head (rule.one named_at)
+named_begins = begins_in name_head (one_among (tag (kind.Name [] false))) begins_named
 
 -- ---- what comes next
 
-asks_path : Asks goes_on_path (115 ∷ 112 ∷ [])
+-- the numbers of the tokens that go on with a path
+abbrev pub step_heads : List ℕ
+step_heads = tag (kind.Symbol s.PathPoint) ∷ tag (kind.Symbol s.Open) ∷ []
+
+asks_path : Asks goes_on_path step_heads
 asks_path = asks_either (asks_kind (kind.Symbol s.PathPoint)) (asks_kind (kind.Symbol s.Open))
 
 -- a path ends before such tokens
-pub path_before : (v : List ℕ) → all_have (outside (115 ∷ 112 ∷ [])) v ≡ true → (rest : Tokens) → Before v rest
+pub path_before : (v : List ℕ) → all_have (outside step_heads) v ≡ true → (rest : Tokens) → Before v rest
     → PathEnds rest
 path_before v none rest ok = asks_no asks_path none rest ok
 

@@ -1,7 +1,6 @@
 -- Loops over the parts of If and Select, and over statements.
-use Rattle.std.proofs.Common.{◌≡◌, ◌<◌, ℕ, length, Bool, true, false, cond, List, [], ◌∷◌, ◌++◌, Option, Some, None}
-use Rattle.std.proofs.Common.{Ok, Err, sym, ap, ◌∙◌}
-use Rattle.std.proofs.lemmas.Bool.{false≢true}
+use Rattle.std.proofs.Common.{◌≡◌, ◌<◌, ℕ, zero, suc, length, IsTrue, true, false, cond, List, [], ◌∷◌, ◌++◌, Option}
+use Rattle.std.proofs.Common.{Some, None, Ok, refl, ap, ◌∙◌, arith}
 use Rattle.std.specs.declared.ops.ControlFlow.TheVariants.{Continue, Break}
 use Rattle.vb_value.specs.declared.token.Keyword.TheVariants as k
 use Rattle.vb_value.specs.declared.token.TokenKind.TheVariants as kind
@@ -14,28 +13,39 @@ use Rattle.vb_parse.specs.Reader.{Reader, Outcome, Turn, and_then, next}
 use Rattle.vb_parse.specs.ReadLines.{Blocks}
 use Rattle.vb_parse.specs.ReadStatements as spec
 use Rattle.vb_parse.specs.ReadStatements.{blocks_inside}
-use Rattle.vb_parse.proofs.Until.{OnwardMoves}
+use Rattle.vb_parse.specs.Runs.{opens}
+use Rattle.vb_parse.proofs.Reading.{Moves, moves, full_bind, full_word}
+use Rattle.vb_parse.proofs.Until.{OnwardMoves, onward_moves}
 use Rattle.vb_parse.proofs.Untils.{until_more}
-use Rattle.vb_parse.proofs.StatementLengths.{moves_case_open}
+use Rattle.vb_parse.proofs.StatementReading.{reads_loose_text, reads_else_if, reads_case_turn, reads_sentence}
+use Rattle.vb_parse.proofs.StatementReading.{full_sentence, inner_blocks}
 
 -- what the turns of Select give
 abbrev pub cases_value : List Case → Option (List Statement) → List Case × Option (List Statement)
 cases_value found otherwise = (found, otherwise)
 
--- whether a turn is the last
-abbrev is_last : {A B : Type 0} → Turn A B → Bool
-is_last (Continue x) = false
-is_last (Break last) = true
+-- one more construct may open
+pub opens_some : (depth : ℕ) → 0 < depth → IsTrue (opens depth)
+opens_some zero some = absurd (omega arith)
+opens_some (suc depth) some = refl
 
-abbrev ends : {A B : Type 0} → Outcome (Turn A B) → Bool
-ends (Ok read) = is_last read.0
-ends (Err rest) = false
+-- ---- what is read in a turn takes a token
 
-no_end : {A B : Type 0} (x : A) (last : B) (tokens rest : Tokens)
-    → Path (Outcome (Turn A B)) (Ok (Break last, tokens)) (Ok (Continue x, rest)) → ⊥
-no_end x last tokens rest e = false≢true (sym (ap ends e))
+pub moves_loose_text : Moves spec.loose_text
+moves_loose_text = moves _ _ reads_loose_text (full_bind _ _ (full_word (kind.PageText [])))
 
-module _ (looser : Looser) (depth : ℕ) where
+pub moves_sentence : (looser : Looser) (depth : ℕ) → Moves (spec.sentence looser depth (blocks_inside looser depth))
+moves_sentence looser depth = moves _ _ (reads_sentence looser depth _ _ (inner_blocks looser depth))
+    (full_sentence looser depth _ _ (inner_blocks looser depth))
+
+pub moves_else_if : (looser : Looser) (depth : ℕ) → IsTrue (opens depth)
+    → Moves (spec.else_if looser depth (blocks_inside looser depth))
+moves_else_if looser depth is = moves _ _ (reads_else_if looser depth _ _ (inner_blocks looser depth) is)
+    (full_bind _ _ (full_word (kind.Keyword k.ElseIf)))
+
+-- ---- the parts of Select
+
+module _ (looser : Looser) (depth : ℕ) (opens : IsTrue (opens depth)) where
   abbrev inner : Blocks
   inner = blocks_inside looser depth
 
@@ -52,12 +62,8 @@ module _ (looser : Looser) (depth : ℕ) where
   part_open = reader.◌>>=◌ (reader.keyword k.Case) part_from
 
   onward : OnwardMoves (spec.case_turn looser depth inner)
-  onward tokens x rest e = go (reader.sees (kind.Keyword k.Case) (next tokens)) e
-    where
-      go : (b : Bool) → cond b (part_open tokens) (Ok (Break None, tokens)) ≡ Ok (Continue x, rest)
-          → length rest < length tokens
-      go true e = (moves_case_open looser depth).moves tokens (Continue x) rest e
-      go false e = absurd (no_end x None tokens rest e)
+  onward = onward_moves _ _ _ (reads_case_turn looser depth _ _ (inner_blocks looser depth) opens)
+      (full_bind _ _ (full_word (kind.Keyword k.Case)))
 
   -- a "Case" that is not the last part
   turn_case : (tokens middle rest : Tokens) (line : ℕ) (x : Case)

@@ -42,7 +42,8 @@ use Rattle.vb_parse.proofs.Choosing.{takes_more, takes_each, Chosen, chosen, cho
 use Rattle.vb_parse.proofs.Placing.{takes_opened, begins_opened}
 use Rattle.vb_parse.proofs.DeclarationTaking.{access_heads, asks_access, begins_access, takes_access_word}
 use Rattle.vb_parse.proofs.DeclarationTaking.{takes_declared, takes_declared_from, opening, begins_bounds}
-use Rattle.vb_parse.proofs.SimpleTaking.{name_head, quoted_begins}
+use Rattle.vb_parse.proofs.Following.{name_head}
+use Rattle.vb_parse.proofs.SimpleTaking.{quoted_begins}
 use Rattle.vb_parse.proofs.EndTaking.{break_heads, takes_end, begins_end, skips_quoted, text_head, takes_texts}
 use Rattle.vb_parse.proofs.EndTaking.{leads_texts}
 use Rattle.vb_parse.proofs.ProcedureTaking.{asks_procedure, begins_procedure, takes_procedure, procedure_apart}

@@ -1,5 +1,5 @@
 -- The readers of declarations take whatever the grammar spells.
-use Rattle.std.proofs.Common.{◌≡◌, ℕ, ℤ, ◌==◌, inl, inr, true, false, List, [], ◌∷◌, Option, Some, None, refl, sym}
+use Rattle.std.proofs.Common.{◌≡◌, ℕ, ℤ, pos, ◌==◌, inl, inr, true, false, List, [], ◌∷◌, Option, Some, None, refl, sym}
 use Rattle.std.proofs.Common.{ap, ◌∙◌, subst, append-nil}
 use Rattle.vb_value.specs.declared.token.Keyword.TheVariants as k
 use Rattle.vb_value.specs.declared.token.Symbol.TheVariants as s
@@ -26,8 +26,8 @@ use Rattle.vb_parse.proofs.Binding.{Within, within_then, bind_wider, bind_left, 
 use Rattle.vb_parse.proofs.Binding.{or_within, first_wider}
 use Rattle.vb_parse.proofs.Tags.{among, outside, all_have}
 use Rattle.vb_parse.proofs.Following.{Before, BeginsIn, leads_begins, leads_pure, leads_or, begins_then}
-use Rattle.vb_parse.proofs.Following.{begins_word_then, begins_either, begins_leads, name_begins, Asks, asks_kind}
-use Rattle.vb_parse.proofs.Following.{asks_either, skips, starts, before_head}
+use Rattle.vb_parse.proofs.Following.{begins_word_then, begins_either, begins_leads, name_head, name_begins, Asks}
+use Rattle.vb_parse.proofs.Following.{asks_kind, asks_either, skips, starts, before_head}
 use Rattle.vb_parse.proofs.Choosing.{takes_on, takes_on_word, takes_off_word, takes_or, takes_word, takes_then}
 use Rattle.vb_parse.proofs.Choosing.{takes_map, takes_list, comma}
 use Rattle.vb_parse.proofs.Placing.{takes_opened, begins_opened, literal_heads, heads_literal}
@@ -94,15 +94,19 @@ takes_parentheses {A} {p} {r} {l} {v} takes begins none = takes_word (λ _. take
     (λ front rest x h ok. skips (asks_kind (kind.Symbol s.Close)) (leads_begins {v = Any} (begins_then begins)) none
     front rest x h tt))
     (λ found. takes_word (λ _. takes_pure found v))
-    (λ found y back rest h ok. head_behind (λ n. n == 104) back rest
+    (λ found y back rest h ok. head_behind (λ n. n == tag (kind.Symbol s.Close)) back rest
     ((begins_bind (begins_word (kind.Symbol s.Close))).head back y h)))
 
 -- ---- variables
 
-number_begins : BeginsIn (201 ∷ 202 ∷ []) (rule.one number_of)
+-- the numbers of the tokens that are whole numbers
+abbrev number_heads : List ℕ
+number_heads = tag (kind.Integer (pos 0)) ∷ tag (kind.Long (pos 0)) ∷ []
+
+number_begins : BeginsIn number_heads (rule.one number_of)
 number_begins = record { head = λ front x h. (h.token, [], h.alone, number_tag h.token.kind x h.passes) }
   where
-    number_tag : (kind : TokenKind) (x : ℤ) → number_of_kind kind ≡ Some x → among (201 ∷ 202 ∷ []) (tag kind) ≡ true
+    number_tag : (kind : TokenKind) (x : ℤ) → number_of_kind kind ≡ Some x → among number_heads (tag kind) ≡ true
     number_tag (kind.Integer number) x e = refl
     number_tag (kind.Long number) x e = refl
     number_tag _ x e = absurd cc
@@ -159,9 +163,6 @@ takes_constant = takes_word (λ name. takes_word (λ _. takes_map _ takes_consta
 
 -- ---- parameters
 
-abbrev name_head : List ℕ
-name_head = 200 ∷ []
-
 takes_passing : Takes spec.passing grammar.passing (Before name_head)
 takes_passing = takes_or (takes_on_word (kind.Keyword k.ByVal) _ (takes_word (λ _. takes_pure true _)))
     (takes_off_word (kind.Keyword k.ByVal) _
@@ -184,7 +185,7 @@ takes_parameter depth none = takes_then takes_passing
     (λ by_value. takes_word (λ name. takes_map _ (takes_array_mark depth none)))
     (λ by_value. leads_begins (begins_then name_begins))
 
-parameter_begins : (depth : ℕ) → BeginsIn (tag (kind.Keyword k.ByVal) ∷ tag (kind.Keyword k.ByRef) ∷ 200 ∷ [])
+parameter_begins : (depth : ℕ) → BeginsIn (tag (kind.Keyword k.ByVal) ∷ tag (kind.Keyword k.ByRef) ∷ name_head)
     (grammar.parameter depth)
 parameter_begins depth = begins_leads
     (leads_or (leads_begins (begins_word_then (kind.Keyword k.ByVal)))

@@ -26,7 +26,8 @@ use Rattle.vb_parse.proofs.Following.{leads_pure, leads_or, leads_bind, leads_ma
 use Rattle.vb_parse.proofs.Following.{begins_word_then, Asks, asks_kind, asks_no, leads_within, Skips, starts}
 use Rattle.vb_parse.proofs.Choosing.{starts_word, takes_or, takes_within, takes_word, takes_then, takes_map}
 use Rattle.vb_parse.proofs.Choosing.{takes_each}
-use Rattle.vb_parse.proofs.SimpleTaking.{name_head, quoted_tag}
+use Rattle.vb_parse.proofs.Following.{name_head}
+use Rattle.vb_parse.proofs.SimpleTaking.{quoted_tag}
 use Rattle.vb_parse.proofs.LineTaking.{Trailing, after_line}
 
 -- ---- ends

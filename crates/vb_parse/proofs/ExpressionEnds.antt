@@ -52,8 +52,9 @@ positive_differs n h = go (0 == n) refl
     go false is = is
 
 -- a token of the number ends an expression
-pub ends_at : (m level : ℕ) → (m == 115) ≡ false → (m == 112) ≡ false → tag_level m ≡ 0
-    → (front rest : Tokens) → HeadIn (λ n. n == m) front → Ends level (front ++ rest)
+pub ends_at : (m level : ℕ) → (m == tag (kind.Symbol s.PathPoint)) ≡ false
+    → (m == tag (kind.Symbol s.Open)) ≡ false → tag_level m ≡ 0 → (front rest : Tokens)
+    → HeadIn (λ n. n == m) front → Ends level (front ++ rest)
 ends_at m level point paren none front rest w =
     let is : tag w.0.kind ≡ m = eqb-true _ _ w.3 in
     rw w.2 (record {
@@ -67,8 +68,8 @@ ListEnds rest = Ends 12 rest × (sees (kind.Symbol s.Comma) (next rest) ≡ fals
 
 comma_ends : (level : ℕ) {r : Rule Expression} (front rest : Tokens) (x : Expression)
     → rule.◌>>◌ (words.symbol s.Comma) r front x → Ends level (front ++ rest)
-comma_ends level front rest x h = ends_at 106 level refl refl refl front rest ((begins_bind (begins_word
-    (kind.Symbol s.Comma))).head front x h)
+comma_ends level front rest x h = ends_at (tag (kind.Symbol s.Comma)) level refl refl refl front rest
+    ((begins_bind (begins_word (kind.Symbol s.Comma))).head front x h)
 
 pub takes_list_of : {p : Reader Expression} {r : Rule Expression} → Reads p r → Takes p r (Ends 12)
     → Takes (spec.list_of p) (words.list_of r) ListEnds
@@ -114,7 +115,7 @@ or_left a b e = rw e refl
 
 -- the numbers of the tokens that begin a leaf
 abbrev pub tag_is_leaf : ℕ → Bool
-tag_is_leaf n = tag_is_literal n || (n == 33 || n == 30)
+tag_is_leaf n = tag_is_literal n || (n == tag (kind.Keyword k.Nothing) || n == tag (kind.Keyword k.New))
 
 pub leaf_tag : (token : Token) → spec.sees_leaf (Some token) ≡ tag_is_leaf (tag token.kind)
 leaf_tag token = rw (literal_tag token.kind) refl
@@ -125,8 +126,10 @@ at_word f m b is n e = ap f (eqb-true n m e) ∙ is
 
 pub begins_leaf : Begins tag_is_leaf leaf
 begins_leaf = begins_or (begins_wider (λ n e. or_left _ _ e) (begins_bind begins_literal))
-    (begins_or (begins_wider (has_at tag_is_leaf 33 refl) (begins_bind (begins_word (kind.Keyword k.Nothing))))
-    (begins_wider (has_at tag_is_leaf 30 refl) (begins_bind (begins_word (kind.Keyword k.New)))))
+    (begins_or (begins_wider (has_at tag_is_leaf (tag (kind.Keyword k.Nothing)) refl)
+    (begins_bind (begins_word (kind.Keyword k.Nothing))))
+    (begins_wider (has_at tag_is_leaf (tag (kind.Keyword k.New)) refl)
+    (begins_bind (begins_word (kind.Keyword k.New)))))
 
 pub takes_leaf : Takes spec.leaf leaf Any
 takes_leaf = takes_case (passes literal_of)
@@ -137,7 +140,7 @@ takes_leaf = takes_case (passes literal_of)
     (λ class. takes_pure (e.New class) Any) (λ _ _ _ _ _ _. tt)) (λ _ _ _ _ _ _. tt))
     (λ front rest x h ok. sees_true (kind.Keyword k.Nothing) front rest ((begins_bind (begins_word
     (kind.Keyword k.Nothing))).head front x h))
-    (λ front rest x h ok. sees_false (λ n. n == 30)
+    (λ front rest x h ok. sees_false (λ n. n == tag (kind.Keyword k.New))
     (kind.Keyword k.Nothing) front rest ((begins_bind (begins_word (kind.Keyword k.New))).head front x
     h) refl))
     (λ front rest x h ok. answer (passes literal_of) true (begins_bind begins_literal)
@@ -151,19 +154,22 @@ takes_leaf = takes_case (passes literal_of)
     other : (front rest : Tokens) (x : Expression) → rule.◌or◌ grammar.nothing grammar.new front x
         → Any rest → passes literal_of (next (front ++ rest)) ≡ false
     other front rest x (inl h) ok = answer (passes literal_of) false (begins_bind (begins_word (kind.Keyword
-        k.Nothing))) (λ token e. none token 33 refl e) front rest x h
+        k.Nothing))) (λ token e. none token (tag (kind.Keyword k.Nothing)) refl e) front rest x h
     other front rest x (inr h) ok = answer (passes literal_of) false (begins_bind (begins_word (kind.Keyword
-        k.New))) (λ token e. none token 30 refl e) front rest x h
+        k.New))) (λ token e. none token (tag (kind.Keyword k.New)) refl e) front rest x h
 
 -- ---- paths
 
 abbrev pub tag_is_path : ℕ → Bool
-tag_is_path n = n == 200 || (n == 28 || n == 116)
+tag_is_path n = n == tag (kind.Name [] false) || (n == tag (kind.Keyword k.Me) || n == tag (kind.Symbol s.WithPoint))
 
 pub begins_path_head : Begins tag_is_path grammar.path_head
-begins_path_head = begins_or (begins_wider (has_at tag_is_path 200 refl) (begins_bind begins_name))
-    (begins_or (begins_wider (has_at tag_is_path 28 refl) (begins_bind (begins_word (kind.Keyword k.Me))))
-    (begins_wider (has_at tag_is_path 116 refl) (begins_bind (begins_word (kind.Symbol s.WithPoint)))))
+begins_path_head = begins_or
+    (begins_wider (has_at tag_is_path (tag (kind.Name [] false)) refl) (begins_bind begins_name))
+    (begins_or (begins_wider (has_at tag_is_path (tag (kind.Keyword k.Me)) refl)
+    (begins_bind (begins_word (kind.Keyword k.Me))))
+    (begins_wider (has_at tag_is_path (tag (kind.Symbol s.WithPoint)) refl)
+    (begins_bind (begins_word (kind.Symbol s.WithPoint)))))
 
 pub takes_path_head : Takes spec.path_head grammar.path_head Any
 takes_path_head = takes_case (passes name_of)
@@ -174,7 +180,7 @@ takes_path_head = takes_case (passes name_of)
     (λ name. takes_pure (head.With name) Any) (λ _ _ _ _ _ _. tt)) (λ _ _ _ _ _ _. tt))
     (λ front rest x h ok. sees_true (kind.Keyword k.Me) front rest ((begins_bind (begins_word (kind.Keyword
     k.Me))).head front x h))
-    (λ front rest x h ok. sees_false (λ n. n == 116)
+    (λ front rest x h ok. sees_false (λ n. n == tag (kind.Symbol s.WithPoint))
     (kind.Keyword k.Me) front rest ((begins_bind (begins_word (kind.Symbol s.WithPoint))).head front x
     h) refl))
     (λ front rest x h ok. answer (passes name_of) true (begins_bind begins_name)
@@ -188,32 +194,34 @@ takes_path_head = takes_case (passes name_of)
         → passes name_of (next (front ++ rest)) ≡ false
     other front rest x (inl h) ok = answer (passes name_of) false (begins_bind (begins_word (kind.Keyword
         k.Me))) (λ token e. name_tag token.kind
-        ∙ at_word (λ n. n == 200) 28 false refl (tag token.kind) e) front rest x h
+        ∙ at_word (λ n. n == tag (kind.Name [] false)) (tag (kind.Keyword k.Me)) false refl (tag token.kind) e)
+        front rest x h
     other front rest x (inr h) ok = answer (passes name_of) false (begins_bind (begins_word (kind.Symbol
         s.WithPoint))) (λ token e. name_tag token.kind
-        ∙ at_word (λ n. n == 200) 116 false refl (tag token.kind) e) front rest x h
+        ∙ at_word (λ n. n == tag (kind.Name [] false)) (tag (kind.Symbol s.WithPoint)) false refl (tag token.kind) e)
+        front rest x h
 
 -- ---- what stands inside a construct
 
 -- ")" comes next
 abbrev pub ArgumentsEnd : Follow
-ArgumentsEnd rest = HeadIn (λ n. n == 104) rest
+ArgumentsEnd rest = HeadIn (λ n. n == tag (kind.Symbol s.Close)) rest
 
 pub list_ends : (rest : Tokens) → ArgumentsEnd rest → ListEnds rest
 list_ends rest w = (
-  subst (λ t. Ends 12 t) (append-nil rest) (ends_at 104 12 refl refl refl rest [] w),
-  subst (λ t. sees (kind.Symbol s.Comma) (next t) ≡ false) (append-nil rest) (sees_false (λ n. n == 104)
-      (kind.Symbol s.Comma) rest [] w refl),
+  subst (λ t. Ends 12 t) (append-nil rest) (ends_at (tag (kind.Symbol s.Close)) 12 refl refl refl rest [] w),
+  subst (λ t. sees (kind.Symbol s.Comma) (next t) ≡ false) (append-nil rest) (sees_false
+      (λ n. n == tag (kind.Symbol s.Close)) (kind.Symbol s.Comma) rest [] w refl),
 )
 
 pub head_behind : (f : ℕ → Bool) (back rest : Tokens) → HeadIn f back → HeadIn f (back ++ rest)
 head_behind f back rest w = (w.0, w.1 ++ rest, ap (λ t. t ++ rest) w.2, w.3)
 
 abbrev pub tag_is_primary : ℕ → Bool
-tag_is_primary n = tag_is_leaf n || (tag_is_path n || (n == 112 || n == 110))
+tag_is_primary n = tag_is_leaf n || (tag_is_path n || (n == tag (kind.Symbol s.Open) || n == tag (kind.Symbol s.Minus)))
 
 abbrev pub tag_is_expression : ℕ → Bool
-tag_is_expression n = n == 32 || tag_is_primary n
+tag_is_expression n = n == tag (kind.Keyword k.Not) || tag_is_primary n
 
 -- What is read inside is whatever is spelled there.
 pub record Taken (opens : Bool) (p : spec.Inside) (r : grammar.Inside) : Type 0 where
@@ -237,10 +245,10 @@ operator_ends level token back o is =
     let by_tag : tag_level (tag token.kind) ≡ suc level = sym (level_tag token.kind) ∙ at in
     let has : (tag_level (tag token.kind) == suc level) ≡ true = rw by_tag (eq-eqb (suc level) (suc level) refl) in
     let none : (0 == suc level) ≡ false = positive_differs (suc level) (omega arith) in
-    let point : (tag token.kind == 115) ≡ false = differs (λ n. tag_level n == suc level)
-    (tag token.kind) 115 has none in
-    let paren : (tag token.kind == 112) ≡ false = differs (λ n. tag_level n == suc level)
-    (tag token.kind) 112 has none in
+    let point : (tag token.kind == tag (kind.Symbol s.PathPoint)) ≡ false = differs (λ n. tag_level n == suc level)
+    (tag token.kind) (tag (kind.Symbol s.PathPoint)) has none in
+    let paren : (tag token.kind == tag (kind.Symbol s.Open)) ≡ false = differs (λ n. tag_level n == suc level)
+    (tag token.kind) (tag (kind.Symbol s.Open)) has none in
     record {
       path = rw (point, paren) refl;
       quiet = λ n some less. other_level n (operator_of token.kind) (ap (λ l. l == n) at

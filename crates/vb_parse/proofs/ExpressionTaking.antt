@@ -32,7 +32,7 @@ use Rattle.vb_parse.proofs.ExpressionEnds.{takes_rule}
 
 module _ (opens : Bool) (ip : spec.Inside) (ir : grammar.Inside) (inner : Inner opens ip ir)
     (taken : Taken opens ip ir) where
-  begins_group : Begins (λ n. n == 112) (grammar.group opens ir)
+  begins_group : Begins (λ n. n == tag (kind.Symbol s.Open)) (grammar.group opens ir)
   begins_group = begins_where (begins_bind (begins_word (kind.Symbol s.Open)))
 
   list_begins : (front rest : Tokens) (x : List Expression) → words.list_of ir.expression front x
@@ -48,8 +48,8 @@ module _ (opens : Bool) (ip : spec.Inside) (ir : grammar.Inside) (inner : Inner 
       (λ front rest x h ok. rw h.0 (rw ok.2 ok.3))
       (λ front rest x h ok. list_begins front rest x h))
       (λ arguments. takes_bind (takes_one _ Any) (λ _. takes_pure arguments Any) (λ _ _ _ _ _ _. tt))
-      (λ arguments y back rest h ok. head_behind (λ n. n == 104) back rest ((begins_bind (begins_word
-      (kind.Symbol s.Close))).head back y h)))
+      (λ arguments y back rest h ok. head_behind (λ n. n == tag (kind.Symbol s.Close)) back rest
+      ((begins_bind (begins_word (kind.Symbol s.Close))).head back y h)))
       (λ _ _ _ _ _ _. tt))
 
   takes_step : Takes (spec.step opens ip) (grammar.step opens ir) Any
@@ -59,7 +59,7 @@ module _ (opens : Bool) (ip : spec.Inside) (ir : grammar.Inside) (inner : Inner 
       (takes_bind takes_group (λ arguments. takes_pure (behind.Group arguments) Any) (λ _ _ _ _ _ _. tt))
       (λ front rest x h ok. sees_true (kind.Symbol s.PathPoint) front rest ((begins_bind (begins_word
       (kind.Symbol s.PathPoint))).head front x h))
-      (λ front rest x h ok. sees_false (λ n. n == 112)
+      (λ front rest x h ok. sees_false (λ n. n == tag (kind.Symbol s.Open))
       (kind.Symbol s.PathPoint) front rest ((begins_bind begins_group).head front x h) refl)
 
   starts_step : Starts goes_on_path (grammar.step opens ir)
@@ -89,10 +89,10 @@ module _ (opens : Bool) (ip : spec.Inside) (ir : grammar.Inside) (inner : Inner 
   primary_asked front x (inr (inr (inr (inr (inl h))))) = inr (inl h)
   primary_asked front x (inr (inr (inr (inr (inr h))))) = inr (inr (inl h))
 
-  begins_parenthesis : Begins (λ n. n == 112) (grammar.parenthesis opens ir)
+  begins_parenthesis : Begins (λ n. n == tag (kind.Symbol s.Open)) (grammar.parenthesis opens ir)
   begins_parenthesis = begins_where (begins_bind (begins_word (kind.Symbol s.Open)))
 
-  begins_negative : Begins (λ n. n == 110) (grammar.negative opens ir)
+  begins_negative : Begins (λ n. n == tag (kind.Symbol s.Minus)) (grammar.negative opens ir)
   begins_negative = begins_where (begins_bind (begins_word (kind.Symbol s.Minus)))
 
   begins_reference : Begins tag_is_path (grammar.reference opens ir)
@@ -105,27 +105,28 @@ module _ (opens : Bool) (ip : spec.Inside) (ir : grammar.Inside) (inner : Inner 
       ∙ not (tag token.kind) e) front rest x h
 
   path_no_leaf : (n : ℕ) → tag_is_path n ≡ true → tag_is_leaf n ≡ false
-  path_no_leaf n e = go (n == 200) refl (n == 28) refl
+  path_no_leaf n e = go (n == tag (kind.Name [] false)) refl (n == tag (kind.Keyword k.Me)) refl
     where
-      go : (a : Bool) → (n == 200) ≡ a → (b : Bool) → (n == 28) ≡ b → tag_is_leaf n ≡ false
-      go true is b _ = at_word tag_is_leaf 200 false refl n is
-      go false not true is = at_word tag_is_leaf 28 false refl n is
-      go false not false also = let last : (n == 116) ≡ true = sym (rw (not, also) refl)
-          ∙ e in at_word tag_is_leaf 116 false refl n last
+      go : (a : Bool) → (n == tag (kind.Name [] false)) ≡ a → (b : Bool) → (n == tag (kind.Keyword k.Me)) ≡ b
+          → tag_is_leaf n ≡ false
+      go true is b _ = at_word tag_is_leaf (tag (kind.Name [] false)) false refl n is
+      go false not true is = at_word tag_is_leaf (tag (kind.Keyword k.Me)) false refl n is
+      go false not false also = let last : (n == tag (kind.Symbol s.WithPoint)) ≡ true = sym (rw (not, also) refl)
+          ∙ e in at_word tag_is_leaf (tag (kind.Symbol s.WithPoint)) false refl n last
 
   others_no_leaf : (front rest : Tokens) (x : Expression)
       → rule.◌or◌ (grammar.parenthesis opens ir) (rule.◌or◌ (grammar.negative opens ir)
       (grammar.reference opens ir)) front x → PathEnds rest → spec.sees_leaf (next (front ++ rest)) ≡ false
-  others_no_leaf front rest x (inl h) ok = no_leaf _ _ begins_parenthesis (at_word tag_is_leaf 112 false
-      refl) front rest x h
-  others_no_leaf front rest x (inr (inl h)) ok = no_leaf _ _ begins_negative (at_word tag_is_leaf 110 false
-      refl) front rest x h
+  others_no_leaf front rest x (inl h) ok = no_leaf _ _ begins_parenthesis (at_word tag_is_leaf
+      (tag (kind.Symbol s.Open)) false refl) front rest x h
+  others_no_leaf front rest x (inr (inl h)) ok = no_leaf _ _ begins_negative (at_word tag_is_leaf
+      (tag (kind.Symbol s.Minus)) false refl) front rest x h
   others_no_leaf front rest x (inr (inr h)) ok = no_leaf _ _ begins_reference path_no_leaf front rest x h
 
   others_no_open : (front rest : Tokens) (x : Expression)
       → rule.◌or◌ (grammar.negative opens ir) (grammar.reference opens ir) front x → PathEnds rest
       → sees (kind.Symbol s.Open) (next (front ++ rest)) ≡ false
-  others_no_open front rest x (inl h) ok = sees_false (λ n. n == 110)
+  others_no_open front rest x (inl h) ok = sees_false (λ n. n == tag (kind.Symbol s.Minus))
       (kind.Symbol s.Open) front rest (begins_negative.head front x h) refl
   others_no_open front rest x (inr h) ok = sees_false tag_is_path (kind.Symbol s.Open) front rest
       (begins_reference.head front x h) refl
@@ -136,7 +137,7 @@ module _ (opens : Bool) (ip : spec.Inside) (ir : grammar.Inside) (inner : Inner 
       (takes_gate opens (λ is. takes_bind (takes_one _ Any) (λ _. takes_bind (taken.expression is)
       (λ x. takes_bind (takes_one _ Any) (λ _. takes_pure (e.Parenthesis x) PathEnds)
       (λ _ _ _ _ _ _. tt))
-      (λ x y back rest h ok. ends_at 104 12 refl refl refl back rest ((begins_bind (begins_word
+      (λ x y back rest h ok. ends_at (tag (kind.Symbol s.Close)) 12 refl refl refl back rest ((begins_bind (begins_word
       (kind.Symbol s.Close))).head back y h))) (λ _ _ _ _ _ _. tt)))
       (takes_case (sees (kind.Symbol s.Minus))
       (takes_gate opens (λ is. takes_bind (takes_one _ Any) (λ _. takes_bind (taken.primary is)
@@ -156,8 +157,8 @@ module _ (opens : Bool) (ip : spec.Inside) (ir : grammar.Inside) (inner : Inner 
 
   begins_asked : Begins tag_is_primary asked
   begins_asked = begins_or (begins_wider (λ n e. or_left _ _ e) begins_leaf)
-      (begins_or (begins_wider (has_at tag_is_primary 112 refl) begins_parenthesis)
-      (begins_or (begins_wider (has_at tag_is_primary 110 refl) begins_negative)
+      (begins_or (begins_wider (has_at tag_is_primary (tag (kind.Symbol s.Open)) refl) begins_parenthesis)
+      (begins_or (begins_wider (has_at tag_is_primary (tag (kind.Symbol s.Minus)) refl) begins_negative)
       (begins_wider (λ n e. or_right (tag_is_leaf n) _ (or_left _ _ e)) begins_reference)))
 
   begins_primary : Begins tag_is_primary (grammar.primary opens ir)
@@ -182,12 +183,12 @@ module _ (opens : Bool) (ip : spec.Inside) (ir : grammar.Inside) (inner : Inner 
 
   any_level : (level : ℕ) {r : Rule Expression} (is_not : Bool) → Begins tag_is_expression r
       → Begins tag_is_expression (grammar.one_level opens ir is_not level r)
-  any_level level true begins = begins_or (begins_wider (has_at tag_is_expression 32 refl)
+  any_level level true begins = begins_or (begins_wider (has_at tag_is_expression (tag (kind.Keyword k.Not)) refl)
       (begins_where (begins_bind (begins_word (kind.Keyword k.Not))))) begins
   any_level level false begins = begins_bind begins
 
   pub begins_operators : (level : ℕ) → Begins tag_is_expression (grammar.operators opens ir level)
-  begins_operators zero = begins_wider (λ n e. or_right (n == 32) _ e) begins_primary
+  begins_operators zero = begins_wider (λ n e. or_right (n == tag (kind.Keyword k.Not)) _ e) begins_primary
   begins_operators (suc level) = any_level (suc level) (suc level == not_level) (begins_operators level)
 
   takes_level : (level : ℕ) (is_not : Bool) → level < 12 → (suc level == not_level) ≡ is_not

@@ -3,6 +3,7 @@ use Rattle.std.proofs.Common.{◌≡◌, ℕ, ◌==◌, ◌||◌, inl, inr, Bool
 use Rattle.std.proofs.Common.{None, refl, sym, ap, ◌∙◌, append_assoc, append-nil, subst, arith}
 use Rattle.vb_value.specs.declared.token.Token.{Token}
 use Rattle.vb_value.specs.declared.token.TokenKind.{TokenKind}
+use Rattle.vb_value.specs.declared.token.TokenKind.TheVariants as kind
 use Rattle.vb_syntax.specs.Rules.{Tokens, Rule, Then}
 use Rattle.vb_syntax.specs.Rules as rule
 use Rattle.vb_syntax.specs.Words as words
@@ -119,8 +120,12 @@ one_among m n is = rw is refl
 pub begins_kind : (kind : TokenKind) → BeginsIn (tag kind ∷ []) (words.word kind)
 begins_kind kind = begins_in (tag kind ∷ []) (one_among (tag kind)) (begins_word kind)
 
-pub name_begins : BeginsIn (200 ∷ []) (rule.one name_of)
-name_begins = begins_in (200 ∷ []) (one_among 200) begins_name
+-- the number of the tokens that are names
+abbrev pub name_head : List ℕ
+name_head = tag (kind.Name [] false) ∷ []
+
+pub name_begins : BeginsIn name_head (rule.one name_of)
+name_begins = begins_in name_head (one_among (tag (kind.Name [] false))) begins_name
 
 -- a choice begins as the one or the other does
 pub begins_either : {A : Type 0} {l m : List ℕ} {r s : Rule A} → BeginsIn l r → BeginsIn m s
@@ -245,8 +250,11 @@ pub asks_kind : (kind : TokenKind) → Asks (sees kind) (tag kind ∷ [])
 asks_kind kind = record { none = refl; some = λ token. sym (or_last (tag token.kind == tag kind)) }
 
 -- whether a name comes next
-pub asks_name : Asks (passes name_of) (200 ∷ [])
-asks_name = record { none = refl; some = λ token. name_tag token.kind ∙ sym (or_last (tag token.kind == 200)) }
+pub asks_name : Asks (passes name_of) name_head
+asks_name = record {
+  none = refl;
+  some = λ token. name_tag token.kind ∙ sym (or_last (tag token.kind == tag (kind.Name [] false)));
+}
 
 -- the one question or the other
 pub asks_either : {f g : Look} {l m : List ℕ} → Asks f l → Asks g m → Asks (λ token. f token || g token) (l ++ m)

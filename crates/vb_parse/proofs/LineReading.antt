@@ -21,11 +21,11 @@ use Rattle.vb_parse.specs.ReadLines.{LineRead, LastRead}
 use Rattle.vb_parse.specs.Runs.{opens, inside}
 use Rattle.vb_parse.proofs.Reading.{Reads, Lives, NoEmpty, reads_pure, reads_refuse, reads_wider, reads_bind, reads_one}
 use Rattle.vb_parse.proofs.Reading.{reads_choice, reads_both, reads_many, reads_word, full_one, full_bind, full_word}
-use Rattle.vb_parse.proofs.Reading.{token_of}
+use Rattle.vb_parse.proofs.Reading.{token_of, Moves, moves}
 use Rattle.vb_parse.proofs.Taking.{only}
 use Rattle.vb_parse.proofs.Binding.{Within, within_then, bind_wider, first_wider, bind_left, bind_right, pure_in}
 use Rattle.vb_parse.proofs.Binding.{pure_out}
-use Rattle.vb_parse.proofs.Until.{turn_rule, until_rule, reads_until}
+use Rattle.vb_parse.proofs.Until.{turn_rule, until_rule, reads_until, OnwardMoves, onward_moves}
 use Rattle.vb_parse.proofs.ExpressionReading.{expressions_read}
 use Rattle.vb_parse.proofs.CallReading.{or_false}
 use Rattle.vb_parse.proofs.SimpleReading.{reads_simple, lives_simple, full_simple}
@@ -34,6 +34,9 @@ use Rattle.vb_parse.proofs.SimpleReading.{reads_simple, lives_simple, full_simpl
 
 pub reads_break : Reads (reader.one break_of) (rule.one break_of)
 reads_break = reads_one break_of (token_of kind.LineEnd) tt refl
+
+pub moves_break : Moves (reader.one break_of)
+moves_break = moves _ _ reads_break (full_one break_of)
 
 reads_breaks : Reads (reader.many spec.breaks (reader.one break_of)) (rule.many (rule.one break_of))
 reads_breaks = reads_many spec.breaks reads_break (full_one break_of) refl
@@ -314,6 +317,10 @@ module _ (looser : Looser) (depth : ℕ) (bp : spec.Blocks) (br : grammar.Blocks
   reads_line_turn : Reads (spec.line_turn looser depth bp) line_turn_rule
   reads_line_turn = reads_both (reader.sees (kind.Keyword k.If)) (gated (opens depth) refl)
       (reads_wider turn_simple (reads_bind (reads_simple looser depth) reads_behind))
+
+  -- a statement that another follows takes a token
+  pub moves_line_turn : OnwardMoves (spec.line_turn looser depth bp)
+  moves_line_turn = onward_moves _ _ _ reads_line_turn (full_bind _ _ (full_simple looser depth))
 
   -- ---- lines
 

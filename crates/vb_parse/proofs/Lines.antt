@@ -1,6 +1,6 @@
 -- Loops over the statements of a line.
-use Rattle.std.proofs.Common.{◌≡◌, ℕ, Bool, true, false, cond, List, [], ◌∷◌, ◌++◌, length, ◌≤◌, ◌<◌}
-use Rattle.std.proofs.Common.{Option, Some, None, Ok, Err, refl, ap, ◌∙◌, arith}
+use Rattle.std.proofs.Common.{◌≡◌, ℕ, Bool, true, false, cond, List, [], ◌∷◌, ◌++◌, length, ◌<◌}
+use Rattle.std.proofs.Common.{Option, Some, None, Ok, Err, refl, ap, ◌∙◌}
 use Rattle.std.specs.declared.ops.ControlFlow.TheVariants.{Continue, Break}
 use Rattle.vb_value.specs.declared.token.Keyword.TheVariants as k
 use Rattle.vb_value.specs.declared.token.Symbol.TheVariants as s
@@ -14,11 +14,12 @@ use Rattle.vb_parse.specs.ReadLines as spec
 use Rattle.vb_parse.specs.ReadLines.{Blocks, LineRead, LastRead}
 use Rattle.vb_parse.specs.ReadSimpleStatements.{simple}
 use Rattle.vb_parse.specs.ReadStatements.{blocks_inside}
-use Rattle.vb_parse.proofs.Lengths.{Keeps, keeps_pure, keeps_bind, keeps_case, keeps_word}
+use Rattle.vb_parse.proofs.Reading.{moves, reads_pure, reads_bind, reads_choice, reads_word, full_bind}
 use Rattle.vb_parse.proofs.Until.{OnwardMoves}
-use Rattle.vb_parse.proofs.Untils.{onward_of, until_more}
-use Rattle.vb_parse.proofs.SimpleLengths.{moves_simple}
-use Rattle.vb_parse.proofs.LineLengths.{moves_line_turn}
+use Rattle.vb_parse.proofs.Untils.{until_more}
+use Rattle.vb_parse.proofs.SimpleReading.{reads_simple, full_simple}
+use Rattle.vb_parse.proofs.LineReading.{moves_line_turn}
+use Rattle.vb_parse.proofs.StatementReading.{inner_blocks}
 
 -- what the turns of a line give
 abbrev pub line_value : List Statement → LastRead → LineRead
@@ -31,17 +32,14 @@ behind = reader.case (reader.sees (kind.Symbol s.Colon))
     (reader.pure None) (reader.pure (Some true))))
     (reader.pure (Some false))
 
-keeps_behind : Keeps behind
-keeps_behind = keeps_case (reader.sees (kind.Symbol s.Colon)) (keeps_bind (keeps_word (kind.Symbol s.Colon))
-    (λ _. keeps_case spec.begins_line_statement (keeps_pure None) (keeps_pure (Some true)))) (keeps_pure (Some false))
-
 -- a statement that another follows takes a token
 pub line_less : (looser : Looser) (depth : ℕ) (tokens middle rest : Tokens) (x : Statement) (ended : Option Bool)
     → simple looser depth tokens ≡ Ok (x, middle) → behind middle ≡ Ok (ended, rest) → length rest < length tokens
 line_less looser depth tokens middle rest x ended is later =
-    let first : length middle < length tokens = (moves_simple looser depth).moves tokens x middle is in
-    let second : length rest ≤ length middle = keeps_behind.keeps middle ended rest later in
-    omega arith
+    moves _ _ (reads_bind (reads_simple looser depth) (λ _. reads_choice (reader.sees (kind.Symbol s.Colon))
+    (reads_bind (reads_word (kind.Symbol s.Colon)) (λ _. reads_choice spec.begins_line_statement (reads_pure None)
+    (reads_pure (Some true)))) (reads_pure (Some false)))) (full_bind _ _ (full_simple looser depth)) tokens ended rest
+    (ap (λ o. and_then o (λ _. behind)) is ∙ later)
 
 abbrev turn_of : Statement → Option Bool → Turn Statement LastRead
 turn_of found None = Continue found
@@ -95,7 +93,7 @@ module _ (looser : Looser) (depth : ℕ) where
       ∙ behind_is x middle ∙ ap (λ o. and_then o (λ ended. reader.pure (turn_of x ended))) later
 
   moves_turn : OnwardMoves turn
-  moves_turn = onward_of turn (moves_line_turn looser depth)
+  moves_turn = moves_line_turn looser depth _ _ (inner_blocks looser depth)
 
   module _ (whole : Outcome LineRead) (found : List Statement) (tokens : Tokens) where
     -- what is left to read of a line

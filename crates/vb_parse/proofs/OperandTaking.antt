@@ -6,6 +6,7 @@ use Rattle.vb_value.specs.declared.token.Symbol.TheVariants as s
 use Rattle.vb_value.specs.declared.token.TokenKind.TheVariants as kind
 use Rattle.vb_syntax.specs.declared.expression.Expression.{Expression}
 use Rattle.vb_syntax.specs.Rules.{Tokens, Rule}
+use Rattle.vb_syntax.specs.Words.{tag}
 use Rattle.vb_syntax.specs.Expressions as grammar
 use Rattle.vb_syntax.specs.Expressions.{operator_at, operation, chain, not_level}
 use Rattle.vb_parse.specs.Reader.{Reader, passes}
@@ -22,6 +23,7 @@ use Rattle.vb_parse.proofs.OperandReading.{level_rest, rest_from}
 use Rattle.vb_parse.proofs.Tags.{among}
 use Rattle.vb_parse.proofs.Following.{BeginsIn, begins_then, begins_either, begins_more, begins_word_then}
 use Rattle.vb_parse.proofs.Following.{name_begins}
+use Rattle.vb_parse.proofs.Placing.{literal_heads, word_heads, path_heads}
 use Rattle.vb_parse.proofs.DeclarationTaking.{literal_begins}
 
 -- ---- the rest is taken
@@ -79,9 +81,10 @@ module _ (o : Bool) (ip : read.Inside) (ir : grammar.Inside) (inner : Inner o ip
 
 -- the numbers of the tokens other than "(" that begin an expression
 abbrev pub listed_heads : List ℕ
-listed_heads = 32 ∷ 12 ∷ 17 ∷ 34 ∷ 48 ∷ 201 ∷ 202 ∷ 203 ∷ 33 ∷ 30 ∷ 200 ∷ 28 ∷ 116 ∷ 110 ∷ []
+listed_heads = tag (kind.Keyword k.Not) ∷ (literal_heads ++ (word_heads ++ (path_heads ++ (tag (kind.Symbol s.Minus)
+    ∷ []))))
 
-path_head_begins : BeginsIn (200 ∷ 28 ∷ 116 ∷ []) grammar.path_head
+path_head_begins : BeginsIn path_heads grammar.path_head
 path_head_begins = begins_either (begins_then name_begins) (begins_either (begins_word_then (kind.Keyword k.Me))
     (begins_word_then (kind.Symbol s.WithPoint)))
 

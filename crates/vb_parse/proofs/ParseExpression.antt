@@ -62,36 +62,39 @@ pub expression_none : (depth : ℕ) (tokens left : Tokens) (y : Expression)
 expression_none depth tokens left y read h = spelled_no_fault (SpellsExpression depth) tokens left y h
     (expression_stops depth tokens left read)
 
+-- what is spelled, by what is read
+pub ruleset spelling = (expression_sound, expression_only, expression_none)
+
 -- ---- kinds
 
-pub fault_too_deep : (depth : ℕ) (tokens left : Tokens) (count line : ℕ)
+pub too_deep : (depth : ℕ) (tokens left : Tokens) (count : ℕ)
     → whole_expression depth tokens ≡ Err left → Leaves (whole_expression (suc depth) tokens) count
-    → count < length left → line ≡ fault_line tokens left
-    → HasFault (SpellsExpression depth) (IsKind SpellsExpression depth) tokens kind.TooDeep line
+    → count < length left
+    → HasFault (SpellsExpression depth) (IsKind SpellsExpression depth) tokens kind.TooDeep (fault_line tokens left)
 unfolding whole_expression
-fault_too_deep depth tokens left count line read leaves less at =
+too_deep depth tokens left count read leaves less =
     let f : IsFault (SpellsExpression depth) tokens left = expression_stops depth tokens left read in
     record {
       left = left;
       fault = f;
       is_kind = would_go_on (SpellsExpression depth) (reader_at (suc depth)) (SpellsExpression (suc depth))
           (expression_fits (suc depth)) tokens left count f leaves less;
-      in_line = at;
+      in_line = refl;
     }
 
-pub fault_unexpected : (depth : ℕ) (tokens left : Tokens) (count line : ℕ)
+pub unexpected : (depth : ℕ) (tokens left : Tokens) (count : ℕ)
     → whole_expression depth tokens ≡ Err left → Leaves (whole_expression (suc depth) tokens) count
-    → length left ≤ count → line ≡ fault_line tokens left
-    → HasFault (SpellsExpression depth) (IsKind SpellsExpression depth) tokens kind.Unexpected line
+    → length left ≤ count
+    → HasFault (SpellsExpression depth) (IsKind SpellsExpression depth) tokens kind.Unexpected (fault_line tokens left)
 unfolding whole_expression
-fault_unexpected depth tokens left count line read leaves more at =
+unexpected depth tokens left count read leaves more =
     let f : IsFault (SpellsExpression depth) tokens left = expression_stops depth tokens left read in
     record {
       left = left;
       fault = f;
       is_kind = would_not_go_on (SpellsExpression depth) (reader_at (suc depth)) (SpellsExpression (suc depth))
           (expression_fits (suc depth)) tokens left count f leaves more;
-      in_line = at;
+      in_line = refl;
     }
 
 -- ---- laws

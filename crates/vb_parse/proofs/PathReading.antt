@@ -106,15 +106,15 @@ path_stops depth tokens rest x e = head (spec.head_at tokens) e
 
 -- ---- the longest path is taken
 
-named-tag : (kind : TokenKind) (line : ℕ) (found : ℕ × PathHead) → grammar.named_by
-    (name_of_kind kind) line ≡ Some found
-    → (tag kind == 200) ≡ true
+named-tag : (word : TokenKind) (line : ℕ) (found : ℕ × PathHead) → grammar.named_by
+    (name_of_kind word) line ≡ Some found
+    → (tag word == tag (kind.Name [] false)) ≡ true
 named-tag (kind.Name text bracketed) line found e = refl
 named-tag (kind.Keyword keyword) line found e = absurd cc
 named-tag (kind.Symbol symbol) line found e = absurd cc
 named-tag _ line found e = absurd cc
 
-pub begins_named : Begins (λ n. n == 200) (rule.one named_at)
+pub begins_named : Begins (λ n. n == tag (kind.Name [] false)) (rule.one named_at)
 begins_named = record { head = λ front x h. (h.token, [], h.alone, named-tag h.token.kind h.token.line x h.passes) }
 
 pub takes_head_at : Takes spec.head_at grammar.head_at Any
@@ -126,7 +126,7 @@ takes_head_at = takes_case (reader.passes name_of)
     (λ name. takes_pure (line, head.With name) Any) (λ _ _ _ _ _ _. tt)) (λ _ _ _ _ _ _. tt))
     (λ front rest x h ok. sees_true (kind.Keyword k.Me) front rest ((begins_bind (begins_word (kind.Keyword
     k.Me))).head front x h))
-    (λ front rest x h ok. sees_false (λ n. n == 116)
+    (λ front rest x h ok. sees_false (λ n. n == tag (kind.Symbol s.WithPoint))
     (kind.Keyword k.Me) front rest ((begins_bind (begins_word (kind.Symbol s.WithPoint))).head front x
     h) refl))
     (λ front rest x h ok. answer (reader.passes name_of) true begins_named
@@ -140,10 +140,12 @@ takes_head_at = takes_case (reader.passes name_of)
         → reader.passes name_of (next (front ++ rest)) ≡ false
     other front rest x (inl h) ok = answer (reader.passes name_of) false (begins_bind (begins_word (kind.Keyword
         k.Me))) (λ token e. name_tag token.kind
-        ∙ at_word (λ n. n == 200) 28 false refl (tag token.kind) e) front rest x h
+        ∙ at_word (λ n. n == tag (kind.Name [] false)) (tag (kind.Keyword k.Me)) false refl (tag token.kind) e)
+        front rest x h
     other front rest x (inr h) ok = answer (reader.passes name_of) false (begins_bind (begins_word (kind.Symbol
         s.WithPoint))) (λ token e. name_tag token.kind
-        ∙ at_word (λ n. n == 200) 116 false refl (tag token.kind) e) front rest x h
+        ∙ at_word (λ n. n == tag (kind.Name [] false)) (tag (kind.Symbol s.WithPoint)) false refl (tag token.kind) e)
+        front rest x h
 
 module _ (looser : Looser) (depth : ℕ) where
   pub takes_path_at : Takes (spec.path_at depth) (grammar.path_at looser depth) PathEnds
@@ -175,8 +177,8 @@ module _ (looser : Looser) (depth : ℕ) where
       ∙ differs in
       cc
     where
-      stops : (front rest : Tokens) → HeadIn (λ n. n == 107) front → PathEnds (front ++ rest)
-      stops front rest w = let is : tag w.0.kind ≡ 107 = eqb-true _ _ w.3 in rw w.2 (rw is refl)
+      stops : (front rest : Tokens) → HeadIn (λ n. n == tag (kind.Symbol s.Equal)) front → PathEnds (front ++ rest)
+      stops front rest w = let is : tag w.0.kind ≡ tag (kind.Symbol s.Equal) = eqb-true _ _ w.3 in rw w.2 (rw is refl)
 
 -- ---- what a path's steps end in
 

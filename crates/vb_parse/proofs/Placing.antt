@@ -1,8 +1,11 @@
 -- Readers of expressions and of what opens, before what may stand behind them.
-use Rattle.std.proofs.Common.{◌≡◌, ℕ, zero, suc, ◌<◌, ◌==◌, Bool, true, false, cond, List, [], ◌∷◌, ◌++◌}
+use Rattle.std.proofs.Common.{◌≡◌, ℕ, pos, zero, suc, ◌<◌, ◌==◌, Bool, true, false, cond, List, [], ◌∷◌, ◌++◌}
 use Rattle.std.proofs.Common.{Option, Some, None, if◌then◌else◌, refl, ap, ◌∙◌}
 use Rattle.std.proofs.lemmas.Bool.{eqb-true}
+use Rattle.vb_value.specs.declared.token.Keyword.TheVariants as k
+use Rattle.vb_value.specs.declared.token.Symbol.TheVariants as s
 use Rattle.vb_value.specs.declared.token.Token.{Token}
+use Rattle.vb_value.specs.declared.token.TokenKind.TheVariants as kind
 use Rattle.vb_syntax.specs.Rules.{Tokens, Rule}
 use Rattle.vb_syntax.specs.Words.{tag}
 use Rattle.vb_syntax.specs.Expressions as grammar
@@ -22,16 +25,20 @@ use Rattle.vb_parse.proofs.Following.{next_in, Before, BeginsIn, Closed}
 
 -- ---- what ends an expression
 
--- tokens that go on neither with a path nor with an operator
-abbrev pub tag_ends : ℕ → Bool
-tag_ends n = if n == 115 then false else (if n == 112 then false else tag_level n == 0)
+-- a token with this number goes on neither with a path nor with an operator
+abbrev EndsAt : ℕ → Type 0
+EndsAt n = ((n == tag (kind.Symbol s.PathPoint)) ≡ false) × ((n == tag (kind.Symbol s.Open)) ≡ false)
+    × (tag_level n ≡ 0)
 
-ends_facts : (n : ℕ) → tag_ends n ≡ true → ((n == 115) ≡ false) × ((n == 112) ≡ false) × (tag_level n ≡ 0)
-ends_facts n is = go (n == 115) refl (n == 112) refl is
+abbrev pub tag_ends : ℕ → Bool
+tag_ends n = if n == tag (kind.Symbol s.PathPoint) then false
+    else (if n == tag (kind.Symbol s.Open) then false else tag_level n == 0)
+
+ends_facts : (n : ℕ) → tag_ends n ≡ true → EndsAt n
+ends_facts n is = go (n == tag (kind.Symbol s.PathPoint)) refl (n == tag (kind.Symbol s.Open)) refl is
   where
-    go : (a : Bool) → (n == 115) ≡ a → (b : Bool) → (n == 112) ≡ b
-        → cond a false (cond b false (tag_level n == 0)) ≡ true
-        → ((n == 115) ≡ false) × ((n == 112) ≡ false) × (tag_level n ≡ 0)
+    go : (a : Bool) → (n == tag (kind.Symbol s.PathPoint)) ≡ a → (b : Bool) → (n == tag (kind.Symbol s.Open)) ≡ b
+        → cond a false (cond b false (tag_level n == 0)) ≡ true → EndsAt n
     go true at b _ is = absurd cc
     go false point true at is = absurd cc
     go false point false paren is = (point, paren, eqb-true (tag_level n) 0 is)
@@ -44,8 +51,7 @@ ends_before v all rest b = record {
       (next rest) b.fits;
 }
   where
-    facts : (token : Token) → among v (tag token.kind) ≡ true → ((tag token.kind == 115) ≡ false)
-        × ((tag token.kind == 112) ≡ false) × (tag_level (tag token.kind) ≡ 0)
+    facts : (token : Token) → among v (tag token.kind) ≡ true → EndsAt (tag token.kind)
     facts token is = ends_facts (tag token.kind) (among_has tag_ends v all (tag token.kind) is)
 
     path : (token : Option Token) → next_in (among v) token ≡ true → goes_on_path token ≡ false
@@ -67,28 +73,37 @@ takes_expression depth {v} all = takes_narrow (ends_before v all) ((expressions_
 
 -- the numbers of the tokens that are values
 abbrev pub literal_heads : List ℕ
-literal_heads = 12 ∷ 17 ∷ 34 ∷ 48 ∷ 201 ∷ 202 ∷ 203 ∷ []
+literal_heads = tag (kind.Keyword k.Empty) ∷ tag (kind.Keyword k.False) ∷ tag (kind.Keyword k.Null)
+    ∷ tag (kind.Keyword k.True) ∷ tag (kind.Integer (pos 0)) ∷ tag (kind.Long (pos 0)) ∷ tag (kind.String []) ∷ []
+
+-- the numbers of the other words that are operands, or begin one
+abbrev pub word_heads : List ℕ
+word_heads = tag (kind.Keyword k.Nothing) ∷ tag (kind.Keyword k.New) ∷ []
+
+-- the numbers of the marks that begin an operand
+abbrev pub mark_heads : List ℕ
+mark_heads = tag (kind.Symbol s.Open) ∷ tag (kind.Symbol s.Minus) ∷ []
 
 -- the numbers of the tokens that begin a path
 abbrev pub path_heads : List ℕ
-path_heads = 200 ∷ 28 ∷ 116 ∷ []
+path_heads = tag (kind.Name [] false) ∷ tag (kind.Keyword k.Me) ∷ tag (kind.Symbol s.WithPoint) ∷ []
 
 -- the numbers of the tokens that begin an expression
 abbrev pub expression_heads : List ℕ
-expression_heads = 32 ∷ ((literal_heads ++ (33 ∷ 30 ∷ [])) ++ (path_heads ++ (112 ∷ 110 ∷ [])))
+expression_heads = tag (kind.Keyword k.Not) ∷ ((literal_heads ++ word_heads) ++ (path_heads ++ mark_heads))
 
 pub heads_literal : (n : ℕ) → among literal_heads n ≡ tag_is_literal n
-heads_literal n = rw (or_last (n == 203)) refl
+heads_literal n = rw (or_last (n == tag (kind.String []))) refl
 
 heads_expression : (n : ℕ) → among expression_heads n ≡ tag_is_expression n
 heads_expression n = rw (
-  among_both (literal_heads ++ (33 ∷ 30 ∷ [])) (path_heads ++ (112 ∷ 110 ∷ [])) n,
-  among_both literal_heads (33 ∷ 30 ∷ []) n,
-  among_both path_heads (112 ∷ 110 ∷ []) n,
-  or_last (n == 203),
-  or_last (n == 30),
-  or_last (n == 116),
-  or_last (n == 110),
+  among_both (literal_heads ++ word_heads) (path_heads ++ mark_heads) n,
+  among_both literal_heads word_heads n,
+  among_both path_heads mark_heads n,
+  or_last (n == tag (kind.String [])),
+  or_last (n == tag (kind.Keyword k.New)),
+  or_last (n == tag (kind.Symbol s.WithPoint)),
+  or_last (n == tag (kind.Symbol s.Minus)),
 ) refl
 
 pub begins_expression : (depth : ℕ) → BeginsIn expression_heads (grammar.expressions depth).expression

@@ -29,7 +29,7 @@ use Rattle.vb_parse.proofs.Choosing.{takes_on, takes_off_word, takes_or, takes_w
 use Rattle.vb_parse.proofs.Choosing.{chosen, choose, takes_gated}
 use Rattle.vb_parse.proofs.Placing.{takes_opened, begins_opened, closed_opened}
 use Rattle.vb_parse.proofs.DeclarationTaking.{access_apart, takes_parameters}
-use Rattle.vb_parse.proofs.SimpleTaking.{name_head}
+use Rattle.vb_parse.proofs.Following.{name_head}
 use Rattle.vb_parse.proofs.EndTaking.{break_heads, takes_end, begins_end}
 use Rattle.vb_parse.proofs.IfTaking.{block_heads}
 use Rattle.vb_parse.proofs.BlockTaking.{blocks_taken}

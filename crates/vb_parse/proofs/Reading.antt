@@ -193,5 +193,8 @@ reads_word kind = reads_one (words.line_of (words.tag kind)) (token_of kind) 1 (
 pub full_word : (kind : TokenKind) → NoEmpty (words.word kind)
 full_word kind = full_one (words.line_of (words.tag kind))
 
+pub moves_word : (kind : TokenKind) → Moves (reader.word kind)
+moves_word kind = moves _ _ (reads_word kind) (full_word kind)
+
 pub reads_name : Reads (reader.one words.name_of) (rule.one words.name_of)
 reads_name = reads_one words.name_of (token_of (kind.Name [] false)) [] refl

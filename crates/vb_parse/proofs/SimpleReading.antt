@@ -1,11 +1,13 @@
 -- The readers of statements that hold no other read the grammar's.
-use Rattle.std.proofs.Common.{◌≡◌, ℕ, ℤ, pos, zero, suc, ◌<◌, ◌+◌, inl, inr, true, false, [], length, length-append}
-use Rattle.std.proofs.Common.{Option, Some, None, refl, ap, ◌∙◌, codes, arith}
+use Rattle.std.proofs.Common.{◌≡◌, ℕ, ℤ, pos, zero, suc, ◌<◌, ◌+◌, inl, inr, true, false, List, [], length}
+use Rattle.std.proofs.Common.{length-append, Option, Some, None, refl, ap, ◌∙◌, codes, arith}
 use Rattle.vb_value.specs.declared.token.Keyword.TheVariants as k
 use Rattle.vb_value.specs.declared.token.Symbol.TheVariants as s
 use Rattle.vb_value.specs.declared.token.TokenKind.TheVariants as kind
 use Rattle.vb_syntax.specs.declared.declaration.Access.{Access}
+use Rattle.vb_syntax.specs.declared.expression.Expression.{Expression}
 use Rattle.vb_syntax.specs.declared.statement.ExitKind.TheVariants as exit
+use Rattle.vb_syntax.specs.declared.statement.Resized.{Resized}
 use Rattle.vb_syntax.specs.declared.statement.Statement.{Statement}
 use Rattle.vb_syntax.specs.declared.statement.StatementKind.TheVariants as st
 use Rattle.vb_syntax.specs.Rules.{Tokens, Rule}
@@ -15,6 +17,7 @@ use Rattle.vb_syntax.specs.Declarations as declarations
 use Rattle.vb_syntax.specs.Declarations.{number_of}
 use Rattle.vb_syntax.specs.SimpleStatements as grammar
 use Rattle.vb_syntax.specs.SimpleStatements.{Looser, statement, text_at, quoted_at}
+use Rattle.vb_syntax.specs.Units.{strict}
 use Rattle.vb_parse.specs.Reader.{Reader}
 use Rattle.vb_parse.specs.Reader as reader
 use Rattle.vb_parse.specs.ReadDeclarations as read_declarations
@@ -125,6 +128,15 @@ reads_resized : (looser : Looser) (within : ℕ) → Reads (spec.resized (suc wi
 reads_resized looser within = reads_bind reads_name (λ name. reads_bind (reads_bind (reads_word (kind.Symbol s.Open))
     (λ _. reads_bind (reads_list_of ((expressions_read within).expression refl)) (λ found. reads_bind
     (reads_word (kind.Symbol s.Close)) (λ _. reads_pure found)))) (λ bounds. reads_pure _))
+
+-- the same, also where none may
+pub reads_resized_at : (depth : ℕ) → (r : Rule Resized) × Reads (spec.resized depth) r
+reads_resized_at zero = (
+  _,
+  reads_bind reads_name (λ name. reads_bind (reads_refuse {A = List Expression}
+      (rule.pure []) (reads_pure []).lives) (λ bounds. reads_pure (record { name = name; bounds = bounds }))),
+)
+reads_resized_at (suc within) = (_, reads_resized strict within)
 
 reads_redim : (looser : Looser) (depth : ℕ) (whole : Rule Statement) → Lives whole
     → Within (grammar.redim looser depth) whole → Reads (spec.redim depth) whole

@@ -24,11 +24,10 @@ use Rattle.vb_parse.specs.ReadSimpleStatements.{zero_of, zero_by}
 use Rattle.vb_parse.specs.Runs.{opens}
 use Rattle.vb_parse.proofs.Taking.{Follow, Takes, takes_pure, takes_one, takes_narrow}
 use Rattle.vb_parse.proofs.Binding.{bind_left}
-use Rattle.vb_parse.proofs.ExpressionEnds.{PathEnds}
 use Rattle.vb_parse.proofs.PathReading.{takes_path_at}
 use Rattle.vb_parse.proofs.Tags.{among, outside, all_have}
 use Rattle.vb_parse.proofs.Following.{Before, BeginsIn, leads_begins, leads_pure, begins_then, begins_word_then}
-use Rattle.vb_parse.proofs.Following.{begins_either, begins_within, name_begins, asks_kind, asks_either, asks_no}
+use Rattle.vb_parse.proofs.Following.{begins_either, begins_within, name_head, name_begins, asks_kind}
 use Rattle.vb_parse.proofs.Following.{skips, starts, closed_first, closed_next}
 use Rattle.vb_parse.proofs.Choosing.{takes_on, takes_off, takes_on_word, takes_off_word, takes_or, takes_within}
 use Rattle.vb_parse.proofs.Choosing.{takes_word, takes_then, takes_map, takes_list, Chosen, chosen, choose, choose_by}
@@ -36,12 +35,10 @@ use Rattle.vb_parse.proofs.Choosing.{takes_gated}
 use Rattle.vb_parse.proofs.Placing.{closed_opened, takes_expression, takes_opened, tag_ends, path_heads}
 use Rattle.vb_parse.proofs.DeclarationTaking.{closing, access_heads, takes_access_word, begins_access, asks_access}
 use Rattle.vb_parse.proofs.DeclarationTaking.{access_apart, takes_declared, takes_constant}
-use Rattle.vb_parse.proofs.CallTaking.{statement_ends, takes_path_statement, begins_path_statement}
+use Rattle.vb_parse.proofs.CallTaking.{statement_ends, step_heads, path_before, takes_path_statement}
+use Rattle.vb_parse.proofs.CallTaking.{begins_path_statement}
 
 -- ---- with what a rule begins
-
-abbrev pub name_head : List ℕ
-name_head = 200 ∷ []
 
 pub quoted_tag : (text : List ℕ) (kind : TokenKind) (line x : ℕ) → line_of_quoted text kind line ≡ Some x
     → among name_head (tag kind) ≡ true
@@ -111,12 +108,6 @@ takes_zero = record {
   takes = λ front rest x h ok. rw h.alone (ap (λ o. one_by (zero_by o) h.token rest) h.passes);
 }
 
-path_before : (v : List ℕ) → all_have (outside (115 ∷ 112 ∷ [])) v ≡ true → (rest : Tokens) → Before v rest
-    → PathEnds rest
-path_before v none rest ok = asks_no (asks_either (asks_kind (kind.Symbol s.PathPoint)) (asks_kind
-    (kind.Symbol s.Open)))
-    none rest ok
-
 module _ (looser : Looser) (depth : ℕ) where
   takes_dim : Takes (spec.dim depth) (grammar.dim looser depth) (Before statement_ends)
   takes_dim = takes_word (λ line. takes_map _ (takes_list (takes_declared depth refl) refl))
@@ -144,7 +135,7 @@ module _ (looser : Looser) (depth : ℕ) where
       (λ kept. takes_map _ (takes_list takes_resized refl))
       (λ kept. leads_begins (begins_then (begins_then (begins_then name_begins))))))
 
-  takes_path : (v : List ℕ) → all_have (outside (115 ∷ 112 ∷ [])) v ≡ true
+  takes_path : (v : List ℕ) → all_have (outside step_heads) v ≡ true
       → Takes (calls.path_at depth) (grammar.path_at looser depth) (Before v)
   takes_path v none = takes_narrow (path_before v none) (takes_path_at looser depth)
 

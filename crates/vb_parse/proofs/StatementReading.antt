@@ -35,7 +35,7 @@ use Rattle.vb_parse.proofs.LineReading.{reads_line_if_from, reads_line}
 
 -- ---- texts that say nothing
 
-reads_loose_text : Reads spec.loose_text grammar.loose_text
+pub reads_loose_text : Reads spec.loose_text grammar.loose_text
 reads_loose_text = reads_bind (reads_word (kind.PageText [])) (λ _. reads_end)
 
 reads_texts_where : (b : Bool) → Reads (spec.texts_where b)
@@ -129,7 +129,7 @@ module _ (looser : Looser) (depth : ℕ) (bp : lines.Blocks) (br : grammar.Block
       (λ otherwise. rule.◌>>◌ (words.keyword k.End) (rule.◌>>◌ (words.keyword k.If)
       (rule.pure (statement line (st.If condition body others otherwise))))))))
 
-  reads_else_if : IsTrue (opens depth) → Reads (spec.else_if looser depth bp) (grammar.else_if looser depth br)
+  pub reads_else_if : IsTrue (opens depth) → Reads (spec.else_if looser depth bp) (grammar.else_if looser depth br)
   reads_else_if is = reads_bind (reads_word (kind.Keyword k.ElseIf)) (λ line. reads_bind (reads_within is)
       (λ condition. reads_bind (reads_word (kind.Keyword k.Then)) (λ _. reads_body is (λ body. reads_pure _))))
 
@@ -180,7 +180,7 @@ module _ (looser : Looser) (depth : ℕ) (bp : lines.Blocks) (br : grammar.Block
   no_case_turn : Within (rule.pure (Break None)) case_turn_rule
   no_case_turn front t h = subst (λ u. case_turn_rule front u) (sym h.1) (inr (h.0, refl))
 
-  reads_case_turn : IsTrue (opens depth) → Reads (spec.case_turn looser depth bp) case_turn_rule
+  pub reads_case_turn : IsTrue (opens depth) → Reads (spec.case_turn looser depth bp) case_turn_rule
   reads_case_turn is = reads_wider (or_within (within_then bind_or (or_within case_else_turn case_of_turn))
       no_case_turn)
       (reads_choice (reader.sees (kind.Keyword k.Case))

@@ -40,7 +40,8 @@ use Rattle.vb_parse.proofs.Choosing.{takes_word, takes_then, takes_map, takes_li
 use Rattle.vb_parse.proofs.Choosing.{takes_gated}
 use Rattle.vb_parse.proofs.Placing.{begins_expression, takes_expression, takes_inside, begins_inside, closed_inside}
 use Rattle.vb_parse.proofs.Placing.{tag_ends}
-use Rattle.vb_parse.proofs.SimpleTaking.{name_head, quoted_begins}
+use Rattle.vb_parse.proofs.Following.{name_head}
+use Rattle.vb_parse.proofs.SimpleTaking.{quoted_begins}
 use Rattle.vb_parse.proofs.EndTaking.{break_heads, takes_end, begins_end, skips_quoted, text_head, takes_texts}
 use Rattle.vb_parse.proofs.EndTaking.{leads_texts}
 use Rattle.vb_parse.proofs.IfTaking.{block_ends, block_heads, BlocksTaken, last_apart, leads_inner, asks_loop}

@@ -29,7 +29,7 @@ use Rattle.vb_parse.specs.ReadLines as lines
 use Rattle.vb_parse.specs.ReadUnits as spec
 use Rattle.vb_parse.proofs.Reading.{Reads, Lives, NoEmpty, reads_pure, reads_refuse, reads_wider, reads_bind, reads_one}
 use Rattle.vb_parse.proofs.Reading.{reads_choice, reads_both, reads_many, reads_word, reads_name, full_one, full_bind}
-use Rattle.vb_parse.proofs.Reading.{full_word, token_of}
+use Rattle.vb_parse.proofs.Reading.{full_word, token_of, Moves, moves}
 use Rattle.vb_parse.proofs.Binding.{Within, within_then, bind_wider, first_wider, bind_left, bind_right, pure_in}
 use Rattle.vb_parse.proofs.Binding.{pure_out, bind_or, or_out, or_within}
 use Rattle.vb_parse.proofs.ExpressionReading.{reads_list_of}
@@ -193,6 +193,10 @@ module _ (looser : Looser) where
   reads_member_line depth = reads_bind (reads_class_member depth) (λ found. reads_bind reads_end (λ _. reads_bind
       (reads_loose_texts looser) (λ _. reads_pure found)))
 
+  -- a member takes a token
+  pub moves_member_line : (depth : ℕ) → Moves (spec.member_line looser depth)
+  moves_member_line depth = moves _ _ (reads_member_line depth) (full_bind _ _ (full_member depth))
+
   reads_class : {B : Type 0} (depth : ℕ) (made : Class → B) (whole : Rule B) → Lives whole
       → Within (rule.◌>>=◌ (grammar.class looser depth) (λ found. rule.pure (made found))) whole
       → Reads (reader.◌>>=◌ (spec.class looser depth) (λ found. reader.pure (made found))) whole
@@ -298,6 +302,10 @@ module _ (looser : Looser) where
       (full_bind _ _ (full_opened depth (λ within. full_bind _ _ (full_word (kind.Keyword k.Class)))))))
 
   -- ---- units
+
+  -- an item takes a token
+  pub moves_item_line : (depth : ℕ) → Moves (spec.item_line looser depth)
+  moves_item_line depth = moves _ _ (reads_item_line depth) (full_item_line depth)
 
   reads_explicit_word : Reads (reader.one (quoted_at (codes "explicit"))) (simple.quoted (codes "explicit"))
   reads_explicit_word = reads_one (quoted_at (codes "explicit")) (token_of (kind.Name (codes "explicit") false)) 1 refl

@@ -44,7 +44,8 @@ use Rattle.vb_parse.proofs.Choosing.{takes_word, takes_then, takes_map, takes_li
 use Rattle.vb_parse.proofs.Choosing.{chosen, choose_by}
 use Rattle.vb_parse.proofs.DeclarationTaking.{access_heads, asks_access, begins_access, takes_access_word, access_apart}
 use Rattle.vb_parse.proofs.DeclarationTaking.{takes_declared}
-use Rattle.vb_parse.proofs.SimpleTaking.{name_head, simple_heads, takes_const_from, begins_simple}
+use Rattle.vb_parse.proofs.Following.{name_head}
+use Rattle.vb_parse.proofs.SimpleTaking.{simple_heads, takes_const_from, begins_simple}
 use Rattle.vb_parse.proofs.EndTaking.{break_heads, asks_breaks, takes_end, begins_end}
 use Rattle.vb_parse.proofs.IfTaking.{sentence_heads}
 use Rattle.vb_parse.proofs.BlockTaking.{takes_sentence, begins_sentence, inside_taken}

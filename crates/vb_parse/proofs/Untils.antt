@@ -4,12 +4,7 @@ use Rattle.std.specs.declared.ops.ControlFlow.TheVariants.{Continue}
 use Rattle.vb_syntax.specs.Rules.{Tokens}
 use Rattle.vb_parse.specs.Reader as reader
 use Rattle.vb_parse.specs.Reader.{Reader, Outcome, Turn, and_then, then_until}
-use Rattle.vb_parse.proofs.Lengths.{Advances}
 use Rattle.vb_parse.proofs.Until.{OnwardMoves, until_step}
-
--- a turn that takes a token goes on with fewer
-pub onward_of : {A B : Type 0} (turn : Reader (Turn A B)) → Advances turn → OnwardMoves turn
-onward_of turn m tokens x rest e = m.moves tokens (Continue x) rest e
 
 module _ {A B : Type 0} (turn : Reader (Turn A B)) (onward : OnwardMoves turn) where
   module _ {C : Type 0} (f : List A → B → C) (whole : Outcome C) (found : List A) (tokens rest : Tokens) where

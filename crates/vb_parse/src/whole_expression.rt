@@ -1,5 +1,5 @@
 //! The parser: a whole list of words, read to its end.
-ghost use Rattle.std.specs.Prelude.{◌≡◌, IfOk};
+ghost use Rattle.std.specs.Prelude.{◌≡◌, Err, IfOk};
 ghost use Rattle.vb_syntax.specs.declared.expression.Expression.{Expression};
 ghost use Rattle.vb_syntax.specs.Expressions.{SpellsExpression};
 ghost use Rattle.vb_syntax.specs.Faults.{fault_line, last_line};
@@ -61,9 +61,23 @@ fn left_deeper(alloc: Global, tokens: &[Token]) -> Result<usize, Memory>
     }
 }
 
+/// The kind of the fault where these words are left.
+#[tactic(auto, using(crate::proofs::ParseExpression::too_deep, crate::proofs::ParseExpression::unexpected))]
+fn fault_kind(alloc: Global, tokens: &[Token], left: &[Token]) -> Result<ParseFault, Memory>
+    requires { whole_expression 200 tokens.now ≡ Err left.now }
+    ensures { IfOk result (λ kind. HasFault (SpellsExpression 200) (IsKind SpellsExpression 200) tokens.now kind
+        (fault_line tokens.now left.now)) }
+{
+    if left_deeper(alloc, tokens)? < left.len() {
+        Ok(ParseFault::TooDeep)
+    } else {
+        Ok(ParseFault::Unexpected)
+    }
+}
+
 /// Reads the words of an expression, of which at most 200 constructs may be open at one place: parentheses,
 /// `Not` and the leading minus (VBScript 5.6 language reference, "Operator Precedence").
-#[tactic(auto, using(crate::proofs::ParseExpression::expression_sound, crate::proofs::ParseExpression::expression_only, crate::proofs::ParseExpression::expression_none, crate::proofs::ParseExpression::fault_too_deep, crate::proofs::ParseExpression::fault_unexpected))]
+#[tactic(auto, using(crate::proofs::ParseExpression::spelling))]
 pub fn parse_expression(alloc: Global, tokens: &[Token]) -> Result<Expression, ParseStop>
     ensures tree { IfOk result (λ tree. SpellsExpression 200 tokens.now tree) }
     ensures only { (tree : Expression) → SpellsExpression 200 tokens.now tree → Finds result tree }
@@ -74,18 +88,9 @@ pub fn parse_expression(alloc: Global, tokens: &[Token]) -> Result<Expression, P
     match read(alloc, &mut cursor, DEPTH) {
         Ok(found) => Ok(found),
         Err(Stop::Memory) => Err(ParseStop::Memory),
-        Err(Stop::Fault) => {
-            let left = cursor.rest;
-            let deeper = left_deeper(alloc, tokens)?;
-            let kind = if deeper < left.len() {
-                ParseFault::TooDeep
-            } else {
-                ParseFault::Unexpected
-            };
-            Err(ParseStop::Fault {
-                kind,
-                line: fault_line(tokens, left),
-            })
-        }
+        Err(Stop::Fault) => Err(ParseStop::Fault {
+            kind: fault_kind(alloc, tokens, cursor.rest)?,
+            line: fault_line(tokens, cursor.rest),
+        }),
     }
 }

@@ -6,7 +6,7 @@ use Rattle.vb_parse.specs.ReadExpressions as spec
 use Rattle.vb_parse.specs.Runs.{opens, inside}
 use Rattle.vb_parse.proofs.Turns.{found_turn, step_moves, turn_moves, expressions_at, operators_chained}
 use Rattle.vb_parse.proofs.Commas.{comma_less, comma_turn}
-use Rattle.vb_parse.proofs.ExpressionLengths.{keeps_expression}
+use Rattle.vb_parse.proofs.ExpressionReading.{expressions_read}
 use Rattle.vb_parse.proofs.expression.+expression.Goals as goal
 
 pub expression-returns : goal.expression-returns
@@ -19,12 +19,12 @@ pub minus_operand-returns : goal.minus_operand-returns
 minus_operand-returns t c = rw (expressions_at c.args.depth) c.primary.ensures
 
 pub list_from-loop-alloc-smaller : goal.list_from-loop-alloc-smaller
-list_from-loop-alloc-smaller t c = comma_less (keeps_expression c.args.depth) _ _ _ _ _ c.in_ok-symbol.ensures
-    c.in_ok-expression.ensures
+list_from-loop-alloc-smaller t c = comma_less ((expressions_read c.args.depth).expression refl) _ _ _ _ _
+    c.in_ok-symbol.ensures c.in_ok-expression.ensures
 
 pub list_from-loop-alloc-preserved : goal.list_from-loop-alloc-preserved
-list_from-loop-alloc-preserved t c = comma_turn (keeps_expression c.args.depth) (λ l. l) _ c.loop-alloc.found _
-    c.loop-alloc.cursor.rest.now _ _ _ _ c.loop-alloc.invariant (sym c.sees_symbol.ensures
+list_from-loop-alloc-preserved t c = comma_turn ((expressions_read c.args.depth).expression refl) (λ l. l) _
+    c.loop-alloc.found _ c.loop-alloc.cursor.rest.now _ _ _ _ c.loop-alloc.invariant (sym c.sees_symbol.ensures
     ∙ c.loop-alloc-test.true) c.in_ok-symbol.ensures c.in_ok-expression.ensures c.in_ok-push-2.ensures
 
 pub steps-loop-alloc-smaller : goal.steps-loop-alloc-smaller
