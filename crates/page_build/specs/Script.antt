@@ -1,0 +1,71 @@
+-- The program of a script's text: its words, the unit that they spell, and what that resolves to.
+use Rattle.std.specs.Prelude.{◌≡◌, ℕ, List, Result, Ok, Err}
+use Rattle.vb_value.specs.declared.token.Token.{Token}
+use Rattle.vb_lex.specs.Tokens.{FaultsAt, Tokenizes}
+use Rattle.vb_lex.specs.declared.fault.LexStop.{LexStop}
+use Rattle.vb_lex.specs.declared.fault.LexStop.TheVariants as words
+use Rattle.vb_syntax.specs.Units.{Derives}
+use Rattle.vb_syntax.specs.Scope.{IsFirstFault, Resolves}
+use Rattle.vb_syntax.specs.ScopePrograms.{Parts}
+use Rattle.vb_syntax.specs.declared.program.Program.{Program}
+use Rattle.vb_syntax.specs.declared.unit.Unit.{Unit as Script}
+use Rattle.vb_parse.specs.Outcome.{IsUnitKind, HasFault as HasGrammarFault}
+use Rattle.vb_parse.specs.declared.fault.ParseStop.{ParseStop}
+use Rattle.vb_parse.specs.declared.fault.ParseStop.TheVariants as grammar
+use Rattle.vb_scope.specs.Answers.{parts_of}
+use Rattle.vb_scope.specs.declared.fault.ScopeStop.{ScopeStop}
+use Rattle.vb_scope.specs.declared.fault.ScopeStop.TheVariants as scope
+use Rattle.page_build.specs.declared.fault.ScriptFault.{ScriptFault}
+use Rattle.page_build.specs.declared.fault.ScriptFault.TheVariants.{Words, Grammar, Scope}
+use Rattle.page_build.specs.declared.fault.ScriptStop.{ScriptStop}
+use Rattle.page_build.specs.declared.fault.ScriptStop.TheVariants.{Fault, Memory}
+
+-- The text is a script of this unit.
+pub record IsScript (text : List ℕ) (unit : Script) : Type 0 where
+  pub tokens : List Token
+  pub words : Tokenizes text tokens
+  pub spelled : Derives tokens unit
+
+-- The text's program is this one.
+pub record IsProgramOf (text : List ℕ) (program : Parts) : Type 0 where
+  pub unit : Script
+  pub script : IsScript text unit
+  pub resolves : Resolves unit program
+
+-- The text's fault is this one, in this line: of its words, else of its grammar, else of its names.
+abbrev pub HasFault : List ℕ → ScriptFault → ℕ → Type 0
+HasFault text (Words kind) line = FaultsAt text kind line
+HasFault text (Grammar kind) line =
+    (tokens : List Token) × Tokenizes text tokens × HasGrammarFault Derives IsUnitKind tokens kind line
+HasFault text (Scope kind) line = (unit : Script) × IsScript text unit × IsFirstFault unit kind line
+
+-- ---- what the call answers
+
+-- The answer is this program, or memory ran out.
+abbrev pub Builds : Result Program ScriptStop → Parts → Type 0
+Builds (Ok given) program = parts_of given ≡ program
+Builds (Err (Fault kind line)) program = ⊥
+Builds (Err Memory) program = Unit {0}
+
+-- The answer is no fault, or one of which the fact holds.
+abbrev pub OnFault : Result Program ScriptStop → (ScriptFault → ℕ → Type 0) → Type 0
+OnFault (Ok given) fact = Unit {0}
+OnFault (Err (Fault kind line)) fact = fact kind line
+OnFault (Err Memory) fact = Unit {0}
+
+-- ---- why it stops, by the stop of each of its steps
+
+-- the words
+abbrev pub of_words : LexStop → ScriptStop
+of_words (words.Fault kind line) = Fault (Words kind) line
+of_words words.Memory = Memory
+
+-- the grammar
+abbrev pub of_grammar : ParseStop → ScriptStop
+of_grammar (grammar.Fault kind line) = Fault (Grammar kind) line
+of_grammar grammar.Memory = Memory
+
+-- the names
+abbrev pub of_scope : ScopeStop → ScriptStop
+of_scope (scope.Fault kind line) = Fault (Scope kind) line
+of_scope scope.Memory = Memory

@@ -1,0 +1,43 @@
+//! Laws of scripts and their programs. The functions do nothing: their contracts are the laws.
+ghost use Rattle.std.specs.Prelude.{◌≡◌, ℕ, List};
+ghost use Rattle.vb_syntax.specs.ScopePrograms.{Parts};
+ghost use Rattle.page_build.specs.declared.fault.ScriptFault.{ScriptFault};
+ghost use Rattle.page_build.specs.Script.{HasFault, IsProgramOf};
+
+use vb_lex::{one_fault, one_token_list, tokens_or_fault};
+use vb_parse::laws::{one_unit, one_unit_fault, unit_faultless};
+use vb_scope::{one_program as one_program_of_unit, program_faultless};
+
+/// A text has one program at most.
+pub fn one_program()
+    ensures { (text : List ℕ) (one other : Parts) → IsProgramOf text one → IsProgramOf text other → one ≡ other }
+{
+    one_token_list();
+    one_unit();
+    one_program_of_unit();
+}
+
+/// A text that has a program has no fault.
+pub fn program_or_fault()
+    ensures { (text : List ℕ) (program : Parts) (kind : ScriptFault) (line : ℕ) → IsProgramOf text program
+        → HasFault text kind line → ⊥ }
+{
+    one_token_list();
+    tokens_or_fault();
+    one_unit();
+    unit_faultless();
+    program_faultless();
+}
+
+/// A text has faults in one line alone.
+pub fn one_fault_line()
+    ensures { (text : List ℕ) (kind other : ScriptFault) (line number : ℕ) → HasFault text kind line
+        → HasFault text other number → line ≡ number }
+{
+    one_token_list();
+    one_fault();
+    tokens_or_fault();
+    one_unit();
+    one_unit_fault();
+    unit_faultless();
+}

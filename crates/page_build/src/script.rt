@@ -1,0 +1,27 @@
+//! A script's text as a program.
+ghost use Rattle.std.specs.Prelude.{◌^◌, ◌<◌, ◌≡◌, IfOk, length};
+ghost use Rattle.vb_syntax.specs.ScopePrograms.{Parts};
+ghost use Rattle.vb_scope.specs.Answers.{parts_of};
+ghost use Rattle.page_build.specs.Script.{IsProgramOf, Builds, OnFault, HasFault};
+
+use crate::fault::ScriptStop;
+use std::alloc::Global;
+use vb_lex::lex;
+use vb_parse::parse;
+use vb_scope::resolve;
+use vb_syntax::Program;
+use vb_value::Text;
+
+/// The program of a script, whose lines are counted from 1 (VBScript 5.6 language reference).
+///
+/// A fault of its words comes before one of its grammar, and that before one of its names.
+pub fn script_program(alloc: Global, text: &Text) -> Result<Program, ScriptStop>
+    requires { length text.now < 2 ^ 31 }
+    ensures program { IfOk result (λ program. IsProgramOf text.now (parts_of program)) }
+    ensures only { (program : Parts) → IsProgramOf text.now program → Builds result program }
+    ensures fault { OnFault result (HasFault text.now) }
+{
+    let tokens = lex(alloc, text)?;
+    let unit = parse(alloc, tokens.as_slice())?;
+    Ok(resolve(alloc, unit)?)
+}

@@ -1,0 +1,3 @@
+pub mod Outcome
+pub mod Shapes
+pub mod Bodies

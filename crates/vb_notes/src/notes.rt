@@ -1,0 +1,10 @@
+//! What a script says of names, in the order of its places.
+
+mod expressions;
+mod simple;
+mod statements;
+mod units;
+mod words;
+
+pub use units::{note_body, note_item, note_items, note_member, note_members};
+pub use words::shapes;

@@ -1,0 +1,132 @@
+//! What bodies and items say of names.
+ghost use Rattle.std.specs.Prelude.{◌≡◌, ◌++◌, Some, None};
+ghost use Rattle.std.specs.List.{flat_map};
+ghost use Rattle.std.specs.Option.{option_copied};
+ghost use Rattle.vb_syntax.specs.ScopeNotes.{note};
+ghost use Rattle.vb_syntax.specs.ScopeUnits as spec;
+ghost use Rattle.vb_notes.specs.Outcome.{Adds};
+ghost use Rattle.vb_notes.specs.Bodies.{body_seen};
+
+use crate::body::{Body, around_in};
+use crate::notes::simple::note_variables;
+use crate::notes::statements::{note_block, note_statement};
+use crate::notes::words::{at_most, note as add};
+use vb_syntax::{Around, ClassMember, Declared, Item, Note, NoteKind, Parameter, PropertyKind};
+use vb_value::{Copied, List, Memory, Text};
+
+/// Nothing stands around the statements of the page.
+const ON_PAGE: Around = Around {
+    in_class: false,
+    procedure: None,
+    in_do: false,
+    in_for: false,
+    in_with: false,
+};
+
+/// Adds a declared procedure, class or member.
+fn note_procedure(
+    notes: &mut List<Note>,
+    line: u32,
+    name: &Text,
+    accessor: Option<PropertyKind>,
+) -> Result<(), Memory>
+    ensures { Adds result notes.old notes.new (note line (NoteKind.Procedure name.now accessor)) }
+{
+    let name = name.copy()?;
+    add(notes, line, NoteKind::Procedure { name, accessor })
+}
+
+/// Adds parameters.
+fn note_parameters(
+    notes: &mut List<Note>,
+    line: u32,
+    parameters: &[Parameter],
+) -> Result<(), Memory>
+    ensures { Adds result notes.old notes.new (flat_map (spec.parameter_notes line) parameters.now) }
+{
+    for parameter in parameters {
+        let variable = Declared {
+            name: parameter.name.copy()?,
+            bounds: None,
+        };
+        add(notes, line, NoteKind::Variable(variable))?;
+    }
+    Ok(())
+}
+
+/// Adds the name of a procedure's result, where there is one.
+fn note_result(notes: &mut List<Note>, line: u32, given: Option<&Text>) -> Result<(), Memory>
+    ensures { Adds result notes.old notes.new (spec.result_notes line (option_copied given.entry)) }
+{
+    match given {
+        None => Ok(()),
+        Some(name) => note_procedure(notes, line, name, None),
+    }
+}
+
+/// Adds what a procedure says: the name of its result, its parameters, of which there are 255 at most, and its
+/// statements.
+pub fn note_body(notes: &mut List<Note>, body: Body<'_>) -> Result<(), Memory>
+    ensures { Adds result notes.old notes.new (spec.in_body (body_seen body.entry)) }
+{
+    note_result(notes, body.line, body.result)?;
+    at_most(notes, 255, body.parameters.len(), body.line)?;
+    note_parameters(notes, body.line, body.parameters.as_slice())?;
+    note_block(notes, around_in(body), body.statements)
+}
+
+/// Adds what an item says as a part of the page.
+pub fn note_item(notes: &mut List<Note>, item: &Item) -> Result<(), Memory>
+    ensures { Adds result notes.old notes.new (spec.item_notes item.now) }
+{
+    match item {
+        Item::Statement(found) => note_statement(notes, ON_PAGE, found),
+        Item::Variables {
+            line,
+            access: _,
+            variables,
+        } => note_variables(notes, *line, variables.as_slice()),
+        Item::Procedure(found) => note_procedure(notes, found.line, &found.name, None),
+        Item::Class(found) => note_procedure(notes, found.line, &found.name, None),
+    }
+}
+
+/// Adds what items say as parts of the page.
+pub fn note_items(notes: &mut List<Note>, items: &[Item]) -> Result<(), Memory>
+    ensures { Adds result notes.old notes.new (flat_map spec.item_notes items.now) }
+{
+    for item in items {
+        note_item(notes, item)?;
+    }
+    Ok(())
+}
+
+/// Adds what a member says as a part of its class.
+pub fn note_member(notes: &mut List<Note>, member: &ClassMember) -> Result<(), Memory>
+    ensures { Adds result notes.old notes.new (spec.member_notes member.now) }
+{
+    match member {
+        ClassMember::Fields {
+            line,
+            access: _,
+            fields,
+        } => note_variables(notes, *line, fields.as_slice()),
+        ClassMember::Method(found) => note_procedure(notes, found.line, &found.name, None),
+        ClassMember::Property(found) => note_procedure(
+            notes,
+            found.line,
+            &found.name,
+            Some(found.kind),
+        ),
+    }
+}
+
+/// Adds what members say as parts of their class.
+pub fn note_members(notes: &mut List<Note>, members: &[ClassMember]) -> Result<(), Memory>
+    ensures { Adds result notes.old notes.new (flat_map spec.member_notes members.now) }
+{
+    for member in members {
+        note_member(notes, member)?;
+    }
+    Ok(())
+}

@@ -1,0 +1,67 @@
+//! Single notes.
+ghost use Rattle.std.specs.Prelude.{◌≡◌, map};
+ghost use Rattle.vb_value.specs.Outcome.{Gives};
+ghost use Rattle.vb_syntax.specs.ScopeNotes as spec;
+ghost use Rattle.vb_notes.specs.Outcome.{Adds};
+ghost use Rattle.vb_notes.specs.Shapes.{shape_of};
+
+use std::alloc::Global;
+use vb_syntax::{Note, NoteKind, ScopeFault, Shape, Step};
+use vb_value::{Copied, List, Memory, Text};
+
+/// Adds one thing that is said in a line.
+pub fn note(notes: &mut List<Note>, line: u32, kind: NoteKind) -> Result<(), Memory>
+    ensures { Adds result notes.old notes.new (spec.note line kind) }
+{
+    notes.push(Note { line, kind })
+}
+
+/// Adds a fault, unless something holds.
+pub fn unless(
+    notes: &mut List<Note>,
+    holds: bool,
+    fault: ScopeFault,
+    line: u32,
+) -> Result<(), Memory>
+    ensures { Adds result notes.old notes.new (spec.unless holds fault line) }
+{
+    if holds {
+        return Ok(());
+    }
+    note(notes, line, NoteKind::Fault(fault))
+}
+
+/// Adds a fault, where there are more than so many.
+pub fn at_most(notes: &mut List<Note>, most: usize, count: usize, line: u32) -> Result<(), Memory>
+    ensures { Adds result notes.old notes.new (spec.at_most most count line) }
+{
+    unless(notes, most >= count, ScopeFault::TooMany, line)
+}
+
+/// Adds a name that is written alone.
+pub fn note_write(notes: &mut List<Note>, line: u32, name: &Text) -> Result<(), Memory>
+    ensures { Adds result notes.old notes.new (spec.write_notes line name.now) }
+{
+    note(notes, line, NoteKind::Write(name.copy()?))
+}
+
+/// Adds a name of a member or of a class.
+pub fn note_mention(notes: &mut List<Note>, line: u32, name: &Text) -> Result<(), Memory>
+    ensures { Adds result notes.old notes.new (spec.note line (NoteKind.Mention name.now)) }
+{
+    note(notes, line, NoteKind::Mention(name.copy()?))
+}
+
+/// What the steps of a path look like.
+pub fn shapes(alloc: Global, steps: &[Step]) -> Result<List<Shape>, Memory>
+    ensures { Gives result (map shape_of steps.now) }
+{
+    let mut shapes = List::with_capacity(alloc, steps.len())?;
+    for step in steps {
+        shapes.push(match step {
+            Step::Member(name) => Shape::Member(name.copy()?),
+            Step::Group(_) => Shape::Group,
+        })?;
+    }
+    Ok(shapes)
+}

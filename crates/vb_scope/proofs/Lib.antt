@@ -1,0 +1,5 @@
+pub mod Numbering
+pub mod Giving
+pub mod TreePaths
+pub mod Programs
+pub mod OneProgram

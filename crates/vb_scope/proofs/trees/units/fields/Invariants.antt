@@ -1,0 +1,10 @@
+use Rattle.std.proofs.Common.{◌≡◌, take}
+use Rattle.std.specs.List.{flat_map}
+use Rattle.vb_syntax.specs.ScopePrograms as spec
+use Rattle.vb_scope.specs.Tables.{page_seen}
+use Rattle.vb_scope.proofs.trees.units.fields.Given as goal
+
+abbrev pub invariant-loop-member : goal.invariant-loop-member
+invariant-loop-member l = l.all
+    ≡ flat_map (spec.fields_of l.script.explicit (page_seen l.script.page.now) l.script.names.now)
+    (take l.member-index l.members)

@@ -1,0 +1,6 @@
+pub mod Names
+pub mod Members
+pub mod Tables
+pub mod Uses
+pub mod Checking
+pub mod Answers

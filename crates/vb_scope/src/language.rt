@@ -1,0 +1,211 @@
+//! The names that the language has, and the objects that a page is given.
+ghost use Rattle.std.specs.Prelude.{◌≡◌, map};
+ghost use Rattle.std.specs.Option.{option_copied};
+ghost use Rattle.vb_value.specs.Outcome.{Gives};
+ghost use Rattle.vb_syntax.specs.ScopeNames as spec;
+ghost use Rattle.vb_syntax.specs.ScopeNames.{same_name, beside};
+
+use std::alloc::Global;
+use vb_syntax::program::Named;
+use vb_syntax::{Literal, PageObject};
+use vb_value::{List, Memory, PlainFn, StrFn};
+
+/// The functions on texts.
+const STRING_FUNCTIONS: [(&[u8], StrFn); 22] = [
+    (b"len", StrFn::Len),
+    (b"left", StrFn::Left),
+    (b"right", StrFn::Right),
+    (b"mid", StrFn::Mid),
+    (b"instr", StrFn::InStr),
+    (b"instrrev", StrFn::InStrRev),
+    (b"lcase", StrFn::LCase),
+    (b"ucase", StrFn::UCase),
+    (b"trim", StrFn::Trim),
+    (b"ltrim", StrFn::LTrim),
+    (b"rtrim", StrFn::RTrim),
+    (b"replace", StrFn::Replace),
+    (b"split", StrFn::Split),
+    (b"join", StrFn::Join),
+    (b"strreverse", StrFn::StrReverse),
+    (b"space", StrFn::Space),
+    (b"string", StrFn::String),
+    (b"strcomp", StrFn::StrComp),
+    (b"asc", StrFn::Asc),
+    (b"ascw", StrFn::AscW),
+    (b"chr", StrFn::Chr),
+    (b"chrw", StrFn::ChrW),
+];
+
+/// The other functions but `TypeName` and `CreateObject`.
+const PLAIN_FUNCTIONS: [(&[u8], PlainFn); 20] = [
+    (b"abs", PlainFn::Abs),
+    (b"int", PlainFn::Int),
+    (b"fix", PlainFn::Fix),
+    (b"sgn", PlainFn::Sgn),
+    (b"cbool", PlainFn::CBool),
+    (b"ccur", PlainFn::CCur),
+    (b"cint", PlainFn::CInt),
+    (b"clng", PlainFn::CLng),
+    (b"cstr", PlainFn::CStr),
+    (b"hex", PlainFn::Hex),
+    (b"oct", PlainFn::Oct),
+    (b"isarray", PlainFn::IsArray),
+    (b"isempty", PlainFn::IsEmpty),
+    (b"isnull", PlainFn::IsNull),
+    (b"isobject", PlainFn::IsObject),
+    (b"isnumeric", PlainFn::IsNumeric),
+    (b"vartype", PlainFn::VarType),
+    (b"array", PlainFn::Array),
+    (b"ubound", PlainFn::UBound),
+    (b"lbound", PlainFn::LBound),
+];
+
+/// The constants that are Integers.
+const INTEGERS: [(&[u8], i16); 14] = [
+    (b"vbtrue", -1),
+    (b"vbfalse", 0),
+    (b"vbbinarycompare", 0),
+    (b"vbtextcompare", 1),
+    (b"vbempty", 0),
+    (b"vbnull", 1),
+    (b"vbinteger", 2),
+    (b"vblong", 3),
+    (b"vbcurrency", 6),
+    (b"vbstring", 8),
+    (b"vbobject", 9),
+    (b"vbboolean", 11),
+    (b"vbvariant", 12),
+    (b"vbarray", 8192),
+];
+
+/// The objects that a page is given.
+const PAGE_OBJECTS: [(&[u8], PageObject); 5] = [
+    (b"request", PageObject::Request),
+    (b"response", PageObject::Response),
+    (b"server", PageObject::Server),
+    (b"session", PageObject::Session),
+    (b"application", PageObject::Application),
+];
+
+/// `vbObjectError`
+const OBJECT_ERROR: i32 = -2147221504;
+
+/// Whether a name is a word, in any ASCII case.
+pub fn is_word(word: &[u8], name: &[char]) -> bool
+    ensures { result ≡ same_name word.now name.now }
+{
+    if word.len() != name.len() {
+        return false;
+    }
+    for i in 0..word.len() {
+        if word[i].to_ascii_lowercase() as u32 != name[i].to_ascii_lowercase() as u32 {
+            return false;
+        }
+    }
+    true
+}
+
+/// What stands beside a name in a table.
+pub fn among<T: Copy>(mut table: &[(&[u8], T)], name: &[char]) -> Option<T>
+    ensures { result ≡ beside (map (λ entry. (entry.0.now, entry.1)) table.entry.now) name.now }
+{
+    while let [entry, rest @ ..] = table {
+        if is_word(entry.0, name) {
+            return Some(entry.1);
+        }
+        table = rest;
+    }
+    None
+}
+
+fn string_function(name: &[char]) -> Option<StrFn>
+    ensures { result ≡ beside spec.string_functions name.now }
+{
+    among(&STRING_FUNCTIONS, name)
+}
+
+fn plain_function(name: &[char]) -> Option<PlainFn>
+    ensures { result ≡ beside spec.plain_functions name.now }
+{
+    among(&PLAIN_FUNCTIONS, name)
+}
+
+fn integer(name: &[char]) -> Option<i16>
+    ensures { result ≡ beside spec.integers name.now }
+{
+    among(&INTEGERS, name)
+}
+
+#[tactic(auto, unfolding(vb_syntax::specs::ScopeNames::object_named))]
+/// The object of a page that a name stands for, where nothing declares it (ASP 3.0 object reference).
+pub fn object_named(name: &[char]) -> Option<PageObject>
+    ensures { result ≡ spec.object_named name.now }
+{
+    among(&PAGE_OBJECTS, name)
+}
+
+fn text(name: &[char]) -> Option<&'static [char]>
+    ensures { option_copied result ≡ beside spec.texts name.now }
+{
+    if is_word(b"vbcr", name) {
+        return Some(&['\r']);
+    }
+    if is_word(b"vblf", name) {
+        return Some(&['\n']);
+    }
+    if is_word(b"vbcrlf", name) {
+        return Some(&['\r', '\n']);
+    }
+    if is_word(b"vbnewline", name) {
+        return Some(&['\r', '\n']);
+    }
+    if is_word(b"vbtab", name) {
+        return Some(&['\t']);
+    }
+    if is_word(b"vbnullchar", name) {
+        return Some(&['\0']);
+    }
+    if is_word(b"vbnullstring", name) {
+        return Some(&[]);
+    }
+    None
+}
+
+fn further(name: &[char]) -> Option<Named>
+    ensures { result ≡ spec.further_names name.now }
+{
+    if is_word(b"typename", name) {
+        return Some(Named::TypeName);
+    }
+    if is_word(b"createobject", name) {
+        return Some(Named::CreateObject);
+    }
+    if is_word(b"err", name) {
+        return Some(Named::Err);
+    }
+    if is_word(b"vbobjecterror", name) {
+        return Some(Named::Value(Literal::Long(OBJECT_ERROR)));
+    }
+    None
+}
+
+#[tactic(auto, unfolding(vb_syntax::specs::ScopeNames::of_language))]
+/// What a name of the language stands for (VBScript 5.6 language reference, "Functions" and "Constants").
+pub fn of_language(alloc: Global, name: &[char]) -> Result<Option<Named>, Memory>
+    ensures { Gives result (spec.of_language name.now) }
+{
+    if let Some(found) = string_function(name) {
+        return Ok(Some(Named::StringFunction(found)));
+    }
+    if let Some(found) = plain_function(name) {
+        return Ok(Some(Named::PlainFunction(found)));
+    }
+    if let Some(number) = integer(name) {
+        return Ok(Some(Named::Value(Literal::Integer(number))));
+    }
+    if let Some(characters) = text(name) {
+        let text = List::from_slice(alloc, characters)?;
+        return Ok(Some(Named::Value(Literal::Text(text))));
+    }
+    Ok(further(name))
+}

@@ -1,0 +1,9 @@
+//! Trees in which each name is what it stands for.
+
+mod expressions;
+mod heads;
+mod simple;
+mod statements;
+mod units;
+
+pub use units::{Script, own_statements, page_classes, page_procedures};

@@ -1,0 +1,136 @@
+//! Where paths begin.
+ghost use Rattle.std.specs.Prelude.{◌≡◌, map, false, true};
+ghost use Rattle.vb_value.specs.Outcome.{Gives};
+ghost use Rattle.vb_syntax.specs.ScopeTrees as spec;
+ghost use Rattle.vb_syntax.specs.Scopes.{name_number};
+ghost use Rattle.vb_syntax.specs.ScopeMembers.{member_meant};
+ghost use Rattle.vb_syntax.specs.ScopeNames.{number_in};
+ghost use Rattle.vb_syntax.specs.ScopeNotes.{is_group};
+ghost use Rattle.vb_scope.specs.Tables.{scopes_seen};
+
+use crate::members::{err_meant, member_meant};
+use crate::names::Names;
+use crate::tables::Tables;
+use std::alloc::Global;
+use vb_syntax::program::{Head, Named};
+use vb_syntax::{PageObject, PathHead, PathUse, Shape};
+use vb_value::{Memory, Text, fold};
+
+/// All names of the script, and the scopes around a place.
+#[derive(Clone, Copy)]
+pub struct Place<'a> {
+    pub alloc: Global,
+    pub names: &'a Names,
+    pub tables: Tables<'a>,
+}
+
+/// The number of a name among all names.
+pub fn name_number(alloc: Global, names: &Names, name: &Text) -> Result<u32, Memory>
+    ensures { Gives result (name_number names.now name.now) }
+{
+    let key = fold(alloc, name)?;
+    Ok(names.number(&key).unwrap_or(0))
+}
+
+/// The same at a place.
+pub fn number(place: Place<'_>, name: &Text) -> Result<u32, Memory>
+    ensures { Gives result (name_number place.entry.names.now name.now) }
+{
+    name_number(place.alloc, place.names, name)
+}
+
+/// The number of a class.
+pub fn class_number(place: Place<'_>, class: &Text) -> Result<Option<u32>, Memory>
+    ensures { Gives result (number_in (scopes_seen place.entry.tables).page.classes class.now) }
+{
+    let key = fold(place.alloc, class)?;
+    Ok(place.tables.page.classes.number(&key))
+}
+
+/// Whether a path calls its head.
+fn is_called(used: PathUse, steps: &[Shape]) -> bool
+    ensures { result ≡ spec.is_called used steps.now }
+{
+    match steps {
+        [] => used == PathUse::Callee,
+        [Shape::Group, ..] => true,
+        [Shape::Member(_), ..] => false,
+    }
+}
+
+/// Whether a For Each goes over a path.
+fn is_group(used: PathUse) -> bool
+    ensures { result ≡ is_group used }
+{
+    match used {
+        PathUse::Group => true,
+        PathUse::Value | PathUse::Target | PathUse::Callee => false,
+    }
+}
+
+/// A path that begins with what a name stands for, or with a member of Err.
+fn named_head(named: Named, steps: &[Shape]) -> (Head, usize)
+    ensures { result ≡ spec.named_head named steps.now }
+{
+    match named {
+        Named::Err => {
+            let (member, count) = err_meant(steps);
+            (Head::Err(member), count)
+        }
+        named => (Head::Named(named), 0),
+    }
+}
+
+/// A path that begins with a member of an object of the page.
+fn member_head(
+    place: Place<'_>,
+    used: PathUse,
+    name: &Text,
+    steps: &[Shape],
+    object: PageObject,
+) -> Result<(Head, usize), Memory>
+    ensures { Gives result (spec.member_head place.entry.names.now (scopes_seen place.entry.tables) name.now
+        (member_meant object (is_group used) steps.now)) }
+{
+    match member_meant(object, is_group(used), steps) {
+        Some((member, count)) => Ok((Head::Member(member), count)),
+        None => Ok((Head::Named(Named::Unknown(number(place, name)?)), 0)),
+    }
+}
+
+/// A path that begins with a name.
+fn name_head(
+    place: Place<'_>,
+    used: PathUse,
+    name: &Text,
+    steps: &[Shape],
+) -> Result<(Head, usize), Memory>
+    ensures { Gives result (spec.name_head place.entry.names.now (scopes_seen place.entry.tables) used name.now
+        steps.now) }
+{
+    match place.tables.object(place.alloc, name)? {
+        Some(object) => member_head(place, used, name, steps, object),
+        None => {
+            let called = is_called(used, steps);
+            let named = place.tables.named(place.alloc, place.names, called, name)?;
+            Ok(named_head(named, steps))
+        }
+    }
+}
+
+/// Where a path begins, and how many of its steps say so.
+pub fn head(
+    place: Place<'_>,
+    used: PathUse,
+    head: &PathHead,
+    steps: &[Shape],
+) -> Result<(Head, usize), Memory>
+    ensures { Gives result (spec.head_of place.entry.names.now (scopes_seen place.entry.tables) used head.now
+        steps.now) }
+{
+    match head {
+        PathHead::Name(name) => name_head(place, used, name, steps),
+        PathHead::Me => Ok((Head::Me, 0)),
+        PathHead::With(name) => Ok((Head::With(number(place, name)?), 0)),
+    }
+}

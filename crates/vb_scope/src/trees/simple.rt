@@ -1,0 +1,189 @@
+//! Parts of statements, and the statements that hold no other.
+ghost use Rattle.std.specs.Prelude.{◌≡◌, map, false};
+ghost use Rattle.vb_value.specs.Outcome.{Gives};
+ghost use Rattle.vb_syntax.specs.ScopeTrees as spec;
+ghost use Rattle.vb_syntax.specs.declared.statement.StatementKind.TheOpen as layer;
+ghost use Rattle.vb_scope.specs.Tables.{scopes_seen};
+
+use crate::trees::expressions::{expression, expressions, path};
+use crate::trees::heads::Place;
+use vb_syntax::program::{
+    Condition as ResolvedCondition, Expression as Resolved, Named,
+    Repetition as ResolvedRepetition, Resized as ResolvedResized, StatementKind as ResolvedKind,
+};
+use vb_syntax::{Condition, Expression, Path, PathUse, Repetition, Resized, StatementKind as Kind};
+use vb_value::{List, Memory, Text};
+
+/// What a name stands for that is written alone.
+pub fn target(place: Place<'_>, name: &Text) -> Result<Named, Memory>
+    ensures { Gives result (spec.target_of place.entry.names.now (scopes_seen place.entry.tables) name.now) }
+{
+    place.tables.named(place.alloc, place.names, false, name)
+}
+
+/// What names stand for that are written alone.
+pub fn targets(place: Place<'_>, names: &[Text]) -> Result<List<Named>, Memory>
+    ensures { Gives result
+        (map (spec.target_of place.entry.names.now (scopes_seen place.entry.tables)) names.now) }
+{
+    let mut all = List::with_capacity(place.alloc, names.len())?;
+    for name in names {
+        all.push(target(place, name)?)?;
+    }
+    Ok(all)
+}
+
+/// An array that gets new bounds.
+fn resized(place: Place<'_>, found: &Resized) -> Result<ResolvedResized, Memory>
+    ensures { Gives result (spec.resized_of place.entry.names.now (scopes_seen place.entry.tables) found.now) }
+{
+    Ok(ResolvedResized {
+        name: target(place, &found.name)?,
+        bounds: expressions(place, found.bounds.as_slice())?,
+    })
+}
+
+/// Arrays that get new bounds.
+pub fn arrays(place: Place<'_>, found: &[Resized]) -> Result<List<ResolvedResized>, Memory>
+    ensures { Gives result
+        (map (spec.resized_of place.entry.names.now (scopes_seen place.entry.tables)) found.now) }
+{
+    let mut all = List::with_capacity(place.alloc, found.len())?;
+    for array in found {
+        all.push(resized(place, array)?)?;
+    }
+    Ok(all)
+}
+
+/// An expression, where there is one.
+pub fn optional(place: Place<'_>, found: &Option<Expression>) -> Result<Option<Resolved>, Memory>
+    ensures { Gives result (spec.optional_of place.entry.names.now (scopes_seen place.entry.tables) found.now) }
+{
+    match found {
+        None => Ok(None),
+        Some(found) => Ok(Some(expression(place, found)?)),
+    }
+}
+
+/// The expression that a For Each goes over.
+pub fn group(place: Place<'_>, found: &Expression) -> Result<Resolved, Memory>
+    ensures { Gives result (spec.group_of place.entry.names.now (scopes_seen place.entry.tables) found.now) }
+{
+    match found {
+        Expression::Path(found) => Ok(Resolved::Path(path(place, found, PathUse::Group)?)),
+        _ => expression(place, found),
+    }
+}
+
+/// The condition of a `Do`.
+fn condition(place: Place<'_>, found: &Condition) -> Result<ResolvedCondition, Memory>
+    ensures { Gives result (spec.condition_of place.entry.names.now (scopes_seen place.entry.tables) found.now) }
+{
+    Ok(ResolvedCondition {
+        is_until: found.is_until,
+        test: expression(place, &found.test)?,
+    })
+}
+
+/// Which condition a `Do` has.
+pub fn repetition(place: Place<'_>, found: &Repetition) -> Result<ResolvedRepetition, Memory>
+    ensures { Gives result (spec.repetition_of place.entry.names.now (scopes_seen place.entry.tables) found.now) }
+{
+    match found {
+        Repetition::Endless => Ok(ResolvedRepetition::Endless),
+        Repetition::Before(found) => Ok(ResolvedRepetition::Before(condition(place, found)?)),
+        Repetition::After {
+            line,
+            condition: found,
+        } => Ok(ResolvedRepetition::After {
+            line: *line,
+            condition: condition(place, found)?,
+        }),
+    }
+}
+
+/// A `ReDim`.
+pub fn redim(
+    place: Place<'_>,
+    preserve: bool,
+    found: &List<Resized>,
+) -> Result<ResolvedKind, Memory>
+    ensures { Gives result (spec.kind_layer place.entry.names.now (scopes_seen place.entry.tables)
+        (layer.ReDim preserve found.now)) }
+{
+    Ok(ResolvedKind::ReDim {
+        preserve,
+        arrays: arrays(place, found.as_slice())?,
+    })
+}
+
+/// A `Set`.
+pub fn set(place: Place<'_>, target: &Path, value: &Expression) -> Result<ResolvedKind, Memory>
+    ensures { Gives result (spec.kind_layer place.entry.names.now (scopes_seen place.entry.tables)
+        (layer.Set target.now value.now)) }
+{
+    Ok(ResolvedKind::Set {
+        target: path(place, target, PathUse::Target)?,
+        value: expression(place, value)?,
+    })
+}
+
+/// An assignment.
+pub fn assignment(
+    place: Place<'_>,
+    target: &Path,
+    value: &Expression,
+) -> Result<ResolvedKind, Memory>
+    ensures { Gives result (spec.kind_layer place.entry.names.now (scopes_seen place.entry.tables)
+        (layer.Assign target.now value.now)) }
+{
+    Ok(ResolvedKind::Assign {
+        target: path(place, target, PathUse::Target)?,
+        value: expression(place, value)?,
+    })
+}
+
+/// A call with arguments.
+pub fn call(
+    place: Place<'_>,
+    callee: &Path,
+    given: &List<Expression>,
+) -> Result<ResolvedKind, Memory>
+    ensures { Gives result (spec.kind_layer place.entry.names.now (scopes_seen place.entry.tables)
+        (layer.Call callee.now given.now)) }
+{
+    Ok(ResolvedKind::Call {
+        callee: path(place, callee, PathUse::Callee)?,
+        arguments: expressions(place, given.as_slice())?,
+    })
+}
+
+/// A call of a path alone.
+pub fn call_path(place: Place<'_>, callee: &Path) -> Result<ResolvedKind, Memory>
+    ensures { Gives result (spec.kind_layer place.entry.names.now (scopes_seen place.entry.tables)
+        (layer.CallPath callee.now)) }
+{
+    Ok(ResolvedKind::CallPath {
+        callee: path(place, callee, PathUse::Callee)?,
+    })
+}
+
+/// An `Erase`.
+pub fn erase(place: Place<'_>, names: &List<Text>) -> Result<ResolvedKind, Memory>
+    ensures { Gives result (spec.kind_layer place.entry.names.now (scopes_seen place.entry.tables)
+        (layer.Erase names.now)) }
+{
+    Ok(ResolvedKind::Erase {
+        arrays: targets(place, names.as_slice())?,
+    })
+}
+
+/// The value of an expression, written to the page.
+pub fn page_write(place: Place<'_>, value: &Expression) -> Result<ResolvedKind, Memory>
+    ensures { Gives result (spec.kind_layer place.entry.names.now (scopes_seen place.entry.tables)
+        (layer.PageWrite value.now)) }
+{
+    Ok(ResolvedKind::PageWrite {
+        value: expression(place, value)?,
+    })
+}
