@@ -10,9 +10,9 @@ use Rattle.vb_lex.specs.declared.fault.LexStop.TheVariants as words
 use Rattle.vb_parse.specs.Outcome.{Finds}
 use Rattle.vb_parse.specs.declared.fault.ParseStop.{ParseStop}
 use Rattle.vb_parse.specs.declared.fault.ParseStop.TheVariants as grammar
+use Rattle.vb_names.specs.declared.fault.ScopeStop.{ScopeStop}
+use Rattle.vb_names.specs.declared.fault.ScopeStop.TheVariants as scope
 use Rattle.vb_scope.specs.Answers.{IsFault, IsProgram}
-use Rattle.vb_scope.specs.declared.fault.ScopeStop.{ScopeStop}
-use Rattle.vb_scope.specs.declared.fault.ScopeStop.TheVariants as scope
 use Rattle.vb_syntax.specs.Scope.{Resolves}
 use Rattle.vb_syntax.specs.ScopePrograms.{Parts}
 use Rattle.vb_syntax.specs.Units.{Derives}

@@ -12,9 +12,9 @@ use Rattle.vb_syntax.specs.declared.unit.Unit.{Unit as Script}
 use Rattle.vb_parse.specs.Outcome.{IsUnitKind, HasFault as HasGrammarFault}
 use Rattle.vb_parse.specs.declared.fault.ParseStop.{ParseStop}
 use Rattle.vb_parse.specs.declared.fault.ParseStop.TheVariants as grammar
+use Rattle.vb_names.specs.declared.fault.ScopeStop.{ScopeStop}
+use Rattle.vb_names.specs.declared.fault.ScopeStop.TheVariants as scope
 use Rattle.vb_scope.specs.Answers.{parts_of}
-use Rattle.vb_scope.specs.declared.fault.ScopeStop.{ScopeStop}
-use Rattle.vb_scope.specs.declared.fault.ScopeStop.TheVariants as scope
 use Rattle.page_build.specs.declared.fault.ScriptFault.{ScriptFault}
 use Rattle.page_build.specs.declared.fault.ScriptFault.TheVariants.{Words, Grammar, Scope}
 use Rattle.page_build.specs.declared.fault.ScriptStop.{ScriptStop}

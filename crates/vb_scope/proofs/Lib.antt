@@ -1,4 +1,3 @@
-pub mod Numbering
 pub mod Giving
 pub mod TreePaths
 pub mod Programs

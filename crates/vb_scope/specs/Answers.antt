@@ -4,8 +4,8 @@ use Rattle.vb_syntax.specs.declared.program.Program.{Program}
 use Rattle.vb_syntax.specs.declared.unit.Unit.{Unit as Script}
 use Rattle.vb_syntax.specs.Scope.{IsFirstFault}
 use Rattle.vb_syntax.specs.ScopePrograms.{Parts}
-use Rattle.vb_scope.specs.declared.fault.ScopeStop.{ScopeStop}
-use Rattle.vb_scope.specs.declared.fault.ScopeStop.TheVariants.{Fault, Memory}
+use Rattle.vb_names.specs.declared.fault.ScopeStop.{ScopeStop}
+use Rattle.vb_names.specs.declared.fault.ScopeStop.TheVariants.{Fault, Memory}
 
 -- the parts of a program
 abbrev pub parts_of : Program → Parts

@@ -1,6 +1,1 @@
-pub mod Names
-pub mod Members
-pub mod Tables
-pub mod Uses
-pub mod Checking
 pub mod Answers

@@ -6,18 +6,15 @@ ghost use Rattle.vb_syntax.specs.ScopeFaults.{faults_of, names_of};
 ghost use Rattle.vb_syntax.specs.ScopePrograms.{Parts, program_of};
 ghost use Rattle.vb_syntax.specs.ScopeUnits as units;
 ghost use Rattle.vb_syntax.specs.Scopes.{page_scope, page_variables, constant_values, constants_in};
+ghost use Rattle.vb_names.specs.Checking.{Finds};
+ghost use Rattle.vb_names.specs.Tables.{page_seen};
 ghost use Rattle.vb_scope.specs.Answers.{IsFault, IsProgram, parts_of};
-ghost use Rattle.vb_scope.specs.Checking.{Finds};
-ghost use Rattle.vb_scope.specs.Tables.{page_seen};
 
-use crate::checks::DeclaredNames;
-use crate::fault::ScopeStop;
-use crate::names::Names;
-use crate::page_scope::{PageParts, page_notes, page_parts};
-use crate::tables::PageTable;
 use crate::trees::{Script, own_statements, page_classes, page_procedures};
-use crate::unit_checks::check_items;
 use std::alloc::Global;
+use vb_names::{
+    DeclaredNames, Names, PageParts, PageTable, ScopeStop, check_items, page_notes, page_parts,
+};
 use vb_syntax::Unit;
 use vb_syntax::program::{Program, Unit as ResolvedUnit};
 use vb_value::Memory;

@@ -3,7 +3,7 @@ ghost use Rattle.std.specs.Prelude.{◌≡◌, map};
 ghost use Rattle.vb_value.specs.Outcome.{Gives};
 ghost use Rattle.vb_syntax.specs.ScopeTrees as spec;
 ghost use Rattle.vb_notes.specs.Outcome.{Adds};
-ghost use Rattle.vb_scope.specs.Tables.{scopes_seen};
+ghost use Rattle.vb_names.specs.Tables.{scopes_seen};
 
 use crate::trees::heads::{Place, class_number, head, number};
 use vb_notes::{copy_literal, shapes};

@@ -6,12 +6,10 @@ ghost use Rattle.vb_syntax.specs.Scopes.{name_number};
 ghost use Rattle.vb_syntax.specs.ScopeMembers.{member_meant};
 ghost use Rattle.vb_syntax.specs.ScopeNames.{number_in};
 ghost use Rattle.vb_syntax.specs.ScopeNotes.{is_group};
-ghost use Rattle.vb_scope.specs.Tables.{scopes_seen};
+ghost use Rattle.vb_names.specs.Tables.{scopes_seen};
 
-use crate::members::{err_meant, member_meant};
-use crate::names::Names;
-use crate::tables::Tables;
 use std::alloc::Global;
+use vb_names::{Names, Tables, err_meant, member_meant};
 use vb_syntax::program::{Head, Named};
 use vb_syntax::{PageObject, PathHead, PathUse, Shape};
 use vb_value::{Memory, Text, fold};

@@ -4,7 +4,7 @@ ghost use Rattle.std.specs.Option.{option_map};
 ghost use Rattle.vb_value.specs.Outcome.{Gives};
 ghost use Rattle.vb_syntax.specs.ScopeTrees as spec;
 ghost use Rattle.vb_syntax.specs.declared.statement.StatementKind.TheOpen as layer;
-ghost use Rattle.vb_scope.specs.Tables.{scopes_seen};
+ghost use Rattle.vb_names.specs.Tables.{scopes_seen};
 
 use crate::trees::expressions::{expression, expressions};
 use crate::trees::heads::Place;

@@ -9,14 +9,14 @@ ghost use Rattle.vb_syntax.specs.ScopeUnits as units;
 ghost use Rattle.vb_syntax.specs.Scopes.{on_page_in};
 ghost use Rattle.vb_notes.specs.Bodies.{body_seen};
 ghost use Rattle.vb_notes.specs.Outcome.{Adds};
-ghost use Rattle.vb_scope.specs.Tables.{page_seen, class_seen};
+ghost use Rattle.vb_names.specs.Tables.{page_seen, class_seen};
 
-use crate::names::Names;
-use crate::scopes::{BodyParts, body_notes, body_parts, class_table};
-use crate::tables::{BodyTable, ClassTable, PageTable, Tables};
 use crate::trees::heads::{Place, name_number};
 use crate::trees::statements::{block, statement};
 use std::alloc::Global;
+use vb_names::{
+    BodyParts, BodyTable, ClassTable, Names, PageTable, Tables, body_notes, body_parts, class_table,
+};
 use vb_notes::{Body, body_of, body_of_property, copy_bounds};
 use vb_syntax::program::{
     Class as ResolvedClass, Field, Procedure as ResolvedProcedure, ProcedureKind as ResolvedKind,

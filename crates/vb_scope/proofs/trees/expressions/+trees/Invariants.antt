@@ -1,6 +1,6 @@
 use Rattle.std.proofs.Common.{◌≡◌, ◌++◌, drop, map, take}
 use Rattle.vb_syntax.specs.ScopeTrees as spec
-use Rattle.vb_scope.specs.Tables.{scopes_seen}
+use Rattle.vb_names.specs.Tables.{scopes_seen}
 use Rattle.vb_scope.proofs.trees.expressions.+trees.Given as goal
 
 abbrev pub invariant-expressions-loop-one : goal.invariant-expressions-loop-one

@@ -1,6 +1,6 @@
 use Rattle.std.proofs.Common.{◌≡◌, map, take}
 use Rattle.vb_syntax.specs.ScopeTrees as spec
-use Rattle.vb_scope.specs.Tables.{scopes_seen}
+use Rattle.vb_names.specs.Tables.{scopes_seen}
 use Rattle.vb_scope.proofs.trees.simple.arrays.Given as goal
 
 abbrev pub invariant-loop-array : goal.invariant-loop-array

@@ -2,7 +2,7 @@ use Rattle.std.proofs.Common.{◌≡◌, map, take, ◌*◌, ◌+◌, ◌-◌}
 use Rattle.vb_syntax.specs.declared.statement.StatementKind.{size-StatementKind}
 use Rattle.vb_syntax.specs.declared.statement.StatementKind.TheVariants as st
 use Rattle.vb_syntax.specs.ScopeTrees as spec
-use Rattle.vb_scope.specs.Tables.{scopes_seen}
+use Rattle.vb_names.specs.Tables.{scopes_seen}
 use Rattle.vb_scope.proofs.trees.statements.+blocks.Given as goal
 
 abbrev pub invariant-block-loop-one : goal.invariant-block-loop-one

@@ -1,6 +1,6 @@
 use Rattle.std.proofs.Common.{◌≡◌, ◌++◌, map, take}
 use Rattle.vb_syntax.specs.ScopePrograms as spec
-use Rattle.vb_scope.specs.Tables.{page_seen}
+use Rattle.vb_names.specs.Tables.{page_seen}
 use Rattle.vb_scope.proofs.trees.units.push_declared_fields.Given as goal
 
 abbrev pub invariant-loop-field : goal.invariant-loop-field

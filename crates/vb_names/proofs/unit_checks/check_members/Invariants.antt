@@ -1,0 +1,16 @@
+use Rattle.std.proofs.Common.{◌≡◌, length}
+use Rattle.vb_syntax.specs.ScopeFaults as spec
+use Rattle.vb_names.specs.Checking.{so_far}
+use Rattle.vb_names.specs.Tables.{page_seen, class_seen}
+use Rattle.vb_names.proofs.unit_checks.check_members.Given as goal
+
+abbrev pub invariant-loop-members : goal.invariant-loop-members
+invariant-loop-members l =
+    (spec.members_faults l.explicit (page_seen l.page) (class_seen l.class) (so_far l.names l.declared) l.members
+    ≡ spec.members_faults l.explicit (page_seen l.page) (class_seen l.class)
+    (so_far l.initial.names l.initial.declared) l.initial.members)
+    × (spec.after_members (so_far l.names l.declared) l.members
+    ≡ spec.after_members (so_far l.initial.names l.initial.declared) l.initial.members)
+
+abbrev pub decreases-loop-members : goal.decreases-loop-members
+decreases-loop-members l = length l.members

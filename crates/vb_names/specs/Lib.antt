@@ -1,0 +1,5 @@
+pub mod Names
+pub mod Members
+pub mod Tables
+pub mod Uses
+pub mod Checking

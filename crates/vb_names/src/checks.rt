@@ -1,0 +1,237 @@
+//! The faults of what is said in a scope.
+ghost use Rattle.std.specs.Prelude.{◌≡◌, ◌∷◌, ◌++◌, [], false, IfOk, OnOk};
+ghost use Rattle.vb_value.specs.Outcome.{Gives};
+ghost use Rattle.vb_syntax.specs.ScopeFaults as spec;
+ghost use Rattle.vb_syntax.specs.ScopeNames.{add_name};
+ghost use Rattle.vb_syntax.specs.Scopes.{named_in};
+ghost use Rattle.vb_names.specs.Checking.{Finds, declared_seen, so_far};
+ghost use Rattle.vb_names.specs.Tables.{scopes_seen};
+
+use crate::declared::push_name;
+use crate::fault::ScopeStop;
+use crate::members::member_meant;
+use crate::names::Names;
+use crate::tables::Tables;
+use crate::undeclared::{add, has};
+use std::alloc::Global;
+use vb_syntax::program::Named;
+use vb_syntax::{Note, NoteKind, PropertyKind, ScopeFault, Shape};
+use vb_value::{Memory, Text};
+
+/// How many names a script may have.
+const MOST_NAMES: usize = 65_535;
+
+/// The names that a scope declares so far.
+#[derive(Debug, Drop)]
+pub struct DeclaredNames {
+    /// All names but those of properties.
+    pub others: Names,
+    /// The names of properties that can be read.
+    pub gets: Names,
+    /// The names of properties that values can be assigned to.
+    pub lets: Names,
+    /// The names of properties that objects can be assigned to.
+    pub sets: Names,
+}
+
+impl DeclaredNames {
+    /// No names.
+    pub fn new(alloc: Global) -> DeclaredNames
+        ensures { declared_seen result ≡ (spec.fresh []).declared }
+    {
+        DeclaredNames {
+            others: Names::new(alloc),
+            gets: Names::new(alloc),
+            lets: Names::new(alloc),
+            sets: Names::new(alloc),
+        }
+    }
+}
+
+/// A fault in a line.
+fn refuse(kind: ScopeFault, line: u32) -> Result<(), ScopeStop>
+    ensures { Finds result (spec.in_line line (kind ∷ [])) }
+{
+    Err(ScopeStop::Fault { kind, line })
+}
+
+/// Whether a name is declared already.
+fn is_declared(
+    declared: &DeclaredNames,
+    name: &Text,
+    accessor: Option<PropertyKind>,
+) -> Result<bool, Memory>
+    ensures { Gives result (spec.is_declared (declared_seen declared.now) name.now accessor) }
+{
+    let others = has(&declared.others, name)?;
+    let gets = has(&declared.gets, name)?;
+    let lets = has(&declared.lets, name)?;
+    let sets = has(&declared.sets, name)?;
+    match accessor {
+        None => Ok(others || gets || lets || sets),
+        Some(PropertyKind::Get) => Ok(others || gets),
+        Some(PropertyKind::Let) => Ok(others || lets),
+        Some(PropertyKind::Set) => Ok(others || sets),
+    }
+}
+
+/// Adds a declaration.
+fn declare(
+    declared: &mut DeclaredNames,
+    name: &Text,
+    accessor: Option<PropertyKind>,
+) -> Result<(), Memory>
+    ensures { IfOk result (λ _. declared_seen declared.new
+        ≡ spec.declare (declared_seen declared.old) name.now accessor) }
+{
+    match accessor {
+        None => push_name(&mut declared.others, name),
+        Some(PropertyKind::Get) => push_name(&mut declared.gets, name),
+        Some(PropertyKind::Let) => push_name(&mut declared.lets, name),
+        Some(PropertyKind::Set) => push_name(&mut declared.sets, name),
+    }
+}
+
+/// Checks a name of the script, and adds it to the names so far.
+fn check_name(names: &mut Names, line: u32, name: &Text) -> Result<(), ScopeStop>
+    ensures faults { Finds result (spec.in_line line (spec.name_faults names.old name.now)) }
+    ensures after { OnOk result (names.new ≡ add_name names.old name.now) }
+{
+    if names.len() >= MOST_NAMES && !has(names, name)? {
+        return refuse(ScopeFault::TooMany, line);
+    }
+    add(names, name)?;
+    Ok(())
+}
+
+/// Checks a declaration.
+fn check_declaration(
+    names: &mut Names,
+    declared: &mut DeclaredNames,
+    line: u32,
+    name: &Text,
+    accessor: Option<PropertyKind>,
+) -> Result<(), ScopeStop>
+    ensures faults { Finds result
+        (spec.in_line line (spec.declaration_faults (so_far names.old declared.old) name.now accessor)) }
+    ensures after { OnOk result (so_far names.new declared.new
+        ≡ spec.behind_declaration (so_far names.old declared.old) name.now accessor) }
+{
+    if is_declared(declared, name, accessor)? {
+        return refuse(ScopeFault::Redefined, line);
+    }
+    check_name(names, line, name)?;
+    declare(declared, name, accessor)?;
+    Ok(())
+}
+
+/// Whether a name stands for a constant.
+fn is_constant(named: &Named) -> bool
+    ensures { result ≡ spec.is_constant named.now }
+{
+    match named {
+        Named::PageConstant(_) | Named::LocalConstant(_) | Named::Value(_) => true,
+        _ => false,
+    }
+}
+
+/// Checks a name that is written alone.
+fn check_write(
+    names: &mut Names,
+    tables: Tables<'_>,
+    line: u32,
+    name: &Text,
+) -> Result<(), ScopeStop>
+    ensures faults { Finds result (spec.in_line line
+        (spec.write_faults (scopes_seen tables.entry) names.old name.now)) }
+    ensures after { OnOk result (names.new ≡ add_name names.old name.now) }
+{
+    let alloc = *name.allocator();
+    let none = Names::new(alloc);
+    if is_constant(&tables.named(alloc, &none, false, name)?) {
+        return refuse(ScopeFault::ConstTarget, line);
+    }
+    if tables.object(alloc, name)?.is_some() {
+        return refuse(ScopeFault::BadMember, line);
+    }
+    check_name(names, line, name)
+}
+
+/// Whether a name is an object of the page, and stands without a member that it has.
+fn is_bare(tables: Tables<'_>, name: &Text, steps: &[Shape], is_group: bool) -> Result<bool, Memory>
+    ensures { Gives result (spec.is_bare (scopes_seen tables.entry) name.now steps.now is_group) }
+{
+    match tables.object(*name.allocator(), name)? {
+        None => Ok(false),
+        Some(object) => Ok(member_meant(object, is_group, steps).is_none()),
+    }
+}
+
+/// Checks a name at the head of a path.
+fn check_use(
+    names: &mut Names,
+    tables: Tables<'_>,
+    line: u32,
+    name: &Text,
+    steps: &[Shape],
+    is_group: bool,
+) -> Result<(), ScopeStop>
+    ensures faults { Finds result (spec.in_line line
+        (spec.use_faults (scopes_seen tables.entry) names.old name.now steps.now is_group)) }
+    ensures after { OnOk result (names.new ≡ add_name names.old name.now) }
+{
+    if is_bare(tables, name, steps, is_group)? {
+        return refuse(ScopeFault::BadMember, line);
+    }
+    check_name(names, line, name)
+}
+
+/// Checks what is said at one place.
+fn check_kind(
+    names: &mut Names,
+    declared: &mut DeclaredNames,
+    tables: Tables<'_>,
+    line: u32,
+    kind: &NoteKind,
+) -> Result<(), ScopeStop>
+    ensures faults { Finds result (spec.in_line line
+        (spec.kind_faults (scopes_seen tables.entry) (so_far names.old declared.old) kind.now)) }
+    ensures after { OnOk result (so_far names.new declared.new
+        ≡ spec.after_kind (so_far names.old declared.old) kind.now) }
+{
+    match kind {
+        NoteKind::Fault(found) => refuse(*found, line),
+        NoteKind::Variable(found) => check_declaration(names, declared, line, &found.name, None),
+        NoteKind::Constant(found) => check_declaration(names, declared, line, &found.name, None),
+        NoteKind::Procedure { name, accessor } => {
+            check_declaration(names, declared, line, name, *accessor)
+        }
+        NoteKind::Use {
+            name,
+            steps,
+            is_group,
+        } => { check_use(names, tables, line, name, steps.as_slice(), *is_group) }
+        NoteKind::Write(name) => check_write(names, tables, line, name),
+        NoteKind::Resize(name) => check_write(names, tables, line, name),
+        NoteKind::Mention(name) => check_name(names, line, name),
+    }
+}
+
+/// Checks what is said in a scope.
+pub fn check_notes(
+    names: &mut Names,
+    declared: &mut DeclaredNames,
+    tables: Tables<'_>,
+    mut notes: &[Note],
+) -> Result<(), ScopeStop>
+    ensures faults { Finds result
+        (spec.notes_faults (scopes_seen tables.entry) (so_far names.old declared.old) notes.entry.now) }
+    ensures after { OnOk result (so_far names.new declared.new
+        ≡ spec.after_notes (so_far names.old declared.old) notes.entry.now) }
+{
+    while let [note, rest @ ..] = notes {
+        check_kind(names, declared, tables, note.line, &note.kind)?;
+        notes = rest;
+    }
+    Ok(())
+}
