@@ -2,6 +2,7 @@ mod Arrays
 mod Characters
 mod Decimals
 mod Digits
+pub mod LineEnds
 mod Messages
 mod Nearest
 mod Numerals

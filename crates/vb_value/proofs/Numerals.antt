@@ -7,7 +7,8 @@ use Rattle.std.proofs.lemmas.Bool.Decides.{nat_tests}
 use Rattle.std.proofs.lemmas.List.{drop_all, take_all}
 use Rattle.std.proofs.Math.Seq.{take-append_seam, drop-append-add}
 use Rattle.vb_value.specs.Numbers.{as_currency}
-use Rattle.vb_value.specs.NumericText.{is_blank, trimmed, has_minus, unsigned, is_point, whole_digits, decimal_digits}
+use Rattle.vb_value.specs.Characters.{is_blank}
+use Rattle.vb_value.specs.NumericText.{trimmed, has_minus, unsigned, is_point, whole_digits, decimal_digits}
 use Rattle.vb_value.specs.NumericText.{is_numeral, numeral_size, signed, cur_of_text_of}
 use Rattle.vb_value.proofs.AllPass.{both, weaker, all_append, place_none, place_at}
 

@@ -7,7 +7,8 @@ use Rattle.std.proofs.lemmas.List.{reverse-append, reverse-reverse, append_assoc
 use Rattle.std.proofs.lemmas.Bool.Decides.{nat_tests}
 use Rattle.vb_value.specs.Errors.{type_mismatch}
 use Rattle.vb_value.specs.Numbers.{as_currency}
-use Rattle.vb_value.specs.NumericText.{without_first, without_last, is_blank, trimmed, has_minus, unsigned, is_point}
+use Rattle.vb_value.specs.Characters.{is_blank}
+use Rattle.vb_value.specs.NumericText.{without_first, without_last, trimmed, has_minus, unsigned, is_point}
 use Rattle.vb_value.specs.NumericText.{whole_digits, decimal_digits, is_numeral, numeral_size, signed, cur_of_text_of}
 use Rattle.vb_value.specs.NumericText.{IsSign, IsPoint, IsNumericText, FollowsGrammar}
 use Rattle.vb_value.proofs.AllPass.{both, negated, all_append, all_reverse, none_first, joined}

@@ -11,7 +11,8 @@ use Rattle.std.proofs.lemmas.Bool.Decides.{nat_tests}
 use lib.Signed.{mag}
 use Rattle.vb_value.specs.Errors.{overflow}
 use Rattle.vb_value.specs.Numbers.{rounded, as_currency}
-use Rattle.vb_value.specs.NumericText.{without_last, is_blank, trimmed, has_minus, unsigned, is_point}
+use Rattle.vb_value.specs.Characters.{is_blank}
+use Rattle.vb_value.specs.NumericText.{without_last, trimmed, has_minus, unsigned, is_point}
 use Rattle.vb_value.specs.NumericText.{is_numeral, digit_of, number_of}
 use Rattle.vb_value.specs.NumericText.{numeral_size, cur_of_text_of, decimal_text, four_digits}
 use Rattle.vb_value.specs.NumericText.{decimals_text, size_text}

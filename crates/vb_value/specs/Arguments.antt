@@ -3,8 +3,8 @@
 -- asks.
 use Rattle.std.specs.Prelude.{Bool, true, false, if◌then◌else◌, List, [], ◌∷◌, Result, Ok, Err}
 use Rattle.vb_value.specs.declared.fault.VbError.{VbError}
-use Rattle.vb_value.specs.declared.value.Value.{Value, Null}
-use Rattle.vb_value.specs.Errors.{wrong_number, and_then}
+use Rattle.vb_value.specs.declared.value.Value.{Value, Empty, Null, Arr', Obj, Nothing}
+use Rattle.vb_value.specs.Errors.{wrong_number, type_mismatch, unsupported, object_not_set, and_then}
 
 -- the argument of a function that takes one
 abbrev pub the_argument : List Value → Result Value VbError
@@ -19,6 +19,19 @@ of_one function arguments = and_then (the_argument arguments) function
 abbrev pub is_null : Value → Bool
 is_null Null = true
 is_null _ = false
+
+-- whether a value is Empty
+abbrev pub is_empty : Value → Bool
+is_empty Empty = true
+is_empty _ = false
+
+-- the error of a value that is no text, number, Boolean, Empty or Null, which no conversion and no operator but `Is`
+-- takes
+abbrev pub checked : Value → Result (Unit {0}) VbError
+checked (Arr' bounds fixed shape items) = Err type_mismatch
+checked (Obj object) = Err unsupported
+checked Nothing = Err object_not_set
+checked _ = Ok tt
 
 -- Null for Null, and what a function gives for another value
 abbrev pub null_or : (Value → Result Value VbError) → Value → Result Value VbError

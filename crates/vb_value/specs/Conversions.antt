@@ -10,7 +10,7 @@ use Rattle.vb_value.specs.declared.value.Value.{Value, Empty, Null, Bool as Bool
 use Rattle.vb_value.specs.declared.value.Value.{Obj, Nothing}
 use Rattle.vb_value.specs.Errors.{type_mismatch, unsupported, object_not_set, invalid_use_of_null, and_then}
 use Rattle.vb_value.specs.Folding.{folded}
-use Rattle.vb_value.specs.Numbers.{amount_of, whole_of, as_integer, as_long, is_zero, least_number}
+use Rattle.vb_value.specs.Numbers.{amount_of, whole_of, as_integer, long_of, is_zero, least_number}
 use Rattle.vb_value.specs.NumericText.{cur_of_text_of, whole_text, currency_text}
 
 -- a number as a value
@@ -38,7 +38,7 @@ to_int_of value = and_then (to_number_of value) (λ number. as_integer (whole_of
 
 -- a value as a Long, half rounded to even
 abbrev pub to_long_of : Value → Result ℤ VbError
-to_long_of value = and_then (to_number_of value) (λ number. as_long (whole_of number))
+to_long_of value = and_then (to_number_of value) long_of
 
 -- a value as a Currency
 abbrev pub to_cur_of : Value → Result ℤ VbError

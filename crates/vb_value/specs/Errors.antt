@@ -8,9 +8,21 @@ use Rattle.vb_value.specs.declared.fault.VbFault.TheVariants.{Error}
 abbrev pub error : ℕ → VbError
 error number = record { number = pos number }
 
+-- Invalid procedure call or argument
+abbrev pub invalid_call : VbError
+invalid_call = error 5
+
 -- Overflow
 abbrev pub overflow : VbError
 overflow = error 6
+
+-- Subscript out of range
+abbrev pub out_of_range : VbError
+out_of_range = error 9
+
+-- This array is fixed or temporarily locked
+abbrev pub array_is_fixed : VbError
+array_is_fixed = error 10
 
 -- Division by zero
 abbrev pub division_by_zero : VbError
@@ -24,6 +36,10 @@ type_mismatch = error 13
 abbrev pub out_of_string_space : VbError
 out_of_string_space = error 14
 
+-- Out of stack space
+abbrev pub out_of_stack_space : VbError
+out_of_stack_space = error 28
+
 -- Object variable not set
 abbrev pub object_not_set : VbError
 object_not_set = error 91
@@ -36,6 +52,10 @@ invalid_use_of_null = error 94
 abbrev pub object_required : VbError
 object_required = error 424
 
+-- ActiveX component can't create object
+abbrev pub cannot_create_object : VbError
+cannot_create_object = error 429
+
 -- Object doesn't support this property or method
 abbrev pub unsupported : VbError
 unsupported = error 438
@@ -43,6 +63,34 @@ unsupported = error 438
 -- Wrong number of arguments or invalid property assignment
 abbrev pub wrong_number : VbError
 wrong_number = error 450
+
+-- Object not a collection
+abbrev pub not_a_collection : VbError
+not_a_collection = error 451
+
+-- This key is already associated with an element of this collection
+abbrev pub key_exists : VbError
+key_exists = error 457
+
+-- Variable is undefined
+abbrev pub undefined_variable : VbError
+undefined_variable = error 500
+
+-- Illegal assignment
+abbrev pub illegal_assignment : VbError
+illegal_assignment = error 501
+
+-- Class not defined
+abbrev pub undefined_class : VbError
+undefined_class = error 506
+
+-- Header Error
+abbrev pub header_error : VbError
+header_error = error 1156
+
+-- Element not found
+abbrev pub element_not_found : VbError
+element_not_found = error 32811
 
 -- an answer of the language, as a call gives it that may also want memory
 abbrev pub told : {T : Type 0} → Result T VbError → Result T VbFault

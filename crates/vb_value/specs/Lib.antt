@@ -1,8 +1,11 @@
 pub mod Outcome
 pub mod Decoding
+pub mod Characters
 pub mod Folding
+pub mod Lines
 pub mod Errors
 pub mod ErrorText
+pub mod TextLimit
 pub mod Numbers
 pub mod NumericText
 pub mod Conversions

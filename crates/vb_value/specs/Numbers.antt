@@ -48,6 +48,10 @@ whole_of (Int n) = n
 whole_of (Long n) = n
 whole_of (Cur n) = int_rounded 10000 n
 
+-- a number as a whole Long, half rounded to even
+abbrev pub long_of : Number → Result ℤ VbError
+long_of number = as_long (whole_of number)
+
 -- whether a number is 0
 abbrev pub is_zero : ℤ → Bool
 is_zero (pos n) = n == 0

@@ -7,6 +7,7 @@ use Rattle.std.specs.List.{before_first, after_first, list_all}
 use Rattle.std.specs.Char.{is_ascii_digit}
 use Rattle.std.specs.Int.Digits.{number_from_digits, digits_of}
 use Rattle.vb_value.specs.declared.fault.VbError.{VbError}
+use Rattle.vb_value.specs.Characters.{is_blank, plus_sign, minus_sign, full_stop, digit_zero}
 use Rattle.vb_value.specs.Errors.{type_mismatch}
 use Rattle.vb_value.specs.Numbers.{rounded, as_currency}
 
@@ -21,10 +22,6 @@ without_last test items = reverse (without_first test (reverse items))
 
 -- ---- reading
 
--- a space or a tab
-abbrev pub is_blank : ℕ → Bool
-is_blank c = c == 32 || c == 9
-
 -- a text without the blanks at its ends
 abbrev pub trimmed : List ℕ → List ℕ
 trimmed text = without_last is_blank (without_first is_blank text)
@@ -32,16 +29,16 @@ trimmed text = without_last is_blank (without_first is_blank text)
 -- whether a `-` stands first
 abbrev pub has_minus : List ℕ → Bool
 has_minus [] = false
-has_minus (first ∷ rest) = first == 45
+has_minus (first ∷ rest) = first == minus_sign
 
 -- a text without the one `+` or `-` that stands first, if any
 abbrev pub unsigned : List ℕ → List ℕ
 unsigned [] = []
-unsigned (first ∷ rest) = if first == 43 || first == 45 then rest else first ∷ rest
+unsigned (first ∷ rest) = if first == plus_sign || first == minus_sign then rest else first ∷ rest
 
 -- a point
 abbrev pub is_point : ℕ → Bool
-is_point c = c == 46
+is_point c = c == full_stop
 
 -- the characters before the first point
 abbrev pub whole_digits : List ℕ → List ℕ
@@ -58,7 +55,7 @@ is_numeral whole decimals = list_all is_ascii_digit whole && list_all is_ascii_d
 
 -- the number that a digit writes
 abbrev pub digit_of : ℕ → ℕ
-digit_of c = if is_ascii_digit c then c - 48 else 0
+digit_of c = if is_ascii_digit c then c - digit_zero else 0
 
 -- the number that digits write
 unfoldable pub number_of : List ℕ → ℕ
@@ -116,20 +113,22 @@ pub record FollowsGrammar (text : List ℕ) : Type 0 where
 
 -- the digits of a number, highest first and with no zero in front; `0` for 0
 abbrev pub decimal_text : ℕ → List ℕ
-decimal_text n = if n == 0 then 48 ∷ [] else map (λ digit. 48 + digit) (digits_of 10 n)
+decimal_text n = if n == 0 then digit_zero ∷ [] else map (λ digit. digit_zero + digit) (digits_of 10 n)
 
 -- a whole number, with `-` in front of a negative one
 abbrev pub whole_text : ℤ → List ℕ
 whole_text (pos n) = decimal_text n
-whole_text (negsuc n) = 45 ∷ decimal_text (suc n)
+whole_text (negsuc n) = minus_sign ∷ decimal_text (suc n)
 
 -- four digits
 abbrev pub four_digits : ℕ → List ℕ
-four_digits n = (48 + n / 1000) ∷ (48 + n / 100 % 10) ∷ (48 + n / 10 % 10) ∷ (48 + n % 10) ∷ []
+four_digits n =
+    (digit_zero + n / 1000) ∷ (digit_zero + n / 100 % 10) ∷ (digit_zero + n / 10 % 10)
+    ∷ (digit_zero + n % 10) ∷ []
 
 -- a point and the decimals of so many ten-thousandths, without the zeros at their end; nothing for 0
 abbrev pub decimals_text : ℕ → List ℕ
-decimals_text n = if n == 0 then [] else 46 ∷ without_last (λ c. c == 48) (four_digits n)
+decimals_text n = if n == 0 then [] else full_stop ∷ without_last (λ c. c == digit_zero) (four_digits n)
 
 -- the text of a size in ten-thousandths: its whole part, and its decimals if it has any
 abbrev pub size_text : ℕ → List ℕ
@@ -138,4 +137,4 @@ size_text size = decimal_text (size / 10000) ++ decimals_text (size % 10000)
 -- a Currency, with `-` in front of a negative one
 abbrev pub currency_text : ℤ → List ℕ
 currency_text (pos size) = size_text size
-currency_text (negsuc less) = 45 ∷ size_text (suc less)
+currency_text (negsuc less) = minus_sign ∷ size_text (suc less)

@@ -1,6 +1,9 @@
--- What a call that may want memory has answered. In each of these words want of memory alone is free.
-use Rattle.std.specs.Prelude.{◌≡◌, ◌≢◌, Result, Ok, Err}
+-- What a call that may want memory has answered, and what it has done. In each of these words want of memory alone is
+-- free. No other crate has words of its own for this.
+use Rattle.std.specs.Prelude.{◌≡◌, ◌≢◌, ℕ, List, ◌++◌, Option, MatchOption, Result, Ok, Err}
 use Rattle.vb_value.specs.declared.memory.Memory.{Memory}
+use Rattle.vb_value.specs.declared.stop.Stop.{Stop}
+use Rattle.vb_value.specs.declared.stop.Stop.TheVariants as stop
 
 -- The call gives this value, and has no fault but want of memory.
 abbrev pub Gives : {T : Type 0} → Result T Memory → T → Type 0
@@ -17,8 +20,26 @@ abbrev pub Changes : {T E S : Type 0} → Result T E → S → S → S → Type 
 Changes (Ok given) old new changed = new ≡ changed
 Changes (Err stop) old new changed = new ≡ old
 
--- The call gives a value and leaves a state, or stops with a fault and leaves a state, as its definition
--- does, unless it stops with `memory`: then nothing is said of the state.
-abbrev pub Runs : {T E S : Type 0} → Result T E → E → S → Result (T × S) (E × S) → Type 0
-Runs (Ok given) memory new run = run ≡ Ok (given, new)
-Runs (Err stop) memory new run = stop ≢ memory → run ≡ Err (stop, new)
+-- The call adds these items at the end, and has no fault but want of memory, in which it may have added some of them.
+abbrev pub Adds : {T A : Type 0} → Result T Memory → List A → List A → List A → Type 0
+Adds (Ok done) old new items = new ≡ old ++ items
+Adds (Err stop) old new items = Unit {0}
+
+-- The call runs as its definition does: it gives the value and leaves the state, or stops with the failure that
+-- `failure` makes of its fault and of the state that it leaves. Where `failure` makes none, as of want of memory,
+-- nothing is said.
+abbrev pub Runs : {T E S F : Type 0} → Result T E → (E → S → Option F) → S → Result (T × S) F → Type 0
+Runs (Ok given) failure new run = run ≡ Ok (given, new)
+Runs (Err fault) failure new run = MatchOption (failure fault new) (Unit {0}) (λ failed. run ≡ Err failed)
+
+-- The answer is no fault, or the fact holds of its kind and of its line.
+abbrev pub OnFault : {T K : Type 0} → Result T (Stop K) → (K → ℕ → Type 0) → Type 0
+OnFault (Ok given) fact = Unit {0}
+OnFault (Err (stop.Fault kind line)) fact = fact kind line
+OnFault (Err stop.Memory) fact = Unit {0}
+
+-- The stop becomes another: want of memory stays, and the kinds of a fault are as the fact says, in one line.
+abbrev pub Becomes : {K L : Type 0} → Stop K → (K → L → Type 0) → Stop L → Type 0
+Becomes (stop.Fault kind line) fact (stop.Fault new at) = fact kind new × (at ≡ line)
+Becomes stop.Memory fact stop.Memory = Unit {0}
+Becomes _ fact _ = ⊥

@@ -25,3 +25,26 @@ pub fn is_null(value: &Value) -> bool
         _ => false,
     }
 }
+
+/// Whether the value is Empty.
+pub fn is_empty(value: &Value) -> bool
+    ensures { result ≡ spec.is_empty value.now }
+{
+    match value {
+        Value::Empty => true,
+        _ => false,
+    }
+}
+
+/// Error 13 for an array, 438 for an object, 91 for Nothing, none for another value.
+pub fn check(value: &Value) -> Result<(), VbError>
+    ensures { result ≡ spec.checked value.now }
+{
+    match value {
+        Value::Arr(_) => Err(VbError::TYPE_MISMATCH),
+        Value::Obj(_) => Err(VbError::UNSUPPORTED),
+        Value::Nothing => Err(VbError::OBJECT_NOT_SET),
+        Value::Empty | Value::Null | Value::Bool(_) => Ok(()),
+        Value::Int(_) | Value::Long(_) | Value::Cur(_) | Value::Str(_) => Ok(()),
+    }
+}

@@ -7,7 +7,7 @@ ghost use Rattle.vb_value.specs.Outcome.{Answers};
 
 use crate::copied::Copied;
 use crate::fault::{VbError, VbFault};
-use crate::number::{Number, as_integer, as_long};
+use crate::number::{Number, as_integer};
 use crate::number_text::{currency_text, whole_text};
 use crate::numeric_text::cur_of_text;
 use crate::text::Text;
@@ -55,7 +55,7 @@ pub fn to_int(value: &Value) -> Result<i16, VbError>
 pub fn to_long(value: &Value) -> Result<i32, VbError>
     ensures { result ≡ to_long_of value.now }
 {
-    as_long(to_number(value)?.whole() as i128)
+    to_number(value)?.long()
 }
 
 /// A value as a Currency, in ten-thousandths. The errors are those of [`to_number`].

@@ -62,6 +62,13 @@ impl Number {
             Number::Cur(n) => whole_of_amount(n as i128) as i64,
         }
     }
+
+    /// The value as a whole Long, half rounded to even; error 6 where it is none.
+    pub fn long(self) -> Result<i32, VbError>
+        ensures { result ≡ spec.long_of self }
+    {
+        as_long(self.whole() as i128)
+    }
 }
 
 /// A count of ten-thousandths as a whole number, half rounded to even.

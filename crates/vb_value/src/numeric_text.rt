@@ -4,7 +4,8 @@ ghost use Rattle.std.specs.Ordering.{nat_cmp};
 ghost use Rattle.std.specs.List.{before_first, after_first, position, position_or_len, list_all};
 ghost use Rattle.std.specs.Char.{is_ascii_digit};
 ghost use Rattle.vb_value.specs.Numbers.{rounded};
-ghost use Rattle.vb_value.specs.NumericText.{is_blank, without_first, without_last, trimmed, has_minus};
+ghost use Rattle.vb_value.specs.Characters.{is_blank};
+ghost use Rattle.vb_value.specs.NumericText.{without_first, without_last, trimmed, has_minus};
 ghost use Rattle.vb_value.specs.NumericText.{unsigned, is_point, is_numeral, digit_of, number_of, numeral_size};
 ghost use Rattle.vb_value.specs.NumericText.{signed, cur_of_text_of};
 
@@ -61,8 +62,8 @@ fn without_last_blanks(text: &[char]) -> &[char]
     &text[..end]
 }
 
-/// A space or a tab.
-fn is_blank(c: char) -> bool
+/// Whether the character is a space or a tab.
+pub fn is_blank(c: char) -> bool
     ensures { result ≡ is_blank c }
 {
     c == ' ' || c == '\t'

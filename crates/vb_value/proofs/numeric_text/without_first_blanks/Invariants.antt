@@ -1,5 +1,6 @@
 use Rattle.std.proofs.Common.{◌≡◌, length}
-use Rattle.vb_value.specs.NumericText.{is_blank, without_first}
+use Rattle.vb_value.specs.Characters.{is_blank}
+use Rattle.vb_value.specs.NumericText.{without_first}
 use Rattle.vb_value.proofs.numeric_text.without_first_blanks.Given as goal
 
 abbrev pub invariant-loop-left : goal.invariant-loop-left

@@ -1,5 +1,6 @@
 use Rattle.std.proofs.Common.{◌≡◌, ◌≤◌, length, take}
-use Rattle.vb_value.specs.NumericText.{is_blank, without_last}
+use Rattle.vb_value.specs.Characters.{is_blank}
+use Rattle.vb_value.specs.NumericText.{without_last}
 use Rattle.vb_value.proofs.numeric_text.without_last_blanks.Given as goal
 
 abbrev pub invariant-loop-end : goal.invariant-loop-end
