@@ -13,9 +13,9 @@ use Rattle.vb_parse.specs.declared.fault.ParseStop.TheVariants as grammar
 use Rattle.vb_names.specs.declared.fault.ScopeStop.{ScopeStop}
 use Rattle.vb_names.specs.declared.fault.ScopeStop.TheVariants as scope
 use Rattle.vb_scope.specs.Answers.{IsFault, IsProgram}
-use Rattle.vb_syntax.specs.Scope.{Resolves}
-use Rattle.vb_syntax.specs.ScopePrograms.{Parts}
-use Rattle.vb_syntax.specs.Units.{Derives}
+use Rattle.vb_syntax.specs.scope.Resolving.{Resolves}
+use Rattle.vb_syntax.specs.scope.Programs.{Parts}
+use Rattle.vb_syntax.specs.grammar.Units.{Derives}
 use Rattle.vb_syntax.specs.declared.program.Program.{Program}
 use Rattle.vb_syntax.specs.declared.unit.Unit.{Unit as Script}
 use Rattle.page_build.specs.declared.fault.ScriptFault.{ScriptFault}

@@ -3,11 +3,11 @@ use Rattle.std.proofs.Common.{◌≡◌, ◌∙◌, ℕ, List, [], ◌∷◌, sy
 use Rattle.vb_value.specs.declared.token.Token.{Token}
 use Rattle.vb_lex.specs.Tokens.{FaultsAt, Tokenizes}
 use Rattle.vb_lex.specs.declared.fault.LexFault.{LexFault}
-use Rattle.vb_syntax.specs.Faults.{IsFault, fault_line}
-use Rattle.vb_syntax.specs.Units.{Derives}
-use Rattle.vb_syntax.specs.Scope.{IsFirstFault, Resolves}
-use Rattle.vb_syntax.specs.ScopeFaults.{Faults, faults_of}
-use Rattle.vb_syntax.specs.ScopePrograms.{Parts}
+use Rattle.vb_syntax.specs.grammar.Faults.{IsFault, fault_line}
+use Rattle.vb_syntax.specs.grammar.Units.{Derives}
+use Rattle.vb_syntax.specs.scope.Resolving.{IsFirstFault, Resolves}
+use Rattle.vb_syntax.specs.scope.Faults.{Faults, faults_of}
+use Rattle.vb_syntax.specs.scope.Programs.{Parts}
 use Rattle.vb_syntax.specs.declared.note.ScopeFault.{ScopeFault}
 use Rattle.vb_syntax.specs.declared.unit.Unit.{Unit as Script}
 use Rattle.page_build.specs.declared.fault.ScriptFault.{ScriptFault}

@@ -4,9 +4,9 @@ use Rattle.vb_value.specs.declared.token.Token.{Token}
 use Rattle.vb_lex.specs.Tokens.{FaultsAt, Tokenizes}
 use Rattle.vb_lex.specs.declared.fault.LexStop.{LexStop}
 use Rattle.vb_lex.specs.declared.fault.LexStop.TheVariants as words
-use Rattle.vb_syntax.specs.Units.{Derives}
-use Rattle.vb_syntax.specs.Scope.{IsFirstFault, Resolves}
-use Rattle.vb_syntax.specs.ScopePrograms.{Parts}
+use Rattle.vb_syntax.specs.grammar.Units.{Derives}
+use Rattle.vb_syntax.specs.scope.Resolving.{IsFirstFault, Resolves}
+use Rattle.vb_syntax.specs.scope.Programs.{Parts}
 use Rattle.vb_syntax.specs.declared.program.Program.{Program}
 use Rattle.vb_syntax.specs.declared.unit.Unit.{Unit as Script}
 use Rattle.vb_parse.specs.Outcome.{IsUnitKind, HasFault as HasGrammarFault}

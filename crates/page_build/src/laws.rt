@@ -1,6 +1,6 @@
 //! Laws of scripts and their programs. The functions do nothing: their contracts are the laws.
 ghost use Rattle.std.specs.Prelude.{◌≡◌, ℕ, List};
-ghost use Rattle.vb_syntax.specs.ScopePrograms.{Parts};
+ghost use Rattle.vb_syntax.specs.scope.Programs.{Parts};
 ghost use Rattle.page_build.specs.declared.fault.ScriptFault.{ScriptFault};
 ghost use Rattle.page_build.specs.Script.{HasFault, IsProgramOf};
 

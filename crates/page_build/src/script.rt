@@ -1,6 +1,6 @@
 //! A script's text as a program.
 ghost use Rattle.std.specs.Prelude.{◌^◌, ◌<◌, ◌≡◌, IfOk, length};
-ghost use Rattle.vb_syntax.specs.ScopePrograms.{Parts};
+ghost use Rattle.vb_syntax.specs.scope.Programs.{Parts};
 ghost use Rattle.vb_scope.specs.Answers.{parts_of};
 ghost use Rattle.page_build.specs.Script.{IsProgramOf, Builds, OnFault, HasFault};
 

@@ -11,7 +11,7 @@ use Rattle.std.proofs.lemmas.Bool.{false≢true}
 use Rattle.std.proofs.lemmas.Bool.Decides.{same_from_decides}
 use Rattle.vb_value.specs.Folding.{folded}
 use Rattle.vb_value.specs.declared.memory.Memory.{Memory}
-use Rattle.vb_syntax.specs.ScopeNames.{Name, number_of_key}
+use Rattle.vb_syntax.specs.scope.Names.{Name, number_of_key}
 use Rattle.vb_names.specs.Names.{IsNumbered}
 
 -- the first of a number that is found and another one

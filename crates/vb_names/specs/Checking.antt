@@ -1,8 +1,8 @@
 -- What calls have checked, and the names that are declared so far, as calls see them.
 use Rattle.std.specs.Prelude.{◌≡◌, List, [], Result, Ok, Err}
-use Rattle.vb_syntax.specs.Scope.{IsFirst}
-use Rattle.vb_syntax.specs.ScopeFaults.{Faults, DeclaredNames as Seen, SoFar}
-use Rattle.vb_syntax.specs.ScopeNames.{Name}
+use Rattle.vb_syntax.specs.scope.Resolving.{IsFirst}
+use Rattle.vb_syntax.specs.scope.Faults.{Faults, DeclaredNames as Seen, SoFar}
+use Rattle.vb_syntax.specs.scope.Names.{Name}
 use Rattle.vb_names.specs.declared.checks.DeclaredNames.{DeclaredNames}
 use Rattle.vb_names.specs.declared.fault.ScopeStop.{ScopeStop}
 use Rattle.vb_names.specs.declared.fault.ScopeStop.TheVariants.{Fault, Memory}

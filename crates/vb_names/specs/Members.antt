@@ -4,8 +4,8 @@ use Rattle.vb_syntax.specs.declared.member.CollectionPart.{CollectionPart}
 use Rattle.vb_syntax.specs.declared.member.ContentsPart.{ContentsPart}
 use Rattle.vb_syntax.specs.declared.member.Member.{Member}
 use Rattle.vb_syntax.specs.declared.member.Member.TheVariants as member
-use Rattle.vb_syntax.specs.ScopeMembers.{session_members, application_members}
-use Rattle.vb_syntax.specs.ScopeNames.{Name}
+use Rattle.vb_syntax.specs.scope.Members.{session_members, application_members}
+use Rattle.vb_syntax.specs.scope.Names.{Name}
 use Rattle.vb_names.specs.declared.members.Collection.{Collection}
 use Rattle.vb_names.specs.declared.members.Collection.TheVariants as collection
 use Rattle.vb_names.specs.declared.members.Holder.{Holder}

@@ -1,7 +1,7 @@
 -- The names of scopes, as calls see them.
 use Rattle.std.specs.Prelude.{Option, Some, None}
-use Rattle.vb_syntax.specs.ScopeNames.{Name}
-use Rattle.vb_syntax.specs.Scopes.{PageScope, ClassScope, BodyScope, Scopes}
+use Rattle.vb_syntax.specs.scope.Names.{Name}
+use Rattle.vb_syntax.specs.scope.Scopes.{PageScope, ClassScope, BodyScope, Scopes}
 use Rattle.vb_names.specs.declared.tables.BodyTable.{BodyTable}
 use Rattle.vb_names.specs.declared.tables.ClassTable.{ClassTable}
 use Rattle.vb_names.specs.declared.tables.PageTable.{PageTable}

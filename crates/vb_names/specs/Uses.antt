@@ -1,6 +1,6 @@
 -- Uses of names that nothing declares, as calls see them.
 use Rattle.std.specs.Prelude.{List, map}
-use Rattle.vb_syntax.specs.Scopes.{Use as Seen}
+use Rattle.vb_syntax.specs.scope.Scopes.{Use as Seen}
 use Rattle.vb_names.specs.declared.undeclared.Use.{Use}
 
 -- one use

@@ -1,9 +1,9 @@
 //! The faults of what is said in a scope.
 ghost use Rattle.std.specs.Prelude.{◌≡◌, ◌∷◌, ◌++◌, [], false, IfOk, OnOk};
 ghost use Rattle.vb_value.specs.Outcome.{Gives};
-ghost use Rattle.vb_syntax.specs.ScopeFaults as spec;
-ghost use Rattle.vb_syntax.specs.ScopeNames.{add_name};
-ghost use Rattle.vb_syntax.specs.Scopes.{named_in};
+ghost use Rattle.vb_syntax.specs.scope.Faults as spec;
+ghost use Rattle.vb_syntax.specs.scope.Names.{add_name};
+ghost use Rattle.vb_syntax.specs.scope.Scopes.{named_in};
 ghost use Rattle.vb_names.specs.Checking.{Finds, declared_seen, so_far};
 ghost use Rattle.vb_names.specs.Tables.{scopes_seen};
 

@@ -2,7 +2,7 @@
 ghost use Rattle.std.specs.Prelude.{◌≡◌, ◌∷◌, ◌++◌, [], map};
 ghost use Rattle.std.specs.List.{flat_map};
 ghost use Rattle.vb_syntax.specs.declared.declaration.Declared.{Declared};
-ghost use Rattle.vb_syntax.specs.Scopes as spec;
+ghost use Rattle.vb_syntax.specs.scope.Scopes as spec;
 ghost use Rattle.vb_notes.specs.Outcome.{Adds};
 
 use crate::names::Names;

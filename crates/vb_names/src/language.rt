@@ -2,8 +2,8 @@
 ghost use Rattle.std.specs.Prelude.{◌≡◌, map};
 ghost use Rattle.std.specs.Option.{option_copied};
 ghost use Rattle.vb_value.specs.Outcome.{Gives};
-ghost use Rattle.vb_syntax.specs.ScopeNames as spec;
-ghost use Rattle.vb_syntax.specs.ScopeNames.{same_name, beside};
+ghost use Rattle.vb_syntax.specs.scope.Names as spec;
+ghost use Rattle.vb_syntax.specs.scope.Names.{same_name, beside};
 
 use std::alloc::Global;
 use vb_syntax::program::Named;
@@ -136,7 +136,7 @@ fn integer(name: &[char]) -> Option<i16>
     among(&INTEGERS, name)
 }
 
-#[tactic(auto, unfolding(vb_syntax::specs::ScopeNames::object_named))]
+#[tactic(auto, unfolding(vb_syntax::specs::scope::Names::object_named))]
 /// The object of a page that a name stands for, where nothing declares it (ASP 3.0 object reference).
 pub fn object_named(name: &[char]) -> Option<PageObject>
     ensures { result ≡ spec.object_named name.now }
@@ -189,7 +189,7 @@ fn further(name: &[char]) -> Option<Named>
     None
 }
 
-#[tactic(auto, unfolding(vb_syntax::specs::ScopeNames::of_language))]
+#[tactic(auto, unfolding(vb_syntax::specs::scope::Names::of_language))]
 /// What a name of the language stands for (VBScript 5.6 language reference, "Functions" and "Constants").
 pub fn of_language(alloc: Global, name: &[char]) -> Result<Option<Named>, Memory>
     ensures { Gives result (spec.of_language name.now) }

@@ -1,7 +1,7 @@
 //! The members of the objects that a page is given, and those of Err.
 ghost use Rattle.std.specs.Prelude.{◌≡◌, ◌<◌, map};
-ghost use Rattle.vb_syntax.specs.ScopeMembers as spec;
-ghost use Rattle.vb_syntax.specs.ScopeNames.{beside};
+ghost use Rattle.vb_syntax.specs.scope.Members as spec;
+ghost use Rattle.vb_syntax.specs.scope.Names.{beside};
 ghost use Rattle.vb_names.specs.Members.{member_of, has_keys, entry_of, members_of};
 
 use crate::language::{among, is_word};
@@ -328,7 +328,7 @@ fn holder_meant(holder: Holder, is_group: bool, steps: &[Shape]) -> Option<(Memb
 
 /// The member that stands behind an object, and how many of the steps say so (ASP 3.0 object reference). `None` is an
 /// object without a member that it has. A For Each goes over the path where `is_group` is true.
-#[tactic(auto, unfolding(vb_syntax::specs::ScopeMembers::member_meant))]
+#[tactic(auto, unfolding(vb_syntax::specs::scope::Members::member_meant))]
 pub fn member_meant(object: PageObject, is_group: bool, steps: &[Shape]) -> Option<(Member, usize)>
     ensures { result ≡ spec.member_meant object is_group steps.now }
 {
@@ -342,7 +342,7 @@ pub fn member_meant(object: PageObject, is_group: bool, steps: &[Shape]) -> Opti
 }
 
 /// What stands behind Err, and how many of the steps say so (VBScript 5.6 language reference, "Err Object").
-#[tactic(auto, unfolding(vb_syntax::specs::ScopeMembers::err_meant))]
+#[tactic(auto, unfolding(vb_syntax::specs::scope::Members::err_meant))]
 pub fn err_meant(steps: &[Shape]) -> (ErrMember, usize)
     ensures { result ≡ spec.err_meant steps.now }
 {

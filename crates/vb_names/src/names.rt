@@ -6,7 +6,7 @@ ghost use Rattle.std.specs.Cmp.Lexicographic.{slice_cmp};
 ghost use Rattle.std.specs.Ordering.{nat_cmp};
 ghost use Rattle.vb_value.specs.Folding.{folded};
 ghost use Rattle.vb_value.specs.Outcome.{Changes};
-ghost use Rattle.vb_syntax.specs.ScopeNames.{number_of_key};
+ghost use Rattle.vb_syntax.specs.scope.Names.{number_of_key};
 
 use std::alloc::Global;
 use std::collections::BTreeMap;

@@ -4,8 +4,8 @@ ghost use Rattle.std.specs.List.{flat_map};
 ghost use Rattle.vb_value.specs.Outcome.{Gives};
 ghost use Rattle.vb_syntax.specs.declared.unit.Class.{Class};
 ghost use Rattle.vb_syntax.specs.declared.unit.Procedure.{Procedure};
-ghost use Rattle.vb_syntax.specs.ScopeUnits as units;
-ghost use Rattle.vb_syntax.specs.Scopes as spec;
+ghost use Rattle.vb_syntax.specs.scope.Units as units;
+ghost use Rattle.vb_syntax.specs.scope.Scopes as spec;
 ghost use Rattle.vb_notes.specs.Bodies.{body_seen};
 ghost use Rattle.vb_notes.specs.Outcome.{Adds};
 ghost use Rattle.vb_names.specs.Tables.{page_seen, class_seen};
@@ -257,7 +257,7 @@ fn made_on_page(
     made_names(alloc, unit.option_explicit, &redim, uses.as_slice())
 }
 
-#[tactic(auto, unfolding(vb_syntax::specs::Scopes::page_scope, vb_syntax::specs::Scopes::page_variables))]
+#[tactic(auto, unfolding(vb_syntax::specs::scope::Scopes::page_scope, vb_syntax::specs::scope::Scopes::page_variables))]
 /// A page's scope, by its notes.
 pub fn page_parts(alloc: Global, unit: &Unit, notes: &[Note]) -> Result<PageParts, Memory>
     requires { notes.now ≡ units.on_page_of unit.now }

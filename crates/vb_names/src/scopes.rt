@@ -2,8 +2,8 @@
 ghost use Rattle.std.specs.Prelude.{◌≡◌, ◌++◌, ◌∷◌, [], IfOk, map, false, true};
 ghost use Rattle.std.specs.Option.{option_copied};
 ghost use Rattle.vb_value.specs.Outcome.{Gives};
-ghost use Rattle.vb_syntax.specs.ScopeUnits.{in_body};
-ghost use Rattle.vb_syntax.specs.Scopes as spec;
+ghost use Rattle.vb_syntax.specs.scope.Units.{in_body};
+ghost use Rattle.vb_syntax.specs.scope.Scopes as spec;
 ghost use Rattle.vb_notes.specs.Bodies.{body_seen};
 ghost use Rattle.vb_names.specs.Tables.{page_seen, class_seen, body_scope_seen, scopes_seen, scopes_with, result_seen};
 
@@ -96,7 +96,7 @@ fn made_in_body(
     made_names(alloc, explicit, &redim, uses.as_slice())
 }
 
-#[tactic(auto, unfolding(vb_syntax::specs::Scopes::body_scopes, vb_syntax::specs::Scopes::body_variables))]
+#[tactic(auto, unfolding(vb_syntax::specs::scope::Scopes::body_scopes, vb_syntax::specs::scope::Scopes::body_variables))]
 /// A procedure's scope, by its notes.
 pub fn body_parts(
     alloc: Global,

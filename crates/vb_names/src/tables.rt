@@ -1,7 +1,7 @@
 //! What names stand for in the scopes around a place.
 ghost use Rattle.std.specs.Prelude.{◌≡◌, [], false};
 ghost use Rattle.vb_value.specs.Outcome.{Gives};
-ghost use Rattle.vb_syntax.specs.Scopes as spec;
+ghost use Rattle.vb_syntax.specs.scope.Scopes as spec;
 ghost use Rattle.vb_names.specs.Tables.{page_seen, class_seen, body_scope_seen, scopes_seen, result_seen};
 
 use crate::language::{object_named, of_language};
@@ -105,7 +105,7 @@ fn is_result(result_name: &Option<ResultName>, key: &Text) -> bool
     }
 }
 
-#[tactic(auto, unfolding(vb_syntax::specs::Scopes::in_scope_of_body))]
+#[tactic(auto, unfolding(vb_syntax::specs::scope::Scopes::in_scope_of_body))]
 /// What a key stands for in a procedure that declares it.
 fn in_body(table: &BodyTable, is_called: bool, key: &Text) -> Option<Named>
     ensures { result ≡ spec.in_scope_of_body (body_scope_seen table.now) is_called key.now }
@@ -122,7 +122,7 @@ fn in_body(table: &BodyTable, is_called: bool, key: &Text) -> Option<Named>
     None
 }
 
-#[tactic(auto, unfolding(vb_syntax::specs::Scopes::in_scope_of_class))]
+#[tactic(auto, unfolding(vb_syntax::specs::scope::Scopes::in_scope_of_class))]
 /// What a key stands for in a class that declares it.
 fn in_class(names: &Names, table: &ClassTable, key: &Text) -> Option<Named>
     ensures { result ≡ spec.in_scope_of_class names.now (class_seen table.now) key.now }
@@ -136,7 +136,7 @@ fn in_class(names: &Names, table: &ClassTable, key: &Text) -> Option<Named>
     None
 }
 
-#[tactic(auto, unfolding(vb_syntax::specs::Scopes::in_scope_of_page))]
+#[tactic(auto, unfolding(vb_syntax::specs::scope::Scopes::in_scope_of_page))]
 /// What a key stands for on a page that declares it.
 fn in_page(table: &PageTable, key: &Text) -> Option<Named>
     ensures { result ≡ spec.in_scope_of_page (page_seen table.now) key.now }
@@ -164,7 +164,7 @@ fn name_number(names: &Names, key: &Text) -> u32
 }
 
 impl Tables<'_> {
-    #[tactic(auto, unfolding(vb_syntax::specs::Scopes::named_in))]
+    #[tactic(auto, unfolding(vb_syntax::specs::scope::Scopes::named_in))]
     /// What a name stands for, among all names of the script. It is called where `is_called` is true.
     pub fn named(
         self,
@@ -199,7 +199,7 @@ impl Tables<'_> {
         Ok(matches!(self.named(alloc, &names, false, name)?, Named::Unknown(_)))
     }
 
-    #[tactic(auto, unfolding(vb_syntax::specs::Scopes::object_in))]
+    #[tactic(auto, unfolding(vb_syntax::specs::scope::Scopes::object_in))]
     /// The object of the page that a name stands for.
     pub fn object(self, alloc: Global, name: &Text) -> Result<Option<PageObject>, Memory>
         ensures { Gives result (spec.object_in (scopes_seen self.entry) name.now) }

@@ -1,8 +1,8 @@
 //! Names that nothing declares.
 ghost use Rattle.std.specs.Prelude.{◌≡◌, ◌∷◌, ◌++◌, [], true, false, IfOk, map};
 ghost use Rattle.vb_value.specs.Outcome.{Gives};
-ghost use Rattle.vb_syntax.specs.ScopeNames.{add_name, has_name};
-ghost use Rattle.vb_syntax.specs.Scopes as spec;
+ghost use Rattle.vb_syntax.specs.scope.Names.{add_name, has_name};
+ghost use Rattle.vb_syntax.specs.scope.Scopes as spec;
 ghost use Rattle.vb_notes.specs.Outcome.{Adds};
 ghost use Rattle.vb_names.specs.Tables.{scopes_seen};
 ghost use Rattle.vb_names.specs.Uses.{uses_seen};

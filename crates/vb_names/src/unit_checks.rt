@@ -1,8 +1,8 @@
 //! The faults of a whole script, in the order of their places.
 ghost use Rattle.std.specs.Prelude.{◌≡◌, ◌++◌, ◌∷◌, [], OnOk, IfOk, fold, false, true};
-ghost use Rattle.vb_syntax.specs.ScopeFaults as spec;
-ghost use Rattle.vb_syntax.specs.ScopeUnits as units;
-ghost use Rattle.vb_syntax.specs.Scopes.{page_scope, on_page_in};
+ghost use Rattle.vb_syntax.specs.scope.Faults as spec;
+ghost use Rattle.vb_syntax.specs.scope.Units as units;
+ghost use Rattle.vb_syntax.specs.scope.Scopes.{page_scope, on_page_in};
 ghost use Rattle.vb_notes.specs.Bodies.{body_seen};
 ghost use Rattle.vb_names.specs.Checking.{Finds, so_far};
 ghost use Rattle.vb_names.specs.Tables.{page_seen, class_seen};

@@ -11,8 +11,8 @@ use Rattle.vb_syntax.specs.declared.expression.Step.{Step, out-Step, map-Step}
 use Rattle.vb_syntax.specs.declared.note.Around.{Around}
 use Rattle.vb_syntax.specs.declared.note.PathUse.{PathUse}
 use Rattle.vb_syntax.specs.declared.note.Shape.{Shape}
-use Rattle.vb_syntax.specs.ScopeNotes.{Notes, expression_layer, step_layer, operation_layer, path_layer, head_notes}
-use Rattle.vb_syntax.specs.ScopeNotes.{expression_notes, operation_notes, path_notes, step_notes}
+use Rattle.vb_syntax.specs.scope.Notes.{Notes, expression_layer, step_layer, operation_layer, path_layer, head_notes}
+use Rattle.vb_syntax.specs.scope.Notes.{expression_notes, operation_notes, path_notes, step_notes}
 use Rattle.vb_notes.specs.Shapes.{shape_of, layer_shape}
 
 module _ (line : ℕ) (around : Around) where

@@ -1,6 +1,6 @@
 -- The bodies of procedures, as calls see them.
 use Rattle.std.specs.Option.{option_copied}
-use Rattle.vb_syntax.specs.ScopeUnits.{Body as Seen}
+use Rattle.vb_syntax.specs.scope.Units.{Body as Seen}
 use Rattle.vb_notes.specs.declared.body.Body.{Body}
 
 -- a body behind its references

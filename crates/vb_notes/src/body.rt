@@ -1,6 +1,6 @@
 //! The bodies of procedures.
 ghost use Rattle.std.specs.Prelude.{◌≡◌, true};
-ghost use Rattle.vb_syntax.specs.ScopeUnits as spec;
+ghost use Rattle.vb_syntax.specs.scope.Units as spec;
 ghost use Rattle.vb_notes.specs.Bodies.{body_seen};
 
 use vb_syntax::{

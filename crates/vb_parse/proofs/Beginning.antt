@@ -8,11 +8,11 @@ use Rattle.vb_value.specs.declared.token.Symbol.TheVariants as s
 use Rattle.vb_value.specs.declared.token.Token.{Token}
 use Rattle.vb_value.specs.declared.token.TokenKind.{TokenKind}
 use Rattle.vb_value.specs.declared.token.TokenKind.TheVariants as kind
-use Rattle.vb_syntax.specs.Rules.{Tokens, Rule}
-use Rattle.vb_syntax.specs.Rules as rule
-use Rattle.vb_syntax.specs.Words as words
-use Rattle.vb_syntax.specs.Words.{tag, line_of, name_of, name_of_kind, literal_of, literal_of_kind}
-use Rattle.vb_syntax.specs.Expressions.{operator_of, at_level}
+use Rattle.vb_syntax.specs.grammar.Rules.{Tokens, Rule}
+use Rattle.vb_syntax.specs.grammar.Rules as rule
+use Rattle.vb_syntax.specs.grammar.Words as words
+use Rattle.vb_syntax.specs.grammar.Words.{tag, line_of, name_of, name_of_kind, literal_of, literal_of_kind}
+use Rattle.vb_syntax.specs.grammar.Expressions.{operator_of, at_level}
 use Rattle.vb_parse.specs.Reader.{next, sees, is_some}
 
 -- a token comes first whose number has the property

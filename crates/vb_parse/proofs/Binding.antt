@@ -1,7 +1,7 @@
 -- Rules that are put together in another way, and spell the same.
 use Rattle.std.proofs.Common.{inl, inr, [], ◌++◌, refl, sym, ap, ◌∙◌, append_assoc, append-nil, subst}
-use Rattle.vb_syntax.specs.Rules.{Tokens, Rule, Then}
-use Rattle.vb_syntax.specs.Rules as rule
+use Rattle.vb_syntax.specs.grammar.Rules.{Tokens, Rule, Then}
+use Rattle.vb_syntax.specs.grammar.Rules as rule
 
 -- what the one rule spells, the other spells too
 abbrev pub Within : {A : Type 0} → Rule A → Rule A → Type 0

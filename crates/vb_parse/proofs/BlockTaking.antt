@@ -5,12 +5,12 @@ use Rattle.vb_value.specs.declared.token.Symbol.TheVariants as s
 use Rattle.vb_value.specs.declared.token.TokenKind.{TokenKind}
 use Rattle.vb_value.specs.declared.token.TokenKind.TheVariants as kind
 use Rattle.vb_syntax.specs.declared.statement.Statement.{Statement}
-use Rattle.vb_syntax.specs.Rules.{Tokens, Rule}
-use Rattle.vb_syntax.specs.Rules as rule
-use Rattle.vb_syntax.specs.Words.{tag}
-use Rattle.vb_syntax.specs.SimpleStatements.{Looser, simple, const}
-use Rattle.vb_syntax.specs.Statements as grammar
-use Rattle.vb_syntax.specs.Statements.{break_of}
+use Rattle.vb_syntax.specs.grammar.Rules.{Tokens, Rule}
+use Rattle.vb_syntax.specs.grammar.Rules as rule
+use Rattle.vb_syntax.specs.grammar.Words.{tag}
+use Rattle.vb_syntax.specs.grammar.SimpleStatements.{Looser, simple, const}
+use Rattle.vb_syntax.specs.grammar.Statements as grammar
+use Rattle.vb_syntax.specs.grammar.Statements.{break_of}
 use Rattle.vb_parse.specs.ReadLines as lines
 use Rattle.vb_parse.specs.ReadLines.{breaks}
 use Rattle.vb_parse.specs.ReadStatements as spec

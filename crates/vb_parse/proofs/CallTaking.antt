@@ -12,14 +12,14 @@ use Rattle.vb_syntax.specs.declared.expression.Step.TheVariants as behind
 use Rattle.vb_syntax.specs.declared.expression.Step.TheVariants.{outs-Group}
 use Rattle.vb_syntax.specs.declared.statement.Statement.{Statement}
 use Rattle.vb_syntax.specs.declared.statement.StatementKind.TheVariants as st
-use Rattle.vb_syntax.specs.Rules.{Tokens, Rule}
-use Rattle.vb_syntax.specs.Rules as rule
-use Rattle.vb_syntax.specs.Words as words
-use Rattle.vb_syntax.specs.Words.{tag}
-use Rattle.vb_syntax.specs.Expressions as expressions
-use Rattle.vb_syntax.specs.Expressions.{path_of}
-use Rattle.vb_syntax.specs.SimpleStatements as grammar
-use Rattle.vb_syntax.specs.SimpleStatements.{Looser, named_at, ends_in_group, statement}
+use Rattle.vb_syntax.specs.grammar.Rules.{Tokens, Rule}
+use Rattle.vb_syntax.specs.grammar.Rules as rule
+use Rattle.vb_syntax.specs.grammar.Words as words
+use Rattle.vb_syntax.specs.grammar.Words.{tag}
+use Rattle.vb_syntax.specs.grammar.Expressions as expressions
+use Rattle.vb_syntax.specs.grammar.Expressions.{path_of}
+use Rattle.vb_syntax.specs.grammar.SimpleStatements as grammar
+use Rattle.vb_syntax.specs.grammar.SimpleStatements.{Looser, named_at, ends_in_group, statement}
 use Rattle.vb_parse.specs.Reader.{Reader, Look, and_then, next, sees}
 use Rattle.vb_parse.specs.Reader as reader
 use Rattle.vb_parse.specs.ReadExpressions as read

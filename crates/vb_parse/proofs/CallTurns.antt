@@ -5,8 +5,8 @@ use Rattle.vb_syntax.specs.declared.expression.Expression.{Expression}
 use Rattle.vb_syntax.specs.declared.expression.Step.{Step}
 use Rattle.vb_syntax.specs.declared.expression.Step.TheVariants as behind
 use Rattle.vb_syntax.specs.declared.expression.Step.TheVariants.{outs-Group, outs-Member}
-use Rattle.vb_syntax.specs.Rules.{Tokens}
-use Rattle.vb_syntax.specs.Expressions.{not_level}
+use Rattle.vb_syntax.specs.grammar.Rules.{Tokens}
+use Rattle.vb_syntax.specs.grammar.Expressions.{not_level}
 use Rattle.vb_parse.specs.declared.cursor.Stop.{Stop}
 use Rattle.vb_parse.specs.declared.cursor.Stop.TheVariants.{Fault, Memory}
 use Rattle.vb_parse.specs.Runs.{Stops}

@@ -6,8 +6,8 @@ use Rattle.vb_value.specs.declared.token.Keyword.TheVariants as k
 use Rattle.vb_value.specs.declared.token.TokenKind.TheVariants as kind
 use Rattle.vb_syntax.specs.declared.statement.Case.{Case}
 use Rattle.vb_syntax.specs.declared.statement.Statement.{Statement}
-use Rattle.vb_syntax.specs.Rules.{Tokens}
-use Rattle.vb_syntax.specs.SimpleStatements.{Looser}
+use Rattle.vb_syntax.specs.grammar.Rules.{Tokens}
+use Rattle.vb_syntax.specs.grammar.SimpleStatements.{Looser}
 use Rattle.vb_parse.specs.Reader as reader
 use Rattle.vb_parse.specs.Reader.{Reader, Outcome, Turn, and_then, next}
 use Rattle.vb_parse.specs.ReadLines.{Blocks}

@@ -13,14 +13,14 @@ use Rattle.vb_syntax.specs.declared.unit.ClassMember.{ClassMember}
 use Rattle.vb_syntax.specs.declared.unit.ClassMember.TheVariants as member
 use Rattle.vb_syntax.specs.declared.unit.FieldAccess.{FieldAccess}
 use Rattle.vb_syntax.specs.declared.unit.FieldAccess.TheVariants as field
-use Rattle.vb_syntax.specs.Rules.{Tokens, Rule}
-use Rattle.vb_syntax.specs.Rules as rule
-use Rattle.vb_syntax.specs.Words as words
-use Rattle.vb_syntax.specs.Words.{tag, name_of, name_of_kind}
-use Rattle.vb_syntax.specs.Declarations as declarations
-use Rattle.vb_syntax.specs.SimpleStatements as simple
-use Rattle.vb_syntax.specs.SimpleStatements.{Looser, quoted_at, line_of_quoted}
-use Rattle.vb_syntax.specs.Units as grammar
+use Rattle.vb_syntax.specs.grammar.Rules.{Tokens, Rule}
+use Rattle.vb_syntax.specs.grammar.Rules as rule
+use Rattle.vb_syntax.specs.grammar.Words as words
+use Rattle.vb_syntax.specs.grammar.Words.{tag, name_of, name_of_kind}
+use Rattle.vb_syntax.specs.grammar.Declarations as declarations
+use Rattle.vb_syntax.specs.grammar.SimpleStatements as simple
+use Rattle.vb_syntax.specs.grammar.SimpleStatements.{Looser, quoted_at, line_of_quoted}
+use Rattle.vb_syntax.specs.grammar.Units as grammar
 use Rattle.vb_parse.specs.Reader.{Reader, Look, next, passes, is_some, one_by, asks}
 use Rattle.vb_parse.specs.Reader as reader
 use Rattle.vb_parse.specs.ReadDeclarations.{access_word as access_reader}

@@ -2,7 +2,7 @@
 use Rattle.std.proofs.Common.{◌≡◌, ◌<◌, true, List, [], ◌∷◌, ◌++◌, length, Ok, refl, ap, ◌∙◌, ℕ}
 use Rattle.vb_value.specs.declared.token.Symbol.TheVariants as s
 use Rattle.vb_value.specs.declared.token.TokenKind.TheVariants as kind
-use Rattle.vb_syntax.specs.Rules.{Tokens, Rule}
+use Rattle.vb_syntax.specs.grammar.Rules.{Tokens, Rule}
 use Rattle.vb_parse.specs.Reader as reader
 use Rattle.vb_parse.specs.Reader.{Reader, Outcome, and_then, next}
 use Rattle.vb_parse.specs.ReadExpressions.{comma_and, more_of}

@@ -7,12 +7,12 @@ use Rattle.vb_syntax.specs.declared.declaration.Access.{Access}
 use Rattle.vb_syntax.specs.declared.declaration.Access.TheVariants as access
 use Rattle.vb_syntax.specs.declared.declaration.ConstantValue.TheVariants as value
 use Rattle.vb_syntax.specs.declared.expression.Literal.TheVariants as literal
-use Rattle.vb_syntax.specs.Rules.{Tokens, Rule}
-use Rattle.vb_syntax.specs.Rules as rule
-use Rattle.vb_syntax.specs.Words as words
-use Rattle.vb_syntax.specs.Words.{name_of, literal_of}
-use Rattle.vb_syntax.specs.Declarations as grammar
-use Rattle.vb_syntax.specs.Declarations.{number_of, negative_of}
+use Rattle.vb_syntax.specs.grammar.Rules.{Tokens, Rule}
+use Rattle.vb_syntax.specs.grammar.Rules as rule
+use Rattle.vb_syntax.specs.grammar.Words as words
+use Rattle.vb_syntax.specs.grammar.Words.{name_of, literal_of}
+use Rattle.vb_syntax.specs.grammar.Declarations as grammar
+use Rattle.vb_syntax.specs.grammar.Declarations.{number_of, negative_of}
 use Rattle.vb_parse.specs.Reader.{Reader}
 use Rattle.vb_parse.specs.Reader as reader
 use Rattle.vb_parse.specs.ReadExpressions as expressions

@@ -1,6 +1,6 @@
 -- What is read inside a construct that opens.
 use Rattle.std.proofs.Common.{◌≡◌, ℕ, zero, suc, ◌-◌, ◌<◌, refl, ap, arith}
-use Rattle.vb_syntax.specs.SimpleStatements.{Looser}
+use Rattle.vb_syntax.specs.grammar.SimpleStatements.{Looser}
 use Rattle.vb_parse.specs.Reader.{Reader}
 use Rattle.vb_parse.specs.ReadDeclarations.{opened}
 use Rattle.vb_parse.specs.ReadStatements.{blocks, blocks_here, blocks_inside}

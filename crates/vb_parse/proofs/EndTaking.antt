@@ -4,13 +4,13 @@ use Rattle.std.proofs.Common.{refl, sym, ap, ◌∙◌, append_assoc}
 use Rattle.vb_value.specs.declared.token.Symbol.TheVariants as s
 use Rattle.vb_value.specs.declared.token.Token.{Token}
 use Rattle.vb_value.specs.declared.token.TokenKind.TheVariants as kind
-use Rattle.vb_syntax.specs.Rules.{Tokens, Rule}
-use Rattle.vb_syntax.specs.Rules as rule
-use Rattle.vb_syntax.specs.Words as words
-use Rattle.vb_syntax.specs.Words.{tag, name_of}
-use Rattle.vb_syntax.specs.SimpleStatements.{Looser, quoted_at}
-use Rattle.vb_syntax.specs.Statements as grammar
-use Rattle.vb_syntax.specs.Statements.{break_of}
+use Rattle.vb_syntax.specs.grammar.Rules.{Tokens, Rule}
+use Rattle.vb_syntax.specs.grammar.Rules as rule
+use Rattle.vb_syntax.specs.grammar.Words as words
+use Rattle.vb_syntax.specs.grammar.Words.{tag, name_of}
+use Rattle.vb_syntax.specs.grammar.SimpleStatements.{Looser, quoted_at}
+use Rattle.vb_syntax.specs.grammar.Statements as grammar
+use Rattle.vb_syntax.specs.grammar.Statements.{break_of}
 use Rattle.vb_parse.specs.Reader.{Reader, Turn, Look, and_then, next, sees, passes, is_some}
 use Rattle.vb_parse.specs.Reader as reader
 use Rattle.vb_parse.specs.ReadSimpleStatements.{sees_quoted}

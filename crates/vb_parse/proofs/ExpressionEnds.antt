@@ -12,12 +12,12 @@ use Rattle.vb_syntax.specs.declared.expression.Expression.TheVariants as e
 use Rattle.vb_syntax.specs.declared.expression.Operation.{Operation}
 use Rattle.vb_syntax.specs.declared.expression.PathHead.{PathHead}
 use Rattle.vb_syntax.specs.declared.expression.PathHead.TheVariants as head
-use Rattle.vb_syntax.specs.Rules.{Tokens, Rule}
-use Rattle.vb_syntax.specs.Rules as rule
-use Rattle.vb_syntax.specs.Words as words
-use Rattle.vb_syntax.specs.Words.{tag, name_of, literal_of, literal_of_kind}
-use Rattle.vb_syntax.specs.Expressions as grammar
-use Rattle.vb_syntax.specs.Expressions.{operator_of, operator_at, operation, chain, path_of, not_level}
+use Rattle.vb_syntax.specs.grammar.Rules.{Tokens, Rule}
+use Rattle.vb_syntax.specs.grammar.Rules as rule
+use Rattle.vb_syntax.specs.grammar.Words as words
+use Rattle.vb_syntax.specs.grammar.Words.{tag, name_of, literal_of, literal_of_kind}
+use Rattle.vb_syntax.specs.grammar.Expressions as grammar
+use Rattle.vb_syntax.specs.grammar.Expressions.{operator_of, operator_at, operation, chain, path_of, not_level}
 use Rattle.vb_parse.specs.Reader.{Reader, Look, next, sees, passes, is_some}
 use Rattle.vb_parse.specs.ReadExpressions as spec
 use Rattle.vb_parse.specs.ReadExpressions.{goes_on_path}

@@ -12,12 +12,12 @@ use Rattle.vb_syntax.specs.declared.expression.Expression.TheVariants as e
 use Rattle.vb_syntax.specs.declared.expression.Literal.TheVariants as literal
 use Rattle.vb_syntax.specs.declared.expression.PathHead.TheVariants as head
 use Rattle.vb_syntax.specs.declared.expression.Step.TheVariants as behind
-use Rattle.vb_syntax.specs.Rules.{Tokens, Rule}
-use Rattle.vb_syntax.specs.Rules as rule
-use Rattle.vb_syntax.specs.Words as words
-use Rattle.vb_syntax.specs.Words.{literal_of}
-use Rattle.vb_syntax.specs.Expressions as grammar
-use Rattle.vb_syntax.specs.Expressions.{operator_at, operation, chain, path_of, not_level}
+use Rattle.vb_syntax.specs.grammar.Rules.{Tokens, Rule}
+use Rattle.vb_syntax.specs.grammar.Rules as rule
+use Rattle.vb_syntax.specs.grammar.Words as words
+use Rattle.vb_syntax.specs.grammar.Words.{literal_of}
+use Rattle.vb_syntax.specs.grammar.Expressions as grammar
+use Rattle.vb_syntax.specs.grammar.Expressions.{operator_at, operation, chain, path_of, not_level}
 use Rattle.vb_parse.specs.Reader.{Reader}
 use Rattle.vb_parse.specs.Reader as reader
 use Rattle.vb_parse.specs.ReadExpressions as spec

@@ -8,12 +8,12 @@ use Rattle.vb_value.specs.declared.token.TokenKind.TheVariants as kind
 use Rattle.vb_syntax.specs.declared.expression.Expression.{Expression}
 use Rattle.vb_syntax.specs.declared.expression.Expression.TheVariants as e
 use Rattle.vb_syntax.specs.declared.expression.Step.TheVariants as behind
-use Rattle.vb_syntax.specs.Rules.{Tokens, Rule}
-use Rattle.vb_syntax.specs.Rules as rule
-use Rattle.vb_syntax.specs.Words as words
-use Rattle.vb_syntax.specs.Words.{tag, name_of, literal_of, literal_of_kind}
-use Rattle.vb_syntax.specs.Expressions as grammar
-use Rattle.vb_syntax.specs.Expressions.{operator_of, operator_at, operation, chain, path_of, not_level}
+use Rattle.vb_syntax.specs.grammar.Rules.{Tokens, Rule}
+use Rattle.vb_syntax.specs.grammar.Rules as rule
+use Rattle.vb_syntax.specs.grammar.Words as words
+use Rattle.vb_syntax.specs.grammar.Words.{tag, name_of, literal_of, literal_of_kind}
+use Rattle.vb_syntax.specs.grammar.Expressions as grammar
+use Rattle.vb_syntax.specs.grammar.Expressions.{operator_of, operator_at, operation, chain, path_of, not_level}
 use Rattle.vb_parse.specs.Reader.{next, sees}
 use Rattle.vb_parse.specs.ReadExpressions as spec
 use Rattle.vb_parse.specs.ReadExpressions.{goes_on_path}

@@ -4,10 +4,10 @@ use Rattle.std.proofs.Common.{None, refl, sym, ap, ◌∙◌, append_assoc, appe
 use Rattle.vb_value.specs.declared.token.Token.{Token}
 use Rattle.vb_value.specs.declared.token.TokenKind.{TokenKind}
 use Rattle.vb_value.specs.declared.token.TokenKind.TheVariants as kind
-use Rattle.vb_syntax.specs.Rules.{Tokens, Rule, Then}
-use Rattle.vb_syntax.specs.Rules as rule
-use Rattle.vb_syntax.specs.Words as words
-use Rattle.vb_syntax.specs.Words.{tag, line_of, name_of}
+use Rattle.vb_syntax.specs.grammar.Rules.{Tokens, Rule, Then}
+use Rattle.vb_syntax.specs.grammar.Rules as rule
+use Rattle.vb_syntax.specs.grammar.Words as words
+use Rattle.vb_syntax.specs.grammar.Words.{tag, line_of, name_of}
 use Rattle.vb_parse.specs.Reader.{next, Look, sees, passes, is_some}
 use Rattle.vb_parse.proofs.Reading.{NoEmpty}
 use Rattle.vb_parse.proofs.Taking.{Follow, Starts}

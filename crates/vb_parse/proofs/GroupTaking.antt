@@ -9,13 +9,13 @@ use Rattle.vb_syntax.specs.declared.expression.Path.{Path as PathTree}
 use Rattle.vb_syntax.specs.declared.expression.Step.{Step, out-Step}
 use Rattle.vb_syntax.specs.declared.expression.Step.TheVariants as behind
 use Rattle.vb_syntax.specs.declared.expression.Step.TheVariants.{outs-Group}
-use Rattle.vb_syntax.specs.Rules.{Tokens, Rule}
-use Rattle.vb_syntax.specs.Rules as rule
-use Rattle.vb_syntax.specs.Expressions as expressions
-use Rattle.vb_syntax.specs.Expressions.{path_of}
-use Rattle.vb_syntax.specs.Declarations as declarations
-use Rattle.vb_syntax.specs.SimpleStatements as grammar
-use Rattle.vb_syntax.specs.SimpleStatements.{Looser, named_at, ends_in_group, statement}
+use Rattle.vb_syntax.specs.grammar.Rules.{Tokens, Rule}
+use Rattle.vb_syntax.specs.grammar.Rules as rule
+use Rattle.vb_syntax.specs.grammar.Expressions as expressions
+use Rattle.vb_syntax.specs.grammar.Expressions.{path_of}
+use Rattle.vb_syntax.specs.grammar.Declarations as declarations
+use Rattle.vb_syntax.specs.grammar.SimpleStatements as grammar
+use Rattle.vb_syntax.specs.grammar.SimpleStatements.{Looser, named_at, ends_in_group, statement}
 use Rattle.vb_parse.specs.ReadCalls as spec
 use Rattle.vb_parse.specs.ReadCalls.{Tail, plain, grouped, tail}
 use Rattle.vb_parse.specs.Runs.{opens}

@@ -1,7 +1,7 @@
 -- What is known of the next token, where a loop has stopped or a rule begins.
 use Rattle.std.proofs.Common.{◌≡◌, ℕ, zero, suc, ◌<◌, ◌≤◌, Bool, true, false, cond, List, [], ◌∷◌, ◌++◌, length, None}
 use Rattle.std.proofs.Common.{Ok, Err, refl, sym, ap, ◌∙◌, arith}
-use Rattle.vb_syntax.specs.Rules.{Tokens, Rule}
+use Rattle.vb_syntax.specs.grammar.Rules.{Tokens, Rule}
 use Rattle.vb_parse.specs.Reader.{Outcome, Reader, and_then, next, Look}
 use Rattle.vb_parse.specs.Reader as reader
 use Rattle.vb_parse.proofs.Reading.{Bad, Meets, Moves, ReadsAt, Lives, more_with, one_turn, many_turn, many_step}

@@ -8,12 +8,12 @@ use Rattle.vb_value.specs.declared.token.TokenKind.TheVariants as kind
 use Rattle.vb_syntax.specs.declared.expression.Expression.{Expression}
 use Rattle.vb_syntax.specs.declared.statement.Statement.{Statement}
 use Rattle.vb_syntax.specs.declared.statement.StatementKind.TheVariants as st
-use Rattle.vb_syntax.specs.Rules.{Tokens, Rule}
-use Rattle.vb_syntax.specs.Rules as rule
-use Rattle.vb_syntax.specs.Words as words
-use Rattle.vb_syntax.specs.SimpleStatements.{Looser, statement, simple}
-use Rattle.vb_syntax.specs.Statements as grammar
-use Rattle.vb_syntax.specs.Statements.{Line, break_of}
+use Rattle.vb_syntax.specs.grammar.Rules.{Tokens, Rule}
+use Rattle.vb_syntax.specs.grammar.Rules as rule
+use Rattle.vb_syntax.specs.grammar.Words as words
+use Rattle.vb_syntax.specs.grammar.SimpleStatements.{Looser, statement, simple}
+use Rattle.vb_syntax.specs.grammar.Statements as grammar
+use Rattle.vb_syntax.specs.grammar.Statements.{Line, break_of}
 use Rattle.vb_parse.specs.Reader.{Reader, Turn}
 use Rattle.vb_parse.specs.Reader as reader
 use Rattle.vb_parse.specs.ReadLines as spec

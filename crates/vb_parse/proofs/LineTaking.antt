@@ -10,12 +10,12 @@ use Rattle.vb_value.specs.declared.token.TokenKind.TheVariants as kind
 use Rattle.vb_syntax.specs.declared.expression.Expression.{Expression}
 use Rattle.vb_syntax.specs.declared.statement.Statement.{Statement}
 use Rattle.vb_syntax.specs.declared.statement.StatementKind.TheVariants as st
-use Rattle.vb_syntax.specs.Rules.{Tokens, Rule}
-use Rattle.vb_syntax.specs.Rules as rule
-use Rattle.vb_syntax.specs.Words as words
-use Rattle.vb_syntax.specs.Words.{tag}
-use Rattle.vb_syntax.specs.SimpleStatements.{Looser, statement, simple}
-use Rattle.vb_syntax.specs.Statements as grammar
+use Rattle.vb_syntax.specs.grammar.Rules.{Tokens, Rule}
+use Rattle.vb_syntax.specs.grammar.Rules as rule
+use Rattle.vb_syntax.specs.grammar.Words as words
+use Rattle.vb_syntax.specs.grammar.Words.{tag}
+use Rattle.vb_syntax.specs.grammar.SimpleStatements.{Looser, statement, simple}
+use Rattle.vb_syntax.specs.grammar.Statements as grammar
 use Rattle.vb_parse.specs.Reader.{Reader, Turn, and_then, next, sees}
 use Rattle.vb_parse.specs.Reader as reader
 use Rattle.vb_parse.specs.ReadLines as spec

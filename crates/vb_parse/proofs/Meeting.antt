@@ -3,8 +3,8 @@
 use Rattle.std.proofs.Common.{◌≡◌, inl, inr, Bool, true, false, IsTrue, [], ◌∷◌, ◌++◌, Option, Some, None, Ok, Err}
 use Rattle.std.proofs.Common.{refl, sym, ap, ◌∙◌, append_assoc}
 use Rattle.vb_value.specs.declared.token.Token.{Token}
-use Rattle.vb_syntax.specs.Rules.{Tokens, Rule, Then}
-use Rattle.vb_syntax.specs.Rules as rule
+use Rattle.vb_syntax.specs.grammar.Rules.{Tokens, Rule, Then}
+use Rattle.vb_syntax.specs.grammar.Rules as rule
 use Rattle.vb_parse.specs.Reader.{Outcome, Reader, and_then, one_by, next, Look}
 use Rattle.vb_parse.specs.Reader as reader
 

@@ -4,11 +4,11 @@ use Rattle.std.proofs.Common.{ap, ◌∙◌, append_assoc, append-nil, subst, ar
 use Rattle.vb_value.specs.declared.token.Symbol.TheVariants as s
 use Rattle.vb_syntax.specs.declared.expression.Expression.{Expression}
 use Rattle.vb_syntax.specs.declared.expression.Expression.TheVariants as e
-use Rattle.vb_syntax.specs.Rules.{Tokens, Rule}
-use Rattle.vb_syntax.specs.Rules as rule
-use Rattle.vb_syntax.specs.Words as words
-use Rattle.vb_syntax.specs.Expressions as expressions
-use Rattle.vb_syntax.specs.Expressions.{chain, path_of, not_level, last_level}
+use Rattle.vb_syntax.specs.grammar.Rules.{Tokens, Rule}
+use Rattle.vb_syntax.specs.grammar.Rules as rule
+use Rattle.vb_syntax.specs.grammar.Words as words
+use Rattle.vb_syntax.specs.grammar.Expressions as expressions
+use Rattle.vb_syntax.specs.grammar.Expressions.{chain, path_of, not_level, last_level}
 use Rattle.vb_parse.specs.Reader.{Reader, Look, next}
 use Rattle.vb_parse.specs.Reader as reader
 use Rattle.vb_parse.specs.ReadExpressions as read

@@ -5,10 +5,10 @@ use Rattle.vb_value.specs.declared.token.Keyword.TheVariants as k
 use Rattle.vb_value.specs.declared.token.Symbol.TheVariants as s
 use Rattle.vb_value.specs.declared.token.TokenKind.TheVariants as kind
 use Rattle.vb_syntax.specs.declared.expression.Expression.{Expression}
-use Rattle.vb_syntax.specs.Rules.{Tokens, Rule}
-use Rattle.vb_syntax.specs.Words.{tag}
-use Rattle.vb_syntax.specs.Expressions as grammar
-use Rattle.vb_syntax.specs.Expressions.{operator_at, operation, chain, not_level}
+use Rattle.vb_syntax.specs.grammar.Rules.{Tokens, Rule}
+use Rattle.vb_syntax.specs.grammar.Words.{tag}
+use Rattle.vb_syntax.specs.grammar.Expressions as grammar
+use Rattle.vb_syntax.specs.grammar.Expressions.{operator_at, operation, chain, not_level}
 use Rattle.vb_parse.specs.Reader.{Reader, passes}
 use Rattle.vb_parse.specs.ReadExpressions as read
 use Rattle.vb_parse.specs.ReadCalls as spec

@@ -1,9 +1,9 @@
 -- What the parser answers, from what its readers read.
 use Rattle.std.proofs.Common.{◌≡◌, ℕ, suc, ◌<◌, ◌≤◌, ◌⊎◌, [], length, Ok, Err, refl}
 use Rattle.vb_syntax.specs.declared.expression.Expression.{Expression}
-use Rattle.vb_syntax.specs.Rules.{Tokens}
-use Rattle.vb_syntax.specs.Expressions.{SpellsExpression}
-use Rattle.vb_syntax.specs.Faults.{IsFault, fault_line}
+use Rattle.vb_syntax.specs.grammar.Rules.{Tokens}
+use Rattle.vb_syntax.specs.grammar.Expressions.{SpellsExpression}
+use Rattle.vb_syntax.specs.grammar.Faults.{IsFault, fault_line}
 use Rattle.vb_parse.specs.declared.fault.ParseFault.TheVariants as kind
 use Rattle.vb_parse.specs.Outcome.{HasFault, IsKind, Leaves}
 use Rattle.vb_parse.specs.Reader.{Reader}

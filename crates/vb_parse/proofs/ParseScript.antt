@@ -3,10 +3,10 @@ use Rattle.std.proofs.Common.{◌≡◌, ℕ, ◌<◌, ◌≤◌, Bool, true, fa
 use Rattle.std.proofs.Common.{arith}
 use Rattle.std.proofs.lemmas.Bool.Decides.{nat_tests}
 use Rattle.vb_syntax.specs.declared.unit.Unit.{Unit as Script}
-use Rattle.vb_syntax.specs.Rules.{Tokens}
-use Rattle.vb_syntax.specs.SimpleStatements.{Looser}
-use Rattle.vb_syntax.specs.Units.{Derives, strict}
-use Rattle.vb_syntax.specs.Faults.{IsFault, fault_line}
+use Rattle.vb_syntax.specs.grammar.Rules.{Tokens}
+use Rattle.vb_syntax.specs.grammar.SimpleStatements.{Looser}
+use Rattle.vb_syntax.specs.grammar.Units.{Derives, strict}
+use Rattle.vb_syntax.specs.grammar.Faults.{IsFault, fault_line}
 use Rattle.vb_parse.specs.declared.fault.ParseFault.TheVariants as kind
 use Rattle.vb_parse.specs.declared.cursor.Stop.{Stop}
 use Rattle.vb_parse.specs.declared.cursor.Stop.TheVariants.{Fault, Memory}

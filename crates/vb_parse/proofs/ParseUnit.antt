@@ -1,10 +1,10 @@
 -- What a parser of units answers, from what its readers read.
 use Rattle.std.proofs.Common.{◌≡◌, ℕ, ◌<◌, ◌≤◌, ◌⊎◌, length, Ok, Err, refl}
 use Rattle.vb_syntax.specs.declared.unit.Unit.{Unit as Script}
-use Rattle.vb_syntax.specs.Rules.{Tokens}
-use Rattle.vb_syntax.specs.SimpleStatements.{Looser}
-use Rattle.vb_syntax.specs.Units as grammar
-use Rattle.vb_syntax.specs.Faults.{IsFault, WouldGoOn}
+use Rattle.vb_syntax.specs.grammar.Rules.{Tokens}
+use Rattle.vb_syntax.specs.grammar.SimpleStatements.{Looser}
+use Rattle.vb_syntax.specs.grammar.Units as grammar
+use Rattle.vb_syntax.specs.grammar.Faults.{IsFault, WouldGoOn}
 use Rattle.vb_parse.specs.Outcome.{Leaves}
 use Rattle.vb_parse.specs.ReadUnits as spec
 use Rattle.vb_parse.specs.ReadUnits.{whole_unit}

@@ -13,13 +13,13 @@ use Rattle.vb_syntax.specs.declared.expression.PathHead.TheVariants as head
 use Rattle.vb_syntax.specs.declared.expression.Step.{Step, out-Step}
 use Rattle.vb_syntax.specs.declared.expression.Step.TheVariants as behind
 use Rattle.vb_syntax.specs.declared.expression.Step.TheVariants.{outs-Group, outs-Member}
-use Rattle.vb_syntax.specs.Rules.{Tokens, Rule}
-use Rattle.vb_syntax.specs.Rules as rule
-use Rattle.vb_syntax.specs.Words as words
-use Rattle.vb_syntax.specs.Words.{tag, name_of, name_of_kind}
-use Rattle.vb_syntax.specs.Expressions as expressions
-use Rattle.vb_syntax.specs.SimpleStatements as grammar
-use Rattle.vb_syntax.specs.SimpleStatements.{Looser, named_at, ends_in_group}
+use Rattle.vb_syntax.specs.grammar.Rules.{Tokens, Rule}
+use Rattle.vb_syntax.specs.grammar.Rules as rule
+use Rattle.vb_syntax.specs.grammar.Words as words
+use Rattle.vb_syntax.specs.grammar.Words.{tag, name_of, name_of_kind}
+use Rattle.vb_syntax.specs.grammar.Expressions as expressions
+use Rattle.vb_syntax.specs.grammar.SimpleStatements as grammar
+use Rattle.vb_syntax.specs.grammar.SimpleStatements.{Looser, named_at, ends_in_group}
 use Rattle.vb_parse.specs.Reader.{Reader, Outcome, and_then, next}
 use Rattle.vb_parse.specs.Reader as reader
 use Rattle.vb_parse.specs.ReadExpressions as read

@@ -6,11 +6,11 @@ use Rattle.vb_value.specs.declared.token.Keyword.TheVariants as k
 use Rattle.vb_value.specs.declared.token.Symbol.TheVariants as s
 use Rattle.vb_value.specs.declared.token.Token.{Token}
 use Rattle.vb_value.specs.declared.token.TokenKind.TheVariants as kind
-use Rattle.vb_syntax.specs.Rules.{Tokens, Rule}
-use Rattle.vb_syntax.specs.Words.{tag}
-use Rattle.vb_syntax.specs.Expressions as grammar
-use Rattle.vb_syntax.specs.Expressions.{operator_of, operator_at}
-use Rattle.vb_syntax.specs.Declarations as declarations
+use Rattle.vb_syntax.specs.grammar.Rules.{Tokens, Rule}
+use Rattle.vb_syntax.specs.grammar.Words.{tag}
+use Rattle.vb_syntax.specs.grammar.Expressions as grammar
+use Rattle.vb_syntax.specs.grammar.Expressions.{operator_of, operator_at}
+use Rattle.vb_syntax.specs.grammar.Declarations as declarations
 use Rattle.vb_parse.specs.Reader.{Reader, next, passes}
 use Rattle.vb_parse.specs.ReadExpressions as spec
 use Rattle.vb_parse.specs.ReadExpressions.{goes_on_path}

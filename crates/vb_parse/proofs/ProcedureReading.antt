@@ -9,15 +9,15 @@ use Rattle.vb_syntax.specs.declared.unit.ProcedureKind.{ProcedureKind}
 use Rattle.vb_syntax.specs.declared.unit.ProcedureKind.TheVariants as procedure_kind
 use Rattle.vb_syntax.specs.declared.unit.Property.{Property}
 use Rattle.vb_syntax.specs.declared.unit.PropertyKind.TheVariants as property_kind
-use Rattle.vb_syntax.specs.Rules.{Tokens, Rule}
-use Rattle.vb_syntax.specs.Rules as rule
-use Rattle.vb_syntax.specs.Words as words
-use Rattle.vb_syntax.specs.Words.{name_of}
-use Rattle.vb_syntax.specs.Declarations as declarations
-use Rattle.vb_syntax.specs.SimpleStatements as simple
-use Rattle.vb_syntax.specs.SimpleStatements.{Looser, quoted_at}
-use Rattle.vb_syntax.specs.Statements as statements
-use Rattle.vb_syntax.specs.Units as grammar
+use Rattle.vb_syntax.specs.grammar.Rules.{Tokens, Rule}
+use Rattle.vb_syntax.specs.grammar.Rules as rule
+use Rattle.vb_syntax.specs.grammar.Words as words
+use Rattle.vb_syntax.specs.grammar.Words.{name_of}
+use Rattle.vb_syntax.specs.grammar.Declarations as declarations
+use Rattle.vb_syntax.specs.grammar.SimpleStatements as simple
+use Rattle.vb_syntax.specs.grammar.SimpleStatements.{Looser, quoted_at}
+use Rattle.vb_syntax.specs.grammar.Statements as statements
+use Rattle.vb_syntax.specs.grammar.Units as grammar
 use Rattle.vb_parse.specs.Reader.{Reader, Look, next, and_then}
 use Rattle.vb_parse.specs.Reader as reader
 use Rattle.vb_parse.specs.ReadDeclarations.{begun}

@@ -7,14 +7,14 @@ use Rattle.vb_syntax.specs.declared.statement.Statement.{Statement}
 use Rattle.vb_syntax.specs.declared.unit.ProcedureKind.{ProcedureKind}
 use Rattle.vb_syntax.specs.declared.unit.ProcedureKind.TheVariants as procedure_kind
 use Rattle.vb_syntax.specs.declared.unit.Property.{Property}
-use Rattle.vb_syntax.specs.Rules.{Tokens, Rule}
-use Rattle.vb_syntax.specs.Rules as rule
-use Rattle.vb_syntax.specs.Words as words
-use Rattle.vb_syntax.specs.Words.{tag, name_of}
-use Rattle.vb_syntax.specs.Declarations as declarations
-use Rattle.vb_syntax.specs.SimpleStatements as simple
-use Rattle.vb_syntax.specs.SimpleStatements.{Looser}
-use Rattle.vb_syntax.specs.Units as grammar
+use Rattle.vb_syntax.specs.grammar.Rules.{Tokens, Rule}
+use Rattle.vb_syntax.specs.grammar.Rules as rule
+use Rattle.vb_syntax.specs.grammar.Words as words
+use Rattle.vb_syntax.specs.grammar.Words.{tag, name_of}
+use Rattle.vb_syntax.specs.grammar.Declarations as declarations
+use Rattle.vb_syntax.specs.grammar.SimpleStatements as simple
+use Rattle.vb_syntax.specs.grammar.SimpleStatements.{Looser}
+use Rattle.vb_syntax.specs.grammar.Units as grammar
 use Rattle.vb_parse.specs.Reader.{sees}
 use Rattle.vb_parse.specs.ReadDeclarations.{begun}
 use Rattle.vb_parse.specs.ReadUnits as spec

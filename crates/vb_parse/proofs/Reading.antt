@@ -5,9 +5,9 @@ use Rattle.std.proofs.lemmas.Bool.{eq-eqb}
 use Rattle.vb_value.specs.declared.token.Token.{Token}
 use Rattle.vb_value.specs.declared.token.TokenKind.{TokenKind}
 use Rattle.vb_value.specs.declared.token.TokenKind.TheVariants as kind
-use Rattle.vb_syntax.specs.Rules.{Tokens, Rule, Then}
-use Rattle.vb_syntax.specs.Rules as rule
-use Rattle.vb_syntax.specs.Words as words
+use Rattle.vb_syntax.specs.grammar.Rules.{Tokens, Rule, Then}
+use Rattle.vb_syntax.specs.grammar.Rules as rule
+use Rattle.vb_syntax.specs.grammar.Words as words
 use Rattle.vb_parse.specs.Reader.{Outcome, Reader, and_then, one_by, next, Look}
 use Rattle.vb_parse.specs.Reader as reader
 pub use Rattle.vb_parse.proofs.Meeting.{ok_tail, ok_thing, Good, Bad, Meets, ReadsAt, Lives, Reads, reads_pure}

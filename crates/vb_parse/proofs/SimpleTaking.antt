@@ -7,14 +7,14 @@ use Rattle.vb_value.specs.declared.token.TokenKind.TheVariants as kind
 use Rattle.vb_syntax.specs.declared.declaration.Access.{Access}
 use Rattle.vb_syntax.specs.declared.statement.Statement.{Statement}
 use Rattle.vb_syntax.specs.declared.statement.StatementKind.TheVariants as st
-use Rattle.vb_syntax.specs.Rules.{Tokens, Rule}
-use Rattle.vb_syntax.specs.Rules as rule
-use Rattle.vb_syntax.specs.Words as words
-use Rattle.vb_syntax.specs.Words.{tag, name_of}
-use Rattle.vb_syntax.specs.Declarations.{opened, constant}
-use Rattle.vb_syntax.specs.Expressions.{expressions}
-use Rattle.vb_syntax.specs.SimpleStatements as grammar
-use Rattle.vb_syntax.specs.SimpleStatements.{Looser, quoted_at, line_of_quoted, text_at, text_of_kind}
+use Rattle.vb_syntax.specs.grammar.Rules.{Tokens, Rule}
+use Rattle.vb_syntax.specs.grammar.Rules as rule
+use Rattle.vb_syntax.specs.grammar.Words as words
+use Rattle.vb_syntax.specs.grammar.Words.{tag, name_of}
+use Rattle.vb_syntax.specs.grammar.Declarations.{opened, constant}
+use Rattle.vb_syntax.specs.grammar.Expressions.{expressions}
+use Rattle.vb_syntax.specs.grammar.SimpleStatements as grammar
+use Rattle.vb_syntax.specs.grammar.SimpleStatements.{Looser, quoted_at, line_of_quoted, text_at, text_of_kind}
 use Rattle.vb_parse.specs.Reader.{Reader, sees, next, passes, one_by}
 use Rattle.vb_parse.specs.Reader as reader
 use Rattle.vb_parse.specs.ReadDeclarations.{sees_access, begun}

@@ -10,12 +10,12 @@ use Rattle.vb_syntax.specs.declared.statement.Case.{Case, roll-Case}
 use Rattle.vb_syntax.specs.declared.statement.Repetition.TheVariants as repetition
 use Rattle.vb_syntax.specs.declared.statement.Statement.{Statement}
 use Rattle.vb_syntax.specs.declared.statement.StatementKind.TheVariants as st
-use Rattle.vb_syntax.specs.Rules.{Tokens, Rule}
-use Rattle.vb_syntax.specs.Rules as rule
-use Rattle.vb_syntax.specs.Words as words
-use Rattle.vb_syntax.specs.SimpleStatements as simple
-use Rattle.vb_syntax.specs.SimpleStatements.{Looser, statement, quoted_at}
-use Rattle.vb_syntax.specs.Statements as grammar
+use Rattle.vb_syntax.specs.grammar.Rules.{Tokens, Rule}
+use Rattle.vb_syntax.specs.grammar.Rules as rule
+use Rattle.vb_syntax.specs.grammar.Words as words
+use Rattle.vb_syntax.specs.grammar.SimpleStatements as simple
+use Rattle.vb_syntax.specs.grammar.SimpleStatements.{Looser, statement, quoted_at}
+use Rattle.vb_syntax.specs.grammar.Statements as grammar
 use Rattle.vb_parse.specs.Reader.{Reader, Turn}
 use Rattle.vb_parse.specs.Reader as reader
 use Rattle.vb_parse.specs.ReadLines as lines

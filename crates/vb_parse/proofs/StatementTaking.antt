@@ -11,14 +11,14 @@ use Rattle.vb_syntax.specs.declared.statement.Repetition.{Repetition}
 use Rattle.vb_syntax.specs.declared.statement.Repetition.TheVariants as repetition
 use Rattle.vb_syntax.specs.declared.statement.Statement.{Statement}
 use Rattle.vb_syntax.specs.declared.statement.StatementKind.TheVariants as st
-use Rattle.vb_syntax.specs.Rules.{Tokens, Rule}
-use Rattle.vb_syntax.specs.Rules as rule
-use Rattle.vb_syntax.specs.Words as words
-use Rattle.vb_syntax.specs.Words.{tag, name_of}
-use Rattle.vb_syntax.specs.Expressions.{expressions}
-use Rattle.vb_syntax.specs.SimpleStatements.{Looser, statement, quoted}
-use Rattle.vb_syntax.specs.Statements as grammar
-use Rattle.vb_syntax.specs.Statements.{break_of}
+use Rattle.vb_syntax.specs.grammar.Rules.{Tokens, Rule}
+use Rattle.vb_syntax.specs.grammar.Rules as rule
+use Rattle.vb_syntax.specs.grammar.Words as words
+use Rattle.vb_syntax.specs.grammar.Words.{tag, name_of}
+use Rattle.vb_syntax.specs.grammar.Expressions.{expressions}
+use Rattle.vb_syntax.specs.grammar.SimpleStatements.{Looser, statement, quoted}
+use Rattle.vb_syntax.specs.grammar.Statements as grammar
+use Rattle.vb_syntax.specs.grammar.Statements.{break_of}
 use Rattle.vb_parse.specs.Reader.{Reader, Turn, Look, and_then, next, sees, passes, is_some}
 use Rattle.vb_parse.specs.Reader as reader
 use Rattle.vb_parse.specs.ReadSimpleStatements.{sees_quoted}

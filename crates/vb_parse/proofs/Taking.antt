@@ -2,8 +2,8 @@
 use Rattle.std.proofs.Common.{◌≡◌, inl, inr, Bool, true, false, IsTrue, cond, List, [], ◌∷◌, ◌++◌, Option, None, Ok}
 use Rattle.std.proofs.Common.{refl, sym, ap, ◌∙◌, append_assoc, append-nil, subst}
 use Rattle.vb_value.specs.declared.token.Token.{Token}
-use Rattle.vb_syntax.specs.Rules.{Tokens, Rule, Then, One}
-use Rattle.vb_syntax.specs.Rules as rule
+use Rattle.vb_syntax.specs.grammar.Rules.{Tokens, Rule, Then, One}
+use Rattle.vb_syntax.specs.grammar.Rules as rule
 use Rattle.vb_parse.specs.Reader.{Outcome, Reader, and_then, one_by, next, Look}
 use Rattle.vb_parse.specs.Reader as reader
 use Rattle.vb_parse.proofs.Reading.{Moves, more_with, many_step}

@@ -1,7 +1,7 @@
 -- Whether with a looser rule something goes on at a fault, told by how far the looser reader comes.
 use Rattle.std.proofs.Common.{◌≡◌, ℕ, ◌<◌, ◌≤◌, [], ◌∷◌, length, Ok, Err, refl, arith}
-use Rattle.vb_syntax.specs.Rules.{Tokens, Rule}
-use Rattle.vb_syntax.specs.Faults.{IsFault, WouldGoOn}
+use Rattle.vb_syntax.specs.grammar.Rules.{Tokens, Rule}
+use Rattle.vb_syntax.specs.grammar.Faults.{IsFault, WouldGoOn}
 use Rattle.vb_parse.specs.Outcome.{Leaves}
 use Rattle.vb_parse.specs.Reader.{Outcome, Reader, whole}
 use Rattle.vb_parse.proofs.Theorems.{Fits, sound, stops_at_fault, looser_reads, looser_further, looser_stops}

@@ -3,9 +3,9 @@
 use Rattle.std.proofs.Common.{◌≡◌, ℕ, ◌+◌, ◌<◌, ◌≤◌, ◌⊎◌, inl, inr, [], ◌∷◌, ◌++◌, length, Ok, Err, refl, sym, ap}
 use Rattle.std.proofs.Common.{◌∙◌, append_assoc, append-nil, subst, length-append, arith}
 use Rattle.vb_value.specs.declared.token.Token.{Token}
-use Rattle.vb_syntax.specs.Rules.{Tokens, Rule}
-use Rattle.vb_syntax.specs.Rules as rule
-use Rattle.vb_syntax.specs.Faults.{IsFault, GoesOn, Ends, WouldGoOn}
+use Rattle.vb_syntax.specs.grammar.Rules.{Tokens, Rule}
+use Rattle.vb_syntax.specs.grammar.Rules as rule
+use Rattle.vb_syntax.specs.grammar.Faults.{IsFault, GoesOn, Ends, WouldGoOn}
 use Rattle.vb_parse.specs.Reader.{Outcome, Reader, and_then, next, at_end, whole}
 use Rattle.vb_parse.specs.Reader as reader
 use Rattle.vb_parse.proofs.Reading.{Reads, Bad, Meets, reads_bind, reads_pure, reads_wider, ok_tail, ok_thing}

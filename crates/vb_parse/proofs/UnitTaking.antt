@@ -10,15 +10,15 @@ use Rattle.vb_syntax.specs.declared.statement.Statement.{Statement}
 use Rattle.vb_syntax.specs.declared.unit.Item.{Item}
 use Rattle.vb_syntax.specs.declared.unit.Item.TheVariants as item
 use Rattle.vb_syntax.specs.declared.unit.Unit.{Unit as Script}
-use Rattle.vb_syntax.specs.Rules.{Tokens, Rule}
-use Rattle.vb_syntax.specs.Rules as rule
-use Rattle.vb_syntax.specs.Words as words
-use Rattle.vb_syntax.specs.Words.{tag, name_of}
-use Rattle.vb_syntax.specs.Declarations as declarations
-use Rattle.vb_syntax.specs.SimpleStatements as simple
-use Rattle.vb_syntax.specs.SimpleStatements.{Looser}
-use Rattle.vb_syntax.specs.Statements as statements
-use Rattle.vb_syntax.specs.Units as grammar
+use Rattle.vb_syntax.specs.grammar.Rules.{Tokens, Rule}
+use Rattle.vb_syntax.specs.grammar.Rules as rule
+use Rattle.vb_syntax.specs.grammar.Words as words
+use Rattle.vb_syntax.specs.grammar.Words.{tag, name_of}
+use Rattle.vb_syntax.specs.grammar.Declarations as declarations
+use Rattle.vb_syntax.specs.grammar.SimpleStatements as simple
+use Rattle.vb_syntax.specs.grammar.SimpleStatements.{Looser}
+use Rattle.vb_syntax.specs.grammar.Statements as statements
+use Rattle.vb_syntax.specs.grammar.Units as grammar
 use Rattle.vb_parse.specs.Reader.{Reader, Look, next}
 use Rattle.vb_parse.specs.Reader as reader
 use Rattle.vb_parse.specs.ReadDeclarations as read_declarations

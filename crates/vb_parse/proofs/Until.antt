@@ -2,8 +2,8 @@
 use Rattle.std.proofs.Common.{◌≡◌, ℕ, zero, suc, ◌+◌, ◌<◌, ◌≤◌, List, [], ◌∷◌, ◌++◌, length, Ok, Err, refl, sym, ap}
 use Rattle.std.proofs.Common.{◌∙◌, append_assoc, append-nil, subst, length-append, arith}
 use Rattle.std.specs.declared.ops.ControlFlow.TheVariants.{Continue, Break}
-use Rattle.vb_syntax.specs.Rules.{Tokens, Rule, Then}
-use Rattle.vb_syntax.specs.Rules as rule
+use Rattle.vb_syntax.specs.grammar.Rules.{Tokens, Rule, Then}
+use Rattle.vb_syntax.specs.grammar.Rules as rule
 use Rattle.vb_parse.specs.Reader.{Outcome, Reader, and_then, next, Turn, then_until}
 use Rattle.vb_parse.specs.Reader as reader
 use Rattle.vb_parse.proofs.Taking.{only}

@@ -1,7 +1,7 @@
 -- Loops that read up to their last turn.
 use Rattle.std.proofs.Common.{◌≡◌, List, [], ◌∷◌, ◌++◌, Ok, Err, refl, sym, ap, ◌∙◌, append_assoc}
 use Rattle.std.specs.declared.ops.ControlFlow.TheVariants.{Continue}
-use Rattle.vb_syntax.specs.Rules.{Tokens}
+use Rattle.vb_syntax.specs.grammar.Rules.{Tokens}
 use Rattle.vb_parse.specs.Reader as reader
 use Rattle.vb_parse.specs.Reader.{Reader, Outcome, Turn, and_then, then_until}
 use Rattle.vb_parse.proofs.Until.{OnwardMoves, until_step}

@@ -1,8 +1,8 @@
 -- What the parser answers: the tree that the tokens spell, or the fault with its kind and its line.
 use Rattle.std.specs.Prelude.{◌≡◌, ℕ, suc, nat_lt, if◌then◌else◌, length, Result, Ok, Err}
-use Rattle.vb_syntax.specs.Rules.{Tokens, Rule}
-use Rattle.vb_syntax.specs.Faults.{IsFault, WouldGoOn, fault_line}
-use Rattle.vb_syntax.specs.Units.{IsTooDeep, IsCallParens, IsTextHere}
+use Rattle.vb_syntax.specs.grammar.Rules.{Tokens, Rule}
+use Rattle.vb_syntax.specs.grammar.Faults.{IsFault, WouldGoOn, fault_line}
+use Rattle.vb_syntax.specs.grammar.Units.{IsTooDeep, IsCallParens, IsTextHere}
 use Rattle.vb_parse.specs.declared.fault.ParseFault.{ParseFault}
 use Rattle.vb_parse.specs.declared.fault.ParseFault.TheVariants as kind
 use Rattle.vb_parse.specs.declared.fault.ParseStop.{ParseStop}

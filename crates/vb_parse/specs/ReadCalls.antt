@@ -14,9 +14,9 @@ use Rattle.vb_syntax.specs.declared.expression.PathHead.TheVariants as head
 use Rattle.vb_syntax.specs.declared.expression.Step.{Step, out-Step}
 use Rattle.vb_syntax.specs.declared.statement.Statement.{Statement}
 use Rattle.vb_syntax.specs.declared.statement.StatementKind.TheVariants as st
-use Rattle.vb_syntax.specs.Words.{name_of}
-use Rattle.vb_syntax.specs.Expressions.{chain, path_of, not_level, last_level}
-use Rattle.vb_syntax.specs.SimpleStatements.{Looser, named_at, statement}
+use Rattle.vb_syntax.specs.grammar.Words.{name_of}
+use Rattle.vb_syntax.specs.grammar.Expressions.{chain, path_of, not_level, last_level}
+use Rattle.vb_syntax.specs.grammar.SimpleStatements.{Looser, named_at, statement}
 use Rattle.vb_parse.specs.Reader.{Reader, Look, ◌>>=◌, ◌>>◌, pure, one, keyword, symbol, sees, passes, asks, case, gate}
 use Rattle.vb_parse.specs.ReadExpressions.{Inside, expressions, turns, operators, steps, list_of, more_of}
 use Rattle.vb_parse.specs.Runs.{opens, inside}

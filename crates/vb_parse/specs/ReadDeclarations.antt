@@ -10,8 +10,8 @@ use Rattle.vb_syntax.specs.declared.declaration.ConstantValue.{ConstantValue}
 use Rattle.vb_syntax.specs.declared.declaration.ConstantValue.TheVariants as value
 use Rattle.vb_syntax.specs.declared.declaration.Declared.{Declared}
 use Rattle.vb_syntax.specs.declared.declaration.Parameter.{Parameter}
-use Rattle.vb_syntax.specs.Words.{name_of, literal_of}
-use Rattle.vb_syntax.specs.Declarations.{number_of, negative_of}
+use Rattle.vb_syntax.specs.grammar.Words.{name_of, literal_of}
+use Rattle.vb_syntax.specs.grammar.Declarations.{number_of, negative_of}
 use Rattle.vb_parse.specs.Reader.{Reader, Look, ◌>>=◌, ◌>>◌, pure, refuse, one, keyword, symbol, sees, case}
 use Rattle.vb_parse.specs.ReadExpressions.{list_of}
 

@@ -11,8 +11,8 @@ use Rattle.vb_syntax.specs.declared.expression.PathHead.{PathHead}
 use Rattle.vb_syntax.specs.declared.expression.PathHead.TheVariants as head
 use Rattle.vb_syntax.specs.declared.expression.Step.{Step}
 use Rattle.vb_syntax.specs.declared.expression.Step.TheVariants as behind
-use Rattle.vb_syntax.specs.Words.{name_of, literal_of}
-use Rattle.vb_syntax.specs.Expressions.{operator_at, operation, chain, path_of, not_level, last_level}
+use Rattle.vb_syntax.specs.grammar.Words.{name_of, literal_of}
+use Rattle.vb_syntax.specs.grammar.Expressions.{operator_at, operation, chain, path_of, not_level, last_level}
 use Rattle.vb_parse.specs.Reader.{Reader, Look, ◌>>=◌, ◌>>◌, pure, refuse, one, keyword, symbol, sees, passes, case}
 use Rattle.vb_parse.specs.Reader.{gate, many, whole}
 

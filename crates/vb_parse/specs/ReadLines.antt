@@ -9,8 +9,8 @@ use Rattle.vb_value.specs.declared.token.TokenKind.TheVariants as kind
 use Rattle.vb_syntax.specs.declared.expression.Expression.{Expression}
 use Rattle.vb_syntax.specs.declared.statement.Statement.{Statement}
 use Rattle.vb_syntax.specs.declared.statement.StatementKind.TheVariants as st
-use Rattle.vb_syntax.specs.SimpleStatements.{Looser, statement}
-use Rattle.vb_syntax.specs.Statements.{break_of}
+use Rattle.vb_syntax.specs.grammar.SimpleStatements.{Looser, statement}
+use Rattle.vb_syntax.specs.grammar.Statements.{break_of}
 use Rattle.vb_parse.specs.Reader.{Reader, Look, ◌>>=◌, ◌>>◌, pure, one, word, keyword, symbol, sees, passes, asks, case}
 use Rattle.vb_parse.specs.Reader.{gate, many, Turn, until}
 use Rattle.vb_parse.specs.ReadSimpleStatements.{keyword_begins_simple, kind_begins_simple, simple}

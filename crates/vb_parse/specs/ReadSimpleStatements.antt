@@ -14,10 +14,10 @@ use Rattle.vb_syntax.specs.declared.statement.ExitKind.TheVariants as exit
 use Rattle.vb_syntax.specs.declared.statement.Resized.{Resized}
 use Rattle.vb_syntax.specs.declared.statement.Statement.{Statement}
 use Rattle.vb_syntax.specs.declared.statement.StatementKind.TheVariants as st
-use Rattle.vb_syntax.specs.Words.{name_of}
-use Rattle.vb_syntax.specs.Declarations.{number_of}
-use Rattle.vb_syntax.specs.Expressions.{path_of}
-use Rattle.vb_syntax.specs.SimpleStatements.{Looser, quoted_at, text_at, statement}
+use Rattle.vb_syntax.specs.grammar.Words.{name_of}
+use Rattle.vb_syntax.specs.grammar.Declarations.{number_of}
+use Rattle.vb_syntax.specs.grammar.Expressions.{path_of}
+use Rattle.vb_syntax.specs.grammar.SimpleStatements.{Looser, quoted_at, text_at, statement}
 use Rattle.vb_parse.specs.Reader.{Reader, Look, ◌>>=◌, ◌>>◌, pure, one, word, keyword, symbol, sees, passes, case, gate}
 use Rattle.vb_parse.specs.ReadExpressions.{expressions, list_of}
 use Rattle.vb_parse.specs.ReadDeclarations.{opened, sees_access, access_word, begun, declared, constant}

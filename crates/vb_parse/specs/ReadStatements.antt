@@ -15,8 +15,8 @@ use Rattle.vb_syntax.specs.declared.statement.Repetition.{Repetition}
 use Rattle.vb_syntax.specs.declared.statement.Repetition.TheVariants as repetition
 use Rattle.vb_syntax.specs.declared.statement.Statement.{Statement}
 use Rattle.vb_syntax.specs.declared.statement.StatementKind.TheVariants as st
-use Rattle.vb_syntax.specs.Words.{name_of}
-use Rattle.vb_syntax.specs.SimpleStatements.{Looser, statement}
+use Rattle.vb_syntax.specs.grammar.Words.{name_of}
+use Rattle.vb_syntax.specs.grammar.SimpleStatements.{Looser, statement}
 use Rattle.vb_parse.specs.Reader.{Reader, Look, ◌>>=◌, ◌>>◌, pure, refuse, one, word, keyword, symbol, sees, asks, case}
 use Rattle.vb_parse.specs.Reader.{gate, many, Turn, until}
 use Rattle.vb_parse.specs.ReadExpressions.{list_of}

@@ -23,8 +23,8 @@ use Rattle.vb_syntax.specs.declared.unit.Property.{Property}
 use Rattle.vb_syntax.specs.declared.unit.PropertyKind.{PropertyKind}
 use Rattle.vb_syntax.specs.declared.unit.PropertyKind.TheVariants as property_kind
 use Rattle.vb_syntax.specs.declared.unit.Unit.{Unit as Script}
-use Rattle.vb_syntax.specs.Words.{name_of}
-use Rattle.vb_syntax.specs.SimpleStatements.{Looser, quoted_at}
+use Rattle.vb_syntax.specs.grammar.Words.{name_of}
+use Rattle.vb_syntax.specs.grammar.SimpleStatements.{Looser, quoted_at}
 use Rattle.vb_parse.specs.Reader.{Reader, Look, ◌>>=◌, ◌>>◌, pure, one, keyword, sees, asks, case, gate, many, whole}
 use Rattle.vb_parse.specs.ReadExpressions.{list_of, more_of}
 use Rattle.vb_parse.specs.ReadDeclarations.{opened, sees_access, access_word, begun, declared, declared_from}

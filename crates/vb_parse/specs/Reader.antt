@@ -8,8 +8,8 @@ use Rattle.vb_value.specs.declared.token.Symbol.{Symbol}
 use Rattle.vb_value.specs.declared.token.Token.{Token}
 use Rattle.vb_value.specs.declared.token.TokenKind.{TokenKind}
 use Rattle.vb_value.specs.declared.token.TokenKind.TheVariants as kind
-use Rattle.vb_syntax.specs.Rules.{Tokens}
-use Rattle.vb_syntax.specs.Words.{tag, line_of}
+use Rattle.vb_syntax.specs.grammar.Rules.{Tokens}
+use Rattle.vb_syntax.specs.grammar.Words.{tag, line_of}
 
 -- what was read and the tokens behind it, or the tokens from the faulty one on
 abbrev pub Outcome : Type 0 → Type 0

@@ -1,9 +1,9 @@
 -- What a function that reads ensures: it does what the reader does, unless memory runs out.
 use Rattle.std.specs.Prelude.{◌≡◌, ℕ, zero, suc, Bool, true, false, Result, Ok, Err}
-use Rattle.vb_syntax.specs.Rules.{Tokens}
+use Rattle.vb_syntax.specs.grammar.Rules.{Tokens}
 use Rattle.vb_parse.specs.declared.cursor.Stop.{Stop}
 use Rattle.vb_parse.specs.declared.cursor.Stop.TheVariants.{Fault, Memory}
-use Rattle.vb_syntax.specs.SimpleStatements.{Looser}
+use Rattle.vb_syntax.specs.grammar.SimpleStatements.{Looser}
 use Rattle.vb_parse.specs.declared.looser.Looser.{Looser as Allowed}
 use Rattle.vb_parse.specs.Reader.{Outcome}
 use Rattle.vb_parse.specs.ReadExpressions.{Inside, closed, expressions}

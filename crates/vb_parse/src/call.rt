@@ -1,6 +1,6 @@
 //! Reading statements that begin with a path: assignments and calls.
 ghost use Rattle.std.specs.Prelude.{◌≡◌, ◌<◌, ◌+◌, ◌==◌, ◌∷◌, IfOk, MatchOption};
-ghost use Rattle.vb_syntax.specs.Expressions.{last_level, not_level};
+ghost use Rattle.vb_syntax.specs.grammar.Expressions.{last_level, not_level};
 ghost use Rattle.vb_parse.specs.Reader as reader;
 ghost use Rattle.vb_parse.specs.ReadCalls as spec;
 ghost use Rattle.vb_parse.specs.ReadExpressions.{more_of, operators};

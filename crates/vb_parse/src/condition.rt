@@ -1,6 +1,6 @@
 //! Reading the conditions of loops, and texts that the grammar does not have.
 ghost use Rattle.std.specs.Prelude.{◌≡◌, true};
-ghost use Rattle.vb_syntax.specs.Units.{strict};
+ghost use Rattle.vb_syntax.specs.grammar.Units.{strict};
 ghost use Rattle.vb_parse.specs.ReadExpressions.{expressions};
 ghost use Rattle.vb_parse.specs.ReadStatements as spec;
 ghost use Rattle.vb_parse.specs.Runs.{Runs, rules};

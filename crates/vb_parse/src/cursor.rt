@@ -1,7 +1,7 @@
 //! The tokens that are left, and the words of the grammar.
 ghost use Rattle.std.specs.Prelude.{◌≡◌, IfOk};
-ghost use Rattle.vb_syntax.specs.Words.{tag, name_of, literal_of, literal_of_keyword, literal_of_kind};
-ghost use Rattle.vb_syntax.specs.Expressions as grammar;
+ghost use Rattle.vb_syntax.specs.grammar.Words.{tag, name_of, literal_of, literal_of_keyword, literal_of_kind};
+ghost use Rattle.vb_syntax.specs.grammar.Expressions as grammar;
 ghost use Rattle.vb_parse.specs.Reader as reader;
 ghost use Rattle.vb_parse.specs.ReadExpressions.{goes_on_path, sees_leaf};
 ghost use Rattle.vb_parse.specs.Runs.{Runs};

@@ -1,7 +1,7 @@
 //! Reading declarations. Each function reads what the rule of its name spells, where `depth` more constructs
 //! may open.
 ghost use Rattle.std.specs.Prelude.{◌≡◌, ◌∷◌};
-ghost use Rattle.vb_syntax.specs.Declarations.{number_of};
+ghost use Rattle.vb_syntax.specs.grammar.Declarations.{number_of};
 ghost use Rattle.vb_parse.specs.Reader as reader;
 ghost use Rattle.vb_parse.specs.ReadDeclarations as spec;
 ghost use Rattle.vb_parse.specs.ReadExpressions.{list_of, more_of};

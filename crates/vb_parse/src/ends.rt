@@ -1,6 +1,6 @@
 //! Colons and line ends, which end statements.
 ghost use Rattle.vb_value.specs.declared.token.Symbol.TheVariants as symbols;
-ghost use Rattle.vb_syntax.specs.Statements.{break_of};
+ghost use Rattle.vb_syntax.specs.grammar.Statements.{break_of};
 ghost use Rattle.vb_parse.specs.Reader as reader;
 ghost use Rattle.vb_parse.specs.ReadLines as spec;
 ghost use Rattle.vb_parse.specs.Runs.{Runs};

@@ -1,7 +1,7 @@
 //! Reading expressions. Each function reads what the rule of its name spells, where `depth` more constructs
 //! may open.
 ghost use Rattle.std.specs.Prelude.{◌≡◌, ◌≤◌, ◌<◌, ◌≢◌, ◌+◌, ◌∷◌, IfOk};
-ghost use Rattle.vb_syntax.specs.Expressions.{chain};
+ghost use Rattle.vb_syntax.specs.grammar.Expressions.{chain};
 ghost use Rattle.vb_parse.specs.Reader as reader;
 ghost use Rattle.vb_parse.specs.ReadExpressions as spec;
 ghost use Rattle.vb_parse.specs.Runs.{Runs, opens, inside};

@@ -1,11 +1,11 @@
 //! Laws on the words of an expression and of a script.
 ghost use Rattle.std.specs.Prelude.{◌≡◌, ◌⊎◌, ℕ};
-ghost use Rattle.vb_syntax.specs.Rules.{Tokens};
+ghost use Rattle.vb_syntax.specs.grammar.Rules.{Tokens};
 ghost use Rattle.vb_syntax.specs.declared.expression.Expression.{Expression};
-ghost use Rattle.vb_syntax.specs.Expressions.{SpellsExpression};
-ghost use Rattle.vb_syntax.specs.Faults.{IsFault};
+ghost use Rattle.vb_syntax.specs.grammar.Expressions.{SpellsExpression};
+ghost use Rattle.vb_syntax.specs.grammar.Faults.{IsFault};
 ghost use Rattle.vb_syntax.specs.declared.unit.Unit.{Unit as Script};
-ghost use Rattle.vb_syntax.specs.Units.{Derives};
+ghost use Rattle.vb_syntax.specs.grammar.Units.{Derives};
 
 /// No list of words spells two expressions.
 pub fn one_expression()

@@ -1,7 +1,7 @@
 //! Reading procedures, classes and whole scripts. Each function reads what the rule of its name spells, where
 //! `depth` more constructs may open. What a word before it may begin is read from behind that word.
 ghost use Rattle.std.specs.Prelude.{◌≡◌};
-ghost use Rattle.vb_syntax.specs.Units.{strict};
+ghost use Rattle.vb_syntax.specs.grammar.Units.{strict};
 ghost use Rattle.vb_parse.specs.ReadUnits as spec;
 ghost use Rattle.vb_parse.specs.Runs.{Runs, rules};
 

@@ -1,8 +1,8 @@
 //! The parser: a whole list of words, read to its end.
 ghost use Rattle.std.specs.Prelude.{◌≡◌, Err, IfOk};
 ghost use Rattle.vb_syntax.specs.declared.expression.Expression.{Expression};
-ghost use Rattle.vb_syntax.specs.Expressions.{SpellsExpression};
-ghost use Rattle.vb_syntax.specs.Faults.{fault_line, last_line};
+ghost use Rattle.vb_syntax.specs.grammar.Expressions.{SpellsExpression};
+ghost use Rattle.vb_syntax.specs.grammar.Faults.{fault_line, last_line};
 ghost use Rattle.vb_parse.specs.Outcome.{Finds, HasFault, IsKind, Leaves, OnFault};
 ghost use Rattle.vb_parse.specs.ReadExpressions.{whole_expression};
 ghost use Rattle.vb_parse.specs.Runs.{Runs};

@@ -1,7 +1,7 @@
 //! The parser of scripts: a whole list of words, read to its end.
 ghost use Rattle.std.specs.Prelude.{◌≡◌, IfOk};
 ghost use Rattle.vb_syntax.specs.declared.unit.Unit.{Unit as Script};
-ghost use Rattle.vb_syntax.specs.Units.{Derives};
+ghost use Rattle.vb_syntax.specs.grammar.Units.{Derives};
 ghost use Rattle.vb_parse.specs.Outcome.{Finds, HasFault, IsUnitKind, Leaves, OnFault};
 ghost use Rattle.vb_parse.specs.Outcome as spec;
 ghost use Rattle.vb_parse.specs.ReadUnits.{whole_unit};

@@ -1,8 +1,8 @@
 //! Words that statements ask for: quoted names, numbers, texts of the page.
 ghost use Rattle.std.specs.Prelude.{◌≡◌, [], IfOk};
 ghost use Rattle.std.specs.Str.{str_eq_ignore_ascii_case};
-ghost use Rattle.vb_syntax.specs.Declarations.{number_of, number_of_kind, negative_of, negative_of_kind};
-ghost use Rattle.vb_syntax.specs.SimpleStatements.{named_at, quoted_at, text_at};
+ghost use Rattle.vb_syntax.specs.grammar.Declarations.{number_of, number_of_kind, negative_of, negative_of_kind};
+ghost use Rattle.vb_syntax.specs.grammar.SimpleStatements.{named_at, quoted_at, text_at};
 ghost use Rattle.vb_parse.specs.Reader as reader;
 ghost use Rattle.vb_parse.specs.ReadSimpleStatements as spec;
 ghost use Rattle.vb_parse.specs.ReadUnits.{quoted_name};

@@ -2,9 +2,9 @@
 use Rattle.std.proofs.Common.{◌≡◌, ◌⊎◌, inl, inr, ℕ, [], ◌∷◌, refl, sym, ◌∙◌}
 use Rattle.vb_syntax.specs.declared.note.ScopeFault.{ScopeFault}
 use Rattle.vb_syntax.specs.declared.unit.Unit.{Unit as Script}
-use Rattle.vb_syntax.specs.Scope.{IsFirstFault, Resolves}
-use Rattle.vb_syntax.specs.ScopeFaults.{Faults, faults_of}
-use Rattle.vb_syntax.specs.ScopePrograms.{Parts, program_of}
+use Rattle.vb_syntax.specs.scope.Resolving.{IsFirstFault, Resolves}
+use Rattle.vb_syntax.specs.scope.Faults.{Faults, faults_of}
+use Rattle.vb_syntax.specs.scope.Programs.{Parts, program_of}
 
 pub one_program_lem : (script : Script) (one other : Parts) → Resolves script one → Resolves script other → one ≡ other
 one_program_lem script one other a b = a.is ∙ sym b.is

@@ -10,15 +10,15 @@ use Rattle.vb_syntax.specs.declared.program.unit.Class.{Class}
 use Rattle.vb_syntax.specs.declared.program.unit.Procedure.{Procedure}
 use Rattle.vb_syntax.specs.declared.program.unit.ProcedureKind.{ProcedureKind}
 use Rattle.vb_syntax.specs.declared.unit.Unit.{Unit as Script}
-use Rattle.vb_syntax.specs.Scope.{Resolves}
-use Rattle.vb_syntax.specs.ScopeFaults.{faults_of, names_of}
-use Rattle.vb_syntax.specs.ScopeNames.{Name}
-use Rattle.vb_syntax.specs.ScopePrograms.{Parts, program_of, own_statement, procedure_of, class_of}
-use Rattle.vb_syntax.specs.ScopePrograms.{is_private, procedure_in}
-use Rattle.vb_syntax.specs.ScopeTrees.{statement_of}
-use Rattle.vb_syntax.specs.ScopeUnits.{Body, in_body, on_page_of, procedures_of, classes_of}
-use Rattle.vb_syntax.specs.Scopes.{PageScope, ClassScope, page_scope, page_variables, constant_values, constants_in}
-use Rattle.vb_syntax.specs.Scopes.{body_scopes, body_variables, name_number}
+use Rattle.vb_syntax.specs.scope.Resolving.{Resolves}
+use Rattle.vb_syntax.specs.scope.Faults.{faults_of, names_of}
+use Rattle.vb_syntax.specs.scope.Names.{Name}
+use Rattle.vb_syntax.specs.scope.Programs.{Parts, program_of, own_statement, procedure_of, class_of}
+use Rattle.vb_syntax.specs.scope.Programs.{is_private, procedure_in}
+use Rattle.vb_syntax.specs.scope.Trees.{statement_of}
+use Rattle.vb_syntax.specs.scope.Units.{Body, in_body, on_page_of, procedures_of, classes_of}
+use Rattle.vb_syntax.specs.scope.Scopes.{PageScope, ClassScope, page_scope, page_variables, constant_values, constants_in}
+use Rattle.vb_syntax.specs.scope.Scopes.{body_scopes, body_variables, name_number}
 
 -- the program of a script without a fault
 pub resolved : (script : Script) (parts : Parts) → faults_of script ≡ [] → parts ≡ program_of script

@@ -10,11 +10,11 @@ use Rattle.vb_syntax.specs.declared.note.PathUse.{PathUse}
 use Rattle.vb_syntax.specs.declared.program.expression.Expression.{Expression as Resolved}
 use Rattle.vb_syntax.specs.declared.program.expression.Operation.{Operation as ResolvedOperation}
 use Rattle.vb_syntax.specs.declared.program.expression.Path.{Path as ResolvedPath}
-use Rattle.vb_syntax.specs.ScopeNames.{Name}
-use Rattle.vb_syntax.specs.ScopeTrees.{StepPair, shapes, resolved_path, head_of}
-use Rattle.vb_syntax.specs.ScopeTrees.{expression_layer, step_layer, operation_layer, path_layer}
-use Rattle.vb_syntax.specs.ScopeTrees.{expression_of, step_of, operation_of, path_of}
-use Rattle.vb_syntax.specs.Scopes.{Scopes}
+use Rattle.vb_syntax.specs.scope.Names.{Name}
+use Rattle.vb_syntax.specs.scope.Trees.{StepPair, shapes, resolved_path, head_of}
+use Rattle.vb_syntax.specs.scope.Trees.{expression_layer, step_layer, operation_layer, path_layer}
+use Rattle.vb_syntax.specs.scope.Trees.{expression_of, step_of, operation_of, path_of}
+use Rattle.vb_syntax.specs.scope.Scopes.{Scopes}
 use Rattle.vb_notes.specs.Shapes.{shape_of, layer_shape}
 
 module _ (names : List Name) (scopes : Scopes) where

@@ -2,8 +2,8 @@
 use Rattle.std.specs.Prelude.{◌≡◌, Result, Ok, Err}
 use Rattle.vb_syntax.specs.declared.program.Program.{Program}
 use Rattle.vb_syntax.specs.declared.unit.Unit.{Unit as Script}
-use Rattle.vb_syntax.specs.Scope.{IsFirstFault}
-use Rattle.vb_syntax.specs.ScopePrograms.{Parts}
+use Rattle.vb_syntax.specs.scope.Resolving.{IsFirstFault}
+use Rattle.vb_syntax.specs.scope.Programs.{Parts}
 use Rattle.vb_names.specs.declared.fault.ScopeStop.{ScopeStop}
 use Rattle.vb_names.specs.declared.fault.ScopeStop.TheVariants.{Fault, Memory}
 

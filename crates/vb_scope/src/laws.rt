@@ -2,8 +2,8 @@
 ghost use Rattle.std.specs.Prelude.{◌≡◌, ◌⊎◌, ℕ};
 ghost use Rattle.vb_syntax.specs.declared.note.ScopeFault.{ScopeFault};
 ghost use Rattle.vb_syntax.specs.declared.unit.Unit.{Unit as Script};
-ghost use Rattle.vb_syntax.specs.Scope.{IsFirstFault, Resolves};
-ghost use Rattle.vb_syntax.specs.ScopePrograms.{Parts};
+ghost use Rattle.vb_syntax.specs.scope.Resolving.{IsFirstFault, Resolves};
+ghost use Rattle.vb_syntax.specs.scope.Programs.{Parts};
 
 /// A script resolves to one program at most.
 pub fn one_program()

@@ -1,11 +1,11 @@
 //! Scripts as programs.
 ghost use Rattle.std.specs.Prelude.{◌≡◌, [], IfOk};
 ghost use Rattle.vb_value.specs.Outcome.{Gives};
-ghost use Rattle.vb_syntax.specs.Scope.{Resolves};
-ghost use Rattle.vb_syntax.specs.ScopeFaults.{faults_of, names_of};
-ghost use Rattle.vb_syntax.specs.ScopePrograms.{Parts, program_of};
-ghost use Rattle.vb_syntax.specs.ScopeUnits as units;
-ghost use Rattle.vb_syntax.specs.Scopes.{page_scope, page_variables, constant_values, constants_in};
+ghost use Rattle.vb_syntax.specs.scope.Resolving.{Resolves};
+ghost use Rattle.vb_syntax.specs.scope.Faults.{faults_of, names_of};
+ghost use Rattle.vb_syntax.specs.scope.Programs.{Parts, program_of};
+ghost use Rattle.vb_syntax.specs.scope.Units as units;
+ghost use Rattle.vb_syntax.specs.scope.Scopes.{page_scope, page_variables, constant_values, constants_in};
 ghost use Rattle.vb_names.specs.Checking.{Finds};
 ghost use Rattle.vb_names.specs.Tables.{page_seen};
 ghost use Rattle.vb_scope.specs.Answers.{IsFault, IsProgram, parts_of};
@@ -19,7 +19,7 @@ use vb_syntax::Unit;
 use vb_syntax::program::{Program, Unit as ResolvedUnit};
 use vb_value::Memory;
 
-#[tactic(auto, unfolding(vb_syntax::specs::ScopeFaults::faults_of, vb_syntax::specs::ScopeFaults::names_of))]
+#[tactic(auto, unfolding(vb_syntax::specs::scope::Faults::faults_of, vb_syntax::specs::scope::Faults::names_of))]
 /// Checks a script, and gives its names.
 fn check_unit(alloc: Global, unit: &Unit, page: &PageTable) -> Result<Names, ScopeStop>
     requires { page_seen page.now ≡ page_scope unit.now }
@@ -39,7 +39,7 @@ fn check_unit(alloc: Global, unit: &Unit, page: &PageTable) -> Result<Names, Sco
     Ok(names)
 }
 
-#[tactic(auto, using(crate::proofs::Programs::resolved), unfolding(vb_syntax::specs::ScopePrograms::program_of))]
+#[tactic(auto, using(crate::proofs::Programs::resolved), unfolding(vb_syntax::specs::scope::Programs::program_of))]
 /// The program of a script without a fault, by its page's scope and its names.
 fn program(alloc: Global, unit: &Unit, page: PageParts, names: Names) -> Result<Program, Memory>
     requires table { page_seen page.table ≡ page_scope unit.now }

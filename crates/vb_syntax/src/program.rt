@@ -1,6 +1,6 @@
 //! Programs: scripts in which each name is what it stands for.
 ghost use Rattle.vb_syntax.specs.declared.unit.Unit.{Unit as Script};
-ghost use Rattle.vb_syntax.specs.Scope.{Resolves};
+ghost use Rattle.vb_syntax.specs.scope.Resolving.{Resolves};
 
 mod expression;
 mod name;

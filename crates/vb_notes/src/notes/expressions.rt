@@ -1,9 +1,9 @@
 //! What expressions say of names.
 ghost use Rattle.std.specs.Prelude.{◌≡◌, ◌++◌, map};
 ghost use Rattle.std.specs.List.{flat_map};
-ghost use Rattle.vb_syntax.specs.ScopeNotes as spec;
+ghost use Rattle.vb_syntax.specs.scope.Notes as spec;
 ghost use Rattle.vb_syntax.specs.declared.expression.Step.{Step};
-ghost use Rattle.vb_syntax.specs.ScopeNotes.{Notes};
+ghost use Rattle.vb_syntax.specs.scope.Notes.{Notes};
 ghost use Rattle.vb_notes.specs.Outcome.{Adds};
 ghost use Rattle.vb_notes.specs.Shapes.{shape_of};
 

@@ -1,8 +1,8 @@
 //! What statements that hold no other say of names.
 ghost use Rattle.std.specs.Prelude.{◌≡◌, ◌++◌, None, length};
 ghost use Rattle.std.specs.List.{flat_map};
-ghost use Rattle.vb_syntax.specs.ScopeNotes as spec;
-ghost use Rattle.vb_syntax.specs.ScopeNotes.{expression_notes, path_notes};
+ghost use Rattle.vb_syntax.specs.scope.Notes as spec;
+ghost use Rattle.vb_syntax.specs.scope.Notes.{expression_notes, path_notes};
 ghost use Rattle.vb_notes.specs.Outcome.{Adds};
 
 use crate::copies::{copy_constant, copy_declared};

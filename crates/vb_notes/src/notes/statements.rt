@@ -1,8 +1,8 @@
 //! What statements and blocks say of names.
 ghost use Rattle.std.specs.Prelude.{◌≡◌, ◌++◌, map};
 ghost use Rattle.std.specs.Option.{option_map};
-ghost use Rattle.vb_syntax.specs.ScopeNotes as spec;
-ghost use Rattle.vb_syntax.specs.ScopeNotes.{expression_notes, statement_notes};
+ghost use Rattle.vb_syntax.specs.scope.Notes as spec;
+ghost use Rattle.vb_syntax.specs.scope.Notes.{expression_notes, statement_notes};
 ghost use Rattle.vb_syntax.specs.declared.statement.StatementKind.TheOpen as layer;
 ghost use Rattle.vb_notes.specs.Outcome.{Adds};
 

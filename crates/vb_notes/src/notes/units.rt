@@ -2,8 +2,8 @@
 ghost use Rattle.std.specs.Prelude.{◌≡◌, ◌++◌, Some, None};
 ghost use Rattle.std.specs.List.{flat_map};
 ghost use Rattle.std.specs.Option.{option_copied};
-ghost use Rattle.vb_syntax.specs.ScopeNotes.{note};
-ghost use Rattle.vb_syntax.specs.ScopeUnits as spec;
+ghost use Rattle.vb_syntax.specs.scope.Notes.{note};
+ghost use Rattle.vb_syntax.specs.scope.Units as spec;
 ghost use Rattle.vb_notes.specs.Outcome.{Adds};
 ghost use Rattle.vb_notes.specs.Bodies.{body_seen};
 

@@ -1,7 +1,7 @@
 //! Single notes.
 ghost use Rattle.std.specs.Prelude.{◌≡◌, map};
 ghost use Rattle.vb_value.specs.Outcome.{Gives};
-ghost use Rattle.vb_syntax.specs.ScopeNotes as spec;
+ghost use Rattle.vb_syntax.specs.scope.Notes as spec;
 ghost use Rattle.vb_notes.specs.Outcome.{Adds};
 ghost use Rattle.vb_notes.specs.Shapes.{shape_of};
 

@@ -1,7 +1,7 @@
 //! Expressions.
 ghost use Rattle.std.specs.Prelude.{◌≡◌, map};
 ghost use Rattle.vb_value.specs.Outcome.{Gives};
-ghost use Rattle.vb_syntax.specs.ScopeTrees as spec;
+ghost use Rattle.vb_syntax.specs.scope.Trees as spec;
 ghost use Rattle.vb_notes.specs.Outcome.{Adds};
 ghost use Rattle.vb_names.specs.Tables.{scopes_seen};
 

@@ -1,11 +1,11 @@
 //! Where paths begin.
 ghost use Rattle.std.specs.Prelude.{◌≡◌, map, false, true};
 ghost use Rattle.vb_value.specs.Outcome.{Gives};
-ghost use Rattle.vb_syntax.specs.ScopeTrees as spec;
-ghost use Rattle.vb_syntax.specs.Scopes.{name_number};
-ghost use Rattle.vb_syntax.specs.ScopeMembers.{member_meant};
-ghost use Rattle.vb_syntax.specs.ScopeNames.{number_in};
-ghost use Rattle.vb_syntax.specs.ScopeNotes.{is_group};
+ghost use Rattle.vb_syntax.specs.scope.Trees as spec;
+ghost use Rattle.vb_syntax.specs.scope.Scopes.{name_number};
+ghost use Rattle.vb_syntax.specs.scope.Members.{member_meant};
+ghost use Rattle.vb_syntax.specs.scope.Names.{number_in};
+ghost use Rattle.vb_syntax.specs.scope.Notes.{is_group};
 ghost use Rattle.vb_names.specs.Tables.{scopes_seen};
 
 use std::alloc::Global;

@@ -1,7 +1,7 @@
 //! Parts of statements, and the statements that hold no other.
 ghost use Rattle.std.specs.Prelude.{◌≡◌, map, false};
 ghost use Rattle.vb_value.specs.Outcome.{Gives};
-ghost use Rattle.vb_syntax.specs.ScopeTrees as spec;
+ghost use Rattle.vb_syntax.specs.scope.Trees as spec;
 ghost use Rattle.vb_syntax.specs.declared.statement.StatementKind.TheOpen as layer;
 ghost use Rattle.vb_names.specs.Tables.{scopes_seen};
 

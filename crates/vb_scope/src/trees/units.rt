@@ -3,10 +3,10 @@ ghost use Rattle.std.specs.Prelude.{◌≡◌, ◌++◌, ◌∷◌, [], map, fal
 ghost use Rattle.std.specs.List.{flat_map};
 ghost use Rattle.vb_value.specs.Outcome.{Gives};
 ghost use Rattle.vb_syntax.specs.declared.declaration.Parameter.{Parameter};
-ghost use Rattle.vb_syntax.specs.ScopePrograms as spec;
-ghost use Rattle.vb_syntax.specs.ScopeTrees.{statement_of};
-ghost use Rattle.vb_syntax.specs.ScopeUnits as units;
-ghost use Rattle.vb_syntax.specs.Scopes.{on_page_in};
+ghost use Rattle.vb_syntax.specs.scope.Programs as spec;
+ghost use Rattle.vb_syntax.specs.scope.Trees.{statement_of};
+ghost use Rattle.vb_syntax.specs.scope.Units as units;
+ghost use Rattle.vb_syntax.specs.scope.Scopes.{on_page_in};
 ghost use Rattle.vb_notes.specs.Bodies.{body_seen};
 ghost use Rattle.vb_notes.specs.Outcome.{Adds};
 ghost use Rattle.vb_names.specs.Tables.{page_seen, class_seen};

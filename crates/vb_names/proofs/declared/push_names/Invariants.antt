@@ -1,5 +1,5 @@
 use Rattle.std.proofs.Common.{◌≡◌, ◌++◌, take}
-use Rattle.vb_syntax.specs.Scopes as spec
+use Rattle.vb_syntax.specs.scope.Scopes as spec
 use Rattle.vb_names.proofs.declared.push_names.Given as goal
 
 abbrev pub invariant-loop-variable : goal.invariant-loop-variable

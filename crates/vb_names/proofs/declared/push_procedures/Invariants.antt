@@ -1,5 +1,5 @@
 use Rattle.std.proofs.Common.{◌≡◌, ◌++◌, take}
-use Rattle.vb_syntax.specs.Scopes as spec
+use Rattle.vb_syntax.specs.scope.Scopes as spec
 use Rattle.vb_names.proofs.declared.push_procedures.Given as goal
 
 abbrev pub invariant-loop-note : goal.invariant-loop-note

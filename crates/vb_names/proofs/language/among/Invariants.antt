@@ -1,5 +1,5 @@
 use Rattle.std.proofs.Common.{◌≡◌, length, map}
-use Rattle.vb_syntax.specs.ScopeNames.{beside}
+use Rattle.vb_syntax.specs.scope.Names.{beside}
 use Rattle.vb_names.proofs.language.among.Given as goal
 
 abbrev pub invariant-loop-table : goal.invariant-loop-table

@@ -1,5 +1,5 @@
 use Rattle.std.proofs.Common.{◌≡◌, drop}
-use Rattle.vb_syntax.specs.ScopeNames.{same_name}
+use Rattle.vb_syntax.specs.scope.Names.{same_name}
 use Rattle.vb_names.proofs.language.is_word.Given as goal
 
 abbrev pub invariant-loop-i : goal.invariant-loop-i

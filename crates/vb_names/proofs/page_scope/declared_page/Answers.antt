@@ -1,8 +1,8 @@
 use Rattle.std.proofs.Common.{◌≡◌, map, rules}
 use Rattle.vb_syntax.specs.declared.unit.Class.{Class}
 use Rattle.vb_syntax.specs.declared.unit.Procedure.{Procedure}
-use Rattle.vb_syntax.specs.ScopeUnits as units
-use Rattle.vb_syntax.specs.Scopes as spec
+use Rattle.vb_syntax.specs.scope.Units as units
+use Rattle.vb_syntax.specs.scope.Scopes as spec
 use Rattle.vb_names.proofs.page_scope.declared_page.Goals as goal
 
 pub returns-clause-table : goal.returns-clause-table

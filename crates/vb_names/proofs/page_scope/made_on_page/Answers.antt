@@ -1,8 +1,8 @@
 use Rattle.std.proofs.Common.{◌≡◌, ◌++◌, List, rules, ap, subst, ◌∙◌}
 use Rattle.std.specs.List.{flat_map}
 use Rattle.vb_value.specs.Outcome.{Gives}
-use Rattle.vb_syntax.specs.ScopeNames.{Name}
-use Rattle.vb_syntax.specs.Scopes as spec
+use Rattle.vb_syntax.specs.scope.Names.{Name}
+use Rattle.vb_syntax.specs.scope.Scopes as spec
 use Rattle.vb_names.specs.Uses.{uses_seen}
 use Rattle.vb_names.proofs.page_scope.made_on_page.Goals as goal
 

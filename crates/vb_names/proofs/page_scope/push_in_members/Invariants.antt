@@ -1,7 +1,7 @@
 use Rattle.std.proofs.Common.{◌≡◌, ◌++◌, take}
 use Rattle.std.specs.List.{flat_map}
-use Rattle.vb_syntax.specs.ScopeUnits as units
-use Rattle.vb_syntax.specs.Scopes as spec
+use Rattle.vb_syntax.specs.scope.Units as units
+use Rattle.vb_syntax.specs.scope.Scopes as spec
 use Rattle.vb_names.specs.Tables.{page_seen, class_seen}
 use Rattle.vb_names.specs.Uses.{uses_seen}
 use Rattle.vb_names.proofs.page_scope.push_in_members.Given as goal

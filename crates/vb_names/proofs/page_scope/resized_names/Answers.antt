@@ -1,6 +1,6 @@
 use Rattle.std.proofs.Common.{◌≡◌, ◌++◌, rules, sym, ◌∙◌}
 use Rattle.std.proofs.lemmas.Grind.{flat_map-append}
-use Rattle.vb_syntax.specs.Scopes as spec
+use Rattle.vb_syntax.specs.scope.Scopes as spec
 use Rattle.vb_names.specs.Uses.{uses_seen}
 use Rattle.vb_names.proofs.page_scope.resized_names.Goals as goal
 

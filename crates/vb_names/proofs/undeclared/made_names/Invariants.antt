@@ -1,5 +1,5 @@
 use Rattle.std.proofs.Common.{◌≡◌, take}
-use Rattle.vb_syntax.specs.Scopes as spec
+use Rattle.vb_syntax.specs.scope.Scopes as spec
 use Rattle.vb_names.specs.Uses.{uses_seen}
 use Rattle.vb_names.proofs.undeclared.made_names.Given as goal
 

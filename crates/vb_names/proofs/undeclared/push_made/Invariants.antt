@@ -1,5 +1,5 @@
 use Rattle.std.proofs.Common.{◌≡◌, ◌++◌, map, take}
-use Rattle.vb_syntax.specs.Scopes as spec
+use Rattle.vb_syntax.specs.scope.Scopes as spec
 use Rattle.vb_names.proofs.undeclared.push_made.Given as goal
 
 abbrev pub invariant-loop-name : goal.invariant-loop-name

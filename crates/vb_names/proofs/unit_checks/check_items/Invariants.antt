@@ -1,5 +1,5 @@
 use Rattle.std.proofs.Common.{◌≡◌, length}
-use Rattle.vb_syntax.specs.ScopeFaults as spec
+use Rattle.vb_syntax.specs.scope.Faults as spec
 use Rattle.vb_names.specs.Checking.{so_far}
 use Rattle.vb_names.specs.Tables.{page_seen}
 use Rattle.vb_names.proofs.unit_checks.check_items.Given as goal

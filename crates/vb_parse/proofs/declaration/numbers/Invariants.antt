@@ -1,5 +1,5 @@
 use Rattle.std.proofs.Common.{◌≡◌, ◌++◌, length}
-use Rattle.vb_syntax.specs.Declarations.{number_of}
+use Rattle.vb_syntax.specs.grammar.Declarations.{number_of}
 use Rattle.vb_parse.specs.Reader as reader
 use Rattle.vb_parse.specs.ReadExpressions.{list_of, more_of}
 use Rattle.vb_parse.proofs.declaration.numbers.Given as goal

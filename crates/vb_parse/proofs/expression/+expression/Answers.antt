@@ -1,5 +1,5 @@
 use Rattle.std.proofs.Common.{◌≡◌, refl, sym, ◌∙◌, ◌+◌, ◌-◌, arith}
-use Rattle.vb_syntax.specs.Expressions.{operator_at}
+use Rattle.vb_syntax.specs.grammar.Expressions.{operator_at}
 use Rattle.vb_parse.specs.Reader as reader
 use Rattle.vb_parse.specs.Reader.{and_then}
 use Rattle.vb_parse.specs.ReadExpressions as spec

@@ -1,4 +1,4 @@
-use Rattle.vb_syntax.specs.Units.{strict}
+use Rattle.vb_syntax.specs.grammar.Units.{strict}
 use Rattle.vb_parse.proofs.ParseUnit.{one_unit_fault}
 use Rattle.vb_parse.proofs.laws.one_unit_fault.Goals as goal
 

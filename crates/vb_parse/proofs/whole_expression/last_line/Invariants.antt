@@ -1,5 +1,5 @@
 use Rattle.std.proofs.Common.{◌≡◌, length}
-use Rattle.vb_syntax.specs.Faults.{last_line}
+use Rattle.vb_syntax.specs.grammar.Faults.{last_line}
 use Rattle.vb_parse.proofs.whole_expression.last_line.Given as goal
 
 abbrev pub invariant-loop-tokens : goal.invariant-loop-tokens

@@ -1,8 +1,8 @@
 use Rattle.std.proofs.Common.{◌∙◌, List, ap, map}
 use Rattle.std.specs.List.{flat_map}
 use Rattle.vb_syntax.specs.declared.unit.Item.{Item}
-use Rattle.vb_syntax.specs.ScopePrograms.{own_statement, procedure_of, class_of}
-use Rattle.vb_syntax.specs.ScopeUnits.{procedures_of, classes_of}
+use Rattle.vb_syntax.specs.scope.Programs.{own_statement, procedure_of, class_of}
+use Rattle.vb_syntax.specs.scope.Units.{procedures_of, classes_of}
 use Rattle.vb_names.specs.Tables.{page_seen}
 use Rattle.vb_scope.proofs.Programs.{resolved, parts_are}
 use Rattle.vb_scope.proofs.resolving.program.Goals as goal

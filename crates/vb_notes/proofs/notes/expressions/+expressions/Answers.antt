@@ -1,8 +1,8 @@
 use Rattle.std.proofs.Common.{◌≡◌, ◌++◌, map, refl, ap, ◌∙◌, rules}
 use Rattle.std.specs.List.{flat_map}
 use Rattle.vb_syntax.specs.declared.expression.Step.{Step}
-use Rattle.vb_syntax.specs.ScopeNotes as spec
-use Rattle.vb_syntax.specs.ScopeNotes.{Notes}
+use Rattle.vb_syntax.specs.scope.Notes as spec
+use Rattle.vb_syntax.specs.scope.Notes.{Notes}
 use Rattle.vb_notes.specs.Shapes.{shape_of}
 use Rattle.vb_notes.proofs.Adding.{adds_more}
 use Rattle.vb_notes.proofs.ExpressionNotes.{notes-chain, notes-path}

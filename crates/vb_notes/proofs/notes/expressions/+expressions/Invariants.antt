@@ -1,8 +1,8 @@
 use Rattle.std.proofs.Common.{◌≡◌, ◌++◌, map, take}
 use Rattle.std.specs.List.{flat_map}
 use Rattle.vb_syntax.specs.declared.expression.Step.{Step}
-use Rattle.vb_syntax.specs.ScopeNotes as spec
-use Rattle.vb_syntax.specs.ScopeNotes.{Notes}
+use Rattle.vb_syntax.specs.scope.Notes as spec
+use Rattle.vb_syntax.specs.scope.Notes.{Notes}
 use Rattle.vb_notes.proofs.notes.expressions.+expressions.Given as goal
 
 abbrev pub invariant-note_expressions-loop-expression : goal.invariant-note_expressions-loop-expression

@@ -1,7 +1,7 @@
 use Rattle.std.proofs.Common.{◌≡◌, ◌++◌, map, take, ◌*◌, ◌+◌, ◌-◌}
 use Rattle.vb_syntax.specs.declared.statement.StatementKind.{size-StatementKind}
 use Rattle.vb_syntax.specs.declared.statement.StatementKind.TheVariants as st
-use Rattle.vb_syntax.specs.ScopeNotes as spec
+use Rattle.vb_syntax.specs.scope.Notes as spec
 use Rattle.vb_notes.proofs.notes.statements.+statements.Given as goal
 
 abbrev pub invariant-note_block-loop-statement : goal.invariant-note_block-loop-statement

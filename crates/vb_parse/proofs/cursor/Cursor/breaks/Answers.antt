@@ -1,5 +1,5 @@
 use Rattle.std.proofs.Common.{refl, sym, ◌∙◌}
-use Rattle.vb_syntax.specs.Statements.{break_of}
+use Rattle.vb_syntax.specs.grammar.Statements.{break_of}
 use Rattle.vb_parse.specs.Reader as reader
 use Rattle.vb_parse.specs.ReadLines as spec
 use Rattle.vb_parse.proofs.Turns.{list_turn}

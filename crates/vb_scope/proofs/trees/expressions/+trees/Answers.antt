@@ -1,6 +1,6 @@
 use Rattle.std.proofs.Common.{◌≡◌, map, rules, sym, ap, ◌∙◌}
 use Rattle.vb_syntax.specs.declared.program.expression.Path.{roll-Path}
-use Rattle.vb_syntax.specs.ScopeTrees as spec
+use Rattle.vb_syntax.specs.scope.Trees as spec
 use Rattle.vb_notes.specs.Shapes.{shape_of}
 use Rattle.vb_names.specs.Tables.{scopes_seen}
 use Rattle.vb_scope.proofs.TreePaths.{path-is}

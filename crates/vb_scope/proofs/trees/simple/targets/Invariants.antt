@@ -1,5 +1,5 @@
 use Rattle.std.proofs.Common.{◌≡◌, map, take}
-use Rattle.vb_syntax.specs.ScopeTrees as spec
+use Rattle.vb_syntax.specs.scope.Trees as spec
 use Rattle.vb_names.specs.Tables.{scopes_seen}
 use Rattle.vb_scope.proofs.trees.simple.targets.Given as goal
 

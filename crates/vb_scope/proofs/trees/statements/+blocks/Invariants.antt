@@ -1,7 +1,7 @@
 use Rattle.std.proofs.Common.{◌≡◌, map, take, ◌*◌, ◌+◌, ◌-◌}
 use Rattle.vb_syntax.specs.declared.statement.StatementKind.{size-StatementKind}
 use Rattle.vb_syntax.specs.declared.statement.StatementKind.TheVariants as st
-use Rattle.vb_syntax.specs.ScopeTrees as spec
+use Rattle.vb_syntax.specs.scope.Trees as spec
 use Rattle.vb_names.specs.Tables.{scopes_seen}
 use Rattle.vb_scope.proofs.trees.statements.+blocks.Given as goal
 

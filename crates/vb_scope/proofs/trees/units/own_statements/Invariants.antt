@@ -1,6 +1,6 @@
 use Rattle.std.proofs.Common.{◌≡◌, take}
 use Rattle.std.specs.List.{flat_map}
-use Rattle.vb_syntax.specs.ScopePrograms as spec
+use Rattle.vb_syntax.specs.scope.Programs as spec
 use Rattle.vb_names.specs.Tables.{page_seen}
 use Rattle.vb_scope.proofs.trees.units.own_statements.Given as goal
 

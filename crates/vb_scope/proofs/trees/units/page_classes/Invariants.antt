@@ -1,6 +1,6 @@
 use Rattle.std.proofs.Common.{◌≡◌, map, take}
-use Rattle.vb_syntax.specs.ScopePrograms as spec
-use Rattle.vb_syntax.specs.ScopeUnits as units
+use Rattle.vb_syntax.specs.scope.Programs as spec
+use Rattle.vb_syntax.specs.scope.Units as units
 use Rattle.vb_names.specs.Tables.{page_seen}
 use Rattle.vb_scope.proofs.trees.units.page_classes.Given as goal
 

@@ -1,7 +1,7 @@
 use Rattle.std.proofs.Common.{◌≡◌, ◌∙◌, List, map, ap, rules}
 use Rattle.vb_syntax.specs.declared.declaration.Parameter.{Parameter}
-use Rattle.vb_syntax.specs.ScopeTrees.{statement_of}
-use Rattle.vb_syntax.specs.Scopes.{Scopes, body_scopes}
+use Rattle.vb_syntax.specs.scope.Trees.{statement_of}
+use Rattle.vb_syntax.specs.scope.Scopes.{Scopes, body_scopes}
 use Rattle.vb_notes.specs.Bodies.{body_seen}
 use Rattle.vb_names.specs.Tables.{page_seen, class_seen, scopes_with}
 use Rattle.vb_scope.proofs.Programs.{procedure_is}

@@ -1,4 +1,4 @@
-use Rattle.vb_syntax.specs.ScopePrograms as spec
+use Rattle.vb_syntax.specs.scope.Programs as spec
 use Rattle.vb_notes.specs.Bodies.{body_seen}
 use Rattle.vb_names.specs.Tables.{page_seen, class_seen}
 use Rattle.vb_scope.proofs.Giving.{gives_same}

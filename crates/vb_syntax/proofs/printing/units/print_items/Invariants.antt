@@ -1,8 +1,0 @@
-use Rattle.std.proofs.Common.{◌≡◌, ◌++◌, map, take}
-use Rattle.vb_syntax.specs.PrintingStatements.{block_words}
-use Rattle.vb_syntax.specs.PrintingUnits as spec
-use Rattle.vb_syntax.proofs.printing.units.print_items.Given as goal
-
-abbrev pub invariant-loop-item : goal.invariant-loop-item
-invariant-loop-item l = l.words ≡ l.initial.words
-    ++ block_words 1 (map spec.item_words (take l.item-index l.item-items))

@@ -1,9 +1,0 @@
-use Rattle.std.proofs.Common.{List, ℕ, [], ◌∷◌, subst}
-use Rattle.vb_syntax.specs.PrintingWords.{quoted}
-use Rattle.vb_syntax.specs.PrintingOutcome.{Adds}
-use Rattle.vb_syntax.proofs.Literals.{explicit_characters}
-use Rattle.vb_syntax.proofs.printing.words.print_explicit_word.Goals as goal
-
-pub returns : goal.returns
-returns c = subst (λ (text : List ℕ). Adds c.print_quoted.result c.args.words.now c.print_quoted.new.words
-    (quoted c.args.line text ∷ [])) explicit_characters c.print_quoted.ensures

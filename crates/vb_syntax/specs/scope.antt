@@ -1,0 +1,9 @@
+pub mod Names
+pub mod Members
+pub mod Notes
+pub mod Units
+pub mod Scopes
+pub mod Faults
+pub mod Trees
+pub mod Programs
+pub mod Resolving
