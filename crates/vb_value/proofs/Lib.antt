@@ -12,4 +12,6 @@ mod Points
 mod Ranges
 mod ReadBack
 mod Rounding
+pub mod Soundness
+mod SoundTexts
 mod AllPass

@@ -1,15 +1,14 @@
 -- What a value is as a number, a text and a Boolean (VBScript 5.6, "Conversion Functions"), each in the
 -- order: Empty, Null, Boolean, Integer, Long, Currency, String, array, object, Nothing.
 use Rattle.std.specs.Prelude.{◌≡◌, ℕ, Bool, true, false, not, if◌then◌else◌, ℤ, pos, negsuc, List, [], Option}
-use Rattle.std.specs.Prelude.{Some, None, Result, Ok, Err, codes, nat_eq}
-use Rattle.std.specs.Cmp.Lexicographic.{pointwise}
+use Rattle.std.specs.Prelude.{Some, None, Result, Ok, Err, codes}
 use Rattle.vb_value.specs.declared.fault.VbError.{VbError}
 use Rattle.vb_value.specs.declared.number.Number.{Number}
 use Rattle.vb_value.specs.declared.number.Number.TheVariants as number
 use Rattle.vb_value.specs.declared.value.Value.{Value, Empty, Null, Bool as Boolean, Int, Long, Cur, Str, Arr'}
 use Rattle.vb_value.specs.declared.value.Value.{Obj, Nothing}
 use Rattle.vb_value.specs.Errors.{type_mismatch, unsupported, object_not_set, invalid_use_of_null, and_then}
-use Rattle.vb_value.specs.Folding.{folded}
+use Rattle.vb_value.specs.Folding.{same_name}
 use Rattle.vb_value.specs.Numbers.{amount_of, whole_of, as_integer, long_of, is_zero, least_number}
 use Rattle.vb_value.specs.NumericText.{cur_of_text_of, whole_text, currency_text}
 
@@ -44,15 +43,11 @@ to_long_of value = and_then (to_number_of value) long_of
 abbrev pub to_cur_of : Value → Result ℤ VbError
 to_cur_of value = and_then (to_number_of value) (λ number. Ok (amount_of number))
 
--- whether a text is a word, but for ASCII case
-abbrev pub says : List ℕ → List ℕ → Bool
-says text word = pointwise nat_eq (folded text) word
-
 -- the Boolean whose name a text is
 abbrev pub named_truth : List ℕ → Option Bool
 named_truth text =
-    if says text (codes "true") then Some true
-    else if says text (codes "false") then Some false
+    if same_name (codes "true") text then Some true
+    else if same_name (codes "false") text then Some false
     else None
 
 -- the Boolean of that name, or else whether a number is not 0
@@ -60,31 +55,24 @@ abbrev pub truth_or : Option Bool → Result ℤ VbError → Result Bool VbError
 truth_or (Some truth) number = Ok truth
 truth_or None number = and_then number (λ n. Ok (not (is_zero n)))
 
--- a value as a Boolean
+-- a value as a Boolean: a text by its name, any other value by its number
 abbrev pub to_bool_of : Value → Result Bool VbError
-to_bool_of Empty = Ok false
-to_bool_of Null = Err invalid_use_of_null
 to_bool_of (Boolean truth) = Ok truth
-to_bool_of (Int n) = Ok (not (is_zero n))
-to_bool_of (Long n) = Ok (not (is_zero n))
-to_bool_of (Cur n) = Ok (not (is_zero n))
 to_bool_of (Str text) = truth_or (named_truth text) (cur_of_text_of text)
-to_bool_of (Arr' bounds fixed shape items) = Err type_mismatch
-to_bool_of (Obj object) = Err unsupported
-to_bool_of Nothing = Err object_not_set
+to_bool_of value = truth_or None (to_cur_of value)
 
--- a value as a text
+-- the text of a number
+abbrev pub number_text : Number → List ℕ
+number_text (number.Int n) = whole_text n
+number_text (number.Long n) = whole_text n
+number_text (number.Cur n) = currency_text n
+
+-- a value as a text: Empty as none, a Boolean by its name, any other value by its number
 abbrev pub to_str_of : Value → Result (List ℕ) VbError
 to_str_of Empty = Ok []
-to_str_of Null = Err invalid_use_of_null
 to_str_of (Boolean truth) = Ok (if truth then codes "True" else codes "False")
-to_str_of (Int n) = Ok (whole_text n)
-to_str_of (Long n) = Ok (whole_text n)
-to_str_of (Cur n) = Ok (currency_text n)
 to_str_of (Str text) = Ok text
-to_str_of (Arr' bounds fixed shape items) = Err type_mismatch
-to_str_of (Obj object) = Err unsupported
-to_str_of Nothing = Err object_not_set
+to_str_of value = and_then (to_number_of value) (λ n. Ok (number_text n))
 
 -- ---- laws
 

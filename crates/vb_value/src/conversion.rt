@@ -1,12 +1,14 @@
 //! What a value is as a number, a Boolean and a text.
 ghost use Rattle.std.specs.Prelude.{◌≡◌};
 ghost use Rattle.vb_value.specs.Conversions.{to_number_of, to_int_of, to_long_of, to_cur_of, to_bool_of};
-ghost use Rattle.vb_value.specs.Conversions.{number_value, to_str_of, named_truth, says};
+ghost use Rattle.vb_value.specs.Conversions.{number_text, number_value, to_str_of, named_truth};
 ghost use Rattle.vb_value.specs.Errors.{told};
-ghost use Rattle.vb_value.specs.Outcome.{Answers};
+ghost use Rattle.vb_value.specs.Outcome.{Answers, Gives};
 
 use crate::copied::Copied;
 use crate::fault::{VbError, VbFault};
+use crate::memory::Memory;
+use crate::names::is_word;
 use crate::number::{Number, as_integer};
 use crate::number_text::{currency_text, whole_text};
 use crate::numeric_text::cur_of_text;
@@ -71,19 +73,12 @@ pub fn to_bool(value: &Value) -> Result<bool, VbError>
     ensures { result ≡ to_bool_of value.now }
 {
     match value {
-        Value::Empty => Ok(false),
-        Value::Null => Err(VbError::INVALID_USE_OF_NULL),
         Value::Bool(truth) => Ok(*truth),
-        Value::Int(n) => Ok(*n != 0),
-        Value::Long(n) => Ok(*n != 0),
-        Value::Cur(n) => Ok(*n != 0),
         Value::Str(text) => match named_truth(text) {
             Some(truth) => Ok(truth),
             None => Ok(cur_of_text(text)? != 0),
         },
-        Value::Arr(_) => Err(VbError::TYPE_MISMATCH),
-        Value::Obj(_) => Err(VbError::UNSUPPORTED),
-        Value::Nothing => Err(VbError::OBJECT_NOT_SET),
+        other => Ok(to_cur(other)? != 0),
     }
 }
 
@@ -91,43 +86,35 @@ pub fn to_bool(value: &Value) -> Result<bool, VbError>
 pub fn named_truth(text: &Text) -> Option<bool>
     ensures { result ≡ named_truth text.now }
 {
-    if says(text.as_slice(), &['t', 'r', 'u', 'e']) {
+    if is_word(b"true", text.as_slice()) {
         Some(true)
-    } else if says(text.as_slice(), &['f', 'a', 'l', 's', 'e']) {
+    } else if is_word(b"false", text.as_slice()) {
         Some(false)
     } else {
         None
     }
 }
 
-/// Whether the text is the word, but for ASCII case.
-fn says(text: &[char], word: &[char]) -> bool
-    ensures { result ≡ says text.now word.now }
+/// A number as a text.
+fn number_text(alloc: Global, number: Number) -> Result<Text, Memory>
+    ensures { Gives result (number_text number) }
 {
-    match (text, word) {
-        ([first, rest @ ..], [letter, others @ ..]) => {
-            first.to_ascii_lowercase() == *letter && says(rest, others)
-        }
-        ([], []) => true,
-        _ => false,
+    match number {
+        Number::Int(n) => whole_text(alloc, n as i64),
+        Number::Long(n) => whole_text(alloc, n as i64),
+        Number::Cur(n) => currency_text(alloc, n),
     }
 }
 
-/// A value as a text. Error 94 for Null, 13 for an array, 438 for an object, 91 for Nothing.
+/// A value as a text, of any length. Error 94 for Null, 13 for an array, 438 for an object, 91 for Nothing.
 pub fn to_str(alloc: Global, value: &Value) -> Result<Text, VbFault>
     ensures { Answers result VbFault.Memory (told (to_str_of value.now)) }
 {
     match value {
         Value::Empty => Ok(Text::new(alloc)),
-        Value::Null => Err(VbError::INVALID_USE_OF_NULL)?,
         Value::Bool(true) => Ok(Text::from_slice(alloc, &['T', 'r', 'u', 'e'])?),
         Value::Bool(false) => Ok(Text::from_slice(alloc, &['F', 'a', 'l', 's', 'e'])?),
-        Value::Int(n) => Ok(whole_text(alloc, *n as i64)?),
-        Value::Long(n) => Ok(whole_text(alloc, *n as i64)?),
-        Value::Cur(n) => Ok(currency_text(alloc, *n)?),
         Value::Str(text) => Ok(text.copy()?),
-        Value::Arr(_) => Err(VbError::TYPE_MISMATCH)?,
-        Value::Obj(_) => Err(VbError::UNSUPPORTED)?,
-        Value::Nothing => Err(VbError::OBJECT_NOT_SET)?,
+        other => Ok(number_text(alloc, to_number(other)?)?),
     }
 }

@@ -10,6 +10,15 @@ pub trait Copied {
         ensures { Gives result self.now };
 }
 
+impl<T: Copied + Drop> Copied for Option<T> {
+    fn copy(&self) -> Result<Option<T>, Memory> {
+        match self {
+            None => Ok(None),
+            Some(value) => Ok(Some(value.copy()?)),
+        }
+    }
+}
+
 impl Copied for bool {
     fn copy(&self) -> Result<bool, Memory> {
         Ok(*self)
@@ -36,6 +45,12 @@ impl Copied for u32 {
 
 impl Copied for u64 {
     fn copy(&self) -> Result<u64, Memory> {
+        Ok(*self)
+    }
+}
+
+impl Copied for i16 {
+    fn copy(&self) -> Result<i16, Memory> {
         Ok(*self)
     }
 }

@@ -3,9 +3,31 @@ ghost use Rattle.std.specs.Prelude.{◌≡◌};
 ghost use Rattle.vb_value.specs.ErrorText.{error_text_of};
 ghost use Rattle.vb_value.specs.Outcome.{Gives};
 
+use crate::fault::{VbError, VbFault};
 use crate::memory::Memory;
 use crate::text::Text;
 use std::alloc::Global;
+use std::error::Error;
+use std::fmt;
+
+impl fmt::Display for VbError {
+    fn fmt<W: fmt::Write>(&self, f: &mut fmt::Formatter<W>) -> fmt::Result {
+        write!(f, "error {}: {}", self.number, message(self.number))
+    }
+}
+
+impl Error for VbError {}
+
+impl fmt::Display for VbFault {
+    fn fmt<W: fmt::Write>(&self, f: &mut fmt::Formatter<W>) -> fmt::Result {
+        match self {
+            VbFault::Error(number) => write!(f, "{}", VbError { number: *number }),
+            VbFault::Memory => write!(f, "{}", Memory),
+        }
+    }
+}
+
+impl Error for VbFault {}
 
 /// The text of the error of a number, as `Err.Description` has it.
 #[tactic(auto, using(crate::proofs::Messages::one_byte_each))]

@@ -45,7 +45,9 @@ pub use copying::{copy, copy_array};
 pub use error_texts::error_text;
 pub use fault::{VbError, VbFault};
 pub use function::{PlainFn, StrFn};
-pub use laws::{currency_reads_back, numeric_texts_follow_the_grammar, rounding_is_nearest};
+pub use laws::{
+    currency_reads_back, numeric_texts_follow_the_grammar, rounding_is_nearest, texts_are_sound,
+};
 pub use limit::LimitKind;
 pub use lines::{ends_line, line_ends};
 pub use list::List;

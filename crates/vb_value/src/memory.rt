@@ -4,7 +4,7 @@ use std::alloc::{AllocError, AllocFailed};
 use std::error::Error;
 use std::fmt;
 
-/// Memory ran out. A call that answers it has changed nothing.
+/// Memory ran out. What a call that answers it has done before, its clause says: mostly nothing.
 #[derive(Clone, Copy, Debug, PartialEq, Eq)]
 pub struct Memory;
 

@@ -10,6 +10,8 @@ use crate::bytes::Bytes;
 use crate::list::List;
 use crate::memory::Memory;
 use std::alloc::{AllocError, AllocFailed, Global};
+use std::error::Error;
+use std::fmt;
 
 /// A list of characters (Unicode scalar values).
 pub type Text = List<char>;
@@ -22,6 +24,17 @@ pub enum Utf8Stop {
     /// Memory ran out.
     Memory,
 }
+
+impl fmt::Display for Utf8Stop {
+    fn fmt<W: fmt::Write>(&self, f: &mut fmt::Formatter<W>) -> fmt::Result {
+        match self {
+            Utf8Stop::NotUtf8 => write!(f, "not UTF-8"),
+            Utf8Stop::Memory => write!(f, "{}", Memory),
+        }
+    }
+}
+
+impl Error for Utf8Stop {}
 
 impl From<Memory> for Utf8Stop {
     ghost use Rattle.vb_value.specs.declared.text.Utf8Stop.TheVariants.{Memory as OutOfMemory};
