@@ -11,7 +11,7 @@ use Rattle.vb_value.specs.Folding.{folded}
 use Rattle.asp_io.specs.Folder.{HasFile, path_of}
 use Rattle.asp_host.specs.declared.load.LoadStop.{LoadStop}
 use Rattle.asp_host.specs.declared.load.LoadStop.TheVariants.{Refused, ReadFault, Memory}
-use Rattle.asp_host.specs.Site.{AreChosen, IsAccepted, IsAnswer, IsBefore, IsChosen, IsRefusal, IsRefused, IsSiteFile}
+use Rattle.asp_host.specs.Site.{AreChosen, IsAccepted, IsAnswer, IsBefore, IsRefusal, IsRefused, IsSiteFile, IsSitePath}
 use Rattle.asp_host.specs.Reading.{AreSitePathsOf, HasRead, IsAcceptedAt, IsRefusedPath, StopsAt, StopsReading}
 use Rattle.asp_host.specs.Reading.{StopsLoading}
 
@@ -31,12 +31,12 @@ file_with (first ∷ files) path has =
 -- the chosen paths are paths of the folder
 pub chosen_there : (files : List SiteFile) (paths : List (List ℕ)) → AreChosen (map path_of files) paths
     → All (HasFile files) paths
-chosen_there files paths chosen = λ k d within. (chosen.each k d within).there
+chosen_there files paths chosen = λ k d within. (chosen.each k d within).chosen.there
 
 -- the path of a file of the site is one of the chosen
 site_path : (files : List SiteFile) (paths : List (List ℕ)) (file : SiteFile) → AreChosen (map path_of files) paths
     → IsSiteFile files file → Contains paths file.path
-site_path files paths file chosen of_site = chosen.all file.path of_site.chosen
+site_path files paths file chosen of_site = chosen.all file.path of_site.at
 
 -- where no file at the chosen paths is refused, no file of the site is
 accepted : (files : List SiteFile) (paths : List (List ℕ)) → AreChosen (map path_of files) paths
@@ -52,15 +52,15 @@ site_file : (files : List SiteFile) (paths : List (List ℕ)) (path : List ℕ) 
     → Contains paths path → Contains files file → file.path ≡ path → IsSiteFile files file
 site_file files paths path file chosen there held same = record {
   there = held;
-  chosen = subst (IsChosen (map path_of files)) (sym same) (All-contains (IsChosen
+  at = subst (IsSitePath (map path_of files)) (sym same) (All-contains (IsSitePath
       (map path_of files)) paths path chosen.each there);
 }
 
 -- the page that was found answers
-pub found_answer : (files : List SiteFile) (paths : List (List ℕ)) (wanted text : List ℕ)
+pub found_answer : (files : List SiteFile) (paths : List (List ℕ)) (wanted body : List ℕ)
     → AreChosen (map path_of files) paths
-    → HasRead files paths wanted (Some text) → IsAnswer files wanted text
-found_answer files paths wanted text chosen read =
+    → HasRead files paths wanted (Some body) → IsAnswer files wanted body
+found_answer files paths wanted body chosen read =
     let found = read.found_is in
     let held = file_with files found.path (All-contains (HasFile files) paths found.path
     (chosen_there files paths chosen) found.there) in
@@ -71,7 +71,7 @@ found_answer files paths wanted text chosen read =
         of_site = site_file files paths found.path held.0 chosen found.there held.1 held.2;
         same = ap folded held.2 ∙ found.same;
       };
-      text = (found.shows held.0 held.1 held.2).1;
+      shows = (found.shows held.0 held.1 held.2).1;
     }
 
 -- where nothing was found, no page stands at the path

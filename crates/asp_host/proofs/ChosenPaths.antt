@@ -12,11 +12,11 @@ use Rattle.std.proofs.lemmas.Map.Keys.{Less-from_sorted}
 use Rattle.std.proofs.lemmas.Map.Lookups.{exact_bytes}
 use Rattle.std.proofs.lemmas.Map.Views.{All-found, tells_apart, Contains-from_lookup}
 use Rattle.vb_value.specs.Folding.{folded}
-use Rattle.asp_host.specs.Site.{AreChosen, IsChosen, IsBefore, compared}
+use Rattle.asp_host.specs.Site.{AreChosen, IsChosen, IsBefore, IsSitePath, compared}
 use Rattle.asp_host.specs.Picking.{HasNone, IsFirstWith, HasPicked}
 
 -- what another comes after comes before it
-behind : (path other : List ℕ) → compared path other ≡ Greater → IsBefore other path
+pub behind : (path other : List ℕ) → compared path other ≡ Greater → IsBefore other path
 behind path other after = nat_list_cmp_total.antisymm other path ∙ rw after refl
 
 -- what the map has at a key is the chosen of the names there
@@ -28,9 +28,9 @@ at_entry names picked has key path found =
 -- each path is chosen
 each_chosen : (names : List (List ℕ)) (picked : BTreeMap (List ℕ) (List ℕ)) → IsOrdered compared picked
     → HasPicked names picked
-    → All (IsChosen names) (values picked)
-each_chosen names picked ordered has = All-map (IsChosen names) (λ e. e.1) picked.entries
-    (All-weaker (λ e. get compared picked e.0 ≡ Some e.1) (λ e. IsChosen names e.1)
+    → All (IsSitePath names) (values picked)
+each_chosen names picked ordered has = All-map (IsSitePath names) (λ e. e.1) picked.entries
+    (All-weaker (λ e. get compared picked e.0 ≡ Some e.1) (λ e. IsSitePath names e.1)
     (λ e found. (at_entry names picked has e.0 e.1 found).0) picked.entries
     (All-found nat_list_cmp_total picked ordered))
 
@@ -40,7 +40,7 @@ contains_map f xs x there =
     (there.0, rw (length-map xs f) there.1, get_or-map f xs there.0 x (f x) there.1 ∙ ap f there.2)
 
 -- of paths with one folded path, one is the first
-one_first : (names : List (List ℕ)) (path first : List ℕ) → IsChosen names path → IsChosen names first
+pub one_first : (names : List (List ℕ)) (path first : List ℕ) → IsChosen names path → IsChosen names first
     → folded first ≡ folded path → first ≡ path
 one_first names path first chosen also same =
     let apart : (order : Ordering) → compared first path ≡ order → first ≡ path = elim [
@@ -52,16 +52,16 @@ one_first names path first chosen also same =
 
 -- each chosen path is there
 all_chosen : (names : List (List ℕ)) (picked : BTreeMap (List ℕ) (List ℕ)) → HasPicked names picked → (path : List ℕ)
-    → IsChosen names path → Contains (values picked) path
-all_chosen names picked has path chosen =
+    → IsSitePath names path → Contains (values picked) path
+all_chosen names picked has path taken =
     let there : (found : Option (List ℕ)) → get compared picked (folded path) ≡ found
     → Contains (values picked) path = elim [
       | None ↦ λ found. absurd (subst
           (λ one. MatchOption one (HasNone names (folded path)) (IsFirstWith names (folded path))) found
-          (has (folded path)) path chosen.there chosen.named refl)
+          (has (folded path)) path taken.chosen.there taken.named refl)
       | Some first ↦ λ found.
           let at_key = at_entry names picked has (folded path) first found in
-          let same = one_first names path first chosen at_key.0 at_key.1 in
+          let same = one_first names path first taken.chosen at_key.0.chosen at_key.1 in
           let entry = Contains-from_lookup (tells_apart exact_bytes) (folded path) first picked.entries found in
           subst (Contains (values picked)) same (contains_map
           (λ (e : List ℕ × List ℕ). e.1) picked.entries (folded path, first) entry)

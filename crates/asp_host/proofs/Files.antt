@@ -1,6 +1,6 @@
 -- The files of a folder, each under its path, and what is read of them.
 use Rattle.std.proofs.Common.{◌≡◌, ◌≢◌, inl, inr, ℕ, zero, suc, ◌<◌, ◌≤◌, List, [], ◌∷◌, Bool, true, false}
-use Rattle.std.proofs.Common.{Some, option_map, map, length, take, get_or, nat_eq, arith, refl, sym, ◌∙◌, ap}
+use Rattle.std.proofs.Common.{Option, None, Some, option_map, map, length, take, get_or, nat_eq, arith, refl, sym, ◌∙◌, ap}
 use Rattle.std.proofs.Common.{subst}
 use Rattle.std.specs.Cmp.Lexicographic.{pointwise}
 use Rattle.std.specs.List.{AllPairs, Contains, find}
@@ -10,25 +10,25 @@ use Rattle.std.proofs.lemmas.Option.{same_Some}
 use Rattle.std.proofs.lemmas.Slice.Eq.{bytes_eq-Decides}
 use Rattle.vb_value.specs.declared.site_file.SiteFile.{SiteFile}
 use Rattle.asp_io.specs.Folder.{AreSitePaths, bytes_of, path_of}
-use Rattle.asp_host.specs.Page.{IsPageText}
+use Rattle.asp_host.specs.Page.{IsPageBody, IsReadAs}
 use Rattle.asp_host.specs.Site.{IsGlobal}
-use Rattle.asp_host.specs.Reading.{ShowsAt, IsRefusedAt}
+use Rattle.asp_host.specs.Reading.{ShowsAt, IsReadAt, IsRefusedAt}
 
 -- ---- the bytes that are read
 
 -- a page file is no longer than what is read of it
-short_page : (bytes shown : List ℕ) → IsPageText bytes shown → take 65537 bytes ≡ bytes
-short_page bytes shown page = take_all 65537 bytes (omega (arith, page.cut.short))
+short_page : (bytes body : List ℕ) → IsPageBody bytes body → take 65537 bytes ≡ bytes
+short_page bytes body page = take_all 65537 bytes (omega (arith, page.page.cut.short))
 
 -- what is read of a file shows what the file shows
-pub read_page : (bytes shown : List ℕ) → IsPageText (take 65537 bytes) shown → IsPageText bytes shown
+pub read_page : (bytes shown : List ℕ) → IsPageBody (take 65537 bytes) shown → IsPageBody bytes shown
 read_page bytes shown page =
-    let short : length bytes ≤ 65537 = omega (arith, page.cut.short, length-take 65537 bytes) in
-    subst (λ (read : List ℕ). IsPageText read shown) (take_all 65537 bytes short) page
+    let short : length bytes ≤ 65537 = omega (arith, page.page.cut.short, length-take 65537 bytes) in
+    subst (λ (read : List ℕ). IsPageBody read shown) (take_all 65537 bytes short) page
 
 -- where what is read shows nothing, the file does not
-pub unread_page : (bytes shown : List ℕ) → IsPageText bytes shown → IsPageText (take 65537 bytes) shown
-unread_page bytes shown page = subst (λ (read : List ℕ). IsPageText read shown) (sym (short_page bytes shown page)) page
+pub unread_page : (bytes shown : List ℕ) → IsPageBody bytes shown → IsPageBody (take 65537 bytes) shown
+unread_page bytes shown page = subst (λ (read : List ℕ). IsPageBody read shown) (sym (short_page bytes shown page)) page
 
 -- ---- the file at a path
 
@@ -83,23 +83,30 @@ read_file files path read paths is file there same =
     same_Some (take 65537 file.bytes) read (sym (ap (option_map (take 65537)) found) ∙ is)
 
 -- the file at a path shows what is read of it shows
-pub shows_at : (files : List SiteFile) (path read text : List ℕ) → AreSitePaths (map path_of files)
-    → option_map (take 65537) (bytes_of files path) ≡ Some read → ¬ (IsGlobal path) → IsPageText read text
-    → ShowsAt files path text
-shows_at files path read text paths is other page file there same = (
+pub shows_at : (files : List SiteFile) (path read body : List ℕ) → AreSitePaths (map path_of files)
+    → option_map (take 65537) (bytes_of files path) ≡ Some read → ¬ (IsGlobal path) → IsPageBody read body
+    → ShowsAt files path body
+shows_at files path read body paths is other page file there same = (
   (λ global. other (subst IsGlobal same global)),
-  read_page file.bytes text (subst
-      (λ (bytes : List ℕ). IsPageText bytes text) (sym (read_file files path read paths is file there same)) page),
+  read_page file.bytes body (subst
+      (λ (bytes : List ℕ). IsPageBody bytes body) (sym (read_file files path read paths is file there same)) page),
 )
 
 -- the file at a path is refused, where what is read of it shows nothing
 pub refused_at : (files : List SiteFile) (path read : List ℕ) → AreSitePaths (map path_of files)
-    → option_map (take 65537) (bytes_of files path) ≡ Some read → ((text : List ℕ) → ¬ (IsPageText read text))
+    → option_map (take 65537) (bytes_of files path) ≡ Some read → ((body : List ℕ) → ¬ (IsPageBody read body))
     → IsRefusedAt files path
 refused_at files path read paths is none file there same = inr (λ shown page.
-    none shown (subst (λ (bytes : List ℕ). IsPageText bytes shown) (read_file files path read paths is file there same)
+    none shown (subst (λ (bytes : List ℕ). IsPageBody bytes shown) (read_file files path read paths is file there same)
     (unread_page file.bytes shown page)))
 
 -- the file of a site's events is refused
 pub global_at : (files : List SiteFile) (path : List ℕ) → IsGlobal path → IsRefusedAt files path
 global_at files path global file there same = inl (subst IsGlobal (sym same) global)
+
+-- what is read of the file at a path shows what the file shows, if it shows anything
+pub read_at : (files : List SiteFile) (path read : List ℕ) (shown : Option (List ℕ)) → AreSitePaths (map path_of files)
+    → option_map (take 65537) (bytes_of files path) ≡ Some read → ¬ (IsGlobal path) → IsReadAs read shown
+    → IsReadAt shown path files
+read_at files path read None paths is other none = refused_at files path read paths is none
+read_at files path read (Some body) paths is other page = shows_at files path read body paths is other page

@@ -8,3 +8,5 @@ mod Causes
 mod Files
 mod ReadPaths
 mod Answering
+mod OneAnswer
+mod GetEnds

@@ -31,17 +31,19 @@ still_none names name key other none each there site same = elim (Contains-push_
 -- the same path is still the first, where the new name is none or does not come before it
 still_first : (names : Names) (name key path : List ℕ) → (IsSiteName name → folded name ≡ key → ¬ (IsBefore name path))
     → IsFirstWith names key path → IsFirstWith (names ++ name ∷ []) key path
-still_first names name key path later (chosen, at_key) = (
+still_first names name key path later (taken, at_key) = (
   record {
-    there = Contains-append_left names (name ∷ []) path chosen.there;
-    named = chosen.named;
-    first = λ each there same before. elim (Contains-push_cases names name each there) [
-      | inl old ↦ chosen.first each old same before
-      | inr new ↦
-          let same_fold : folded name ≡ folded path = ap folded new ∙ same in
-          later (subst IsSiteFold (sym same_fold) chosen.named) (same_fold
-          ∙ at_key) (subst (λ one. IsBefore one path) (sym new) before)
-    ];
+    chosen = record {
+      there = Contains-append_left names (name ∷ []) path taken.chosen.there;
+      first = λ each there same before. elim (Contains-push_cases names name each there) [
+        | inl old ↦ taken.chosen.first each old same before
+        | inr new ↦
+            let same_fold : folded name ≡ folded path = ap folded new ∙ same in
+            later (subst IsSiteFold (sym same_fold) taken.named) (same_fold
+            ∙ at_key) (subst (λ one. IsBefore one path) (sym new) before)
+      ];
+    };
+    named = taken.named;
   },
   at_key,
 )
@@ -85,20 +87,22 @@ before_first : (names : Names) (name other : List ℕ) (found : Option (List ℕ
 before_first names name other None none first there site same before =
     none other there (subst IsSiteFold (sym same) site) same
 before_first names name other (Some path) was first there site same before =
-    was.0.first other there (same ∙ sym was.1) (nat_list_cmp_total.trans other name path before first)
+    was.0.chosen.first other there (same ∙ sym was.1) (nat_list_cmp_total.trans other name path before first)
 
 -- the name is the first of those with its folded path
 new_first : (names : Names) (name : List ℕ) (picked : Picks) → IsSiteName name → ComesFirst picked (folded name) name
     → HasPicked names picked → IsFirstWith (names ++ name ∷ []) (folded name) name
 new_first names name picked site first has = (
   record {
-    there = Contains-push names name;
+    chosen = record {
+      there = Contains-push names name;
+      first = λ other there same before. elim (Contains-push_cases names name other there) [
+        | inl old ↦ before_first names name other (get compared picked (folded name)) (has
+            (folded name)) first old site same before
+        | inr new ↦ not_before_itself name (subst (λ one. IsBefore one name) (sym new) before)
+      ];
+    };
     named = site;
-    first = λ other there same before. elim (Contains-push_cases names name other there) [
-      | inl old ↦ before_first names name other (get compared picked (folded name)) (has
-          (folded name)) first old site same before
-      | inr new ↦ not_before_itself name (subst (λ one. IsBefore one name) (sym new) before)
-    ];
   },
   refl,
 )

@@ -14,10 +14,10 @@ use Rattle.asp_host.specs.Reading.{HasRead, HasFound, HasNotFound, IsAcceptedAt,
 use Rattle.asp_host.specs.Reading.{StopsAtPath, StopsReading, Takes}
 
 -- a file that shows something is not refused
-accepted_at : (files : List SiteFile) (path text : List ℕ) → ShowsAt files path text → IsAcceptedAt files path
-accepted_at files path text shows file there same refused = elim refused [
+accepted_at : (files : List SiteFile) (path body : List ℕ) → ShowsAt files path body → IsAcceptedAt files path
+accepted_at files path body shows file there same refused = elim refused [
   | inl global ↦ (shows file there same).0 global
-  | inr none ↦ none text (shows file there same).1
+  | inr none ↦ none body (shows file there same).1
 ]
 
 -- nothing found yet, and one path more that is not the wanted one
@@ -26,7 +26,7 @@ still_not_found : (files : List SiteFile) (paths : List (List ℕ)) (path wanted
     → MatchOption found (HasNotFound (paths ++ path ∷ []) wanted) (HasFound files (paths ++ path ∷ []) wanted)
 still_not_found files paths path wanted None other none =
     All-push (λ one. ¬ (folded one ≡ folded wanted)) paths path none other
-still_not_found files paths path wanted (Some text) other found = record {
+still_not_found files paths path wanted (Some body) other found = record {
   path = found.path;
   there = Contains-append_left paths (path ∷ []) found.path found.there;
   same = found.same;
@@ -52,7 +52,7 @@ read_more files paths path wanted old new read takes =
       | false ↦ λ is. miss (λ same. cc (is, (bytes_eq-Decides (folded path) (folded wanted)).1 same))
     ] in
     record {
-      accepted = All-push (IsAcceptedAt files) paths path read.accepted (accepted_at files path takes.text takes.shows);
+      accepted = All-push (IsAcceptedAt files) paths path read.accepted (accepted_at files path takes.body takes.shows);
       found_is = decide (bytes_eq (folded path) (folded wanted)) refl;
     }
 

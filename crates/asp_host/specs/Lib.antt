@@ -4,4 +4,7 @@ pub mod Page
 pub mod Site
 pub mod Picking
 pub mod Reading
+pub mod Around
+pub mod Journal
+pub mod Get
 pub mod Host

@@ -1,5 +1,6 @@
 -- What a page of text and sums shows.
 use Rattle.std.specs.Prelude.{◌≡◌, ℕ, ◌-◌, ◌≤◌, map, List, [], ◌∷◌, ◌++◌, All, length, sum_by}
+use Rattle.std.specs.Prelude.{encode_utf8_all, Option, MatchOption}
 use Rattle.std.specs.Fmt.{decimal}
 use Rattle.std.specs.Int.Digits.{number_from_digits}
 use Rattle.page_read.specs.declared.fragment.Fragment.{Fragment}
@@ -49,3 +50,13 @@ pub record IsPageText (bytes shown : List ℕ) : Type 0 where
   pub pieces : List Fragment
   pub cut : IsFragmentsOf bytes pieces
   pub together : ShowTogether pieces shown
+
+-- a page file with these bytes shows these, which are the UTF-8 of its text
+pub record IsPageBody (bytes body : List ℕ) : Type 0 where
+  pub text : List ℕ
+  pub page : IsPageText bytes text
+  pub encoded : body ≡ encode_utf8_all text
+
+-- what a file with these bytes shows as a page, or nothing, where it shows nothing
+abbrev pub IsReadAs : List ℕ → Option (List ℕ) → Type 0
+IsReadAs bytes shown = MatchOption shown ((body : List ℕ) → ¬ (IsPageBody bytes body)) (IsPageBody bytes)

@@ -3,17 +3,17 @@ use Rattle.std.specs.Prelude.{◌≡◌, ℕ, List, MatchOption}
 use Rattle.std.specs.BTreeMap.{BTreeMap, get}
 use Rattle.std.specs.List.{Contains}
 use Rattle.vb_value.specs.Folding.{folded}
-use Rattle.asp_host.specs.Site.{IsChosen, IsBefore, IsSiteName, compared}
+use Rattle.asp_host.specs.Site.{IsBefore, IsSiteName, IsSitePath, compared}
 
 -- none of the names is a site's own with this folded path
 abbrev pub HasNone : List (List ℕ) → List ℕ → Type 0
 HasNone names key = (name : List ℕ) → Contains names name → IsSiteName name → ¬ (folded name ≡ key)
 
--- the chosen of the names with this folded path
+-- the path that the site takes of the names with this folded path
 abbrev pub IsFirstWith : List (List ℕ) → List ℕ → List ℕ → Type 0
-IsFirstWith names key path = IsChosen names path × (folded path ≡ key)
+IsFirstWith names key path = IsSitePath names path × (folded path ≡ key)
 
--- under each folded path, the map has the chosen of the names
+-- under each folded path, the map has the path that the site takes of the names
 abbrev pub HasPicked : List (List ℕ) → BTreeMap (List ℕ) (List ℕ) → Type 0
 HasPicked names picked = (key : List ℕ)
     → MatchOption (get compared picked key) (HasNone names key) (IsFirstWith names key)

@@ -10,7 +10,7 @@ use Rattle.std.specs.Ordering.{nat_cmp}
 use Rattle.vb_value.specs.declared.site_file.SiteFile.{SiteFile}
 use Rattle.vb_value.specs.Folding.{folded}
 use Rattle.asp_io.specs.Folder.{path_of}
-use Rattle.asp_host.specs.Page.{IsPageText}
+use Rattle.asp_host.specs.Page.{IsPageBody}
 
 -- ---- paths
 
@@ -43,16 +43,20 @@ IsSiteFold path = IsPageFold path ⊎ (path ≡ global_path)
 abbrev pub IsSiteName : List ℕ → Type 0
 IsSiteName path = IsSiteFold (folded path)
 
--- Of the paths that compare equal to this one, which is a site's own, it comes first.
+-- of the paths that compare equal to this one, it comes first
 pub record IsChosen (paths : List (List ℕ)) (path : List ℕ) : Type 0 where
   pub there : Contains paths path
-  pub named : IsSiteName path
   pub first : (other : List ℕ) → Contains paths other → folded other ≡ folded path → ¬ (IsBefore other path)
 
--- the chosen of the names, in the order of their folded paths
+-- the path is the chosen one of those that compare equal to it, and one of a site's own
+pub record IsSitePath (paths : List (List ℕ)) (path : List ℕ) : Type 0 where
+  pub chosen : IsChosen paths path
+  pub named : IsSiteName path
+
+-- the paths are those of the names that make up a site, in the order of their folded paths
 pub record AreChosen (names paths : List (List ℕ)) : Type 0 where
-  pub each : All (IsChosen names) paths
-  pub all : (path : List ℕ) → IsChosen names path → Contains paths path
+  pub each : All (IsSitePath names) paths
+  pub all : (path : List ℕ) → IsSitePath names path → Contains paths path
   pub ordered : AllPairs (λ path other. IsBefore (folded path) (folded other)) paths
 
 -- ---- files
@@ -60,11 +64,11 @@ pub record AreChosen (names paths : List (List ℕ)) : Type 0 where
 -- a file of the folder that is one of the site
 pub record IsSiteFile (files : List SiteFile) (file : SiteFile) : Type 0 where
   pub there : Contains files file
-  pub chosen : IsChosen (map path_of files) file.path
+  pub at : IsSitePath (map path_of files) file.path
 
 -- a page that shows nothing, since its form is not one that is run, or the file of a site's events
 abbrev pub IsRefused : SiteFile → Type 0
-IsRefused file = IsGlobal file.path ⊎ ((shown : List ℕ) → ¬ (IsPageText file.bytes shown))
+IsRefused file = IsGlobal file.path ⊎ ((body : List ℕ) → ¬ (IsPageBody file.bytes body))
 
 -- no file of the site is refused
 abbrev pub IsAccepted : List SiteFile → Type 0
@@ -84,12 +88,12 @@ pub record IsFileAt (files : List SiteFile) (path : List ℕ) (file : SiteFile) 
 
 -- ---- answers
 
--- the folder is a site, and the page at the path shows this text
-pub record IsAnswer (files : List SiteFile) (path shown : List ℕ) : Type 0 where
+-- the folder is a site, and the page at the path shows these bytes
+pub record IsAnswer (files : List SiteFile) (path body : List ℕ) : Type 0 where
   pub accepted : IsAccepted files
   pub page : SiteFile
   pub at_path : IsFileAt files path page
-  pub text : IsPageText page.bytes shown
+  pub shows : IsPageBody page.bytes body
 
 -- why the folder gives no answer at the path, as the path that is told: that of the first refused file of the site,
 -- or the one that was asked for, where no file of the site is refused and none stands there

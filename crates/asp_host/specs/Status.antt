@@ -4,8 +4,16 @@ use Rattle.std.specs.Fmt.{decimal}
 use Rattle.vb_value.specs.declared.site_file.SiteFault.{SiteFault}
 use Rattle.vb_value.specs.declared.site_file.FaultKind.{FaultKind}
 use Rattle.vb_value.specs.declared.site_file.FaultKind.TheVariants.{NotYet}
+use Rattle.asp_host.specs.declared.load.LoadStop.{LoadStop}
+use Rattle.asp_host.specs.declared.load.LoadStop.TheVariants.{Refused, ReadFault as FolderFault, Memory as NoMemory}
 use Rattle.asp_host.specs.declared.status.Status.{Status}
 use Rattle.asp_host.specs.declared.status.Status.TheVariants.{Ok, Memory, Usage, SiteRefused, ReadFault, WriteFault}
+
+-- how a command ends where the folder gives no answer
+abbrev pub status_of : LoadStop → Status
+status_of (Refused path) = SiteRefused (record { path = path; line = 0; kind = NotYet })
+status_of FolderFault = ReadFault
+status_of NoMemory = Memory
 
 -- the exit status of the program
 abbrev pub code_of : Status → ℕ

@@ -1,10 +1,12 @@
--- The words of a command line that the host takes, each as its bytes.
+-- The words of a command line that the host takes, each as its bytes, and the command that they say.
 use Rattle.std.specs.Prelude.{◌≡◌, ℕ, ◌+◌, ◌^◌, ◌<◌, Bool, IsTrue, ◌||◌, ◌&&◌, ◌==◌, Some, List, [], ◌∷◌, ◌++◌}
 use Rattle.std.specs.Prelude.{length, chars, codes, slice_get, slice_index, EachIndex}
 use Rattle.std.specs.Char.{is_ascii_alphanumeric}
 use Rattle.vb_value.specs.Folding.{folded}
 use Rattle.asp_host.specs.declared.words.Command.{Command}
 use Rattle.asp_host.specs.declared.words.Command.TheVariants.{Get}
+
+-- ---- paths of pages
 
 -- an ASCII letter or digit, `-` or `_`
 abbrev pub is_name_character : ℕ → Bool
@@ -28,23 +30,22 @@ pub record IsPagePath (path : List ℕ) : Type 0 where
   pub ends : folded ending ≡ codes ".asp"
   pub short : length path < 2 ^ 24
 
--- the words are `get`, this word for the site, and this path of a page
-pub record SaysGet (words : List (List ℕ)) (site path : List ℕ) : Type 0 where
-  pub words_are : words ≡ codes "get" ∷ site ∷ path ∷ []
-  pub page : IsPagePath path
+-- ---- commands
 
--- the command for this word and this path, whose texts are their characters
-abbrev pub IsGet : List ℕ → List ℕ → Command → Type 0
-IsGet site_word path_word (Get site path query) = (site ≡ chars site_word) × (path ≡ chars path_word) × (query ≡ [])
+-- the words are `get`, a word for the folder of the site, and the path of a page, with nothing behind a `?`
+pub record SaysGet (words : List (List ℕ)) (site path query : List ℕ) : Type 0 where
+  pub site_word : List ℕ
+  pub path_word : List ℕ
+  pub words_are : words ≡ codes "get" ∷ site_word ∷ path_word ∷ []
+  pub site_is : site ≡ chars site_word
+  pub path_is : path ≡ chars path_word
+  pub page : IsPagePath path_word
+  pub no_query : query ≡ []
 
 -- the words say this command
 abbrev pub IsCommand : List (List ℕ) → Command → Type 0
-IsCommand words command = (site : List ℕ) × (path : List ℕ) × SaysGet words site path × IsGet site path command
+IsCommand words (Get site path query) = SaysGet words site path query
 
 -- the words say no command
 abbrev pub SaysNoCommand : List (List ℕ) → Type 0
-SaysNoCommand words = (site : List ℕ) (path : List ℕ) → ¬ (SaysGet words site path)
-
--- the path of the page that the command asks for
-abbrev pub IsPathOf : Command → List ℕ → Type 0
-IsPathOf (Get site path query) asked = asked ≡ path
+SaysNoCommand words = (command : Command) → ¬ (IsCommand words command)

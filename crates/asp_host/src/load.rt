@@ -1,12 +1,11 @@
 //! The page at a path of a folder's site.
-ghost use Rattle.std.specs.Prelude.{◌≡◌, ◌↔◌, ℕ, List as Items, IfErr, IfOk, IfSome, IsTrue, Err, OnOk, map};
+ghost use Rattle.std.specs.Prelude.{◌≡◌, ◌↔◌, IfErr, IfOk, IfSome, IsTrue, OnOk, map};
 ghost use Rattle.std.specs.List.{All};
 ghost use Rattle.std.specs.Option.{ForSome};
 ghost use Rattle.asp_io.specs.Faults.{HasCause};
 ghost use Rattle.asp_io.specs.Folder.{AreSitePaths, HasFile, path_of};
-ghost use Rattle.asp_host.specs.declared.load.PathStop.TheVariants.{NotYet, ReadFault};
 ghost use Rattle.vb_value.specs.Folding.{folded};
-ghost use Rattle.asp_host.specs.Page.{IsPageText};
+ghost use Rattle.asp_host.specs.Page.{IsReadAs};
 ghost use Rattle.asp_host.specs.Site as spec;
 ghost use Rattle.asp_host.specs.Reading as reading;
 
@@ -15,7 +14,7 @@ use crate::site::{chosen_paths, is_global};
 use asp_io::{Folder, IoStop};
 use page_read::PageStop;
 use std::alloc::Global;
-use vb_value::{Copied, List, Memory, Text, fold};
+use vb_value::{Bytes, Copied, List, Memory, Text, fold};
 
 /// How many bytes of a file are read: one more than a page may have.
 const MOST_READ: u32 = 65537;
@@ -31,33 +30,42 @@ pub enum LoadStop {
     Memory,
 }
 
-/// Why a file shows no text.
-#[derive(Clone, Copy, Debug, PartialEq, Eq)]
-pub enum PathStop {
-    /// The file holds more than this host runs.
-    NotYet,
-    /// The folder failed.
-    ReadFault,
-    /// Memory ran out.
-    Memory,
+impl From<IoStop> for LoadStop {
+    ghost use Rattle.asp_host.specs.Reading.{stop_of_folder};
+
+    ghost from_gives = { λ stop gives. gives ≡ stop_of_folder stop };
+
+    fn from(stop: IoStop) -> LoadStop {
+        match stop {
+            IoStop::Failed => LoadStop::ReadFault,
+            IoStop::Memory => LoadStop::Memory,
+        }
+    }
 }
 
-/// The text that the page at a path of the folder's site shows.
-pub fn answer_text<F: Folder>(
+impl From<Memory> for LoadStop {
+    ghost use Rattle.asp_host.specs.declared.load.LoadStop.TheVariants.{Memory as OutOfMemory};
+
+    ghost from_gives = { λ _ stop. stop ≡ OutOfMemory };
+
+    fn from(_: Memory) -> LoadStop {
+        LoadStop::Memory
+    }
+}
+
+/// The bytes that the page at a path of the folder's site shows.
+pub fn answer_body<F: Folder>(
     alloc: Global,
     folder: &mut F,
     wanted: &Text,
-) -> Result<Text, LoadStop>
-    ensures ok { IfOk result (λ text. IfSome (F.files folder.old) (λ files. spec.IsAnswer files wanted.now text)) }
+) -> Result<Bytes, LoadStop>
+    ensures ok { IfOk result (λ body. IfSome (F.files folder.old) (λ files. spec.IsAnswer files wanted.now body)) }
     ensures refused { IfErr result (reading.StopsLoading (F.files folder.old) wanted.now) }
     ensures same { F.files folder.new ≡ F.files folder.old }
     ensures cause { HasCause LoadStop.ReadFault (F.faults folder.old) (F.faults folder.new) result }
 {
-    match site_paths(alloc, folder) {
-        Ok(paths) => wanted_text(alloc, folder, paths.as_slice(), wanted),
-        Err(IoStop::Failed) => Err(LoadStop::ReadFault),
-        Err(IoStop::Memory) => Err(LoadStop::Memory),
-    }
+    let paths = site_paths(alloc, folder)?;
+    wanted_body(alloc, folder, paths.as_slice(), wanted)
 }
 
 /// The paths of the files that make up the folder's site.
@@ -66,56 +74,46 @@ fn site_paths<F: Folder>(alloc: Global, folder: &mut F) -> Result<List<Text>, Io
     ensures same { F.files folder.new ≡ F.files folder.old }
     ensures cause { HasCause IoStop.Failed (F.faults folder.old) (F.faults folder.new) result }
 {
-    let names = match folder.names(alloc) {
-        Ok(names) => names,
-        Err(stop) => return Err(stop),
-    };
-    match chosen_paths(alloc, names.as_slice()) {
-        Ok(paths) => Ok(paths),
-        Err(_) => Err(IoStop::Memory),
-    }
+    let names = folder.names(alloc)?;
+    Ok(chosen_paths(alloc, names.as_slice())?)
 }
 
-/// The text that the page at a path shows, where the site is made up of the files at these paths.
-fn wanted_text<F: Folder>(
+/// The bytes that the page at a path shows, where the site is made up of the files at these paths.
+fn wanted_body<F: Folder>(
     alloc: Global,
     folder: &mut F,
     paths: &[Text],
     wanted: &Text,
-) -> Result<Text, LoadStop>
+) -> Result<Bytes, LoadStop>
     requires { ForSome (F.files folder.old) (λ files. reading.AreSitePathsOf files paths.now) }
-    ensures ok { IfOk result (λ text. IfSome (F.files folder.old) (λ files. spec.IsAnswer files wanted.now text)) }
+    ensures ok { IfOk result (λ body. IfSome (F.files folder.old) (λ files. spec.IsAnswer files wanted.now body)) }
     ensures refused { IfErr result (reading.StopsLoading (F.files folder.old) wanted.now) }
     ensures same { F.files folder.new ≡ F.files folder.old }
     ensures cause { HasCause LoadStop.ReadFault (F.faults folder.old) (F.faults folder.new) result }
 {
-    let found = match found_text(alloc, folder, paths, wanted) {
-        Ok(found) => found,
-        Err(stop) => return Err(stop),
-    };
-    match found {
-        Some(text) => Ok(text),
-        None => Err(missing(wanted)),
+    match found_body(alloc, folder, paths, wanted)? {
+        Some(body) => Ok(body),
+        None => Err(refused(wanted)),
     }
 }
 
-/// The refusal of a path at which no page stands.
-fn missing(wanted: &Text) -> LoadStop
-    ensures { reading.IsRefusedPath wanted.now result }
+/// The refusal of a path: that of a file that is not run, or that where no page stands.
+fn refused(path: &Text) -> LoadStop
+    ensures { reading.IsRefusedPath path.now result }
 {
-    match wanted.copy() {
+    match path.copy() {
         Ok(path) => LoadStop::Refused(path),
-        Err(_) => LoadStop::Memory,
+        Err(Memory) => LoadStop::Memory,
     }
 }
 
-/// Reads the files at the paths, and gives the text of the one that is wanted, if it is among them.
-fn found_text<F: Folder>(
+/// Reads the files at the paths, and gives the bytes that the one that is wanted shows, if it is among them.
+fn found_body<F: Folder>(
     alloc: Global,
     folder: &mut F,
     paths: &[Text],
     wanted: &Text,
-) -> Result<Option<Text>, LoadStop>
+) -> Result<Option<Bytes>, LoadStop>
     requires { ForSome (F.files folder.old) (λ files. AreSitePaths (map path_of files) × All (HasFile files) paths.now) }
     ensures ok { IfOk result (λ found. IfSome (F.files folder.old) (λ files.
         reading.HasRead files paths.now wanted.now found)) }
@@ -125,20 +123,18 @@ fn found_text<F: Folder>(
 {
     let mut found = None;
     for path in paths {
-        if let Err(stop) = take_text(alloc, folder, path, wanted, &mut found) {
-            return Err(stop);
-        }
+        take_body(alloc, folder, path, wanted, &mut found)?;
     }
     Ok(found)
 }
 
-/// Reads the file at the path, and keeps its text if it is the one that is wanted.
-fn take_text<F: Folder>(
+/// Reads the file at the path, and keeps what it shows if it is the one that is wanted.
+fn take_body<F: Folder>(
     alloc: Global,
     folder: &mut F,
     path: &Text,
     wanted: &Text,
-    found: &mut Option<Text>,
+    found: &mut Option<Bytes>,
 ) -> Result<(), LoadStop>
     requires { ForSome (F.files folder.old) (λ files. AreSitePaths (map path_of files) × HasFile files path.now) }
     ensures ok { OnOk result (IfSome (F.files folder.old) (λ files.
@@ -147,46 +143,37 @@ fn take_text<F: Folder>(
     ensures same { F.files folder.new ≡ F.files folder.old }
     ensures cause { HasCause LoadStop.ReadFault (F.faults folder.old) (F.faults folder.new) result }
 {
-    let text = match shown_at(alloc, folder, path) {
-        Ok(text) => text,
-        Err(PathStop::NotYet) => return Err(missing(path)),
-        Err(PathStop::ReadFault) => return Err(LoadStop::ReadFault),
-        Err(PathStop::Memory) => return Err(LoadStop::Memory),
+    let Some(body) = body_at(alloc, folder, path)? else {
+        return Err(refused(path));
     };
-    match compares_equal(alloc, path, wanted) {
-        Ok(true) => *found = Some(text),
-        Ok(false) => {}
-        Err(_) => return Err(LoadStop::Memory),
+    if compares_equal(alloc, path, wanted)? {
+        *found = Some(body);
     }
     Ok(())
 }
 
+/// Whether the paths are equal without ASCII case.
 fn compares_equal(alloc: Global, path: &Text, other: &Text) -> Result<bool, Memory>
     ensures { IfOk result (λ equal. IsTrue equal ↔ (folded path.now ≡ folded other.now)) }
 {
     Ok(fold(alloc, path)? == fold(alloc, other)?)
 }
 
-/// The text that the file at this path shows.
-fn shown_at<F: Folder>(alloc: Global, folder: &mut F, path: &Text) -> Result<Text, PathStop>
+/// The bytes that the file at this path shows, or `None` where it is refused.
+fn body_at<F: Folder>(alloc: Global, folder: &mut F, path: &Text) -> Result<Option<Bytes>, IoStop>
     requires { ForSome (F.files folder.old) (λ files. AreSitePaths (map path_of files) × HasFile files path.now) }
-    ensures ok { IfOk result (λ text. IfSome (F.files folder.old) (λ files. reading.ShowsAt files path.now text)) }
-    ensures not_yet { result ≡ Err NotYet → IfSome (F.files folder.old) (λ files. reading.IsRefusedAt files path.now) }
+    ensures ok { IfOk result (λ shown. IfSome (F.files folder.old) (reading.IsReadAt shown path.now)) }
     ensures same { F.files folder.new ≡ F.files folder.old }
-    ensures cause { HasCause PathStop.ReadFault (F.faults folder.old) (F.faults folder.new) result }
+    ensures cause { HasCause IoStop.Failed (F.faults folder.old) (F.faults folder.new) result }
 {
-    match is_global_path(alloc, path) {
-        Ok(true) => return Err(PathStop::NotYet),
-        Ok(false) => {}
-        Err(_) => return Err(PathStop::Memory),
+    if is_global_path(alloc, path)? {
+        return Ok(None);
     }
-    match folder.read(alloc, path, MOST_READ) {
-        Ok(bytes) => file_text(alloc, bytes.as_slice()),
-        Err(IoStop::Failed) => Err(PathStop::ReadFault),
-        Err(IoStop::Memory) => Err(PathStop::Memory),
-    }
+    let bytes = folder.read(alloc, path, MOST_READ)?;
+    Ok(file_body(alloc, bytes.as_slice())?)
 }
 
+/// Whether the path is that of the file of a site's events.
 fn is_global_path(alloc: Global, path: &Text) -> Result<bool, Memory>
     ensures { IfOk result (λ is. IsTrue is ↔ spec.IsGlobal path.now) }
 {
@@ -194,14 +181,13 @@ fn is_global_path(alloc: Global, path: &Text) -> Result<bool, Memory>
     Ok(is_global(folded.as_slice()))
 }
 
-fn file_text(alloc: Global, bytes: &[u8]) -> Result<Text, PathStop>
-    ensures ok { IfOk result (IsPageText bytes.now) }
-    ensures not_yet { result ≡ Err NotYet → (text : Items ℕ) → ¬ (IsPageText bytes.now text) }
-    ensures no_read_fault { ¬ (result ≡ Err ReadFault) }
+/// The bytes that a page file with these bytes shows, or `None` where it shows nothing.
+fn file_body(alloc: Global, bytes: &[u8]) -> Result<Option<Bytes>, Memory>
+    ensures { IfOk result (IsReadAs bytes.now) }
 {
     match page_text(alloc, bytes) {
-        Ok(text) => Ok(text),
-        Err(PageStop::Fault { kind: _, line: _ }) => Err(PathStop::NotYet),
-        Err(PageStop::Memory) => Err(PathStop::Memory),
+        Ok(text) => Ok(Some(text.to_utf8(alloc)?)),
+        Err(PageStop::Fault { kind: _, line: _ }) => Ok(None),
+        Err(PageStop::Memory) => Err(Memory),
     }
 }

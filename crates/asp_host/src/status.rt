@@ -4,9 +4,11 @@ ghost use Rattle.std.specs.String.{string_bytes};
 ghost use Rattle.vb_value.specs.Outcome.{Gives};
 ghost use Rattle.asp_host.specs.Status.{code_of, fault_text_of, kind_text_of, place_text, text_of};
 
+use crate::load::LoadStop;
 use std::alloc::Global;
 use vb_value::{Copied, FaultKind, Memory, SiteFault, Text};
 
+/// The commands. Those but `get` are not run yet.
 const USAGE: &str = "usage: get SITE PATH, check SITE, replay SITE, serve SITE --requests N, gen N";
 
 /// How a command ended.
@@ -24,6 +26,24 @@ pub enum Status {
     ReadFault,
     /// The sink failed.
     WriteFault,
+}
+
+impl From<LoadStop> for Status {
+    ghost use Rattle.asp_host.specs.Status.{status_of};
+
+    ghost from_gives = { λ stop status. status ≡ status_of stop };
+
+    fn from(stop: LoadStop) -> Status {
+        match stop {
+            LoadStop::Refused(path) => Status::SiteRefused(SiteFault {
+                path,
+                line: 0,
+                kind: FaultKind::NotYet,
+            }),
+            LoadStop::ReadFault => Status::ReadFault,
+            LoadStop::Memory => Status::Memory,
+        }
+    }
 }
 
 /// The exit status of the program, 0 where the command did all of its work.
@@ -54,6 +74,7 @@ pub fn status_text(alloc: Global, status: &Status) -> Result<Text, Memory>
     }
 }
 
+/// The path, the line and the kind of the fault.
 fn fault_text(alloc: Global, fault: &SiteFault) -> Result<Text, Memory>
     ensures { Gives result (fault_text_of fault.now) }
 {
@@ -63,6 +84,7 @@ fn fault_text(alloc: Global, fault: &SiteFault) -> Result<Text, Memory>
     Ok(text)
 }
 
+/// The line and the kind of a fault.
 fn place_string(alloc: Global, line: u32, kind: FaultKind) -> Result<String, Memory>
     ensures { IfOk result (λ place. string_bytes place ≡ place_text line kind) }
 {
@@ -70,6 +92,7 @@ fn place_string(alloc: Global, line: u32, kind: FaultKind) -> Result<String, Mem
     Ok(format!(in alloc; ":{line}: {kind}")?)
 }
 
+/// The name of what is wrong with a file.
 fn kind_text(kind: FaultKind) -> &'static str
     ensures { result.now ≡ kind_text_of kind }
 {

@@ -1,6 +1,7 @@
 //! The words of a command line.
-ghost use Rattle.std.specs.Prelude.{◌≡◌, ◌↔◌, Err, IfOk, IsTrue, MatchOption, map, slice_index};
+ghost use Rattle.std.specs.Prelude.{◌≡◌, ◌↔◌, [], Err, IfOk, IsTrue, MatchOption, chars, map, slice_index};
 ghost use Rattle.std.specs.String.{string_bytes};
+ghost use Rattle.vb_value.specs.Outcome.{Gives};
 ghost use Rattle.asp_host.specs.declared.words.WordStop.TheVariants.{Usage};
 ghost use Rattle.asp_host.specs.Words as spec;
 
@@ -39,6 +40,16 @@ pub enum WordStop {
     Memory,
 }
 
+impl From<Memory> for WordStop {
+    ghost use Rattle.asp_host.specs.declared.words.WordStop.TheVariants.{Memory as OutOfMemory};
+
+    ghost from_gives = { λ _ stop. stop ≡ OutOfMemory };
+
+    fn from(_: Memory) -> WordStop {
+        WordStop::Memory
+    }
+}
+
 /// The command that the words say, without the program's own name.
 pub fn read_words(alloc: Global, words: &[String]) -> Result<Command, WordStop>
     ensures ok { IfOk result (spec.IsCommand (map string_bytes words.now)) }
@@ -47,14 +58,12 @@ pub fn read_words(alloc: Global, words: &[String]) -> Result<Command, WordStop>
     let Some((site, path)) = get_words(words) else {
         return Err(WordStop::Usage);
     };
-    match get_command(alloc, site, path) {
-        Ok(command) => Ok(command),
-        Err(_) => Err(WordStop::Memory),
-    }
+    Ok(get_command(alloc, site, path)?)
 }
 
+/// The command `get` for this word and this path.
 fn get_command(alloc: Global, site: &str, path: &str) -> Result<Command, Memory>
-    ensures { IfOk result (λ command. spec.IsGet site.now path.now command) }
+    ensures { Gives result (Command.Get (chars site.now) (chars path.now) []) }
 {
     let site = Text::from_str(alloc, site)?;
     let path = Text::from_str(alloc, path)?;
@@ -62,9 +71,10 @@ fn get_command(alloc: Global, site: &str, path: &str) -> Result<Command, Memory>
     Ok(Command::Get { site, path, query })
 }
 
+/// The word for the site and the path, where the words are those of `get`.
 fn get_words(words: &[String]) -> Option<(&str, &str)>
     ensures { MatchOption result (spec.SaysNoCommand (map string_bytes words.now))
-        (λ said. spec.SaysGet (map string_bytes words.now) said.0.now said.1.now) }
+        (λ said. spec.SaysGet (map string_bytes words.now) (chars said.0.now) (chars said.1.now) []) }
 {
     match words {
         [get, site, path] if get.as_str() == "get" && is_page_path(path.as_bytes()) => {
@@ -74,6 +84,7 @@ fn get_words(words: &[String]) -> Option<(&str, &str)>
     }
 }
 
+/// Whether this is the path of a page as a command names it.
 fn is_page_path(path: &[u8]) -> bool
     ensures { IsTrue result ↔ spec.IsPagePath path.now }
 {
@@ -87,6 +98,7 @@ fn is_page_path(path: &[u8]) -> bool
     is_stem(stem)
 }
 
+/// Whether these are names, each with a slash before it.
 fn is_stem(stem: &[u8]) -> bool
     ensures { IsTrue result ↔ spec.IsStem stem.now }
 {
@@ -111,12 +123,14 @@ fn byte_at(bytes: &[u8], at: usize) -> u8
     }
 }
 
+/// Whether this byte may stand in a path before the next.
 fn is_path_place(byte: u8, next: u8) -> bool
     ensures { result ≡ spec.is_path_place byte next }
 {
     is_name_byte(byte) || (byte == b'/' && is_name_byte(next))
 }
 
+/// Whether the byte may stand in a name.
 fn is_name_byte(byte: u8) -> bool
     ensures { result ≡ spec.is_name_character byte }
 {

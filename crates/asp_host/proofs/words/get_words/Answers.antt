@@ -8,7 +8,12 @@ returns-in-len3 c =
     let items = three_items c.args.words.now c.get-item.result c.site-item.result c.path-item.result (omega arith)
     c.get-item.is c.site-item.is c.path-item.is in
     record {
+      site_word = _;
+      path_word = _;
       words_are = rw items (search rules);
+      site_is = refl;
+      path_is = refl;
       page = subst IsPagePath (c.as_bytes.ensures.value
           ∙ sym c.as_str-in-len3-2.ensures.value) (c.if-is_page_path.ensures.0 refl);
+      no_query = refl;
     }

@@ -1,6 +1,6 @@
 use Rattle.std.proofs.Common.{◌≡◌, ◌<◌, ◌≤◌, ◌^◌, IfSome, take}
 use Rattle.asp_host.specs.Reading.{HasRead}
-use Rattle.asp_host.proofs.load.found_text.Given as goal
+use Rattle.asp_host.proofs.load.found_body.Given as goal
 
 abbrev pub invariant-loop-path : goal.invariant-loop-path
 invariant-loop-path g l = record {
