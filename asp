@@ -1,16 +1,140 @@
 #!/usr/bin/env bash
-# Runs the program with the words given, in the folder where it is called, and ends with its status. Where the
-# program is older than its sources it is proved and built first, which takes some minutes the first time.
+# Runs the program with the words given, in the folder where it is called, and ends with its status.
+#
+# `asp build` proves and builds the program. Before that, and once a source has changed since, the words run by the
+# toolchain's build that proves nothing, which one line on standard error says.
 set -u
+unset CDPATH
 top=$(dirname "$(readlink -f "${BASH_SOURCE[0]}")")
-program=$top/crates/classic_asp/out/classic_asp
-sources=("$top"/crates.txt "$top"/HANDLES "$top"/crates/*/src "$top"/crates/*/specs "$top"/crates/*/proofs)
-if [ ! -x "$program" ] || [ -n "$(find "${sources[@]}" -newer "$program" -print -quit 2>/dev/null)" ]; then
-  echo "asp: building the program" >&2
-  if ! log=$(cd "$top/crates/classic_asp" && rt run -- --version 2>&1 </dev/null); then
-    printf '%s\nasp: the program was not built\n' "$log" >&2
-    exit 70
-  fi
-  touch "$program"
+crate=$top/crates/classic_asp
+program=$crate/out/classic_asp
+proved=$program.proved
+
+# The crates that the program is made of, each behind those that it stands on.
+made_of() {
+  awk '
+    function visit(name,    names, count, at) {
+      if (name in seen || !(name in below)) return
+      seen[name] = 1
+      count = split(below[name], names, " ")
+      for (at = 1; at <= count; at++) visit(names[at])
+      print name
+    }
+    { sub(/#.*/, "") }
+    split($0, side, ":") == 2 { split(side[1], words, " "); below[words[1]] = side[2] }
+    END { visit("classic_asp") }' "$top/crates.txt"
+}
+
+# Whether the program was built by `asp build` and no source has changed since that build began.
+is_built() {
+  local name sources=("$top/crates.txt" "$top/HANDLES")
+  [ -x "$program" ] && [ -e "$proved" ] || return 1
+  for name in $(made_of); do
+    sources+=("$top/crates/$name/src" "$top/crates/$name/specs" "$top/crates/$name/proofs")
+  done
+  [ -z "$(find "${sources[@]}" -newer "$proved" -print -quit 2>/dev/null)" ]
+}
+
+# Proves one crate and builds its library or, of the last, the program. Leaves the log, and the status where it ended.
+build_crate() {
+  local name=$1 words=(lib)
+  [ "$name" = classic_asp ] && words=(run -- --version)
+  (cd "$top/crates/$name" && rt "${words[@]}") >"$logs/$name.log" 2>&1 </dev/null
+  echo $? >"$logs/$name.status"
+}
+
+# Whether the crates of the program that this one stands on are built.
+stands() {
+  local other
+  for other in $(sed -n "s/#.*//; s/^$1\>[^:]*://p" "$top/crates.txt"); do
+    [ -d "$top/crates/$other" ] && [ ! -e "$logs/$other.done" ] && return 1
+  done
+  return 0
+}
+
+# Tells each crate that has ended. Fails where one was not proved.
+tell_ended() {
+  local name
+  for name in "${names[@]}"; do
+    [ -s "$logs/$name.status" ] && [ ! -e "$logs/$name.done" ] || continue
+    running=$((running - 1))
+    if [ "$(cat "$logs/$name.status")" != 0 ]; then
+      cat "$logs/$name.log" >&2
+      echo "asp: $name was not proved, and the program not built" >&2
+      return 1
+    fi
+    : >"$logs/$name.done"
+    ended=$((ended + 1))
+    echo "asp: $name is proved and built, $ended of ${#names[@]}" >&2
+  done
+}
+
+# Proves and builds the crates, as many at a time as there are processors for. Fails where one is not proved.
+build_once() {
+  local names running=0 ended=0 most=$((($(nproc) + 1) / 2)) name
+  mapfile -t names < <(made_of)
+  rm -rf "${logs:?}"/*
+  : >"$logs/begun"
+  echo "asp: proving and building ${#names[@]} crates" >&2
+  while [ "$ended" -lt "${#names[@]}" ]; do
+    for name in "${names[@]}"; do
+      [ "$running" -lt "$most" ] && [ ! -e "$logs/$name.log" ] && stands "$name" || continue
+      : >"$logs/$name.log"
+      build_crate "$name" &
+      running=$((running + 1))
+    done
+    wait -n
+    if ! tell_ended; then
+      kill $(jobs -p) 2>/dev/null
+      return 1
+    fi
+  done
+  cp -p "$logs/begun" "$proved"
+}
+
+# Builds, and once more where a source has changed meanwhile.
+build() {
+  logs=$(mktemp -d)
+  trap 'rm -rf "$logs"' EXIT
+  trap 'kill $(jobs -p) 2>/dev/null; exit 130' INT TERM
+  build_once || return 70
+  is_built && return
+  echo "asp: a source has changed during the build, which begins anew" >&2
+  build_once && is_built && return
+  echo "asp: the program is older than its sources" >&2
+  return 70
+}
+
+# What the program wrote to standard error, of what the toolchain's build wrote there, which ends with lines of its own.
+own_errors() {
+  LC_ALL=C awk '
+    { line[NR] = $0 }
+    /./ && !/^(checked|interpreter|races): / && !/^run=/ { last = NR }
+    END { for (at = 1; at <= last; at++) print line[at] }' "$errors" >&2
+}
+
+# Runs the words by the build that proves nothing. It runs in a folder of its own, so it is given the whole path of the
+# site. The last of its lines says how the program ended.
+run_unproved() {
+  local words=("$@") code
+  echo "asp: not proved yet, so this runs an unproved build, in about a minute: ./asp build proves it" >&2
+  case "${2-}" in '' | /*) ;; *) [ "$1" = gen ] || words[1]=$PWD/$2 ;; esac
+  errors=$(mktemp)
+  trap 'rm -f "$errors"' EXIT
+  (cd "$crate" && rt try --seconds 600 --steps 1000000000 -- "${words[@]}") 2>"$errors"
+  code=$?
+  case $(tail -n 1 "$errors") in
+    "run=ended status=$code "*) own_errors; return "$code" ;;
+  esac
+  cat "$errors" >&2
+  echo "asp: the unproved build did not run" >&2
+  return 70
+}
+
+if [ $# = 1 ] && [ "$1" = build ]; then
+  build
+elif is_built; then
+  exec "$program" "$@"
+else
+  run_unproved "$@"
 fi
-exec "$program" "$@"

@@ -10,7 +10,7 @@ use Rattle.vb_value.specs.declared.site_file.SiteFile.{SiteFile}
 use Rattle.vb_value.specs.Folding.{folded}
 use Rattle.page_read.specs.declared.fragment.Fragment.{Fragment}
 use Rattle.page_read.specs.declared.fragment.Fragment.TheVariants.{Text, Write}
-use Rattle.page_read.proofs.Reading.{one_list}
+use Rattle.page_read.proofs.Pieces.{one_list}
 use Rattle.page_read.proofs.Terms.{sums_unique}
 use Rattle.asp_io.specs.Folder.{AreSitePaths, bytes_of, path_of}
 use Rattle.asp_host.specs.Page.{IsPageBody, IsPageText, IsSumText, Shows, ShowTogether, sum_text}

@@ -1,13 +1,19 @@
 -- What pieces show together, piece by piece.
 use Rattle.std.proofs.Common.{◌≡◌, ℕ, ◌+◌, ◌<◌, List, [], ◌∷◌, ◌++◌, length, get_or, take, refl, sym, ◌∙◌, ap}
 use Rattle.std.proofs.Common.{subst, append_assoc, append-nil, arith, zero, suc, Result, Ok, Err}
+use Rattle.std.proofs.Common.{IsErrAnd}
 use Rattle.std.proofs.lemmas.List.{take_more}
+use Rattle.std.proofs.lemmas.Result.{err_from_is_err_and}
 use Rattle.page_read.specs.declared.fragment.Fragment.{Fragment}
 use Rattle.vb_value.specs.declared.site_file.FaultKind.{FaultKind}
-use Rattle.page_read.specs.declared.fragment.PageStop.{PageStop}
-use Rattle.page_read.specs.declared.fragment.PageStop.TheVariants.{Fault, Memory}
-use Rattle.page_read.specs.Fragments.{IfFault}
+use Rattle.vb_value.specs.declared.stop.Stop.{Stop}
+use Rattle.vb_value.specs.declared.stop.Stop.TheVariants.{Fault, Memory}
+use Rattle.vb_value.specs.Outcome.{OnFault}
 use Rattle.asp_host.specs.Page.{Shows, ShowTogether}
+
+-- why a page was not read
+abbrev PageStop : Type 0
+PageStop = Stop FaultKind
 
 -- one piece more at the end
 pub shown_more : (pieces : List Fragment) (shown text : List ℕ) (piece : Fragment)
@@ -42,19 +48,24 @@ shown_each (first ∷ pieces) shown (suc at) piece together within is =
 
 -- ---- refusals
 
--- a fault that is handed on by a call that gives something else
-pub fault_passed : (A B : Type 0) (stop : PageStop) (P Q : FaultKind → ℕ → Type 0)
-    → ((kind : FaultKind) (line : ℕ) → P kind line → Q kind line) → IfFault {T = A} (Err stop) P
-    → IfFault {T = B} (Err stop) Q
-fault_passed A B (Fault kind line) P Q weaker held = weaker kind line held
-fault_passed A B Memory P Q weaker held = tt
-
 -- a fault of which less is said
 pub fault_weaker : {A : Type 0} (result : Result A PageStop) (P Q : FaultKind → ℕ → Type 0)
-    → ((kind : FaultKind) (line : ℕ) → P kind line → Q kind line) → IfFault result P → IfFault result Q
+    → ((kind : FaultKind) (line : ℕ) → P kind line → Q kind line) → OnFault result P → OnFault result Q
 fault_weaker (Ok given) P Q weaker held = tt
 fault_weaker (Err (Fault kind line)) P Q weaker held = weaker kind line held
 fault_weaker (Err Memory) P Q weaker held = tt
+
+-- a fault that is handed on by a call that gives something else
+pub fault_passed : (A B : Type 0) (result : Result B PageStop) (stop : PageStop) (P Q : FaultKind → ℕ → Type 0)
+    → ((kind : FaultKind) (line : ℕ) → P kind line → Q kind line) → IsErrAnd result (λ err. err ≡ stop)
+    → OnFault {T = A} (Err stop) P → OnFault result Q
+fault_passed A B result (Fault kind line) P Q weaker is held =
+    let err = err_from_is_err_and result is in
+    subst (λ (r : Result B PageStop). OnFault r Q) (sym (err.1 ∙ ap (λ (e : PageStop). Err e) err.2))
+    (weaker kind line held)
+fault_passed A B result Memory P Q weaker is held =
+    let err = err_from_is_err_and result is in
+    subst (λ (r : Result B PageStop). OnFault r Q) (sym (err.1 ∙ ap (λ (e : PageStop). Err e) err.2)) tt
 
 -- pieces of which one shows nothing show nothing together
 pub none_together : (pieces : List Fragment) (at : ℕ) (piece : Fragment) → at < length pieces

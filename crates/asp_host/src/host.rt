@@ -40,9 +40,9 @@ where
     // The command that the words say ends as its own statement has it.
     ensures ends { (command : Said) → IsCommand (map string_bytes words.now) command
         → Ends command (record {
-            files = F.files folder.old;
-            source = record { before = S.left source.old; after = S.left source.new };
-            sink = record { before = K.held sink.old; after = K.held sink.new };
+          files = F.files folder.old;
+          source = record { before = S.left source.old; after = S.left source.new };
+          sink = record { before = K.held sink.old; after = K.held sink.new };
         }) result }
 
     // Words that say no command are told so, and nothing is written.
@@ -57,11 +57,13 @@ where
     ensures source { source.new ≡ source.old }
 {
     match read_words(alloc, words) {
-        Ok(Command::Get {
-            site: _,
-            path,
-            query: _,
-        }) => get(alloc, &path, folder, sink),
+        Ok(
+            Command::Get {
+                site: _,
+                path,
+                query: _,
+            },
+        ) => get(alloc, &path, folder, sink),
         Err(WordStop::Usage) => Status::Usage,
         Err(WordStop::Memory) => Status::Memory,
     }

@@ -12,12 +12,12 @@ ghost use Rattle.asp_host.specs.Reading as reading;
 use crate::page::page_text;
 use crate::site::{chosen_paths, is_global};
 use asp_io::{Folder, IoStop};
-use page_read::PageStop;
+use page_read::MOST_BYTES;
 use std::alloc::Global;
-use vb_value::{Bytes, Copied, List, Memory, Text, fold};
+use vb_value::{Bytes, Copied, List, Memory, Stop, Text, fold};
 
 /// How many bytes of a file are read: one more than a page may have.
-const MOST_READ: u32 = 65537;
+const MOST_READ: u32 = MOST_BYTES + 1;
 
 /// Why a folder gives no answer.
 #[derive(Debug, Drop)]
@@ -187,7 +187,7 @@ fn file_body(alloc: Global, bytes: &[u8]) -> Result<Option<Bytes>, Memory>
 {
     match page_text(alloc, bytes) {
         Ok(text) => Ok(Some(text.to_utf8(alloc)?)),
-        Err(PageStop::Fault { kind: _, line: _ }) => Ok(None),
-        Err(PageStop::Memory) => Err(Memory),
+        Err(Stop::Fault { kind: _, line: _ }) => Ok(None),
+        Err(Stop::Memory) => Err(Memory),
     }
 }

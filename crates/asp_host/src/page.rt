@@ -2,12 +2,12 @@
 ghost use Rattle.std.specs.Prelude.{◌≡◌, ◌++◌, ℕ, List as Items, IfOk, MatchOption, OnOk, sum_by};
 ghost use Rattle.std.specs.Fmt.{decimal};
 ghost use Rattle.vb_value.specs.declared.site_file.FaultKind.TheVariants.{NotYet};
-ghost use Rattle.page_read.specs.Fragments.{IfFault};
+ghost use Rattle.vb_value.specs.Outcome.{OnFault};
 ghost use Rattle.asp_host.specs.Page as spec;
 
-use page_read::{Fragment, PageStop, SumStop, fragments, sum_numbers};
+use page_read::{Fragment, NOT_YET, PageStop, fragments, sum_numbers};
 use std::alloc::Global;
-use vb_value::{FaultKind, Memory, Text};
+use vb_value::{Memory, Text};
 
 /// How many numbers a sum may have.
 const MOST_NUMBERS: usize = 1000;
@@ -18,32 +18,25 @@ const MOST_DIGITS: usize = 5;
 /// The greatest number of a sum, which is that of 16 bits with a sign.
 const GREATEST: u32 = 32767;
 
-/// The fault of a page that holds more than this host runs.
-const NOT_YET: PageStop = PageStop::Fault {
-    kind: FaultKind::NotYet,
-    line: 0,
-};
-
 /// The text that a page file with these bytes shows.
 pub fn page_text(alloc: Global, bytes: &[u8]) -> Result<Text, PageStop>
     ensures ok { IfOk result (spec.IsPageText bytes.now) }
-    ensures fault { IfFault result (λ kind line. (kind ≡ NotYet) × (line ≡ 0)) }
-    ensures no_text { IfFault result (λ _ _. (shown : Items ℕ) → ¬ (spec.IsPageText bytes.now shown)) }
+    ensures fault { OnFault result (λ kind line. (kind ≡ NotYet) × (line ≡ 0)) }
+    ensures no_text { OnFault result (λ _ _. (shown : Items ℕ) → ¬ (spec.IsPageText bytes.now shown)) }
 {
     let pieces = fragments(alloc, bytes)?;
     shown_text(alloc, pieces.as_slice())
 }
 
+/// The text that the pieces show, one after the other.
 fn shown_text(alloc: Global, pieces: &[Fragment]) -> Result<Text, PageStop>
     ensures ok { IfOk result (spec.ShowTogether pieces.now) }
-    ensures fault { IfFault result (λ kind line. (kind ≡ NotYet) × (line ≡ 0)) }
-    ensures no_text { IfFault result (λ _ _. (shown : Items ℕ) → ¬ (spec.ShowTogether pieces.now shown)) }
+    ensures fault { OnFault result (λ kind line. (kind ≡ NotYet) × (line ≡ 0)) }
+    ensures no_text { OnFault result (λ _ _. (shown : Items ℕ) → ¬ (spec.ShowTogether pieces.now shown)) }
 {
     let mut shown = Text::new(alloc);
     for piece in pieces {
-        if let Err(stop) = push_shown(alloc, piece, &mut shown) {
-            return Err(stop);
-        }
+        push_shown(alloc, piece, &mut shown)?;
     }
     Ok(shown)
 }
@@ -51,8 +44,8 @@ fn shown_text(alloc: Global, pieces: &[Fragment]) -> Result<Text, PageStop>
 /// Adds what the piece shows.
 fn push_shown(alloc: Global, piece: &Fragment, shown: &mut Text) -> Result<(), PageStop>
     ensures ok { OnOk result ((text : Items ℕ) × spec.Shows piece.now text × (shown.new ≡ shown.old ++ text)) }
-    ensures fault { IfFault result (λ kind line. (kind ≡ NotYet) × (line ≡ 0)) }
-    ensures no_text { IfFault result (λ _ _. (text : Items ℕ) → ¬ (spec.Shows piece.now text)) }
+    ensures fault { OnFault result (λ kind line. (kind ≡ NotYet) × (line ≡ 0)) }
+    ensures no_text { OnFault result (λ _ _. (text : Items ℕ) → ¬ (spec.Shows piece.now text)) }
 {
     match piece {
         Fragment::Text(text) => Ok(shown.append_slice(text.as_slice())?),
@@ -63,14 +56,10 @@ fn push_shown(alloc: Global, piece: &Fragment, shown: &mut Text) -> Result<(), P
 /// Adds the value of the sum.
 fn push_value(alloc: Global, sum: &[char], shown: &mut Text) -> Result<(), PageStop>
     ensures ok { OnOk result ((text : Items ℕ) × spec.IsSumText sum.now text × (shown.new ≡ shown.old ++ text)) }
-    ensures fault { IfFault result (λ kind line. (kind ≡ NotYet) × (line ≡ 0)) }
-    ensures no_text { IfFault result (λ _ _. (text : Items ℕ) → ¬ (spec.IsSumText sum.now text)) }
+    ensures fault { OnFault result (λ kind line. (kind ≡ NotYet) × (line ≡ 0)) }
+    ensures no_text { OnFault result (λ _ _. (text : Items ℕ) → ¬ (spec.IsSumText sum.now text)) }
 {
-    let numbers = match sum_numbers(alloc, sum) {
-        Ok(numbers) => numbers,
-        Err(SumStop::NoSum) => return Err(NOT_YET),
-        Err(SumStop::Memory) => return Err(PageStop::Memory),
-    };
+    let numbers = sum_numbers(alloc, sum)?;
     let Some(value) = sum_value(numbers.as_slice()) else {
         return Err(NOT_YET);
     };
@@ -78,6 +67,7 @@ fn push_value(alloc: Global, sum: &[char], shown: &mut Text) -> Result<(), PageS
     Ok(())
 }
 
+/// Adds the digits of the value.
 fn push_decimal(alloc: Global, value: u32, shown: &mut Text) -> Result<(), Memory>
     ensures { OnOk result (shown.new ≡ shown.old ++ decimal value) }
 {
@@ -85,6 +75,7 @@ fn push_decimal(alloc: Global, value: u32, shown: &mut Text) -> Result<(), Memor
     shown.push_str(digits.as_str())
 }
 
+/// The sum of the numbers, where there are not too many and none is too great.
 fn sum_value(numbers: &[Text]) -> Option<u32>
     ensures { MatchOption result (¬ (spec.IsBounded numbers.now))
         (λ value. spec.IsBounded numbers.now × (value ≡ sum_by spec.value_of numbers.now)) }
@@ -99,6 +90,7 @@ fn sum_value(numbers: &[Text]) -> Option<u32>
     Some(total)
 }
 
+/// The number that the digits say, where it is not too great.
 fn number_value(digits: &[char]) -> Option<u32>
     ensures { MatchOption result (¬ (spec.IsSmall digits.now))
         (λ value. spec.IsSmall digits.now × (value ≡ spec.value_of digits.now)) }

@@ -26,7 +26,7 @@ mod tree;
 mod wire;
 
 pub use clock::Clock;
-pub use copying::{CopyStop, write_all, write_file};
+pub use copying::write_all;
 pub use fault::{Failed, IoStop};
 pub use fault_plan::FaultPlan;
 pub use folder::Folder;
@@ -45,6 +45,3 @@ pub use sure_sink::SureSink;
 pub use sure_source::SureSource;
 pub use sure_wire::SureWire;
 pub use wire::Wire;
-
-#[cfg(test)]
-mod tests;

@@ -61,20 +61,6 @@ impl MemSink {
     {
         &self.bytes[..self.used]
     }
-
-    /// How many further bytes it has room for.
-    pub fn room(&self) -> usize
-        ensures { result ≡ self.now.room }
-    {
-        self.bytes.len() - self.used
-    }
-
-    /// Which calls fail.
-    pub fn plan(&self) -> &FaultPlan
-        ensures { result.now ≡ self.now.plan }
-    {
-        &self.plan
-    }
 }
 
 impl Sink for MemSink {

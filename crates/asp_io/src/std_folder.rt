@@ -1,7 +1,7 @@
 //! A folder of the system.
-ghost use Rattle.std.specs.Prelude.{◌≡◌, ◌≤◌, None, IfOk, length};
+ghost use Rattle.std.specs.Prelude.{◌≡◌, ◌≤◌, None, IfOk, OnOk, length};
 ghost use Rattle.asp_io.specs.Faults.{HasCause};
-ghost use Rattle.asp_io.specs.Folder.{AreSitePaths};
+ghost use Rattle.asp_io.specs.Folder.{AreSitePaths, IsRooted};
 
 use crate::fault::IoStop;
 use crate::folder::Folder;
@@ -62,7 +62,13 @@ impl<R: Files + AllocGlobal + Clone + Drop> Folder for StdFolder<R> {
         count_fault(&mut self.faults, names)
     }
 
-    fn read(&mut self, alloc: Global, name: &Text, most: u32) -> Result<Bytes, IoStop> {
+    fn read(&mut self, alloc: Global, name: &Text, most: u32) -> Result<Bytes, IoStop>
+        ensures within { IfOk result (λ bytes. length bytes ≤ most) }
+
+        // A name without a slash at its front, behind which a path beside the root could stand, is refused.
+        ensures rooted { OnOk result (IsRooted name.now) }
+        ensures cause { HasCause IoStop.Failed self.old self.new result }
+    {
         let bytes = read_below(&self.rt, alloc, self.root.as_str(), name, most);
         count_fault(&mut self.faults, bytes)
     }
@@ -99,12 +105,15 @@ fn read_below<R: Files + AllocGlobal>(
     name: &Text,
     most: u32,
 ) -> Result<Bytes, IoStop>
-    ensures { IfOk result (λ bytes. length bytes ≤ most) }
+    ensures within { IfOk result (λ bytes. length bytes ≤ most) }
+    ensures rooted { OnOk result (IsRooted name.now) }
 {
+    if name.as_slice().first() != Some(&'/') {
+        return Err(IoStop::Failed);
+    }
     let mut path = base_path(rt, alloc, root)?;
-    let name = name.to_string(alloc)?;
-    path.push_str(name.as_str())?;
-    if !name.as_str().starts_with('/') || !is_plain_file(rt, path.as_str())? {
+    path.push_str(name.to_string(alloc)?.as_str())?;
+    if !is_plain_file(rt, path.as_str())? {
         return Err(IoStop::Failed);
     }
     let mut file = fs::open(rt, path.as_str())?;

@@ -1,6 +1,6 @@
 pub mod Terms
 pub mod Begins
-pub mod Lines
+pub mod Bodies
 pub mod Pieces
 pub mod Reading
 pub mod Page

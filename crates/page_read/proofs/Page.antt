@@ -8,8 +8,9 @@ use Rattle.vb_value.specs.declared.text.Utf8Stop.{Utf8Stop}
 use Rattle.vb_value.specs.declared.text.Utf8Stop.TheVariants.{NotUtf8, Memory as NoRoomForText}
 use Rattle.vb_value.specs.Decoding.{decoded}
 use Rattle.page_read.specs.declared.fragment.Fragment.{Fragment}
-use Rattle.page_read.specs.Fragments.{IfFault, IsFragmentsOf, stop_of_text}
-use Rattle.page_read.specs.Reading.{IsCutInto}
+use Rattle.vb_value.specs.Outcome.{OnFault}
+use Rattle.page_read.specs.Fragments.{AreCut, IsFragmentsOf}
+use Rattle.page_read.specs.Reading.{stop_of_text}
 
 -- bytes that are UTF-8 are decoded
 utf8_decoded : (bytes : List ℕ) → IsUtf8 bytes → decoded bytes ≡ Ok (chars bytes)
@@ -17,7 +18,7 @@ utf8_decoded bytes is = rw (is_utf8-from_IsUtf8 bytes is) refl
 
 -- bytes that are not decoded belong to no pieces
 pub no_text : (bytes : List ℕ) (stop : Utf8Stop) → (stop ≢ NoRoomForText → decoded bytes ≡ Err stop)
-    → IfFault {T = List Fragment} (Err (stop_of_text stop)) (λ _ _. (pieces : List Fragment)
+    → OnFault {T = List Fragment} (Err (stop_of_text stop)) (λ _ _. (pieces : List Fragment)
     → ¬ (IsFragmentsOf bytes pieces))
 no_text bytes NotUtf8 says =
     λ pieces is.
@@ -45,29 +46,12 @@ short_text bytes text is short =
 
 -- the pieces of the text are those of the bytes
 pub pieces_there : (bytes text : List ℕ) (pieces : List Fragment) → decoded bytes ≡ Ok text → length bytes ≤ 65536
-    → slice_get text 0 ≢ Some 0xFEFF → IsCutInto [] text pieces → IsFragmentsOf bytes pieces
+    → slice_get text 0 ≢ Some 0xFEFF → AreCut [] text pieces → IsFragmentsOf bytes pieces
 pieces_there bytes text pieces is short unmarked cut =
     let both = text_is bytes text is in
-    let P : List ℕ → Type 0 = λ t. slice_get t 0 ≢ Some 0xFEFF in
     record {
       short = short;
       utf8 = both.0;
-      unmarked = subst P both.1 unmarked;
-      spelled = sym both.1 ∙ cut.0;
-      right = cut.1;
+      unmarked = subst (λ (t : List ℕ). slice_get t 0 ≢ Some 0xFEFF) both.1 unmarked;
+      cut = subst (λ (t : List ℕ). AreCut [] t pieces) both.1 cut;
     }
-
--- pieces of the bytes are those of the text
-pub pieces_only : (bytes text : List ℕ) (pieces : List Fragment) → decoded bytes ≡ Ok text → IsFragmentsOf bytes pieces
-    → IsCutInto [] text pieces
-pieces_only bytes text pieces is there =
-    let both = text_is bytes text is in
-    (both.1 ∙ there.spelled, there.right)
-
--- a text that begins with a byte order mark has no pieces
-pub marked : (bytes text : List ℕ) (pieces : List Fragment) → decoded bytes ≡ Ok text → slice_get text 0 ≡ Some 0xFEFF
-    → ¬ (IsFragmentsOf bytes pieces)
-marked bytes text pieces is mark there =
-    let both = text_is bytes text is in
-    let P : List ℕ → Type 0 = λ t. slice_get t 0 ≡ Some 0xFEFF in
-    there.unmarked (subst P both.1 mark)

@@ -1,13 +1,11 @@
--- The one list of pieces of a page, piece by piece.
-use Rattle.std.proofs.Common.{◌≡◌, ℕ, suc, ◌+◌, ◌⊎◌, false, List, [], ◌∷◌, ◌++◌, codes, length, get_or, take}
+-- A page has one list of pieces.
+use Rattle.std.proofs.Common.{◌≡◌, ℕ, suc, ◌+◌, ◌⊎◌, List, [], ◌∷◌, ◌++◌, codes, length, get_or, take}
 use Rattle.std.proofs.Common.{drop, refl, sym, ◌∙◌, ap, subst, inl, inr, arith, append_assoc}
 use Rattle.vb_value.specs.Folding.{folded}
 use Rattle.page_read.specs.declared.fragment.Fragment.{Fragment}
 use Rattle.page_read.specs.declared.fragment.Fragment.TheVariants.{Text, Write}
-use Rattle.page_read.specs.Forms.{BeginsForm, BeginsNoFormWithin, HoldsNoClose, begins_with_feed, line_ends_in}
-use Rattle.page_read.specs.Fragments.{ArePieces, BeginsWithNoText, spelling_of, text_of}
-use Rattle.page_read.specs.Reading.{IsCutInto, IsFirst}
-use Rattle.page_read.proofs.Lines.{line_ends_in-append}
+use Rattle.page_read.specs.Forms.{BeginsForm, BeginsNoFormWithin, HoldsNoClose}
+use Rattle.page_read.specs.Fragments.{AreCut, IsFirst, IsFragmentsOf}
 
 -- ---- cuts of one kind
 
@@ -71,108 +69,96 @@ plain_unique (c ∷ a) (d ∷ b) x y plain_a plain_b end_x end_y same =
     let fronts : a ≡ b = both.0 in
     (cc, both.1)
 
--- ---- what follows a text
-
--- where a form or the end follows, the next piece is no text
-next_no_text : (before rest : List ℕ) (pieces : List Fragment) → rest ≡ text_of pieces → ArePieces before pieces
-    → (rest ≡ []) ⊎ BeginsForm rest → BeginsWithNoText pieces
-next_no_text before rest [] spelled are ends = tt
-next_no_text before rest (Write text line ∷ pieces) spelled are ends = tt
-next_no_text before rest (Text [] ∷ pieces) spelled are ends = are.0.filled refl
-next_no_text before rest (Text (c ∷ text) ∷ pieces) spelled are ends = elim ends [
-  | inl empty ↦ cc
-  | inr form ↦ are.0.plain 0 (omega arith) (subst BeginsForm spelled form)
-]
-
--- where the next piece is no text, a form or the end follows
-form_follows : (pieces : List Fragment) → BeginsWithNoText pieces → (text_of pieces ≡ []) ⊎ BeginsForm (text_of pieces)
-form_follows [] none = inl refl
-form_follows (Write text line ∷ pieces) none = inr (inl (inl refl))
-form_follows (Text text ∷ pieces) none = absurd none
-
--- the line of a write, from the line ends that are left
-pub line_of_write : (before text : List ℕ) (line : ℕ) → begins_with_feed text ≡ false
-    → line + line_ends_in text ≡ 1 + line_ends_in (before ++ text) → line ≡ 1 + line_ends_in before
-line_of_write before text line none at_line = omega (arith, line_ends_in-append before text none)
-
 -- ---- the first piece
 
--- the first piece of a text, and pieces of the rest, are pieces of the text
-pub first_with : (before text rest : List ℕ) (piece : Fragment) (line : ℕ) (more : List Fragment)
-    → IsFirst line text piece rest → (begins_with_feed text ≡ false → line ≡ 1 + line_ends_in before)
-    → IsCutInto (before ++ spelling_of piece) rest more → IsCutInto before text (piece ∷ more)
-first_with before text rest (Text plain) line more first at_line cut =
-    let P : List ℕ → Type 0 = λ rest. BeginsNoFormWithin (length plain) (plain ++ rest) in (
-      first.spelled ∙ ap (λ (r : List ℕ). plain ++ r) cut.0,
-      (
-        record {
-          filled = first.right.0;
-          apart = next_no_text (before ++ plain) rest more cut.0 cut.1 first.right.2;
-          plain = subst P cut.0 first.right.1;
-        },
-        cut.1,
-      ),
-    )
-first_with before text rest (Write body at) line more first at_line cut =
-    let spelled = first.spelled in
-    let feed : begins_with_feed text ≡ false = ap begins_with_feed spelled in
-    let at_line' = at_line feed in (
-      first.spelled ∙ ap (λ (r : List ℕ). spelling_of (Write body at) ++ r) cut.0,
-      (
-        record { unclosed = first.right.0; sum = first.right.1; at_line = first.right.2 ∙ at_line' },
-        cut.1,
-      ),
-    )
+-- a write, so spelled, with what follows it
+pub write_spelled : (text body spelling rest : List ℕ) → text ≡ spelling ++ rest
+    → spelling ≡ codes "<%=" ++ body ++ codes "%>" → text ≡ codes "<%=" ++ (body ++ (codes "%>" ++ rest))
+write_spelled text body spelling rest spelled spells =
+    spelled ∙ (ap (λ (s : List ℕ). s ++ rest) spells ∙ write_cut body rest)
 
--- pieces of a text are its first piece and pieces of the rest
-pub first_only : (before text rest : List ℕ) (piece : Fragment) (line : ℕ) (all : List Fragment)
-    → IsFirst line text piece rest → (begins_with_feed text ≡ false → line ≡ 1 + line_ends_in before)
-    → IsCutInto before text all
-    → (more : List Fragment) × (all ≡ piece ∷ more) × IsCutInto (before ++ spelling_of piece) rest more
-first_only before text rest (Text []) line all first at_line cut = absurd (first.right.0 refl)
-first_only before text rest (Text (c ∷ plain)) line [] first at_line cut =
-    let spelled = first.spelled in let nothing = cut.0 in cc
-first_only before text rest (Text (c ∷ plain)) line (Text other ∷ more) first at_line cut =
-    let same : (c ∷ plain) ++ rest ≡ other ++ text_of more = sym first.spelled ∙ cut.0 in
-    let both = plain_unique (c ∷ plain) other rest (text_of more) first.right.1 cut.1.0.plain first.right.2
-    (form_follows more cut.1.0.apart) same in
-    let texts : c ∷ plain ≡ other = both.0 in
-    let P : List ℕ → Type 0 = λ t. ArePieces (before ++ t) more in
-    (more, cc, (both.1, subst P (sym texts) cut.1.1))
-first_only before text rest (Text (c ∷ plain)) line (Write body at ∷ more) first at_line cut =
-    let form : BeginsForm (text_of (Write body at ∷ more)) = inl (inl refl) in
-    let same : text_of (Write body at ∷ more) ≡ (c ∷ plain) ++ rest = sym cut.0 ∙ first.spelled in
-    absurd (first.right.1 0 (omega arith) (subst BeginsForm same form))
-first_only before text rest (Write body at) line [] first at_line cut =
-    let spelled = first.spelled in let nothing = cut.0 in cc
-first_only before text rest (Write body at) line (Text [] ∷ more) first at_line cut = absurd (cut.1.0.filled refl)
-first_only before text rest (Write body at) line (Text (c ∷ plain) ∷ more) first at_line cut =
-    let form : BeginsForm (spelling_of (Write body at) ++ rest) = inl (inl refl) in
-    let same : spelling_of (Write body at) ++ rest ≡ (c ∷ plain) ++ text_of more = sym first.spelled ∙ cut.0 in
-    absurd (cut.1.0.plain 0 (omega arith) (subst BeginsForm same form))
-first_only before text rest (Write body at) line (Write other at' ∷ more) first at_line cut =
-    let spelled = first.spelled ∙ write_cut body rest in
-    let spelled' = cut.0 ∙ write_cut other (text_of more) in
-    let bodies : body ++ (codes "%>" ++ rest) ≡ other ++ (codes "%>" ++ text_of more) = cc in
-    let both = close_unique body other rest (text_of more) first.right.0 cut.1.0.unclosed bodies in
-    let texts : body ≡ other = both.0 in
-    let feed : begins_with_feed text ≡ false = ap begins_with_feed first.spelled in
-    let at_line' = at_line feed in
-    let here = first.right.2 in
-    let there = cut.1.0.at_line in
-    let lines : at ≡ at' = cc in
-    let pieces : Write body at ≡ Write other at' = cc in
-    let P : Fragment → Type 0 = λ piece. ArePieces (before ++ spelling_of piece) more in
-    (more, cc, (both.1, subst P (sym pieces) cut.1.1))
+-- a text that begins with plain text begins with no form
+pub no_form_first : (text plain spelling rest : List ℕ) → text ≡ spelling ++ rest → spelling ≡ plain
+    → ¬ (plain ≡ []) → BeginsNoFormWithin (length plain) (plain ++ rest) → ¬ (BeginsForm text)
+no_form_first text [] spelling rest spelled spells filled none form = filled refl
+no_form_first text (c ∷ plain) spelling rest spelled spells filled none form =
+    none 0 (omega arith) (subst BeginsForm (spelled ∙ ap (λ (s : List ℕ). s ++ rest) spells) form)
 
--- a first piece of a list is a first piece of its text
-pub first_of : (before : List ℕ) (piece : Fragment) (pieces : List Fragment) → ArePieces before (piece ∷ pieces)
-    → IsFirst (1 + line_ends_in before) (text_of (piece ∷ pieces)) piece (text_of pieces)
-first_of before (Text text) pieces are = record {
-  spelled = refl;
-  right = (are.0.filled, are.0.plain, form_follows pieces are.0.apart);
-}
-first_of before (Write text line) pieces are = record {
-  spelled = refl;
-  right = (are.0.unclosed, are.0.sum, are.0.at_line);
-}
+-- a text that begins with a write begins with a form
+pub form_first : (text body spelling rest : List ℕ) → text ≡ spelling ++ rest
+    → spelling ≡ codes "<%=" ++ body ++ codes "%>" → BeginsForm text
+form_first text body spelling rest spelled spells =
+    let form : BeginsForm (codes "<%=" ++ (body ++ (codes "%>" ++ rest))) = inl (inl refl) in
+    subst BeginsForm (sym (write_spelled text body spelling rest spelled spells)) form
+
+-- the pieces, their spellings and what is left are the same
+pub record AreSame (piece other : Fragment) (spelling word rest left : List ℕ) : Type 0 where
+  pub pieces : piece ≡ other
+  pub spellings : spelling ≡ word
+  pub rests : rest ≡ left
+
+-- a text has one first piece, so spelled
+pub first_unique : (before text : List ℕ) (piece other : Fragment) (spelling word rest left : List ℕ)
+    → IsFirst before text piece spelling rest → IsFirst before text other word left
+    → AreSame piece other spelling word rest left
+first_unique before text (Text plain) (Text also) spelling word rest left first next =
+    let texts : plain ++ rest ≡ also ++ left =
+    ap (λ (s : List ℕ). s ++ rest) (sym first.spells) ∙ (sym first.spelled ∙ (next.spelled
+    ∙ ap (λ (s : List ℕ). s ++ left) next.spells)) in
+    let both = plain_unique plain also rest left first.placed.plain next.placed.plain first.placed.ends
+    next.placed.ends texts in
+    record {
+      pieces = ap (λ (t : List ℕ). Text t) both.0;
+      spellings = first.spells ∙ (both.0 ∙ sym next.spells);
+      rests = both.1;
+    }
+first_unique before text (Text plain) (Write body line) spelling word rest left first next =
+    absurd (no_form_first text plain spelling rest first.spelled first.spells first.placed.filled first.placed.plain
+    (form_first text body word left next.spelled next.spells))
+first_unique before text (Write body line) (Text plain) spelling word rest left first next =
+    absurd (no_form_first text plain word left next.spelled next.spells next.placed.filled next.placed.plain
+    (form_first text body spelling rest first.spelled first.spells))
+first_unique before text (Write body line) (Write other at) spelling word rest left first next =
+    let here = write_spelled text body spelling rest first.spelled first.spells in
+    let there = write_spelled text other word left next.spelled next.spells in
+    let bodies : body ++ (codes "%>" ++ rest) ≡ other ++ (codes "%>" ++ left) = ap (drop 3) (sym here ∙ there) in
+    let both = close_unique body other rest left first.placed.unclosed next.placed.unclosed bodies in
+    let lines : line ≡ at = first.placed.at_line ∙ sym next.placed.at_line in
+    record {
+      pieces = ap (λ (t : List ℕ). Write t line) both.0 ∙ ap (λ (l : ℕ). Write other l) lines;
+      spellings = first.spells ∙ (ap (λ (t : List ℕ). codes "<%=" ++ t ++ codes "%>") both.0 ∙ sym next.spells);
+      rests = both.1;
+    }
+
+-- nothing begins with no piece
+pub no_first : (before text : List ℕ) (piece : Fragment) (spelling rest : List ℕ) → text ≡ []
+    → ¬ (IsFirst before text piece spelling rest)
+no_first before text (Text []) spelling rest empty first = first.placed.filled refl
+no_first before text (Text (c ∷ plain)) spelling rest empty first =
+    let none : [] ≡ (c ∷ plain) ++ rest =
+    sym empty ∙ (first.spelled ∙ ap (λ (s : List ℕ). s ++ rest) first.spells) in
+    cc
+no_first before text (Write body line) spelling rest empty first =
+    no_form (subst BeginsForm empty (form_first text body spelling rest first.spelled first.spells))
+
+-- ---- all pieces
+
+-- a text is cut into one list of pieces
+pub cut_unique : (before text : List ℕ) (these those : List Fragment) → AreCut before text these
+    → AreCut before text those → these ≡ those
+cut_unique before text [] [] cut also = refl
+cut_unique before text [] (other ∷ those) cut also = absurd (no_first before text other also.0 also.1 cut also.2)
+cut_unique before text (piece ∷ these) [] cut also = absurd (no_first before text piece cut.0 cut.1 also cut.2)
+cut_unique before text (piece ∷ these) (other ∷ those) cut also =
+    let same = first_unique before text piece other cut.0 also.0 cut.1 also.1 cut.2 also.2 in
+    let back : AreCut (before ++ cut.0) cut.1 those =
+    subst (λ (s : List ℕ). AreCut (before ++ s) cut.1 those) (sym same.spellings)
+    (subst (λ (r : List ℕ). AreCut (before ++ also.0) r those) (sym same.rests) also.3) in
+    let others = cut_unique (before ++ cut.0) cut.1 these those cut.3 back in
+    let heads = same.pieces in
+    cc
+
+-- at most one list of pieces belongs to some bytes
+pub one_list : (bytes : List ℕ) (these those : List Fragment) → IsFragmentsOf bytes these → IsFragmentsOf bytes those
+    → these ≡ those
+one_list bytes these those is also = cut_unique [] _ these those is.cut also.cut

@@ -1,92 +1,58 @@
--- What a page file is cut into: how each piece is spelled, what each must be where it stands, and which
--- pieces belong to which bytes.
-use Rattle.std.specs.Prelude.{◌≡◌, ◌≢◌, ℕ, ◌+◌, ◌≤◌, List, [], ◌∷◌, ◌++◌, length, chars, codes, IsUtf8}
-use Rattle.std.specs.Prelude.{slice_get, Result, Ok, Err, Some}
-use Rattle.vb_value.specs.declared.site_file.FaultKind.{FaultKind}
-use Rattle.vb_value.specs.declared.site_file.FaultKind.TheVariants.{NotYet}
-use Rattle.vb_value.specs.declared.text.Utf8Stop.{Utf8Stop}
-use Rattle.vb_value.specs.declared.text.Utf8Stop.TheVariants.{NotUtf8, Memory as NoRoomForText}
-use Rattle.page_read.specs.declared.sum.SumStop.{SumStop}
-use Rattle.page_read.specs.declared.sum.SumStop.TheVariants.{NoSum, Memory as NoRoomForSum}
+-- What a page file is cut into: how a piece may be spelled, what it must be where it stands, and which pieces belong to
+-- which bytes. A form of page is a case of `Spells` and a case of `IsPlaced`.
+use Rattle.std.specs.Prelude.{◌≡◌, ◌≢◌, ℕ, ◌≤◌, List, [], ◌∷◌, ◌++◌, length, chars, codes, IsUtf8, slice_get, Some}
+use Rattle.vb_value.specs.Lines.{line_at}
 use Rattle.page_read.specs.declared.fragment.Fragment.{Fragment}
 use Rattle.page_read.specs.declared.fragment.Fragment.TheVariants.{Text, Write}
-use Rattle.page_read.specs.declared.fragment.PageStop.{PageStop}
-use Rattle.page_read.specs.declared.fragment.PageStop.TheVariants.{Fault, Memory}
-use Rattle.page_read.specs.Forms.{BeginsNoFormWithin, HoldsNoClose, line_ends_in}
+use Rattle.page_read.specs.Forms.{BeginsNoFormWithin, EndsPlain, HoldsNoClose}
 use Rattle.page_read.specs.Sum.{IsSomeSum}
 
--- ---- spelling
+-- ---- one piece
 
--- a piece as it stands in the page
-abbrev pub spelling_of : Fragment → List ℕ
-spelling_of (Text text) = text
-spelling_of (Write text line) = codes "<%=" ++ text ++ codes "%>"
+-- the piece may be spelled so
+abbrev pub Spells : Fragment → List ℕ → Type 0
+Spells (Text text) spelling = spelling ≡ text
+Spells (Write text line) spelling = spelling ≡ codes "<%=" ++ text ++ codes "%>"
 
--- the pieces as they stand in the page, in order
-abbrev pub text_of : List Fragment → List ℕ
-text_of [] = []
-text_of (piece ∷ pieces) = spelling_of piece ++ text_of pieces
-
--- ---- the pieces
-
--- the first of the pieces, if there is one, is no text
-abbrev pub BeginsWithNoText : List Fragment → Type 0
-BeginsWithNoText (Text text ∷ pieces) = ⊥
-BeginsWithNoText (Write text line ∷ pieces) = Unit {0}
-BeginsWithNoText [] = Unit {0}
-
--- plain text isn't empty, no other text stands next to it, and no form begins in it
-pub record IsText (text : List ℕ) (after : List Fragment) : Type 0 where
+-- plain text isn't empty, no form begins in it, and it goes on up to a form or the end
+pub record IsPlain (text rest : List ℕ) : Type 0 where
   pub filled : text ≢ []
-  pub apart : BeginsWithNoText after
-  pub plain : BeginsNoFormWithin (length text) (text ++ text_of after)
+  pub plain : BeginsNoFormWithin (length text) (text ++ rest)
+  pub ends : EndsPlain rest
 
--- what is written is a sum, no `%>` stands in it, and its line is one more than the line ends before it
-pub record IsWrite (before text : List ℕ) (line : ℕ) : Type 0 where
-  pub unclosed : HoldsNoClose text
-  pub sum : IsSomeSum text
-  pub at_line : line ≡ 1 + line_ends_in before
+-- what is written is a sum with no `%>` in it, and its line is that of the place where its `<%=` stands
+pub record IsWrite (before text body : List ℕ) (line : ℕ) : Type 0 where
+  pub unclosed : HoldsNoClose body
+  pub sum : IsSomeSum body
+  pub at_line : line ≡ line_at (before ++ text) (length before)
 
--- the piece is what it must be where it stands, after this text and before these pieces
-abbrev pub IsPiece : List ℕ → Fragment → List Fragment → Type 0
-IsPiece before (Text text) after = IsText text after
-IsPiece before (Write text line) after = IsWrite before text line
+-- The piece is what it must be where it stands: behind `before`, at the front of `text`, with `rest` behind its spelling.
+abbrev pub IsPlaced : List ℕ → List ℕ → Fragment → List ℕ → Type 0
+IsPlaced before text (Text plain) rest = IsPlain plain rest
+IsPlaced before text (Write body line) rest = IsWrite before text body line
 
--- each of the pieces, which stand after this text, is what it must be
-abbrev pub ArePieces : List ℕ → List Fragment → Type 0
-ArePieces before [] = Unit {0}
-ArePieces before (piece ∷ pieces) =
-    IsPiece before piece pieces × ArePieces (before ++ spelling_of piece) pieces
+-- the text, which stands behind `before`, is the piece, so spelled, and then the rest
+pub record IsFirst (before text : List ℕ) (piece : Fragment) (spelling rest : List ℕ) : Type 0 where
+  pub spelled : text ≡ spelling ++ rest
+  pub spells : Spells piece spelling
+  pub placed : IsPlaced before text piece rest
 
--- ---- the file
+-- ---- all pieces
 
--- the pieces are those of a file with these bytes: at most 65,536 bytes of UTF-8 without a byte order
--- mark (U+FEFF), whose text is that of the pieces
+-- the text, which stands behind `before`, is cut into the pieces
+abbrev pub AreCut : List ℕ → List ℕ → List Fragment → Type 0
+AreCut before text [] = text ≡ []
+AreCut before text (piece ∷ pieces) = (spelling : List ℕ) × (rest : List ℕ)
+    × IsFirst before text piece spelling rest × AreCut (before ++ spelling) rest pieces
+
+-- the pieces are those of a file with these bytes: at most 65,536 bytes of UTF-8 without a byte order mark (U+FEFF),
+-- whose text is cut into them
 pub record IsFragmentsOf (bytes : List ℕ) (pieces : List Fragment) : Type 0 where
   pub short : length bytes ≤ 65536
   pub utf8 : IsUtf8 bytes
   pub unmarked : slice_get (chars bytes) 0 ≢ Some 0xFEFF
-  pub spelled : chars bytes ≡ text_of pieces
-  pub right : ArePieces [] pieces
+  pub cut : AreCut [] (chars bytes) pieces
 
 -- no pieces are those of a file with these bytes
 abbrev pub IsNoPage : List ℕ → Type 0
 IsNoPage bytes = (pieces : List Fragment) → ¬ (IsFragmentsOf bytes pieces)
-
--- ---- refusals
-
--- where the answer is a fault of the page, this holds of its kind and its line
-abbrev pub IfFault : {T : Type 0} → Result T PageStop → (FaultKind → ℕ → Type 0) → Type 0
-IfFault (Ok given) P = Unit {0}
-IfFault (Err (Fault kind line)) P = P kind line
-IfFault (Err Memory) P = Unit {0}
-
--- the stop of a page whose text can't be read
-abbrev pub stop_of_text : Utf8Stop → PageStop
-stop_of_text NotUtf8 = Fault NotYet 0
-stop_of_text NoRoomForText = Memory
-
--- the stop of a page where what is written is not a sum that can be read
-abbrev pub stop_of_sum : SumStop → PageStop
-stop_of_sum NoSum = Fault NotYet 0
-stop_of_sum NoRoomForSum = Memory

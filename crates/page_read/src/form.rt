@@ -1,7 +1,9 @@
-//! Where the forms of a page begin and end, and where its lines end.
-ghost use Rattle.std.specs.Prelude.{◌≡◌, ◌⊎◌, ◌↔◌, ◌+◌, ◌≤◌, ◌^◌, ◌<◌, [], IsTrue, IfSome, IfNone, codes, drop, length, take};
-ghost use Rattle.page_read.specs.Forms as spec;
-ghost use Rattle.page_read.specs.Forms.{BeginsForm, BeginsNoFormWithin, BeginsWith, HoldsNoClose, line_ends_in};
+//! Where the forms of a page begin and end, and the lines of its places.
+ghost use Rattle.std.specs.Prelude.{◌≡◌, ◌↔◌, ◌+◌, ◌≤◌, ◌^◌, ◌<◌, IsTrue, IfSome, IfNone, codes, drop, length, take};
+ghost use Rattle.vb_value.specs.Lines.{line_at};
+ghost use Rattle.page_read.specs.Forms.{BeginsForm, BeginsNoFormWithin, BeginsWith, EndsPlain, HoldsNoClose};
+
+use vb_value::ends_line;
 
 /// Whether the text begins with the word, which has no capital letters, in any ASCII case.
 #[tactic(auto, using(crate::proofs::Begins::letter_more))]
@@ -33,7 +35,7 @@ fn begins_form(text: &[char]) -> bool
 pub fn plain_len(text: &[char]) -> usize
     ensures within { result ≤ length text.now }
     ensures plain { BeginsNoFormWithin result text.now }
-    ensures ends { (drop result text.now ≡ []) ⊎ BeginsForm (drop result text.now) }
+    ensures ends { EndsPlain (drop result text.now) }
 {
     for at in 0..text.len() {
         if begins_form(&text[at..]) {
@@ -58,35 +60,19 @@ pub fn close_place(text: &[char]) -> Option<usize>
     None
 }
 
-/// The line in which the text goes on after its first `count` characters, where it begins in `line`.
-pub fn line_after(text: &[char], count: usize, line: u32) -> u32
-    requires within { count ≤ length text.now }
-    requires room { line + count < 2 ^ 32 }
-    ensures line { result + line_ends_in (drop count text.now) ≡ line + line_ends_in text.now }
-    ensures below { result ≤ line + count }
+/// The line of the place `to`, where `line` is that of the place `from` before it.
+pub fn line_behind(text: &[char], from: usize, to: usize, line: u32) -> u32
+    requires within { from ≤ to × (to ≤ length text.now) }
+    requires line { line ≡ line_at text.now from }
+    requires room { line + to < 2 ^ 32 + from }
+    ensures line { result ≡ line_at text.now to }
+    ensures below { result + from ≤ line + to }
 {
-    let mut after = line;
-    for at in 0..count {
-        if ends_line(text[at], &text[at + 1..]) {
-            after += 1;
+    let mut behind = line;
+    for at in from..to {
+        if ends_line(text, at) {
+            behind += 1;
         }
     }
-    after
-}
-
-/// Whether a line ends with this character, which stands before this text.
-fn ends_line(character: char, text: &[char]) -> bool
-    ensures { result ≡ spec.ends_line character text.now }
-{
-    character == '\n' || (character == '\r' && !begins_with_feed(text))
-}
-
-/// Whether the text begins with a line feed.
-fn begins_with_feed(text: &[char]) -> bool
-    ensures { result ≡ spec.begins_with_feed text.now }
-{
-    match text {
-        [] => false,
-        [character, ..] => *character == '\n',
-    }
+    behind
 }

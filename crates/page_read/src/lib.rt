@@ -7,8 +7,5 @@ mod fragment;
 mod piece;
 mod sum;
 
-pub use fragment::{Fragment, PageStop, fragments, fragments_unique};
+pub use fragment::{Fragment, MOST_BYTES, NOT_YET, PageStop, fragments, fragments_unique};
 pub use sum::{SumStop, sum_numbers, sum_unique};
-
-#[cfg(test)]
-mod tests;

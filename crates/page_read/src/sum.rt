@@ -5,6 +5,7 @@ ghost use Rattle.page_read.specs.Front.{EndsTerm, IsFront};
 ghost use Rattle.page_read.specs.Sum.{AreTerms, IsBlank, IsDigit, IsSum, IsTerm};
 
 use std::alloc::Global;
+use std::fmt;
 use vb_value::{List, Memory, Text};
 
 /// Why a text was not read as a sum.
@@ -23,6 +24,15 @@ impl From<Memory> for SumStop {
 
     fn from(_: Memory) -> SumStop {
         SumStop::Memory
+    }
+}
+
+impl fmt::Display for SumStop {
+    fn fmt<W: fmt::Write>(&self, f: &mut fmt::Formatter<W>) -> fmt::Result {
+        match self {
+            SumStop::NoSum => write!(f, "the text is no sum"),
+            SumStop::Memory => write!(f, "{}", Memory),
+        }
     }
 }
 

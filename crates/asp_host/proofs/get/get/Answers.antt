@@ -10,8 +10,7 @@ pub returns-in-Err-clause-writes : goal.returns-in-Err-clause-writes
 returns-in-Err-clause-writes g c =
     let files = g.F.Folder.files c.args.folder.now in
     let path = c.args.path.now in
-    let held = g.K.Sink.held c.args.sink.now in
-    (
+    let held = g.K.Sink.held c.args.sink.now in (
       [],
       subst (λ (status : Status). GetWrites path [] files (record { before = held; after = held }) status)
           (sym c.from.ensures) (nothing_written files path held c.in-Err.stop c.in-Err.ensures.refused),

@@ -1,5 +1,5 @@
 use Rattle.std.proofs.Common.{◌≡◌, ℕ, List, ◌∙◌, sym, subst}
-use Rattle.page_read.proofs.Reading.{one_list}
+use Rattle.page_read.proofs.Pieces.{one_list}
 use Rattle.asp_host.specs.Page.{IsPageText, ShowTogether}
 use Rattle.asp_host.proofs.PageTexts.{fault_weaker}
 use Rattle.asp_host.proofs.page.page_text.Goals as goal

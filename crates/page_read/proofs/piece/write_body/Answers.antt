@@ -1,4 +1,4 @@
-use Rattle.page_read.proofs.Reading.{body_nowhere}
+use Rattle.page_read.proofs.Bodies.{body_nowhere}
 use Rattle.page_read.proofs.piece.write_body.Goals as goal
 
 pub returns-in_default-clause-none : goal.returns-in_default-clause-none
