@@ -69,6 +69,12 @@ tell_ended() {
   done
 }
 
+# Ends the runs that are not done, each with all that it started.
+stop_runs() {
+  local run
+  for run in $(jobs -p); do kill -- "-$run" 2>/dev/null; done
+}
+
 # Proves and builds the crates, as many at a time as there are processors for. Fails where one is not proved.
 build_once() {
   local names running=0 ended=0 most=$((($(nproc) + 1) / 2)) name
@@ -85,7 +91,7 @@ build_once() {
     done
     wait -n
     if ! tell_ended; then
-      kill $(jobs -p) 2>/dev/null
+      stop_runs
       return 1
     fi
   done
@@ -96,7 +102,8 @@ build_once() {
 build() {
   logs=$(mktemp -d)
   trap 'rm -rf "$logs"' EXIT
-  trap 'kill $(jobs -p) 2>/dev/null; exit 130' INT TERM
+  set -m
+  trap 'stop_runs; exit 130' INT TERM
   build_once || return 70
   is_built && return
   echo "asp: a source has changed during the build, which begins anew" >&2

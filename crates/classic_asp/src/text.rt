@@ -11,6 +11,9 @@ usage:
   classic_asp --help          writes this text
   classic_asp --version       writes the program's name and version
 
+SITE is a folder. PATH is a slash and then names of letters, digits, - and _, with a slash between each two and .asp at
+the end, as /p.asp or /about/boxes.asp.
+
 exit status: 0 done, 1 out of memory, 2 usage, 3 the site is refused, 4 read fault, 5 write fault";
 
 /// What `--version` prints.

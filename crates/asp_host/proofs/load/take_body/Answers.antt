@@ -12,7 +12,8 @@ returns-clause-ok g c =
     let equal = c.in_ok-compares_equal.ensures in
     let read = subst (λ (shown : Option (List ℕ)). IfSome given (IsReadAt shown path)) c.in-Some.is
     c.in_ok-body.ensures.ok in
-    told given (IsReadAt (Some c.in-Some.body) path) (λ files. Takes files path c.args.wanted.now c.args.found.now c.if-branch.found)
+    told given (IsReadAt (Some c.in-Some.body) path)
+    (λ files. Takes files path c.args.wanted.now c.args.found.now c.if-branch.found)
     (λ files tells shows. record {
       body = c.in-Some.body;
       shows = shows;
