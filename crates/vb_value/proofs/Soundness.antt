@@ -1,5 +1,10 @@
--- Which values are sound, kind by kind.
-use Rattle.std.proofs.Common.{◌≡◌, ℕ, ◌^◌, Bool, true, nat_lt, ℤ, List, map, length, sym, ap, ◌∙◌}
+-- Which values are sound, kind by kind, and which answers.
+use Rattle.std.proofs.Common.{◌≡◌, ℕ, ◌^◌, Bool, true, false, nat_le, nat_lt, ℤ, List, map, length, refl, sym, ap}
+use Rattle.std.proofs.Common.{◌∙◌, arith, if◌then◌else◌, Result, Ok, Err, IfOk}
+use Rattle.std.proofs.lemmas.Bool.Decides.{nat_tests}
+use Rattle.vb_value.specs.declared.fault.VbError.{VbError}
+use Rattle.vb_value.specs.declared.number.Number.{Number}
+use Rattle.vb_value.specs.declared.number.Number.TheVariants as number
 use Rattle.vb_value.specs.declared.value.Array.{Array}
 use Rattle.vb_value.specs.declared.value.ObjNo.{ObjNo}
 use Rattle.vb_value.specs.declared.value.Value.{Empty, Null, Bool as Boolean, Int, Long, Cur, Str}
@@ -8,7 +13,10 @@ use Rattle.vb_value.specs.declared.value.Value.TheViews.{Arr, rolls-Empty, rolls
 use Rattle.vb_value.specs.declared.value.Value.TheViews.{rolls-Long, rolls-Cur, rolls-Str, rolls-Obj, rolls-Nothing}
 use Rattle.vb_value.specs.declared.value.Value.TheOpen.{Value-F}
 use Rattle.vb_value.specs.declared.value.Value.TheFolds.{fold-roll-Value}
-use Rattle.vb_value.specs.Sound.{is_sound, value_sound, array_sound}
+use Rattle.vb_value.specs.Conversions.{number_value}
+use Rattle.vb_value.specs.Errors.{and_then, out_of_string_space}
+use Rattle.vb_value.specs.Sound.{IsSound, is_sound, value_sound, array_sound}
+use Rattle.vb_value.specs.TextLimit.{limited}
 use Rattle.vb_value.proofs.Arrays.{fold-Arr}
 
 pub sound-Empty : is_sound Empty ≡ true
@@ -46,3 +54,25 @@ sound-Nothing =
 pub sound-Arr : (array : Array) → is_sound (Arr array)
     ≡ array_sound (record { bounds = array.bounds; fixed = array.fixed; items = map is_sound array.items })
 sound-Arr array = fold-Arr Bool Bool value_sound array_sound array
+
+-- the value of a number is sound
+pub sound_number : (n : Number) → IsSound (number_value n)
+sound_number (number.Int n) = sound-Int n
+sound_number (number.Long n) = sound-Long n
+sound_number (number.Cur n) = sound-Cur n
+
+within_limit : (text : List ℕ) (fits : Bool) → nat_le (length text) 1048576 ≡ fits
+    → IfOk (if fits then Ok (Str text) else Err out_of_string_space) IsSound
+within_limit text true fits =
+    let within : nat_lt (length text) (2 ^ 31) ≡ true = grind (arith, nat_tests) in sound-Str text ∙ within
+within_limit text false fits = tt
+
+-- a text within the limit is sound
+pub sound_limited : (text : List ℕ) → IfOk (limited text) IsSound
+sound_limited text = within_limit text (nat_le (length text) 1048576) refl
+
+-- what is made of a value is sound where it is so of each
+pub each_ok : {T U : Type 0} (given : Result T VbError) (next : T → Result U VbError) (fact : U → Type 0)
+    → ((x : T) → IfOk (next x) fact) → IfOk (and_then given next) fact
+each_ok (Ok x) next fact each = each x
+each_ok (Err refused) next fact each = tt

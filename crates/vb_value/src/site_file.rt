@@ -2,6 +2,8 @@
 
 use crate::bytes::Bytes;
 use crate::text::Text;
+use std::error::Error;
+use std::fmt;
 
 /// A file of a site.
 #[derive(Debug, Drop)]
@@ -29,3 +31,13 @@ pub enum FaultKind {
     /// The file holds a form of page that this host does not run yet, or it is no page.
     NotYet,
 }
+
+impl fmt::Display for FaultKind {
+    fn fmt<W: fmt::Write>(&self, f: &mut fmt::Formatter<W>) -> fmt::Result {
+        match self {
+            FaultKind::NotYet => write!(f, "a form of page that is not run yet"),
+        }
+    }
+}
+
+impl Error for FaultKind {}
