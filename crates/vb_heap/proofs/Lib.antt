@@ -1,0 +1,9 @@
+pub mod Values
+pub mod Depths
+pub mod Positions
+pub mod Numbered
+pub mod CellWeights
+pub mod Keeping
+pub mod ValueWeights
+pub mod Fitting
+pub mod Storing

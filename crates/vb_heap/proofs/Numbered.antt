@@ -1,0 +1,66 @@
+-- Things by their numbers.
+use Rattle.std.proofs.Common.{◌≡◌, ℕ, ◌+◌, List, [], ◌∷◌, ◌++◌, refl, ap, sym, arith, true, false, cond}
+use Rattle.std.specs.Ordering.{nat_cmp}
+use Rattle.std.specs.BTreeMap.{insert_entry}
+use Rattle.std.specs.Cmp.{nat_cmp_is}
+use Rattle.std.specs.Map.{values_of}
+use Rattle.std.specs.declared.cmp.Ordering.TheVariants.{Greater}
+use Rattle.vb_heap.specs.Below.{AreBelow, EachBelow}
+use Rattle.vb_heap.specs.Store.{is_number, without, replaced}
+
+module _ {T : Type 0} where
+  ends : (things : List (ℕ × T)) (number : ℕ) (thing : T) → EachBelow number things
+      → insert_entry nat_cmp things number thing ≡ things ++ (number, thing) ∷ []
+  ends [] number thing below = refl
+  ends (first ∷ others) number thing below =
+      let greater : nat_cmp number first.0 ≡ Greater = sym (nat_cmp_is number first.0 Greater below.0) in
+      rw greater (ap (λ rest. first ∷ rest) (ends others number thing below.1))
+
+  -- a thing with a number to come stands last
+  pub comes_last : (things : List (ℕ × T)) (number : ℕ) (thing : T) → AreBelow number things
+      → insert_entry nat_cmp things number thing ≡ things ++ (number, thing) ∷ []
+  comes_last things number thing below = ends things number thing below.each
+
+  one_more : (things : List (ℕ × T)) (number : ℕ) (thing : T) → EachBelow number things
+      → EachBelow (number + 1) (things ++ (number, thing) ∷ [])
+  one_more [] number thing below = (omega arith, tt)
+  one_more (first ∷ others) number thing below = (omega arith, one_more others number thing below.1)
+
+  -- one more thing, and the numbers to come
+  pub below_more : (things : List (ℕ × T)) (number : ℕ) (thing : T) → AreBelow number things
+      → AreBelow (number + 1) (things ++ (number, thing) ∷ [])
+  below_more things number thing below = record { each = one_more things number thing below.each }
+
+  one_less : (things : List (ℕ × T)) (gone number : ℕ) → EachBelow number things
+      → EachBelow number (without gone things)
+  one_less [] gone number below = tt
+  one_less (first ∷ others) gone number below =
+      elim (is_number gone first.0) as (λ b. EachBelow number (cond b others (first ∷ without gone others))) [
+        | true ↦ below.1
+        | false ↦ (below.0, one_less others gone number below.1)
+      ]
+
+  -- one thing less
+  pub below_less : (things : List (ℕ × T)) (gone number : ℕ) → AreBelow number things
+      → AreBelow number (without gone things)
+  below_less things gone number below = record { each = one_less things gone number below.each }
+
+  one_other : (things : List (ℕ × T)) (at number : ℕ) (thing : T) → EachBelow number things
+      → EachBelow number (replaced at thing things)
+  one_other [] at number thing below = tt
+  one_other (first ∷ others) at number thing below =
+      elim (is_number at first.0)
+      as (λ b. EachBelow number (cond b ((first.0, thing) ∷ others) (first ∷ replaced at thing others))) [
+        | true ↦ below
+        | false ↦ (below.0, one_other others at number thing below.1)
+      ]
+
+  -- another thing in the place of one
+  pub below_other : (things : List (ℕ × T)) (at number : ℕ) (thing : T) → AreBelow number things
+      → AreBelow number (replaced at thing things)
+  below_other things at number thing below = record { each = one_other things at number thing below.each }
+
+  -- the things of two lists
+  pub values_both : (things others : List (ℕ × T)) → values_of (things ++ others) ≡ values_of things ++ values_of others
+  values_both [] others = refl
+  values_both (first ∷ rest) others = ap (λ values. first.1 ∷ values) (values_both rest others)

@@ -1,0 +1,42 @@
+use Rattle.std.proofs.Common.{sym, ◌∙◌, arith}
+use Rattle.vb_heap.proofs.Storing.{refuses, accepts, weighs, below_stored}
+use Rattle.vb_heap.proofs.heap.Heap.store.Goals as goal
+
+pub returns-then-weight-gt-MOST_WEIGHT-clause-answer : goal.returns-then-weight-gt-MOST_WEIGHT-clause-answer
+returns-then-weight-gt-MOST_WEIGHT-clause-answer c _ =
+    rw (sym c.self.view_is)
+    (refuses c.self.inside c.self.invariant c.args.place.now c.args.value c.in_ok-old.old
+    c.saturating_add-weight.result (rw c.as_slice-steps.ensures at c.in_ok-old.ensures.answer)
+    (omega (arith, c.in_ok-old.ensures.within, c.self.invariant.weighed))
+    (rw c.weight.ensures at c.saturating_add-weight.ensures)
+    (rw c.as_slice-steps.ensures at (sym c.is_too_deep.ensures ∙ c.if-is_too_deep.false))
+    c.if-weight-gt-MOST_WEIGHT.true)
+
+pub invariant_of-self : goal.invariant_of-self
+invariant_of-self c = record {
+  new_cells =
+      rw (c.put_in_cell.ensures) (below_stored c.self.inside.cells.entries c.self.inside.cells_made
+      c.args.place.now.cell.0 _ c.args.value _ c.self.invariant.new_cells);
+  new_objects = c.self.invariant.new_objects;
+  weighed =
+      rw (c.put_in_cell.ensures, c.as_slice-steps.ensures)
+      (weighs c.self.inside c.self.invariant c.args.place.now c.args.value c.in_ok-old.old
+      c.saturating_add-weight.result (rw c.as_slice-steps.ensures at c.in_ok-old.ensures.answer)
+      (omega (arith, c.in_ok-old.ensures.within, c.self.invariant.weighed))
+      (rw c.weight.ensures at c.saturating_add-weight.ensures)
+      (rw c.as_slice-steps.ensures at (sym c.is_too_deep.ensures ∙ c.if-is_too_deep.false))
+      c.if-weight-gt-MOST_WEIGHT.false);
+  light = c.if-weight-gt-MOST_WEIGHT.false;
+  few = c.self.invariant.few;
+}
+
+pub returns-clause-answer : goal.returns-clause-answer
+returns-clause-answer c =
+    rw (sym c.self.view_is)
+    (accepts c.self.inside c.self.invariant c.args.place.now c.args.value c.in_ok-old.old
+    c.saturating_add-weight.result (rw c.as_slice-steps.ensures at c.in_ok-old.ensures.answer)
+    (omega (arith, c.in_ok-old.ensures.within, c.self.invariant.weighed))
+    (rw c.weight.ensures at c.saturating_add-weight.ensures)
+    (rw c.as_slice-steps.ensures at (sym c.is_too_deep.ensures ∙ c.if-is_too_deep.false))
+    c.if-weight-gt-MOST_WEIGHT.false
+    (omega arith) (omega arith))

@@ -1,0 +1,31 @@
+-- What the data of a page weigh.
+use Rattle.std.specs.Prelude.{ℕ, ◌+◌, List, sum_by}
+use Rattle.std.specs.Map.{values_of}
+use Rattle.vb_value.specs.declared.session.Pair.{Pair}
+use Rattle.vb_value.specs.Weight.{weight_of}
+use Rattle.vb_heap.specs.declared.object.Content.{Content}
+use Rattle.vb_heap.specs.declared.object.Content.TheVariants.{Fields, Entries}
+use Rattle.vb_heap.specs.declared.object.Object.{Object}
+use Rattle.vb_heap.specs.Store.{Store}
+
+-- an entry weighs what its key and its item weigh
+abbrev pub pair_weight : Pair → ℕ
+pair_weight pair = weight_of pair.key + weight_of pair.item
+
+-- the weight of the entries of a dictionary
+abbrev pub entries_weight : List Pair → ℕ
+entries_weight pairs = sum_by pair_weight pairs
+
+-- the weight of what an object consists of but its fields
+abbrev pub content_weight : Content → ℕ
+content_weight (Fields class cells) = 0
+content_weight (Entries dictionary) = entries_weight dictionary.pairs
+
+-- an object weighs 32 until it has ended, and its entries; its fields are cells
+abbrev pub object_weight : Object → ℕ
+object_weight object = 32 + content_weight object.content
+
+-- the weight of all cells, objects and entries: a cell weighs what its value weighs
+abbrev pub weight_of_page : Store → ℕ
+weight_of_page store =
+    sum_by weight_of (values_of store.cells) + sum_by object_weight (values_of store.objects)

@@ -1,0 +1,65 @@
+//! The data of a page.
+ghost use Rattle.std.specs.Prelude.{◌≡◌};
+ghost use Rattle.vb_value.specs.Outcome.{Gives};
+ghost use Rattle.vb_heap.specs.Store.{no_data};
+ghost use Rattle.vb_heap.specs.PageWeight.{weight_of_page};
+
+use crate::object::Object;
+use std::alloc::Global;
+use std::collections::BTreeMap;
+use std::marker::Model;
+use vb_value::{List, Memory, Value};
+
+/// What all cells, objects and entries may weigh: 16 MiB.
+pub const MOST_WEIGHT: u64 = 16_777_216;
+
+/// The data of a page: cells by their numbers, objects by theirs, and the references in held values. A contract sees
+/// it as the record `Store`.
+#[derive(Drop)]
+pub struct Heap {
+    pub(crate) cells: BTreeMap<u64, Value, Global>,
+    pub(crate) objects: BTreeMap<u32, Object, Global>,
+    pub(crate) held: List<u32>,
+    pub(crate) cells_made: u64,
+    pub(crate) objects_made: u32,
+    pub(crate) weight: u64,
+}
+
+impl Model for Heap {
+    ghost use Rattle.std.specs.Coded.{codes};
+    ghost use Rattle.vb_value.specs.contracts.value.Value as value;
+    ghost use Rattle.vb_heap.specs.Store.{Store};
+
+    ghost Value = { Store };
+
+    ghost coded = { Prim.hlevel (codes, value.the_row.coded) };
+
+    ghost use Rattle.vb_heap.specs.Inside.{store_of, IsKept};
+
+    ghost view = { store_of };
+
+    ghost invariant = { IsKept };
+}
+
+impl Heap {
+    /// The data with which a page begins: none.
+    pub fn new(alloc: Global) -> Result<Heap, Memory>
+        ensures { Gives result no_data }
+    {
+        Ok(Heap {
+            cells: BTreeMap::new(alloc),
+            objects: BTreeMap::new(alloc),
+            held: List::new(alloc),
+            cells_made: 0,
+            objects_made: 0,
+            weight: 0,
+        })
+    }
+
+    /// What all cells, objects and entries weigh, 16 MiB at most.
+    pub fn page_weight(&self) -> u64
+        ensures { result ≡ weight_of_page self.now }
+    {
+        self.weight
+    }
+}
