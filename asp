@@ -112,23 +112,26 @@ build() {
   return 70
 }
 
-# What the program wrote to standard error, of what the toolchain's build wrote there, which ends with lines of its own.
+# What the program wrote to standard error, of all that was written there: the toolchain adds lines of its own.
 own_errors() {
   LC_ALL=C awk '
+    /^rt: / { next }
     { line[NR] = $0 }
     /./ && !/^(checked|interpreter|races): / && !/^run=/ { last = NR }
     END { for (at = 1; at <= last; at++) print line[at] }' "$errors" >&2
 }
 
 # Runs the words by the build that proves nothing. It runs in a folder of its own, so it is given the whole path of the
-# site. The last of its lines says how the program ended.
+# site, and reads its input to the end first, so it is given none where the command reads none. The last of its lines
+# says how the program ended.
 run_unproved() {
-  local words=("$@") code
+  local words=("$@") code input=/dev/null
   echo "asp: not proved yet, so this runs an unproved build, in about a minute: ./asp build proves it" >&2
   case "${2-}" in '' | /*) ;; *) [ "$1" = gen ] || words[1]=$PWD/$2 ;; esac
+  case "${1-}" in replay | audit) input=/dev/stdin ;; esac
   errors=$(mktemp)
   trap 'rm -f "$errors"' EXIT
-  (cd "$crate" && rt try --seconds 600 --steps 1000000000 -- "${words[@]}") 2>"$errors"
+  (cd "$crate" && rt try --seconds 600 --steps 1000000000 -- "${words[@]}") 2>"$errors" <"$input"
   code=$?
   case $(tail -n 1 "$errors") in
     "run=ended status=$code "*) own_errors; return "$code" ;;
