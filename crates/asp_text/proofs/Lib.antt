@@ -1,0 +1,5 @@
+mod Coding
+mod HtmlLaws
+mod PathLaws
+pub mod Places
+mod Segments

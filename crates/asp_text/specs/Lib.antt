@@ -1,0 +1,5 @@
+pub mod Html
+pub mod Url
+pub mod Path
+pub mod Laws
+pub mod Walking

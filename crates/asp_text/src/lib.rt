@@ -1,0 +1,13 @@
+//! Texts as the web writes them: HTML and URL coding, and the paths of requests.
+#![tactic(auto)]
+
+mod html;
+mod laws;
+mod path;
+mod segment;
+mod url;
+
+pub use html::html_encode;
+pub use laws::{html_reads_back, normal_paths_are_normal, normal_paths_stay, urls_read_back};
+pub use path::{PathStop, normal_path};
+pub use url::url_encode;
