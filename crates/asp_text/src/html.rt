@@ -1,5 +1,4 @@
 //! Texts in HTML.
-ghost use Rattle.std.specs.Prelude.{◌≡◌, ◌++◌, OnOk};
 ghost use Rattle.std.specs.Fmt.{decimal};
 ghost use Rattle.vb_value.specs.Outcome.{Adds, Gives};
 ghost use Rattle.asp_text.specs.Html.{html_character, html_encoded, numbered};

@@ -1,5 +1,5 @@
 //! Texts in URLs.
-ghost use Rattle.std.specs.Prelude.{◌≡◌, ◌++◌, IfOk, OnOk, string_bytes};
+ghost use Rattle.std.specs.Prelude.{◌≡◌, IfOk, string_bytes};
 ghost use Rattle.vb_value.specs.Outcome.{Adds, Gives};
 ghost use Rattle.asp_text.specs.Url.{url_byte, url_bytes, url_encoded};
 
