@@ -16,12 +16,11 @@ use Rattle.vb_value.specs.Errors.{and_then, overflow}
 use Rattle.vb_value.specs.Numbers.{amount_of, int_rounded, is_within}
 use Rattle.vb_ops.specs.declared.logic.Bits.{Bits}
 use Rattle.vb_ops.specs.declared.logic.Bits.TheVariants as bits
-use Rattle.vb_value.specs.Arguments.{is_null}
+use Rattle.vb_value.specs.Arguments.{checked, is_empty, is_null}
 use Rattle.vb_value.specs.Conversions.{number_value}
-use Rattle.vb_ops.specs.Operands.{checked}
 use Rattle.vb_ops.specs.Arithmetic.{aligned, combined, sum_of, product_of, applied, on_numbers, integer_or_long}
 use Rattle.vb_ops.specs.Arithmetic.{long, currency}
-use Rattle.vb_ops.specs.Joining.{add_of, joined_values, is_text, is_empty}
+use Rattle.vb_ops.specs.Joining.{add_of, joined_values, is_text}
 use Rattle.vb_ops.specs.Logic.{number_in as bits_number, bits_of, paired, merged, at_width, and_of, or_of}
 use Rattle.vb_ops.specs.Logic.{xor_of, eqv_of, not_of, differ, on_bits, bits_value}
 use Rattle.vb_ops.specs.Operators.{apply2_of, scalars_of, tests_objects}

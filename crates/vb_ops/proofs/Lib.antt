@@ -1,2 +1,4 @@
 mod Commuting
+mod Limits
 mod Orders
+mod SoundResults

@@ -8,7 +8,7 @@ use Rattle.vb_value.specs.declared.number.Number.TheVariants.{Int, Long, Cur}
 use Rattle.vb_value.specs.declared.value.Value.{Value, Null}
 use Rattle.vb_value.specs.Conversions.{number_value, to_number_of}
 use Rattle.vb_value.specs.Errors.{and_then, division_by_zero}
-use Rattle.vb_value.specs.Numbers.{int_rounded, is_within, is_zero, as_long, as_currency, amount_of, whole_of}
+use Rattle.vb_value.specs.Numbers.{int_rounded, is_within, is_zero, as_long, as_currency, amount_of, long_of}
 use Rattle.vb_ops.specs.declared.arithmetic.NumberPair.{NumberPair}
 use Rattle.vb_ops.specs.declared.arithmetic.NumberPair.TheVariants.{Integers, Longs, Currencies}
 use Rattle.vb_value.specs.Arguments.{is_null}
@@ -56,10 +56,6 @@ product_of a b = combined (λ x y. x *ℤ y) (λ x y. int_rounded 10000 (x *ℤ 
 unfoldable pub whole_result : Number → Number → ℤ → Result Number VbError
 whole_result (Int a) (Int b) z = integer_or_long z
 whole_result a b z = long z
-
--- a number as a whole Long, half rounded to even
-unfoldable pub long_of : Number → Result ℤ VbError
-long_of a = as_long (whole_of a)
 
 -- what two numbers give as whole Longs, the second of them not 0
 abbrev pub divided : (ℤ → ℤ → ℤ) → Number → Number → Result Number VbError

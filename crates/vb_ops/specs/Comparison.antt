@@ -13,8 +13,7 @@ use Rattle.vb_value.specs.declared.value.ObjNo.{ObjNo}
 use Rattle.vb_value.specs.declared.value.Value.{Value, Empty, Null, Bool as Boolean, Int, Long, Cur, Str, Obj}
 use Rattle.vb_value.specs.declared.value.Value.{Nothing}
 use Rattle.vb_value.specs.Errors.{and_then, object_required}
-use Rattle.vb_value.specs.Arguments.{is_null}
-use Rattle.vb_ops.specs.Operands.{checked}
+use Rattle.vb_value.specs.Arguments.{checked, is_null}
 
 -- the value of a number, a Boolean or Empty in ten-thousandths
 abbrev pub amount_in : Value → ℤ

@@ -1,26 +1,20 @@
--- `&`, and `+` between texts (VBScript 5.6, "Concatenation Operators"). A text has 1,048,576 characters at most.
-use Rattle.std.specs.Prelude.{ℕ, ◌+◌, Bool, true, false, ◌&&◌, ◌||◌, nat_le, if◌then◌else◌, List, [], ◌++◌}
-use Rattle.std.specs.Prelude.{length, Result, Ok, Err}
+-- `&`, and `+` between texts (VBScript 5.6, "Concatenation Operators").
+use Rattle.std.specs.Prelude.{ℕ, Bool, true, false, ◌&&◌, ◌||◌, if◌then◌else◌, List, [], ◌++◌, Result, Ok}
 use Rattle.vb_value.specs.declared.fault.VbError.{VbError}
-use Rattle.vb_value.specs.declared.value.Value.{Value, Empty, Null, Str}
+use Rattle.vb_value.specs.declared.value.Value.{Value, Null, Str}
 use Rattle.vb_value.specs.Conversions.{to_str_of}
-use Rattle.vb_value.specs.Errors.{and_then, out_of_string_space}
-use Rattle.vb_value.specs.Arguments.{is_null}
+use Rattle.vb_value.specs.Errors.{and_then}
+use Rattle.vb_value.specs.TextLimit.{limited}
+use Rattle.vb_value.specs.Arguments.{is_empty, is_null}
 use Rattle.vb_ops.specs.Arithmetic.{on_numbers, sum_of}
-
--- two texts as one; Out of string space where that is too long
-abbrev pub joined : List ℕ → List ℕ → Result Value VbError
-joined first second =
-    if nat_le (length first + length second) 1048576 then Ok (Str (first ++ second))
-    else Err out_of_string_space
 
 -- the text of a value, none for Null
 abbrev pub text_of : Value → Result (List ℕ) VbError
 text_of value = if is_null value then Ok [] else to_str_of value
 
--- two values joined as texts
+-- two values joined as texts; Out of string space where that is too long
 abbrev pub joined_values : Value → Value → Result Value VbError
-joined_values a b = and_then (text_of a) (λ first. and_then (text_of b) (λ second. joined first second))
+joined_values a b = and_then (text_of a) (λ first. and_then (text_of b) (λ second. limited (first ++ second)))
 
 -- a & b: Null for two Nulls
 abbrev pub join_of : Value → Value → Result Value VbError
@@ -30,11 +24,6 @@ join_of a b = if is_null a && is_null b then Ok Null else joined_values a b
 abbrev pub is_text : Value → Bool
 is_text (Str text) = true
 is_text _ = false
-
--- whether a value is Empty
-abbrev pub is_empty : Value → Bool
-is_empty Empty = true
-is_empty _ = false
 
 -- whether `+` joins its operands: two Strings, or a String and Empty
 abbrev pub joins : Value → Value → Bool

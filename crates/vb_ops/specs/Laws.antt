@@ -1,11 +1,20 @@
 -- Laws of the operators, for readers to hold the definitions against.
-use Rattle.std.specs.Prelude.{◌≡◌, Bool, true, false, List, ℕ, Some, Ok, IsTrue}
-use Rattle.std.specs.Ordering.{nat_cmp, int_cmp}
+use Rattle.std.specs.Prelude.{◌≡◌, ◌≢◌, ◌⊎◌, ◌<◌, ℕ, Bool, true, false, ℤ, pos, negsuc, ◌+ℤ◌, ◌*ℤ◌, unsigned_abs, int_lt}
+use Rattle.std.specs.Prelude.{List, [], ◌∷◌, Option, Some, option_map, Ok, IsTrue, IfOk, All}
+use Rattle.std.specs.declared.cmp.Ordering.{Ordering}
+use Rattle.std.specs.Ordering.{nat_cmp, int_cmp, ordering_reverse}
 use Rattle.std.specs.Cmp.Lexicographic.{slice_cmp}
+use Rattle.vb_value.specs.declared.number.Number.{Number}
+use Rattle.vb_value.specs.declared.operator.Op1.{Op1}
 use Rattle.vb_value.specs.declared.operator.Op2.{Op2}
-use Rattle.vb_value.specs.declared.value.Value.{Value, Null, Str, Arr', Obj, Nothing}
+use Rattle.vb_value.specs.declared.operator.Op2.TheVariants as operator
+use Rattle.vb_value.specs.declared.value.Value.{Value, Empty, Null, Bool as Boolean, Int, Long, Cur, Str, Arr'}
+use Rattle.vb_value.specs.declared.value.Value.{Obj, Nothing}
+use Rattle.vb_value.specs.Conversions.{number_value, to_long_of}
+use Rattle.vb_value.specs.Numbers.{whole_of}
+use Rattle.vb_value.specs.Sound.{IsSound}
 use Rattle.vb_ops.specs.Comparison.{compare_of, amount_in}
-use Rattle.vb_ops.specs.Operators.{apply2_of}
+use Rattle.vb_ops.specs.Operators.{apply1_of, apply2_of}
 
 -- whether a value is Null, Empty, a Boolean or a number
 abbrev pub is_simple : Value → Bool
@@ -32,3 +41,46 @@ ComparesAmounts = (a b : Value) → IsTrue (is_amount a) → IsTrue (is_amount b
 -- texts compare by the numbers of their characters
 abbrev pub ComparesTexts : Type 0
 ComparesTexts = (a b : List ℕ) → compare_of (Str a) (Str b) ≡ Ok (Some (slice_cmp nat_cmp a b))
+
+-- two values that are not refused compare as the opposite of how they compare the other way round
+abbrev pub ComparesRound : Type 0
+ComparesRound = (a b : Value) (order : Option Ordering) → compare_of a b ≡ Ok order
+    → compare_of b a ≡ Ok (option_map ordering_reverse order)
+
+-- x divided by y has a quotient and a rest: the rest is smaller than y, and is 0 or has the sign of x
+pub record IsDivision (x y quotient rest : ℤ) : Type 0 where
+  pub whole : (quotient *ℤ y) +ℤ rest ≡ x
+  pub smaller : unsigned_abs rest < unsigned_abs y
+  pub sign : (rest ≡ pos 0) ⊎ (int_lt rest (pos 0) ≡ int_lt x (pos 0))
+
+-- what `\` and `Mod` give are quotient and rest of the two sides as Longs
+abbrev pub Divides : Type 0
+Divides = (a b : Value) (x y : ℤ) (quotient rest : Number) → to_long_of a ≡ Ok x → to_long_of b ≡ Ok y
+    → apply2_of operator.Divide a b ≡ Ok (number_value quotient)
+    → apply2_of operator.Modulo a b ≡ Ok (number_value rest)
+    → IsDivision x y (whole_of quotient) (whole_of rest)
+
+-- the table of `Imp`: two operands, and what it gives of them
+abbrev pub implications : List (Value × Value × Value)
+implications =
+    (Boolean true, Boolean true, Boolean true)
+    ∷ (Boolean true, Boolean false, Boolean false)
+    ∷ (Boolean true, Null, Null)
+    ∷ (Boolean false, Boolean true, Boolean true)
+    ∷ (Boolean false, Boolean false, Boolean true)
+    ∷ (Boolean false, Null, Boolean true)
+    ∷ (Null, Boolean true, Boolean true)
+    ∷ (Null, Boolean false, Null)
+    ∷ (Null, Null, Null)
+    ∷ []
+
+-- `Imp` gives what the table says
+abbrev pub FollowsTable : Type 0
+FollowsTable = All (λ row. apply2_of operator.Imp row.0 row.1 ≡ Ok row.2) implications
+
+-- what operators give of sound values is sound
+abbrev pub GivesSoundOfOne : Type 0
+GivesSoundOfOne = (op : Op1) (a : Value) → IsSound a → IfOk (apply1_of op a) IsSound
+
+abbrev pub GivesSoundOfTwo : Type 0
+GivesSoundOfTwo = (op : Op2) (a b : Value) → IsSound a → IsSound b → IfOk (apply2_of op a b) IsSound

@@ -1,4 +1,3 @@
-pub mod Operands
 pub mod Arithmetic
 pub mod Joining
 pub mod Comparison

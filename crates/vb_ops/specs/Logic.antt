@@ -9,7 +9,7 @@ use Rattle.vb_value.specs.declared.number.Number.TheVariants as number
 use Rattle.vb_value.specs.declared.value.Value.{Value, Null, Bool as Boolean, Int, Long as LongValue, Str}
 use Rattle.vb_value.specs.Conversions.{to_number_of, named_truth}
 use Rattle.vb_value.specs.Errors.{and_then}
-use Rattle.vb_value.specs.Numbers.{as_long, int_rounded, is_zero}
+use Rattle.vb_value.specs.Numbers.{long_of, is_zero}
 use Rattle.vb_ops.specs.declared.logic.Bits.{Bits}
 use Rattle.vb_ops.specs.declared.logic.Bits.TheVariants.{Truth, Integer, Long, Unknown}
 use Rattle.vb_ops.specs.declared.logic.BitsPair.{BitsPair}
@@ -21,7 +21,7 @@ use Rattle.vb_ops.specs.declared.logic.BitsPair.TheVariants.{Truths, Integers, L
 abbrev pub number_bits : Number → Result Bits VbError
 number_bits (number.Int n) = Ok (Integer n)
 number_bits (number.Long n) = Ok (Long n)
-number_bits (number.Cur n) = and_then (as_long (int_rounded 10000 n)) (λ z. Ok (Long z))
+number_bits (number.Cur n) = and_then (long_of (number.Cur n)) (λ z. Ok (Long z))
 
 -- the Boolean of a name, or else another operand
 abbrev pub named_bits : Option Bool → Result Bits VbError → Result Bits VbError

@@ -9,8 +9,7 @@ use Rattle.vb_value.specs.declared.operator.Op2.TheVariants.{And, Or, Xor, Eqv, 
 use Rattle.vb_value.specs.declared.value.Value.{Value, Null}
 use Rattle.vb_value.specs.Conversions.{number_value, to_number_of, to_bool_of}
 use Rattle.vb_value.specs.Errors.{and_then}
-use Rattle.vb_value.specs.Arguments.{is_null}
-use Rattle.vb_ops.specs.Operands.{checked}
+use Rattle.vb_value.specs.Arguments.{checked, is_null}
 use Rattle.vb_ops.specs.Arithmetic.{difference_of, product_of, quotient_of, remainder_of, negative_of, on_numbers}
 use Rattle.vb_ops.specs.Joining.{join_of, add_of}
 use Rattle.vb_ops.specs.Comparison.{comparison_of, is_of}

@@ -59,8 +59,8 @@ pub fn negative(a: Number) -> Result<Number, VbError>
 pub fn quotient(a: Number, b: Number) -> Result<Number, VbError>
     ensures { result ≡ spec.quotient_of a b }
 {
-    let dividend = long_of(a)? as i128;
-    let divisor = long_of(b)? as i128;
+    let dividend = a.long()? as i128;
+    let divisor = b.long()? as i128;
     if divisor == 0 {
         return Err(VbError::DIVISION_BY_ZERO);
     }
@@ -71,8 +71,8 @@ pub fn quotient(a: Number, b: Number) -> Result<Number, VbError>
 pub fn remainder(a: Number, b: Number) -> Result<Number, VbError>
     ensures { result ≡ spec.remainder_of a b }
 {
-    let dividend = long_of(a)? as i128;
-    let divisor = long_of(b)? as i128;
+    let dividend = a.long()? as i128;
+    let divisor = b.long()? as i128;
     if divisor == 0 {
         return Err(VbError::DIVISION_BY_ZERO);
     }
@@ -106,14 +106,6 @@ fn aligned(a: Number, b: Number) -> NumberPair
         (Number::Cur(a), Number::Long(b)) => NumberPair::Currencies(a, b as i64 * 10_000),
         (Number::Cur(a), Number::Cur(b)) => NumberPair::Currencies(a, b),
     }
-}
-
-/// A number as a whole Long, half rounded to even; error 6 where it does not fit.
-#[tactic(auto, unfolding(crate::specs::Arithmetic::long_of))]
-fn long_of(a: Number) -> Result<i32, VbError>
-    ensures { result ≡ spec.long_of a }
-{
-    as_long(a.whole() as i128)
 }
 
 /// A whole result: Integer where it fits and both numbers are Integers, else Long.

@@ -4,9 +4,8 @@ ghost use Rattle.std.specs.Ordering.{nat_cmp};
 ghost use Rattle.std.specs.Cmp.Lexicographic.{slice_cmp};
 ghost use Rattle.vb_ops.specs.Comparison as spec;
 
-use crate::operand::check;
 use std::cmp::Ordering;
-use vb_value::{ObjNo, Op2, Text, Value, VbError, is_null};
+use vb_value::{ObjNo, Op2, Text, Value, VbError, check, is_null};
 
 /// How two values compare: texts by the numbers of their characters, numbers by value, and a number before any
 /// text. None beside Null. Error 13 for an array, 438 for an object, 91 for Nothing, the left side's first.

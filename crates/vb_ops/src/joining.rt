@@ -1,14 +1,14 @@
 //! Texts that are joined.
-ghost use Rattle.std.specs.Prelude.{◌≡◌};
+ghost use Rattle.std.specs.Prelude.{◌≡◌, ◌++◌};
 ghost use Rattle.vb_value.specs.Errors.{told};
 ghost use Rattle.vb_value.specs.Outcome.{Answers};
+ghost use Rattle.vb_value.specs.TextLimit.{limited};
 ghost use Rattle.vb_ops.specs.Joining as spec;
 
 use std::alloc::Global;
-use vb_value::{Text, Value, VbError, VbFault, is_null, to_str};
-
-/// How many characters a text has at most.
-const MOST_CHARACTERS: usize = 1_048_576;
+use vb_value::{
+    MOST_CHARACTERS, Text, Value, VbError, VbFault, is_empty, is_null, limited, to_str,
+};
 
 /// Two values joined as texts, Null as an empty one. Error 14 for more than 1,048,576 characters.
 pub fn joined_values(alloc: Global, a: &Value, b: &Value) -> Result<Value, VbFault>
@@ -19,16 +19,17 @@ pub fn joined_values(alloc: Global, a: &Value, b: &Value) -> Result<Value, VbFau
     joined(first, second)
 }
 
-/// Two texts as one.
+/// Two texts as one. Memory for it is taken only where it is not too long.
+#[tactic(auto, using(crate::proofs::Limits::too_long_together))]
 fn joined(first: Text, second: Text) -> Result<Value, VbFault>
-    ensures { Answers result VbFault.Memory (told (spec.joined first second)) }
+    ensures { Answers result VbFault.Memory (told (limited (first ++ second))) }
 {
     if MOST_CHARACTERS < first.len() + second.len() {
         return Err(VbError::OUT_OF_STRING_SPACE)?;
     }
     let mut text = first;
     text.append(second)?;
-    Ok(Value::Str(text))
+    Ok(limited(text)?)
 }
 
 /// The text of a value, an empty one for Null.
@@ -55,16 +56,6 @@ fn is_text(value: &Value) -> bool
 {
     match value {
         Value::Str(_) => true,
-        _ => false,
-    }
-}
-
-/// Whether the value is Empty.
-fn is_empty(value: &Value) -> bool
-    ensures { result ≡ spec.is_empty value.now }
-{
-    match value {
-        Value::Empty => true,
         _ => false,
     }
 }

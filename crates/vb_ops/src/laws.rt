@@ -1,5 +1,6 @@
 //! Laws of the operators' definitions. The functions do nothing: their contracts are the laws.
-ghost use Rattle.vb_ops.specs.Laws.{Commutes, ComparesAmounts, ComparesTexts};
+ghost use Rattle.vb_ops.specs.Laws.{Commutes, ComparesAmounts, ComparesRound, ComparesTexts, Divides, FollowsTable};
+ghost use Rattle.vb_ops.specs.Laws.{GivesSoundOfOne, GivesSoundOfTwo};
 ghost use Rattle.std.specs.Cmp.{IsTotalOrder};
 ghost use Rattle.std.specs.Cmp.Lexicographic.{slice_cmp};
 ghost use Rattle.std.specs.Ordering.{nat_cmp, int_cmp};
@@ -26,4 +27,21 @@ pub fn comparison_is_an_order()
     ensures amount_order { IsTotalOrder int_cmp }
     ensures texts { ComparesTexts }
     ensures text_order { IsTotalOrder (slice_cmp nat_cmp) }
+    ensures turned { ComparesRound }
+{}
+
+/// `\` and `Mod` give a quotient and its rest.
+pub fn division_leaves_a_rest()
+    ensures { Divides }
+{}
+
+/// `Imp` of Booleans and Null is the table of the reference.
+pub fn implication_is_its_table()
+    ensures { FollowsTable }
+{}
+
+/// What the operators give of sound values is sound.
+pub fn results_are_sound()
+    ensures one { GivesSoundOfOne }
+    ensures two { GivesSoundOfTwo }
 {}

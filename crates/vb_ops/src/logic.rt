@@ -2,7 +2,7 @@
 ghost use Rattle.std.specs.Prelude.{◌≡◌};
 ghost use Rattle.vb_ops.specs.Logic as spec;
 
-use vb_value::{Number, Value, VbError, as_long, named_truth, to_number};
+use vb_value::{Number, Value, VbError, named_truth, to_number};
 
 /// An operand of a logical operator.
 #[derive(Clone, Copy, Debug, PartialEq, Eq)]
@@ -49,7 +49,7 @@ fn number_bits(number: Number) -> Result<Bits, VbError>
     match number {
         Number::Int(n) => Ok(Bits::Integer(n)),
         Number::Long(n) => Ok(Bits::Long(n)),
-        Number::Cur(_) => Ok(Bits::Long(as_long(number.whole() as i128)?)),
+        Number::Cur(_) => Ok(Bits::Long(number.long()?)),
     }
 }
 

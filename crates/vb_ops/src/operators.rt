@@ -11,9 +11,10 @@ use crate::arithmetic::{difference, negative, numbers_of, product, quotient, rem
 use crate::comparison::{comparison, is};
 use crate::joining::{joined_values, joins};
 use crate::logic::{and, bits_of, bits_value, eqv, imp, not, or, xor};
-use crate::operand::check;
 use std::alloc::Global;
-use vb_value::{Op1, Op2, Value, VbError, VbFault, is_null, number_value, to_bool, to_number};
+use vb_value::{
+    Op1, Op2, Value, VbError, VbFault, check, is_null, number_value, to_bool, to_number,
+};
 
 /// What an operator gives of a value. It takes no memory. Errors: 13, 438 and 91 for an array, an object and
 /// Nothing, 13 for a text that is no number, 6 out of range.
