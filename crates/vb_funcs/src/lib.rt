@@ -14,5 +14,3 @@ pub use functions::call_func;
 pub use laws::{int_is_the_floor, integers_read_back, longs_read_back};
 pub use type_names::type_name;
 
-#[cfg(test)]
-mod tests;

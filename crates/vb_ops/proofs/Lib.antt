@@ -2,3 +2,5 @@ mod Commuting
 mod Limits
 mod Orders
 mod SoundResults
+mod Turning
+mod Division

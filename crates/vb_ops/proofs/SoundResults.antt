@@ -1,9 +1,8 @@
 -- What the operators give is sound: numbers, Booleans, Null, and texts within the limit.
-use Rattle.std.proofs.Common.{Bool, true, false, ◌&&◌, if◌then◌else◌, Option, Some, None, Result, Ok, Err, IfOk, ◌++◌}
+use Rattle.std.proofs.Common.{Bool, true, false, ◌&&◌, if◌then◌else◌, Option, Some, None, Result, Ok, IfOk, ◌++◌}
 use Rattle.std.specs.declared.cmp.Ordering.{Ordering}
 use Rattle.vb_value.specs.declared.fault.VbError.{VbError}
 use Rattle.vb_value.specs.declared.number.Number.{Number}
-use Rattle.vb_value.specs.declared.operator.Op1.{Op1}
 use Rattle.vb_value.specs.declared.operator.Op1.TheVariants as operator1
 use Rattle.vb_value.specs.declared.operator.Op2.{Op2}
 use Rattle.vb_value.specs.declared.operator.Op2.TheVariants as operator
@@ -18,10 +17,10 @@ use Rattle.vb_ops.specs.declared.logic.Bits.{Bits}
 use Rattle.vb_ops.specs.declared.logic.Bits.TheVariants as bits
 use Rattle.vb_ops.specs.Arithmetic.{applied, on_numbers, numbers_of, negative_of, sum_of, difference_of, product_of}
 use Rattle.vb_ops.specs.Arithmetic.{quotient_of, remainder_of}
-use Rattle.vb_ops.specs.Comparison.{comparison_of, comparison_value, holds, is_of, is_same, object_of, order_between}
-use Rattle.vb_ops.specs.Joining.{add_of, join_of, joined_values, joins, text_of}
+use Rattle.vb_ops.specs.Comparison.{comparison_value, holds, is_of, is_same, object_of, order_between}
+use Rattle.vb_ops.specs.Joining.{joined_values, joins, text_of}
 use Rattle.vb_ops.specs.Logic.{bits_of, bits_value, not_of, and_of, or_of, xor_of, eqv_of, imp_of, on_bits}
-use Rattle.vb_ops.specs.Operators.{apply1_of, apply2_of, minus_of, scalars_of, tests_objects}
+use Rattle.vb_ops.specs.Operators.{minus_of, scalars_of, tests_objects}
 use Rattle.vb_ops.specs.Laws.{GivesSoundOfOne, GivesSoundOfTwo}
 
 sound_bits : (a : Bits) → IsSound (bits_value a)

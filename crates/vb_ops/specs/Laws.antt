@@ -1,6 +1,6 @@
 -- Laws of the operators, for readers to hold the definitions against.
-use Rattle.std.specs.Prelude.{◌≡◌, ◌≢◌, ◌⊎◌, ◌<◌, ℕ, Bool, true, false, ℤ, pos, negsuc, ◌+ℤ◌, ◌*ℤ◌, unsigned_abs, int_lt}
-use Rattle.std.specs.Prelude.{List, [], ◌∷◌, Option, Some, option_map, Ok, IsTrue, IfOk, All}
+use Rattle.std.specs.Prelude.{◌≡◌, ◌⊎◌, ◌<◌, ℕ, Bool, true, false, ℤ, pos, negsuc, ◌+ℤ◌, ◌*ℤ◌, unsigned_abs}
+use Rattle.std.specs.Prelude.{List, [], ◌∷◌, Option, Some, option_map, Ok, IsTrue, IfOk}
 use Rattle.std.specs.declared.cmp.Ordering.{Ordering}
 use Rattle.std.specs.Ordering.{nat_cmp, int_cmp, ordering_reverse}
 use Rattle.std.specs.Cmp.Lexicographic.{slice_cmp}
@@ -8,7 +8,7 @@ use Rattle.vb_value.specs.declared.number.Number.{Number}
 use Rattle.vb_value.specs.declared.operator.Op1.{Op1}
 use Rattle.vb_value.specs.declared.operator.Op2.{Op2}
 use Rattle.vb_value.specs.declared.operator.Op2.TheVariants as operator
-use Rattle.vb_value.specs.declared.value.Value.{Value, Empty, Null, Bool as Boolean, Int, Long, Cur, Str, Arr'}
+use Rattle.vb_value.specs.declared.value.Value.{Value, Null, Bool as Boolean, Str, Arr'}
 use Rattle.vb_value.specs.declared.value.Value.{Obj, Nothing}
 use Rattle.vb_value.specs.Conversions.{number_value, to_long_of}
 use Rattle.vb_value.specs.Numbers.{whole_of}
@@ -47,11 +47,16 @@ abbrev pub ComparesRound : Type 0
 ComparesRound = (a b : Value) (order : Option Ordering) → compare_of a b ≡ Ok order
     → compare_of b a ≡ Ok (option_map ordering_reverse order)
 
+-- whether a number is below 0
+abbrev pub is_negative : ℤ → Bool
+is_negative (pos n) = false
+is_negative (negsuc less) = true
+
 -- x divided by y has a quotient and a rest: the rest is smaller than y, and is 0 or has the sign of x
 pub record IsDivision (x y quotient rest : ℤ) : Type 0 where
   pub whole : (quotient *ℤ y) +ℤ rest ≡ x
   pub smaller : unsigned_abs rest < unsigned_abs y
-  pub sign : (rest ≡ pos 0) ⊎ (int_lt rest (pos 0) ≡ int_lt x (pos 0))
+  pub sign : (rest ≡ pos 0) ⊎ (is_negative rest ≡ is_negative x)
 
 -- what `\` and `Mod` give are quotient and rest of the two sides as Longs
 abbrev pub Divides : Type 0
@@ -74,9 +79,10 @@ implications =
     ∷ (Null, Null, Null)
     ∷ []
 
--- `Imp` gives what the table says
-abbrev pub FollowsTable : Type 0
-FollowsTable = All (λ row. apply2_of operator.Imp row.0 row.1 ≡ Ok row.2) implications
+-- an operator gives what the rows of a table say
+abbrev pub FollowsTable : Op2 → List (Value × Value × Value) → Type 0
+FollowsTable op [] = Unit {0}
+FollowsTable op (row ∷ rows) = (apply2_of op row.0 row.1 ≡ Ok row.2) × FollowsTable op rows
 
 -- what operators give of sound values is sound
 abbrev pub GivesSoundOfOne : Type 0

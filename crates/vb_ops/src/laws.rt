@@ -1,5 +1,5 @@
 //! Laws of the operators' definitions. The functions do nothing: their contracts are the laws.
-ghost use Rattle.vb_ops.specs.Laws.{Commutes, ComparesAmounts, ComparesRound, ComparesTexts, Divides, FollowsTable};
+ghost use Rattle.vb_ops.specs.Laws.{Commutes, ComparesAmounts, ComparesRound, ComparesTexts, Divides, FollowsTable, implications};
 ghost use Rattle.vb_ops.specs.Laws.{GivesSoundOfOne, GivesSoundOfTwo};
 ghost use Rattle.std.specs.Cmp.{IsTotalOrder};
 ghost use Rattle.std.specs.Cmp.Lexicographic.{slice_cmp};
@@ -37,7 +37,7 @@ pub fn division_leaves_a_rest()
 
 /// `Imp` of Booleans and Null is the table of the reference.
 pub fn implication_is_its_table()
-    ensures { FollowsTable }
+    ensures { FollowsTable Op2.Imp implications }
 {}
 
 /// What the operators give of sound values is sound.
