@@ -1,3 +1,4 @@
+pub mod BorderTables
 pub mod Cuts
 pub mod Items
 pub mod Joins
@@ -5,5 +6,6 @@ pub mod TextLaws
 pub mod SearchLaws
 pub mod SplitLaws
 pub mod Orders
-pub mod Places
+pub mod Found
+pub mod Searched
 pub mod Rejoined

@@ -11,7 +11,7 @@ use Rattle.vb_strings.specs.Comparing.{same}
 use Rattle.vb_strings.specs.Laws.{SearchesAgree, SearchesFolded, StandsOnce}
 use Rattle.vb_strings.specs.Results.{long}
 use Rattle.vb_strings.specs.Searching.{begins, stands, last_in, place_of, search_from, search_up_to}
-use Rattle.vb_strings.proofs.Places.{first_is, last_is}
+use Rattle.vb_strings.proofs.Found.{first_is, last_is}
 
 -- a number that a Long holds
 long_fits : (n : ℕ) → n < 2 ^ 31 → long n ≡ Ok (Long (pos n))

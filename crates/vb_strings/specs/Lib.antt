@@ -1,6 +1,7 @@
 pub mod Results
 pub mod Texts
 pub mod Comparing
+pub mod Borders
 pub mod Parts
 pub mod Letters
 pub mod Repeating

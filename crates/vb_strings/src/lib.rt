@@ -1,6 +1,7 @@
 //! The functions of the language on texts.
 #![tactic(auto)]
 
+mod borders;
 mod characters;
 mod comparing;
 mod functions;
@@ -8,6 +9,7 @@ mod joining;
 mod laws;
 mod letters;
 mod parts;
+mod places;
 mod repeating;
 mod replacing;
 mod results;
@@ -21,5 +23,3 @@ pub use laws::{
     splits_and_joins,
 };
 
-#[cfg(test)]
-mod tests;

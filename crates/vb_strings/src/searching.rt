@@ -1,11 +1,14 @@
 //! Places of one text in another.
-ghost use Rattle.std.specs.Prelude.{◌≡◌, ◌+◌, ◌≤◌, IfSome, length};
+ghost use Rattle.std.specs.Prelude.{◌≡◌};
+ghost use Rattle.vb_strings.specs.Borders.{AreBorders};
 ghost use Rattle.vb_value.specs.Errors.{told};
 ghost use Rattle.vb_value.specs.Outcome.{Answers};
 ghost use Rattle.vb_strings.specs.Searching as spec;
 
-use crate::comparing::{Comparison, comparison_named, same};
+use crate::borders::borders;
+use crate::comparing::{Comparison, comparison_named};
 use crate::parts::{at_most, behind};
+use crate::places::{first_in, last_place_in};
 use crate::results::{INVALID_CALL, before_place, long, most};
 use crate::texts::as_text;
 use std::alloc::Global;
@@ -40,28 +43,38 @@ fn first_place(
     let text = as_text(alloc, a)?;
     let pattern = as_text(alloc, b)?;
     let comparison = comparison?;
-    Ok(search_from(comparison, text.as_slice(), pattern.as_slice(), from)?)
+    search_from(alloc, comparison, text.as_slice(), pattern.as_slice(), from)
 }
 
 /// A search of a text from a place on.
 #[tactic(auto, unfolding(crate::specs::Searching::search_from))]
 fn search_from(
+    alloc: Global,
     comparison: Comparison,
     text: &[char],
     pattern: &[char],
     place: i32,
-) -> Result<Value, VbError>
-    ensures { result ≡ spec.search_from comparison text.now pattern.now place }
+) -> Result<Value, VbFault>
+    ensures { Answers result VbFault.Memory (told (spec.search_from comparison text.now pattern.now place)) }
 {
     let skipped = before_place(place)?;
-    long(place_behind(comparison, skipped, text, pattern))
+    let borders = borders(alloc, comparison, pattern)?;
+    let place = place_behind(comparison, skipped, text, pattern, borders.as_slice());
+    Ok(long(place)?)
 }
 
 /// The first place of the pattern behind the skipped characters, 0 where there is none.
-fn place_behind(comparison: Comparison, skipped: usize, text: &[char], pattern: &[char]) -> usize
+fn place_behind(
+    comparison: Comparison,
+    skipped: usize,
+    text: &[char],
+    pattern: &[char],
+    borders: &[usize],
+) -> usize
+    requires { AreBorders comparison pattern.now borders.now }
     ensures { result ≡ spec.place_behind comparison skipped text.now pattern.now }
 {
-    match first_in(comparison, behind(text, skipped), pattern) {
+    match first_in(comparison, behind(text, skipped), pattern, borders) {
         Some(before) => skipped + before + 1,
         None => 0,
     }
@@ -96,21 +109,24 @@ fn last_place(
     let pattern = as_text(alloc, b)?;
     let from = from?;
     let comparison = comparison?;
-    Ok(search_up_to(comparison, text.as_slice(), pattern.as_slice(), from)?)
+    search_up_to(alloc, comparison, text.as_slice(), pattern.as_slice(), from)
 }
 
 /// A search of a text up to a place, toward the front.
 #[tactic(auto, unfolding(crate::specs::Searching::search_up_to))]
 fn search_up_to(
+    alloc: Global,
     comparison: Comparison,
     text: &[char],
     pattern: &[char],
     place: i32,
-) -> Result<Value, VbError>
-    ensures { result ≡ spec.search_up_to comparison text.now pattern.now place }
+) -> Result<Value, VbFault>
+    ensures { Answers result VbFault.Memory (told (spec.search_up_to comparison text.now pattern.now place)) }
 {
     let last = end(text, place)?;
-    long(place_up_to(comparison, last, text, pattern))
+    let borders = borders(alloc, comparison, pattern)?;
+    let place = place_up_to(comparison, last, text, pattern, borders.as_slice());
+    Ok(long(place)?)
 }
 
 /// The place at which a search toward the front begins: that of the last character for -1.
@@ -124,63 +140,18 @@ fn end(text: &[char], place: i32) -> Result<usize, VbError>
 }
 
 /// The last place of the pattern that ends at or before a place, 0 where there is none.
-fn place_up_to(comparison: Comparison, last: usize, text: &[char], pattern: &[char]) -> usize
+fn place_up_to(
+    comparison: Comparison,
+    last: usize,
+    text: &[char],
+    pattern: &[char],
+    borders: &[usize],
+) -> usize
+    requires { AreBorders comparison pattern.now borders.now }
     ensures { result ≡ spec.place_up_to comparison last text.now pattern.now }
 {
     if text.len() < last {
         return 0;
     }
-    match last_in(comparison, at_most(text, last), pattern) {
-        Some(before) => before + 1,
-        None => 0,
-    }
-}
-
-/// How many characters stand before the first place at which the pattern stands in the text.
-#[tactic(auto, using(crate::proofs::Places::first_is, crate::proofs::Places::none_found, crate::proofs::Places::fits))]
-pub fn first_in(comparison: Comparison, text: &[char], pattern: &[char]) -> Option<usize>
-    ensures place { result ≡ spec.first_in comparison text.now pattern.now }
-    ensures within { IfSome result (λ before. before + length pattern.now ≤ length text.now) }
-{
-    for before in 0..text.len() {
-        if begins(comparison, behind(text, before), pattern) {
-            return Some(before);
-        }
-    }
-    None
-}
-
-/// How many characters stand before the last place at which the pattern stands in the text.
-#[tactic(auto, using(crate::proofs::Places::last_is, crate::proofs::Places::none_left, crate::proofs::Places::fits))]
-fn last_in(comparison: Comparison, text: &[char], pattern: &[char]) -> Option<usize>
-    ensures place { result ≡ spec.last_in comparison text.now pattern.now }
-    ensures within { IfSome result (λ before. before + length pattern.now ≤ length text.now) }
-{
-    let mut before = text.len();
-    while 0 < before {
-        before -= 1;
-        if begins(comparison, behind(text, before), pattern) {
-            return Some(before);
-        }
-    }
-    None
-}
-
-/// Whether the text begins with the pattern.
-fn begins(comparison: Comparison, text: &[char], pattern: &[char]) -> bool
-    ensures { result ≡ spec.begins comparison text.now pattern.now }
-{
-    let mut left = text;
-    let mut wanted = pattern;
-    while let [letter, others @ ..] = wanted {
-        let [character, rest @ ..] = left else {
-            return false;
-        };
-        if !same(comparison, *character, *letter) {
-            return false;
-        }
-        left = rest;
-        wanted = others;
-    }
-    true
+    last_place_in(comparison, at_most(text, last), pattern, borders)
 }

@@ -5,10 +5,11 @@ ghost use Rattle.vb_value.specs.Errors.{told};
 ghost use Rattle.vb_value.specs.Outcome.{Answers, Gives};
 ghost use Rattle.vb_strings.specs.Splitting as spec;
 
+use crate::borders::borders;
 use crate::comparing::{Comparison, comparison_named};
 use crate::parts::{at_most, behind};
 use crate::results::most;
-use crate::searching::first_in;
+use crate::places::first_in;
 use crate::texts::as_text;
 use std::alloc::Global;
 use vb_value::{Array, List, Memory, Text, Value, VbError, VbFault, as_long, to_long};
@@ -122,11 +123,12 @@ pub fn parts(
 ) -> Result<List<Text>, Memory>
     ensures { Gives result (spec.parts comparison separator.now cuts text.now) }
 {
+    let borders = borders(alloc, comparison, separator)?;
     let mut parts = List::new(alloc);
     let mut rest = text;
     let mut left = cuts;
     while 0 < left
-        && let Some(before) = first_in(comparison, rest, separator)
+        && let Some(before) = first_in(comparison, rest, separator, borders.as_slice())
     {
         parts.push(Text::from_slice(alloc, at_most(rest, before))?)?;
         rest = behind(rest, before + separator.len());

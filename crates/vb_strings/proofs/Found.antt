@@ -1,5 +1,5 @@
 -- Places of a pattern in a text.
-use Rattle.std.proofs.Common.{◌≡◌, ℕ, ◌+◌, ◌-◌, ◌<◌, ◌≤◌, Bool, true, false, List, [], ◌∷◌, Some, None}
+use Rattle.std.proofs.Common.{zero, suc, sym, subst, ◌≡◌, ℕ, ◌+◌, ◌-◌, ◌<◌, ◌≤◌, Bool, true, false, List, [], ◌∷◌, Some, None}
 use Rattle.std.proofs.Common.{length, drop, get_or, reverse, refl, ap, ◌∙◌, arith, length-drop}
 use Rattle.std.specs.List.{find, range_with_len}
 use Rattle.std.proofs.lemmas.Bool.{and_parts}
@@ -8,7 +8,7 @@ use Rattle.std.proofs.lemmas.List.FromFn.{length-range_with_len, get_or-range_wi
 use Rattle.std.proofs.lemmas.List.Recursion.{found_at, found_nowhere}
 use Rattle.vb_strings.specs.declared.comparing.Comparison.{Comparison}
 use Rattle.vb_strings.specs.Comparing.{same}
-use Rattle.vb_strings.specs.Searching.{begins, stands, first_in, last_in}
+use Rattle.vb_strings.specs.Searching.{begins, stands, first_in, last_in, place_of}
 
 -- a text is as long as what it begins with
 begins_fits : (comparison : Comparison) (text pattern : List ℕ) → begins comparison text pattern ≡ true
@@ -99,3 +99,21 @@ module _ (comparison : Comparison) (text pattern : List ℕ) where
   pub none_left : ((k : ℕ) → k < length text → stands comparison text pattern k ≡ false)
       → last_in comparison text pattern ≡ None
   none_left = none_in_reverse (stands comparison text pattern) (length text)
+
+  -- the last place, counted from 1
+  pub last_place_is : (last : ℕ) → last ≤ length text → (0 < last → stands comparison text pattern (last - 1) ≡ true)
+      → ((k : ℕ) → last ≤ k → k < length text → stands comparison text pattern k ≡ false)
+      → last ≡ place_of 0 (last_in comparison text pattern)
+  last_place_is zero within here none = sym (ap (place_of 0) (none_left (λ k below. none k (omega arith) below)))
+  last_place_is (suc before) within here none =
+      let back : suc before - 1 ≡ before = omega arith in
+      let stood : stands comparison text pattern before ≡ true =
+      subst (λ n. stands comparison text pattern n ≡ true) back (here (omega arith)) in
+      let place : 0 + before + 1 ≡ suc before = omega arith in
+      sym (ap (place_of 0) (last_is before (omega arith) (λ k above below. none k (omega arith) below) stood) ∙ place)
+
+-- a pattern without characters stands last at the last character
+pub last_of_nothing : (comparison : Comparison) (text : List ℕ)
+    → length text ≡ place_of 0 (last_in comparison text [])
+last_of_nothing comparison text =
+    last_place_is comparison text [] (length text) (omega arith) (λ some. refl) (λ k above below. absurd (omega arith))
