@@ -7,7 +7,7 @@ use Rattle.std.proofs.lemmas.List.{take-append-drop, drop-drop}
 use Rattle.vb_strings.specs.declared.comparing.Comparison.{Comparison}
 use Rattle.vb_strings.specs.declared.comparing.Comparison.TheVariants.{Exact}
 use Rattle.vb_strings.specs.Comparing.{same}
-use Rattle.vb_strings.specs.Searching.{begins, stands, places, first_in}
+use Rattle.vb_strings.specs.Searching.{begins, stands, places_in, first_in}
 use Rattle.vb_strings.specs.Splitting.{cut, parts}
 use Rattle.vb_strings.specs.Joining.{behind, joined}
 
@@ -36,11 +36,11 @@ exact_beginning (character ∷ text) (letter ∷ pattern) is =
     cc
 
 -- what stands before the first separator, the separator, and what stands behind it
-around_first : (text separator : List ℕ) (before : ℕ) → first_in Exact text separator ≡ Some before
+pub around_first : (text separator : List ℕ) (before : ℕ) → first_in Exact text separator ≡ Some before
     → take before text ++ (separator ++ drop (before + length separator) text) ≡ text
 around_first text separator before is =
     let here : stands Exact text separator before ≡ true =
-    found_passes (stands Exact text separator) (places text) before is in
+    found_passes (stands Exact text separator) (places_in text) before is in
     ap (λ rest. take before text ++ (separator ++ rest)) (sym (drop-drop (length separator) before text))
     ∙ ap (λ rest. take before text ++ rest) (exact_beginning (drop before text) separator here)
     ∙ take-append-drop before text

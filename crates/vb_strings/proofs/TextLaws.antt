@@ -1,23 +1,38 @@
--- The laws of the functions.
-use Rattle.std.proofs.Common.{◌≡◌, ℕ, ◌+◌, ◌-◌, ◌<◌, ◌≤◌, ◌^◌, List, [], ◌∷◌, ◌++◌, Ok, pos, length, take, drop, refl}
-use Rattle.std.proofs.Common.{Result}
-use Rattle.std.proofs.Common.{sym, ap, ◌∙◌, append_assoc, arith}
-use Rattle.std.proofs.lemmas.Bool.{lt-ltb, ne_eqb}
-use Rattle.std.proofs.lemmas.List.{reverse-reverse, take-append-drop, drop-drop}
+-- The laws on lengths and parts of texts, and on characters.
+use Rattle.std.proofs.Common.{◌≡◌, ℕ, zero, suc, ◌+◌, ◌-◌, ◌<◌, ◌≤◌, ◌^◌, min, Bool, true, false, if◌then◌else◌}
+use Rattle.std.proofs.Common.{ℤ, pos, negsuc, ◌-ℤ◌, List, [], ◌∷◌, ◌++◌, Result, Ok, nat_lt, length, take, drop, reverse}
+use Rattle.std.proofs.Common.{refl, sym, ap, ◌∙◌, append_assoc, arith, inl, inr, length-drop, length-append, eqb}
+use Rattle.std.proofs.lemmas.Int.{ints}
+use Rattle.std.proofs.lemmas.Bool.{lt-ltb, le-ltb, ne_eqb, cases_lt}
+use Rattle.std.proofs.lemmas.List.{get_or-reverse, length-reverse, take-append-drop, drop-drop, length-take}
+use lib.Utf8.{scalar}
 use Rattle.vb_value.specs.declared.fault.VbError.{VbError}
-use Rattle.vb_value.specs.declared.function.StrFn.TheVariants.{Left, Right, Mid}
-use Rattle.vb_value.specs.declared.value.Value.{Value, Long, Str}
+use Rattle.vb_value.specs.declared.function.StrFn.TheVariants.{Left, Right, Mid, Len, Asc, Chr}
+use Rattle.vb_value.specs.declared.value.Value.{Value, Int, Long, Str}
 use Rattle.vb_value.specs.Conversions.{to_long_of}
+use Rattle.vb_value.specs.Errors.{and_then}
+use Rattle.vb_value.specs.TextLimit.{most_characters}
+use Rattle.vb_strings.specs.Characters.{number_of, code_of, character_of}
 use Rattle.vb_strings.specs.Functions.{call_string_of}
-use Rattle.vb_strings.specs.Laws.{ReversesTwice, PartsTogether, text_in}
-use Rattle.vb_strings.specs.Results.{before_place}
+use Rattle.vb_strings.specs.Laws.{PartsTogether, EndsMeasured, Reverses, CharactersComeBack, text_in}
+use Rattle.vb_strings.specs.Results.{before_place, bounded, long}
+use Rattle.vb_strings.proofs.Bounds.{limited_fits}
 
-pub reverses_twice : ReversesTwice
-reverses_twice text = ap (λ (again : List ℕ). Ok (Str again)) (reverse-reverse text)
+pub reverses : Reverses
+reverses text short = record {
+  turned = reverse text;
+  given = limited_fits (reverse text) (omega (arith, length-reverse text));
+  as_long = length-reverse text;
+  each = λ k below. get_or-reverse text k 0 below;
+}
 
 -- a Long that fits is itself
-long_itself : (n : ℕ) → n < 2 ^ 31 → to_long_of (Long (pos n)) ≡ Ok (pos n)
+pub long_itself : (n : ℕ) → n < 2 ^ 31 → to_long_of (Long (pos n)) ≡ Ok (pos n)
 long_itself n fits = rw (lt-ltb n (2 ^ 31) fits) refl
+
+-- a number that a Long holds
+pub long_fits : (n : ℕ) → n < 2 ^ 31 → long n ≡ Ok (Long (pos n))
+long_fits n fits = rw (lt-ltb n (2 ^ 31) fits) refl
 
 -- the place behind so many characters
 place_behind_count : (count : ℕ) → before_place (pos (count + 1)) ≡ Ok count
@@ -26,19 +41,24 @@ place_behind_count count =
     let back : count + 1 - 1 ≡ count = omega arith in
     rw (ne_eqb (count + 1) 0 some) (ap Ok back)
 
-left_part : (text : List ℕ) (count : ℕ) → count < 2 ^ 31
+left_part : (text : List ℕ) (count : ℕ) → count < 2 ^ 31 → length text ≤ most_characters
     → call_string_of Left (Str text ∷ Long (pos count) ∷ []) ≡ Ok (Str (take count text))
-left_part text count fits = rw (long_itself count fits) refl
+left_part text count fits short =
+    rw (long_itself count fits) (limited_fits (take count text) (omega (arith, length-take count text)))
 
-right_part : (text : List ℕ) (count : ℕ) → count < 2 ^ 31
+right_part : (text : List ℕ) (count : ℕ) → count < 2 ^ 31 → length text ≤ most_characters
     → call_string_of Right (Str text ∷ Long (pos count) ∷ []) ≡ Ok (Str (drop (length text - count) text))
-right_part text count fits = rw (long_itself count fits) refl
+right_part text count fits short =
+    rw (long_itself count fits)
+    (limited_fits (drop (length text - count) text) (omega (arith, length-drop (length text - count) text)))
 
-middle_part : (text : List ℕ) (count more : ℕ) → count + 1 < 2 ^ 31 → more < 2 ^ 31
+middle_part : (text : List ℕ) (count more : ℕ) → count + 1 < 2 ^ 31 → more < 2 ^ 31 → length text ≤ most_characters
     → call_string_of Mid (Str text ∷ Long (pos (count + 1)) ∷ Long (pos more) ∷ [])
     ≡ Ok (Str (take more (drop count text)))
-middle_part text count more fits more_fits =
-    rw (long_itself (count + 1) fits) (rw (long_itself more more_fits) (rw (place_behind_count count) refl))
+middle_part text count more fits more_fits short =
+    rw (long_itself (count + 1) fits) (rw (long_itself more more_fits) (rw (place_behind_count count)
+    (limited_fits (take more (drop count text))
+    (omega (arith, length-take more (drop count text), length-drop count text)))))
 
 -- three answers that are texts, put together
 three_texts : (a b c : Result Value VbError) (x y z text : List ℕ) → a ≡ Ok (Str x) → b ≡ Ok (Str y)
@@ -66,7 +86,20 @@ parts_together text count more within short =
     (call_string_of Mid (Str text ∷ Long (pos (count + 1)) ∷ Long (pos more) ∷ []))
     (call_string_of Right (Str text ∷ Long (pos (length text - (count + more))) ∷ []))
     (take count text) (take more (drop count text)) (drop (length text - (length text - (count + more))) text) text
-    (left_part text count (omega arith))
-    (middle_part text count more (omega arith) (omega arith))
-    (right_part text (length text - (count + more)) (omega arith))
+    (left_part text count (omega arith) short)
+    (middle_part text count more (omega arith) (omega arith) short)
+    (right_part text (length text - (count + more)) (omega arith) short)
     (three_parts text count more within)
+
+-- the length of a text
+len_is : (text : List ℕ) (n : ℕ) → length text ≡ n → n < 2 ^ 31 → call_string_of Len (Str text ∷ []) ≡ Ok (Long (pos n))
+len_is text n is fits = ap (λ count. bounded (long count)) is ∙ ap bounded (long_fits n fits)
+
+pub ends_measured : EndsMeasured
+ends_measured text count fits short =
+    let from_end : length (drop (length text - count) text) ≡ min count (length text) =
+    length-drop (length text - count) text ∙ omega arith in
+    (ap (λ answer. and_then answer (λ part. call_string_of Len (part ∷ []))) (left_part text count fits short)
+    ∙ len_is (take count text) (min count (length text)) (length-take count text) (omega arith),
+    ap (λ answer. and_then answer (λ part. call_string_of Len (part ∷ []))) (right_part text count fits short)
+    ∙ len_is (drop (length text - count) text) (min count (length text)) from_end (omega arith))

@@ -5,8 +5,7 @@ use Rattle.vb_value.specs.declared.fault.VbError.{VbError}
 use Rattle.vb_value.specs.declared.value.Value.{Value, Int, Long, Str}
 use Rattle.vb_value.specs.Arguments.{of_one}
 use Rattle.vb_value.specs.Conversions.{to_long_of, to_str_of}
-use Rattle.vb_value.specs.Errors.{and_then}
-use Rattle.vb_strings.specs.Results.{invalid_call}
+use Rattle.vb_value.specs.Errors.{and_then, invalid_call}
 use Rattle.vb_strings.specs.Repeating.{first_of}
 
 -- the number of a character: an Integer, which from 32768 on is smaller by 65536, and a Long from 65536 on

@@ -10,10 +10,9 @@ use Rattle.vb_value.specs.declared.fault.VbError.{VbError}
 use Rattle.vb_value.specs.declared.value.Value.{Value, Null, Int}
 use Rattle.vb_value.specs.Arguments.{is_null}
 use Rattle.vb_value.specs.Conversions.{to_long_of, to_str_of}
-use Rattle.vb_value.specs.Errors.{wrong_number, and_then}
+use Rattle.vb_value.specs.Errors.{wrong_number, and_then, invalid_call}
 use Rattle.vb_strings.specs.declared.comparing.Comparison.{Comparison}
 use Rattle.vb_strings.specs.declared.comparing.Comparison.TheVariants.{Exact, AnyCase}
-use Rattle.vb_strings.specs.Results.{invalid_call}
 
 -- the comparison that a number names: 0 or 1
 abbrev pub named : ℤ → Result Comparison VbError

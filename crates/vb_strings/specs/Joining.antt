@@ -3,12 +3,11 @@ use Rattle.std.specs.Prelude.{ℕ, ◌==◌, if◌then◌else◌, ℤ, List, [],
 use Rattle.std.specs.List.{flat_map}
 use Rattle.vb_value.specs.declared.fault.VbError.{VbError}
 use Rattle.vb_value.specs.declared.value.Array.{Array}
-use Rattle.vb_value.specs.declared.value.Value.{Value, out-Value}
+use Rattle.vb_value.specs.declared.value.Value.{Value, Str, out-Value}
 use Rattle.vb_value.specs.declared.value.Value.TheOpen.{Value-F}
 use Rattle.vb_value.specs.Arguments.{is_null}
 use Rattle.vb_value.specs.Conversions.{to_str_of}
-use Rattle.vb_value.specs.Errors.{wrong_number, and_then, type_mismatch, invalid_use_of_null}
-use Rattle.vb_strings.specs.Results.{invalid_call, limited}
+use Rattle.vb_value.specs.Errors.{wrong_number, and_then, type_mismatch, invalid_use_of_null, invalid_call}
 use Rattle.vb_strings.specs.Splitting.{one_space}
 
 -- texts one behind another, with a separator before each
@@ -29,7 +28,7 @@ texts_of (value ∷ values) =
 -- the items of an array of one dimension as one text
 abbrev pub join_items : List ℤ → List Value → List ℕ → Result Value VbError
 join_items bounds items separator =
-    if length bounds == 1 then and_then (texts_of items) (λ texts. limited (joined separator texts))
+    if length bounds == 1 then and_then (texts_of items) (λ texts. Ok (Str (joined separator texts)))
     else Err invalid_call
 
 -- the same at one level of a value; a Type mismatch where that is no array

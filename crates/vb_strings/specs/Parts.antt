@@ -3,6 +3,7 @@ use Rattle.std.specs.Prelude.{ℕ, ◌-◌, Bool, ◌==◌, List, [], ◌∷◌,
 use Rattle.vb_value.specs.declared.fault.VbError.{VbError}
 use Rattle.vb_value.specs.declared.value.Value.{Value, Str}
 use Rattle.vb_value.specs.Arguments.{of_one, null_or}
+use Rattle.vb_value.specs.Characters.{space}
 use Rattle.vb_value.specs.Conversions.{to_long_of, to_str_of}
 use Rattle.vb_value.specs.Errors.{wrong_number, and_then}
 use Rattle.vb_value.specs.NumericText.{without_first, without_last}
@@ -10,7 +11,7 @@ use Rattle.vb_strings.specs.Results.{count_of, before_place, long}
 
 -- Len(s): the number of its characters
 abbrev pub len_of : List Value → Result Value VbError
-len_of = of_one (null_or (λ s. and_then (to_str_of s) (λ text. long (length text))))
+len_of = of_one (null_or (λ value. and_then (to_str_of value) (λ text. long (length text))))
 
 -- at most so many characters from the front
 abbrev pub front : List ℕ → ℕ → List ℕ
@@ -28,12 +29,12 @@ part measured s n =
 
 -- Left(s, n)
 abbrev pub left_of : List Value → Result Value VbError
-left_of (s ∷ n ∷ []) = null_or (λ s. part front s n) s
+left_of (s ∷ n ∷ []) = null_or (λ value. part front value n) s
 left_of _ = Err wrong_number
 
 -- Right(s, n)
 abbrev pub right_of : List Value → Result Value VbError
-right_of (s ∷ n ∷ []) = null_or (λ s. part back s n) s
+right_of (s ∷ n ∷ []) = null_or (λ value. part back value n) s
 right_of _ = Err wrong_number
 
 -- a text from a place on
@@ -51,13 +52,13 @@ middle s i n =
 
 -- Mid(s, i [, n])
 abbrev pub mid_of : List Value → Result Value VbError
-mid_of (s ∷ i ∷ []) = null_or (λ s. rest s i) s
-mid_of (s ∷ i ∷ n ∷ []) = null_or (λ s. middle s i n) s
+mid_of (s ∷ i ∷ []) = null_or (λ value. rest value i) s
+mid_of (s ∷ i ∷ n ∷ []) = null_or (λ value. middle value i n) s
 mid_of _ = Err wrong_number
 
 -- a space
 abbrev pub is_space : ℕ → Bool
-is_space character = character == 32
+is_space character = character == space
 
 -- a text made of another
 abbrev pub changed : (List ℕ → List ℕ) → Value → Result Value VbError

@@ -2,13 +2,13 @@
 use Rattle.std.specs.Prelude.{ℕ, ◌==◌, if◌then◌else◌, ℤ, pos, negsuc, List, [], ◌∷◌, length, drop}
 use Rattle.std.specs.Prelude.{Result, Ok, Err}
 use Rattle.vb_value.specs.declared.fault.VbError.{VbError}
-use Rattle.vb_value.specs.declared.value.Value.{Value}
+use Rattle.vb_value.specs.declared.value.Value.{Value, Str}
 use Rattle.vb_value.specs.Conversions.{to_long_of, to_str_of}
 use Rattle.vb_value.specs.Errors.{wrong_number, and_then}
 use Rattle.vb_strings.specs.declared.comparing.Comparison.{Comparison}
 use Rattle.vb_strings.specs.declared.comparing.Comparison.TheVariants.{Exact}
 use Rattle.vb_strings.specs.Comparing.{comparison_of}
-use Rattle.vb_strings.specs.Results.{before_place, most_of, limited}
+use Rattle.vb_strings.specs.Results.{before_place, most_of}
 use Rattle.vb_strings.specs.Splitting.{parts}
 use Rattle.vb_strings.specs.Joining.{joined}
 
@@ -26,7 +26,7 @@ replaced comparison pattern other most text = joined other (around comparison pa
 abbrev pub replaced_from : Comparison → List ℕ → List ℕ → List ℕ → ℤ → ℤ → Result Value VbError
 replaced_from comparison text pattern other place number =
     and_then (before_place place) (λ skipped. and_then (most_of (length text) number) (λ most.
-    limited (replaced comparison pattern other most (drop skipped text))))
+    Ok (Str (replaced comparison pattern other most (drop skipped text)))))
 
 -- Replace with all its arguments
 abbrev pub replace_value : Value → Value → Value → Result ℤ VbError → Result ℤ VbError

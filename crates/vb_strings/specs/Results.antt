@@ -1,13 +1,14 @@
--- What numbers among the arguments count, and what answers hold. The limits are the host's.
-use Rattle.std.specs.Prelude.{ℕ, ◌-◌, ◌==◌, nat_le, if◌then◌else◌, ℤ, pos, negsuc, List, length, Result, Ok, Err}
+-- What numbers among the arguments count, and what answers hold.
+use Rattle.std.specs.Prelude.{ℕ, ◌-◌, Bool, true, ◌==◌, nat_le, if◌then◌else◌, ℤ, pos, negsuc, List, length}
+use Rattle.std.specs.Prelude.{Result, Ok, Err}
+use Rattle.std.specs.List.{list_all}
 use Rattle.vb_value.specs.declared.fault.VbError.{VbError}
-use Rattle.vb_value.specs.declared.value.Value.{Value, Long, Str}
-use Rattle.vb_value.specs.Errors.{error, and_then, out_of_string_space}
+use Rattle.vb_value.specs.declared.value.Array.{Array}
+use Rattle.vb_value.specs.declared.value.Value.{Value, Long, Str, Arr', out-Value}
+use Rattle.vb_value.specs.declared.value.Value.TheOpen.{Value-F}
+use Rattle.vb_value.specs.Errors.{and_then, invalid_call, out_of_string_space}
 use Rattle.vb_value.specs.Numbers.{as_long}
-
--- Invalid procedure call or argument
-abbrev pub invalid_call : VbError
-invalid_call = error 5
+use Rattle.vb_value.specs.TextLimit.{most_characters, limited}
 
 -- a number of characters, which is 0 at least
 abbrev pub count_of : ℤ → Result ℕ VbError
@@ -28,6 +29,24 @@ most_of all (negsuc less) = if less == 0 then Ok all else Err invalid_call
 abbrev pub long : ℕ → Result Value VbError
 long n = and_then (as_long (pos n)) (λ z. Ok (Long z))
 
--- a text that was made; Out of string space where it is too long
-abbrev pub limited : List ℕ → Result Value VbError
-limited text = if nat_le (length text) 1048576 then Ok (Str text) else Err out_of_string_space
+-- whether an item of an array is no text that is too long
+abbrev pub is_short : Value → Bool
+is_short (Str text) = nat_le (length text) most_characters
+is_short value = true
+
+-- whether no item of an array is a text that is too long, at one level of a value
+abbrev pub items_short : Value-F Value Array → Bool
+items_short (Value-F.Arr array) = list_all is_short array.items
+items_short _ = true
+
+-- a value as an answer: Out of string space where it is a text that is too long, or an array with one among its items
+abbrev pub answered : Value → Result Value VbError
+answered (Str text) = limited text
+answered (Arr' bounds fixed shape items) =
+    if items_short (out-Value (Arr' bounds fixed shape items)) then Ok (Arr' bounds fixed shape items)
+    else Err out_of_string_space
+answered value = Ok value
+
+-- an answer within the limit on texts, the same for every function
+abbrev pub bounded : Result Value VbError → Result Value VbError
+bounded answer = and_then answer answered

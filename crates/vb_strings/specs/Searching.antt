@@ -6,11 +6,11 @@ use Rattle.vb_value.specs.declared.fault.VbError.{VbError}
 use Rattle.vb_value.specs.declared.value.Value.{Value, Null}
 use Rattle.vb_value.specs.Arguments.{is_null}
 use Rattle.vb_value.specs.Conversions.{to_long_of, to_str_of}
-use Rattle.vb_value.specs.Errors.{wrong_number, and_then}
+use Rattle.vb_value.specs.Errors.{wrong_number, and_then, invalid_call}
 use Rattle.vb_strings.specs.declared.comparing.Comparison.{Comparison}
 use Rattle.vb_strings.specs.declared.comparing.Comparison.TheVariants.{Exact}
 use Rattle.vb_strings.specs.Comparing.{same, comparison_of}
-use Rattle.vb_strings.specs.Results.{invalid_call, before_place, most_of, long}
+use Rattle.vb_strings.specs.Results.{before_place, most_of, long}
 
 -- whether a text begins with a pattern
 abbrev pub begins : Comparison → List ℕ → List ℕ → Bool
@@ -24,16 +24,16 @@ abbrev pub stands : Comparison → List ℕ → List ℕ → ℕ → Bool
 stands comparison text pattern before = begins comparison (drop before text) pattern
 
 -- how many characters stand before each of a text's characters
-abbrev pub places : List ℕ → List ℕ
-places text = range_with_len 0 (length text)
+abbrev pub places_in : List ℕ → List ℕ
+places_in text = range_with_len 0 (length text)
 
 -- how many characters stand before the first place at which a pattern stands in a text
 abbrev pub first_in : Comparison → List ℕ → List ℕ → Option ℕ
-first_in comparison text pattern = find (stands comparison text pattern) (places text)
+first_in comparison text pattern = find (stands comparison text pattern) (places_in text)
 
 -- how many characters stand before the last such place
 abbrev pub last_in : Comparison → List ℕ → List ℕ → Option ℕ
-last_in comparison text pattern = find (stands comparison text pattern) (reverse (places text))
+last_in comparison text pattern = find (stands comparison text pattern) (reverse (places_in text))
 
 -- the place behind so many characters and those that were skipped, 0 where there is none
 abbrev pub place_of : ℕ → Option ℕ → ℕ

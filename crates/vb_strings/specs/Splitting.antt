@@ -1,12 +1,15 @@
 -- Split (VBScript 5.6, "String Functions").
-use Rattle.std.specs.Prelude.{ℕ, zero, suc, ◌+◌, ◌-◌, ◌==◌, false, if◌then◌else◌, ℤ, pos, negsuc, ◌-ℤ◌}
+use Rattle.std.specs.Prelude.{Bool, nat_le, ℕ, zero, suc, ◌+◌, ◌-◌, ◌==◌, false, if◌then◌else◌, ℤ, pos, negsuc, ◌-ℤ◌}
 use Rattle.std.specs.Prelude.{List, [], ◌∷◌, length, take, drop, map, Option, Some, None, Result, Ok, Err}
+use Rattle.std.specs.List.{list_all}
 use Rattle.vb_value.specs.declared.fault.VbError.{VbError}
 use Rattle.vb_value.specs.declared.value.Value.{Value, Str}
 use Rattle.vb_value.specs.declared.value.Value.TheViews.{Arr}
+use Rattle.vb_value.specs.Characters.{space}
 use Rattle.vb_value.specs.Conversions.{to_long_of, to_str_of}
 use Rattle.vb_value.specs.Errors.{wrong_number, and_then}
 use Rattle.vb_value.specs.Numbers.{as_long}
+use Rattle.vb_value.specs.TextLimit.{most_characters}
 use Rattle.vb_strings.specs.declared.comparing.Comparison.{Comparison}
 use Rattle.vb_strings.specs.declared.comparing.Comparison.TheVariants.{Exact}
 use Rattle.vb_strings.specs.Comparing.{comparison_of}
@@ -42,6 +45,10 @@ abbrev pub array_of : List (List ℕ) → Result Value VbError
 array_of texts = and_then (as_long (pos (length texts) -ℤ pos 1)) (λ bound.
     Ok (Arr (record { bounds = bound ∷ []; fixed = false; items = map Str texts })))
 
+-- whether none of the texts is too long for an answer
+abbrev pub are_short : List (List ℕ) → Bool
+are_short = list_all (λ text. nat_le (length text) most_characters)
+
 -- the parts of a text as an array
 abbrev pub split_array : Comparison → List ℕ → List ℕ → ℤ → Result Value VbError
 split_array comparison text separator number = and_then (split comparison text separator number) array_of
@@ -54,7 +61,7 @@ split_value s d n comparison =
 
 -- the separator of Split and Join where none is given: one space
 abbrev pub one_space : Value
-one_space = Str (32 ∷ [])
+one_space = Str (space ∷ [])
 
 -- Split(s [, d [, n [, cmp]]]): all the parts where n is left out
 abbrev pub split_of : List Value → Result Value VbError

@@ -5,7 +5,6 @@ ghost use Rattle.vb_value.specs.Outcome.{Answers};
 ghost use Rattle.vb_strings.specs.Characters as spec;
 
 use crate::repeating::first;
-use crate::results::INVALID_CALL;
 use crate::texts::as_text;
 use std::alloc::Global;
 use vb_value::{Text, Value, VbError, VbFault, the_argument, to_long};
@@ -47,7 +46,7 @@ fn code(number: i32) -> Result<u32, VbError>
     ensures { result ≡ spec.code_of number }
 {
     if number < -32768 {
-        Err(INVALID_CALL)
+        Err(VbError::INVALID_CALL)
     } else if number < 0 {
         Ok((number + 65536) as u32)
     } else {
@@ -61,6 +60,6 @@ fn character(code: u32) -> Result<char, VbError>
 {
     match char::from_u32(code) {
         Some(character) => Ok(character),
-        None => Err(INVALID_CALL),
+        None => Err(VbError::INVALID_CALL),
     }
 }

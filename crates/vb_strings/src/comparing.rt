@@ -4,7 +4,6 @@ ghost use Rattle.vb_value.specs.Errors.{told};
 ghost use Rattle.vb_value.specs.Outcome.{Answers, Gives};
 ghost use Rattle.vb_strings.specs.Comparing as spec;
 
-use crate::results::INVALID_CALL;
 use crate::texts::as_text;
 use std::alloc::Global;
 use std::cmp::Ordering;
@@ -33,7 +32,7 @@ fn named(number: i32) -> Result<Comparison, VbError>
     match number {
         0 => Ok(Comparison::Exact),
         1 => Ok(Comparison::AnyCase),
-        _ => Err(INVALID_CALL),
+        _ => Err(VbError::INVALID_CALL),
     }
 }
 

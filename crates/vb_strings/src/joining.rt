@@ -3,17 +3,19 @@ ghost use Rattle.std.specs.Prelude.{◌≡◌, ◌-◌, ◌^◌, ◌++◌, min, 
 ghost use Rattle.vb_value.specs.Errors.{told};
 ghost use Rattle.vb_value.specs.Outcome.{Answers, Gives};
 ghost use Rattle.vb_strings.specs.Joining as spec;
-ghost use Rattle.vb_strings.specs.Results.{limited};
+ghost use Rattle.vb_strings.specs.Results.{bounded};
+ghost use Rattle.vb_value.specs.TextLimit.{limited};
 
-use crate::results::{INVALID_CALL, MOST_CHARACTERS};
 use crate::splitting::one_space;
 use crate::texts::as_text;
 use std::alloc::Global;
-use vb_value::{Array, List, Memory, Text, Value, VbError, VbFault, is_null, to_str};
+use vb_value::{
+    Array, List, MOST_CHARACTERS, Memory, Text, Value, VbError, VbFault, is_null, to_str,
+};
 
 /// `Join`.
 pub fn join(alloc: Global, args: &[Value]) -> Result<Value, VbFault>
-    ensures { Answers result VbFault.Memory (told (spec.join_of args.now)) }
+    ensures { Answers result VbFault.Memory (told (bounded (spec.join_of args.now))) }
 {
     match args {
         [a] => join_value(alloc, a, &one_space(alloc)?),
@@ -25,7 +27,7 @@ pub fn join(alloc: Global, args: &[Value]) -> Result<Value, VbFault>
 /// `Join` with its two arguments. Error 94 for Null, then that of the separator, then 13 for no array and 5 for
 /// another number of dimensions than one.
 fn join_value(alloc: Global, a: &Value, d: &Value) -> Result<Value, VbFault>
-    ensures { Answers result VbFault.Memory (told (spec.join_value a.now d.now)) }
+    ensures { Answers result VbFault.Memory (told (bounded (spec.join_value a.now d.now))) }
 {
     if is_null(a) {
         return Err(VbError::INVALID_USE_OF_NULL)?;
@@ -33,18 +35,16 @@ fn join_value(alloc: Global, a: &Value, d: &Value) -> Result<Value, VbFault>
     let separator = as_text(alloc, d)?;
     match a {
         Value::Arr(array) => join_array(alloc, array, separator.as_slice()),
-        Value::Empty | Value::Null | Value::Bool(_) => Err(VbError::TYPE_MISMATCH)?,
-        Value::Int(_) | Value::Long(_) | Value::Cur(_) => Err(VbError::TYPE_MISMATCH)?,
-        Value::Str(_) | Value::Obj(_) | Value::Nothing => Err(VbError::TYPE_MISMATCH)?,
+        _ => Err(VbError::TYPE_MISMATCH)?,
     }
 }
 
 /// The items of an array of one dimension as one text.
 fn join_array(alloc: Global, array: &Array, separator: &[char]) -> Result<Value, VbFault>
-    ensures { Answers result VbFault.Memory (told (spec.join_items array.now.bounds array.now.items separator.now)) }
+    ensures { Answers result VbFault.Memory (told (bounded (spec.join_items array.now.bounds array.now.items separator.now))) }
 {
     if array.bounds.len() != 1 {
-        return Err(INVALID_CALL)?;
+        return Err(VbError::INVALID_CALL)?;
     }
     let texts = texts(alloc, array.items.as_slice())?;
     joined(alloc, separator, texts.as_slice())

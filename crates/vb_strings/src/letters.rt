@@ -3,33 +3,34 @@ ghost use Rattle.std.specs.Prelude.{◌≡◌, reverse};
 ghost use Rattle.vb_value.specs.Errors.{told};
 ghost use Rattle.vb_value.specs.Outcome.{Answers, Gives};
 ghost use Rattle.vb_strings.specs.Letters as spec;
+ghost use Rattle.vb_strings.specs.Results.{bounded};
 
 use crate::texts::as_text;
 use std::alloc::Global;
-use vb_value::{Copied, List, Memory, Text, Value, VbFault, fold, is_null, the_argument};
+use vb_value::{Copied, List, Memory, Text, Value, VbFault, fold, is_null, limited, the_argument};
 
 /// `LCase`.
 pub fn lcase(alloc: Global, args: &[Value]) -> Result<Value, VbFault>
-    ensures { Answers result VbFault.Memory (told (spec.lcase_of args.now)) }
+    ensures { Answers result VbFault.Memory (told (bounded (spec.lcase_of args.now))) }
 {
     let s = the_argument(args)?;
     if is_null(s) {
         return Ok(Value::Null);
     }
     let text = as_text(alloc, s)?;
-    Ok(Value::Str(fold(alloc, text.text())?))
+    Ok(limited(fold(alloc, text.text())?)?)
 }
 
 /// `UCase`.
 pub fn ucase(alloc: Global, args: &[Value]) -> Result<Value, VbFault>
-    ensures { Answers result VbFault.Memory (told (spec.ucase_of args.now)) }
+    ensures { Answers result VbFault.Memory (told (bounded (spec.ucase_of args.now))) }
 {
     let s = the_argument(args)?;
     if is_null(s) {
         return Ok(Value::Null);
     }
     let text = as_text(alloc, s)?;
-    Ok(Value::Str(raised(alloc, text.text())?))
+    Ok(limited(raised(alloc, text.text())?)?)
 }
 
 /// The text with each of its letters a to z made capital.
@@ -42,11 +43,11 @@ fn raised(alloc: Global, text: &Text) -> Result<Text, Memory>
 
 /// `StrReverse`.
 pub fn str_reverse(alloc: Global, args: &[Value]) -> Result<Value, VbFault>
-    ensures { Answers result VbFault.Memory (told (spec.str_reverse_of args.now)) }
+    ensures { Answers result VbFault.Memory (told (bounded (spec.str_reverse_of args.now))) }
 {
     let s = the_argument(args)?;
     let text = as_text(alloc, s)?;
-    Ok(Value::Str(reversed(alloc, text.text())?))
+    Ok(limited(reversed(alloc, text.text())?)?)
 }
 
 /// The characters from the last to the first.

@@ -19,7 +19,8 @@ mod texts;
 
 pub use functions::call_string;
 pub use laws::{
-    parts_together, replaces_by_itself, reverses_twice, searches_agree, searches_folded,
-    splits_and_joins,
+    characters_come_back, compares_letters, compares_turned, ends_measured, gives_sound,
+    parts_together, replaces_by_joining, reverses, searches_agree, searches_letters, splits,
+    splits_at_most, trims,
 };
 

@@ -4,11 +4,12 @@ ghost use Rattle.vb_value.specs.Errors.{told};
 ghost use Rattle.vb_value.specs.NumericText.{without_first, without_last};
 ghost use Rattle.vb_value.specs.Outcome.{Answers};
 ghost use Rattle.vb_strings.specs.Parts as spec;
+ghost use Rattle.vb_strings.specs.Results.{bounded};
 
-use crate::results::{before_place, count, long};
+use crate::results::{before_place, count, long, text_of};
 use crate::texts::as_text;
 use std::alloc::Global;
-use vb_value::{Text, Value, VbError, VbFault, is_null, the_argument, to_long};
+use vb_value::{Value, VbError, VbFault, is_null, the_argument, to_long};
 
 /// `Len`.
 pub fn len(alloc: Global, args: &[Value]) -> Result<Value, VbFault>
@@ -24,7 +25,7 @@ pub fn len(alloc: Global, args: &[Value]) -> Result<Value, VbFault>
 
 /// `Left`.
 pub fn left(alloc: Global, args: &[Value]) -> Result<Value, VbFault>
-    ensures { Answers result VbFault.Memory (told (spec.left_of args.now)) }
+    ensures { Answers result VbFault.Memory (told (bounded (spec.left_of args.now))) }
 {
     match args {
         [s, n] => front(alloc, s, n),
@@ -34,19 +35,19 @@ pub fn left(alloc: Global, args: &[Value]) -> Result<Value, VbFault>
 
 /// At most so many characters from the front.
 fn front(alloc: Global, s: &Value, n: &Value) -> Result<Value, VbFault>
-    ensures { Answers result VbFault.Memory (told (spec.left_of (s.now ∷ n.now ∷ []))) }
+    ensures { Answers result VbFault.Memory (told (bounded (spec.left_of (s.now ∷ n.now ∷ [])))) }
 {
     if is_null(s) {
         return Ok(Value::Null);
     }
     let text = as_text(alloc, s)?;
     let count = count(to_long(n)?)?;
-    Ok(Value::Str(Text::from_slice(alloc, at_most(text.as_slice(), count))?))
+    text_of(alloc, at_most(text.as_slice(), count))
 }
 
 /// `Right`.
 pub fn right(alloc: Global, args: &[Value]) -> Result<Value, VbFault>
-    ensures { Answers result VbFault.Memory (told (spec.right_of args.now)) }
+    ensures { Answers result VbFault.Memory (told (bounded (spec.right_of args.now))) }
 {
     match args {
         [s, n] => back(alloc, s, n),
@@ -56,7 +57,7 @@ pub fn right(alloc: Global, args: &[Value]) -> Result<Value, VbFault>
 
 /// At most so many characters from the end.
 fn back(alloc: Global, s: &Value, n: &Value) -> Result<Value, VbFault>
-    ensures { Answers result VbFault.Memory (told (spec.right_of (s.now ∷ n.now ∷ []))) }
+    ensures { Answers result VbFault.Memory (told (bounded (spec.right_of (s.now ∷ n.now ∷ [])))) }
 {
     if is_null(s) {
         return Ok(Value::Null);
@@ -64,12 +65,12 @@ fn back(alloc: Global, s: &Value, n: &Value) -> Result<Value, VbFault>
     let text = as_text(alloc, s)?;
     let count = count(to_long(n)?)?;
     let start = text.text().len().saturating_sub(count);
-    Ok(Value::Str(Text::from_slice(alloc, behind(text.as_slice(), start))?))
+    text_of(alloc, behind(text.as_slice(), start))
 }
 
 /// `Mid`.
 pub fn mid(alloc: Global, args: &[Value]) -> Result<Value, VbFault>
-    ensures { Answers result VbFault.Memory (told (spec.mid_of args.now)) }
+    ensures { Answers result VbFault.Memory (told (bounded (spec.mid_of args.now))) }
 {
     match args {
         [s, i] => rest(alloc, s, i),
@@ -80,19 +81,19 @@ pub fn mid(alloc: Global, args: &[Value]) -> Result<Value, VbFault>
 
 /// A text from a place on.
 fn rest(alloc: Global, s: &Value, i: &Value) -> Result<Value, VbFault>
-    ensures { Answers result VbFault.Memory (told (spec.mid_of (s.now ∷ i.now ∷ []))) }
+    ensures { Answers result VbFault.Memory (told (bounded (spec.mid_of (s.now ∷ i.now ∷ [])))) }
 {
     if is_null(s) {
         return Ok(Value::Null);
     }
     let text = as_text(alloc, s)?;
     let skipped = before_place(to_long(i)?)?;
-    Ok(Value::Str(Text::from_slice(alloc, behind(text.as_slice(), skipped))?))
+    text_of(alloc, behind(text.as_slice(), skipped))
 }
 
 /// At most so many characters from a place on.
 fn middle(alloc: Global, s: &Value, i: &Value, n: &Value) -> Result<Value, VbFault>
-    ensures { Answers result VbFault.Memory (told (spec.mid_of (s.now ∷ i.now ∷ n.now ∷ []))) }
+    ensures { Answers result VbFault.Memory (told (bounded (spec.mid_of (s.now ∷ i.now ∷ n.now ∷ [])))) }
 {
     if is_null(s) {
         return Ok(Value::Null);
@@ -102,8 +103,7 @@ fn middle(alloc: Global, s: &Value, i: &Value, n: &Value) -> Result<Value, VbFau
     let number = to_long(n)?;
     let skipped = before_place(place)?;
     let count = count(number)?;
-    let part = at_most(behind(text.as_slice(), skipped), count);
-    Ok(Value::Str(Text::from_slice(alloc, part)?))
+    text_of(alloc, at_most(behind(text.as_slice(), skipped), count))
 }
 
 /// What stands behind so many characters.
@@ -130,39 +130,38 @@ pub fn at_most(text: &[char], count: usize) -> &[char]
 
 /// `LTrim`.
 pub fn ltrim(alloc: Global, args: &[Value]) -> Result<Value, VbFault>
-    ensures { Answers result VbFault.Memory (told (spec.ltrim_of args.now)) }
+    ensures { Answers result VbFault.Memory (told (bounded (spec.ltrim_of args.now))) }
 {
     let s = the_argument(args)?;
     if is_null(s) {
         return Ok(Value::Null);
     }
     let text = as_text(alloc, s)?;
-    Ok(Value::Str(Text::from_slice(alloc, without_first_spaces(text.as_slice()))?))
+    text_of(alloc, without_first_spaces(text.as_slice()))
 }
 
 /// `RTrim`.
 pub fn rtrim(alloc: Global, args: &[Value]) -> Result<Value, VbFault>
-    ensures { Answers result VbFault.Memory (told (spec.rtrim_of args.now)) }
+    ensures { Answers result VbFault.Memory (told (bounded (spec.rtrim_of args.now))) }
 {
     let s = the_argument(args)?;
     if is_null(s) {
         return Ok(Value::Null);
     }
     let text = as_text(alloc, s)?;
-    Ok(Value::Str(Text::from_slice(alloc, without_last_spaces(text.as_slice()))?))
+    text_of(alloc, without_last_spaces(text.as_slice()))
 }
 
 /// `Trim`.
 pub fn trim(alloc: Global, args: &[Value]) -> Result<Value, VbFault>
-    ensures { Answers result VbFault.Memory (told (spec.trim_of args.now)) }
+    ensures { Answers result VbFault.Memory (told (bounded (spec.trim_of args.now))) }
 {
     let s = the_argument(args)?;
     if is_null(s) {
         return Ok(Value::Null);
     }
     let text = as_text(alloc, s)?;
-    let trimmed = without_last_spaces(without_first_spaces(text.as_slice()));
-    Ok(Value::Str(Text::from_slice(alloc, trimmed)?))
+    text_of(alloc, without_last_spaces(without_first_spaces(text.as_slice())))
 }
 
 /// The text from its first character on that is no space.

@@ -3,14 +3,17 @@ ghost use Rattle.std.specs.Prelude.{◌≡◌, replicate};
 ghost use Rattle.vb_value.specs.Errors.{told};
 ghost use Rattle.vb_value.specs.Outcome.{Answers, Gives};
 ghost use Rattle.vb_strings.specs.Repeating as spec;
+ghost use Rattle.vb_strings.specs.Results.{bounded};
 
-use crate::results::{INVALID_CALL, MOST_CHARACTERS, count};
+use crate::results::count;
 use std::alloc::Global;
-use vb_value::{List, Memory, Text, Value, VbError, VbFault, is_null, the_argument, to_long};
+use vb_value::{
+    List, MOST_CHARACTERS, Memory, Text, Value, VbError, VbFault, is_null, the_argument, to_long,
+};
 
 /// `Space`.
 pub fn space(alloc: Global, args: &[Value]) -> Result<Value, VbFault>
-    ensures { Answers result VbFault.Memory (told (spec.space_of args.now)) }
+    ensures { Answers result VbFault.Memory (told (bounded (spec.space_of args.now))) }
 {
     let n = the_argument(args)?;
     repeated(alloc, to_long(n)?, ' ')
@@ -18,7 +21,7 @@ pub fn space(alloc: Global, args: &[Value]) -> Result<Value, VbFault>
 
 /// `String`.
 pub fn string(alloc: Global, args: &[Value]) -> Result<Value, VbFault>
-    ensures { Answers result VbFault.Memory (told (spec.string_of args.now)) }
+    ensures { Answers result VbFault.Memory (told (bounded (spec.string_of args.now))) }
 {
     match args {
         [n, c] if is_null(n) || is_null(c) => Ok(Value::Null),
@@ -29,16 +32,16 @@ pub fn string(alloc: Global, args: &[Value]) -> Result<Value, VbFault>
 
 /// `String` where neither argument is Null.
 fn filled(alloc: Global, n: &Value, c: &Value) -> Result<Value, VbFault>
-    ensures { Answers result VbFault.Memory (told (spec.filled n.now c.now)) }
+    ensures { Answers result VbFault.Memory (told (bounded (spec.filled n.now c.now))) }
 {
     let number = to_long(n)?;
-    let character = unit(c)?;
+    let character = filling(c)?;
     repeated(alloc, number, character)
 }
 
 /// A character so many times; error 5 below 0, and 14 for more than a text may have.
 fn repeated(alloc: Global, number: i32, character: char) -> Result<Value, VbFault>
-    ensures { Answers result VbFault.Memory (told (spec.repeated number character)) }
+    ensures { Answers result VbFault.Memory (told (bounded (spec.repeated number character))) }
 {
     let count = count(number)?;
     if MOST_CHARACTERS < count {
@@ -54,17 +57,13 @@ fn copies(alloc: Global, count: usize, character: char) -> Result<Text, Memory>
     Ok(List::from_vec(vec![in alloc; character; count]?))
 }
 
-/// The character that a value names: the first one of a text, or the one of a number.
-fn unit(value: &Value) -> Result<char, VbError>
-    ensures { result ≡ spec.unit_of value.now }
+/// The character that `String` repeats: the first one of a text, or the one of a number.
+fn filling(value: &Value) -> Result<char, VbError>
+    ensures { result ≡ spec.filling_of value.now }
 {
     match value {
         Value::Str(text) => first(text.as_slice()),
-        Value::Empty | Value::Null | Value::Bool(_) | Value::Int(_) => low_character(to_long(
-            value,
-        )?),
-        Value::Long(_) | Value::Cur(_) | Value::Arr(_) => low_character(to_long(value)?),
-        Value::Obj(_) | Value::Nothing => low_character(to_long(value)?),
+        _ => low_character(to_long(value)?),
     }
 }
 
@@ -74,7 +73,7 @@ pub fn first(text: &[char]) -> Result<char, VbError>
 {
     match text {
         [first, ..] => Ok(*first),
-        [] => Err(INVALID_CALL),
+        [] => Err(VbError::INVALID_CALL),
     }
 }
 
@@ -83,7 +82,7 @@ fn low_character(number: i32) -> Result<char, VbError>
     ensures { result ≡ spec.low_character number }
 {
     if number < 0 {
-        return Err(INVALID_CALL);
+        return Err(VbError::INVALID_CALL);
     }
     Ok((number as u32 % 256) as u8 as char)
 }

@@ -3,6 +3,7 @@ ghost use Rattle.std.specs.Prelude.{◌≡◌};
 ghost use Rattle.vb_value.specs.Errors.{told};
 ghost use Rattle.vb_value.specs.Outcome.{Answers, Gives};
 ghost use Rattle.vb_strings.specs.Replacing as spec;
+ghost use Rattle.vb_strings.specs.Results.{bounded};
 
 use crate::comparing::{Comparison, comparison_named};
 use crate::joining::joined;
@@ -23,7 +24,7 @@ struct Choices {
 
 /// `Replace`.
 pub fn replace(alloc: Global, args: &[Value]) -> Result<Value, VbFault>
-    ensures { Answers result VbFault.Memory (told (spec.replace_of args.now)) }
+    ensures { Answers result VbFault.Memory (told (bounded (spec.replace_of args.now))) }
 {
     match args {
         [s, a, b] => replace_value(
@@ -75,7 +76,7 @@ fn replace_value(
     choices: Choices,
 ) -> Result<Value, VbFault>
     ensures { let answer = spec.replace_value s.now a.now b.now choices.place choices.number choices.comparison in
-        Answers result VbFault.Memory (told answer) }
+        Answers result VbFault.Memory (told (bounded answer)) }
 {
     let text = as_text(alloc, s)?;
     let pattern = as_text(alloc, a)?;

@@ -1,21 +1,19 @@
 //! What numbers among the arguments count, and what answers hold.
 ghost use Rattle.std.specs.Prelude.{◌≡◌};
+ghost use Rattle.vb_value.specs.Errors.{told};
+ghost use Rattle.vb_value.specs.Outcome.{Answers};
+ghost use Rattle.vb_value.specs.TextLimit as limit;
 ghost use Rattle.vb_strings.specs.Results as spec;
 
-use vb_value::{Value, VbError, as_long};
-
-/// How many characters a text has at most.
-pub const MOST_CHARACTERS: usize = 1_048_576;
-
-/// A number that the function does not take.
-pub const INVALID_CALL: VbError = VbError { number: 5 };
+use std::alloc::Global;
+use vb_value::{Text, Value, VbError, VbFault, as_long, limited};
 
 /// A number of characters; error 5 below 0.
 pub fn count(number: i32) -> Result<usize, VbError>
     ensures { result ≡ spec.count_of number }
 {
     if number < 0 {
-        Err(INVALID_CALL)
+        Err(VbError::INVALID_CALL)
     } else {
         Ok(number as usize)
     }
@@ -26,7 +24,7 @@ pub fn before_place(place: i32) -> Result<usize, VbError>
     ensures { result ≡ spec.before_place place }
 {
     if place < 1 {
-        Err(INVALID_CALL)
+        Err(VbError::INVALID_CALL)
     } else {
         Ok(place as usize - 1)
     }
@@ -37,7 +35,7 @@ pub fn most(all: usize, number: i32) -> Result<usize, VbError>
     ensures { result ≡ spec.most_of all number }
 {
     if number < -1 {
-        Err(INVALID_CALL)
+        Err(VbError::INVALID_CALL)
     } else if number < 0 {
         Ok(all)
     } else {
@@ -50,4 +48,11 @@ pub fn long(n: usize) -> Result<Value, VbError>
     ensures { result ≡ spec.long n }
 {
     Ok(Value::Long(as_long(n as i128)?))
+}
+
+/// Characters as the answer of a function; error 14 for more than a text may have.
+pub fn text_of(alloc: Global, characters: &[char]) -> Result<Value, VbFault>
+    ensures { Answers result VbFault.Memory (told (limit.limited characters.now)) }
+{
+    Ok(limited(Text::from_slice(alloc, characters)?)?)
 }

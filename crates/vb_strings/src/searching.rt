@@ -9,7 +9,7 @@ use crate::borders::borders;
 use crate::comparing::{Comparison, comparison_named};
 use crate::parts::{at_most, behind};
 use crate::places::{first_in, last_place_in};
-use crate::results::{INVALID_CALL, before_place, long, most};
+use crate::results::{before_place, long, most};
 use crate::texts::as_text;
 use std::alloc::Global;
 use vb_value::{Value, VbError, VbFault, is_null, to_long};
@@ -134,7 +134,7 @@ fn end(text: &[char], place: i32) -> Result<usize, VbError>
     ensures { result ≡ spec.end_of text.now place }
 {
     if place == 0 {
-        return Err(INVALID_CALL);
+        return Err(VbError::INVALID_CALL);
     }
     most(text.len(), place)
 }

@@ -3,6 +3,7 @@ ghost use Rattle.std.specs.Prelude.{◌≡◌, ◌∷◌, [], map};
 ghost use Rattle.vb_value.specs.declared.value.Value.{Str};
 ghost use Rattle.vb_value.specs.Errors.{told};
 ghost use Rattle.vb_value.specs.Outcome.{Answers, Gives};
+ghost use Rattle.vb_strings.specs.Results.{bounded};
 ghost use Rattle.vb_strings.specs.Splitting as spec;
 
 use crate::borders::borders;
@@ -12,11 +13,13 @@ use crate::results::most;
 use crate::places::first_in;
 use crate::texts::as_text;
 use std::alloc::Global;
-use vb_value::{Array, List, Memory, Text, Value, VbError, VbFault, as_long, to_long};
+use vb_value::{
+    Array, List, MOST_CHARACTERS, Memory, Text, Value, VbError, VbFault, as_long, to_long,
+};
 
 /// `Split`.
 pub fn split(alloc: Global, args: &[Value]) -> Result<Value, VbFault>
-    ensures { Answers result VbFault.Memory (told (spec.split_of args.now)) }
+    ensures { Answers result VbFault.Memory (told (bounded (spec.split_of args.now))) }
 {
     match args {
         [s] => split_at_spaces(alloc, s),
@@ -29,7 +32,7 @@ pub fn split(alloc: Global, args: &[Value]) -> Result<Value, VbFault>
 
 /// `Split` where no separator is given.
 fn split_at_spaces(alloc: Global, s: &Value) -> Result<Value, VbFault>
-    ensures { Answers result VbFault.Memory (told (spec.split_of (s.now ∷ []))) }
+    ensures { Answers result VbFault.Memory (told (bounded (spec.split_of (s.now ∷ [])))) }
 {
     let space = one_space(alloc)?;
     split_value(alloc, s, &space, Ok(-1), Ok(Comparison::Exact))
@@ -50,7 +53,7 @@ fn split_value(
     n: Result<i32, VbError>,
     comparison: Result<Comparison, VbError>,
 ) -> Result<Value, VbFault>
-    ensures { Answers result VbFault.Memory (told (spec.split_value s.now d.now n comparison)) }
+    ensures { Answers result VbFault.Memory (told (bounded (spec.split_value s.now d.now n comparison))) }
 {
     let text = as_text(alloc, s)?;
     let separator = as_text(alloc, d)?;
@@ -67,10 +70,10 @@ fn split_array(
     separator: &Text,
     number: i32,
 ) -> Result<Value, VbFault>
-    ensures { Answers result VbFault.Memory (told (spec.split_array comparison text.now separator.now number)) }
+    ensures { Answers result VbFault.Memory (told (bounded (spec.split_array comparison text.now separator.now number))) }
 {
     let texts = split_text(alloc, comparison, text, separator, number)?;
-    array(alloc, texts)
+    short_array(alloc, texts)
 }
 
 /// At most so many parts of a text, all for -1.
@@ -138,6 +141,19 @@ pub fn parts(
     Ok(parts)
 }
 
+/// Texts as an array; error 14 where one is too long for an answer.
+#[tactic(auto, using(crate::proofs::Bounds::array_same, crate::proofs::Bounds::array_refused))]
+fn short_array(alloc: Global, texts: List<Text>) -> Result<Value, VbFault>
+    ensures { Answers result VbFault.Memory (told (bounded (spec.array_of texts))) }
+{
+    let short = are_short(texts.as_slice());
+    let array = array(alloc, texts)?;
+    if !short {
+        return Err(VbError::OUT_OF_STRING_SPACE)?;
+    }
+    Ok(array)
+}
+
 /// Texts as an array.
 fn array(alloc: Global, texts: List<Text>) -> Result<Value, VbFault>
     ensures { Answers result VbFault.Memory (told (spec.array_of texts)) }
@@ -150,6 +166,18 @@ fn array(alloc: Global, texts: List<Text>) -> Result<Value, VbFault>
         fixed: false,
         items,
     }))
+}
+
+/// Whether none of the texts is too long for an answer.
+fn are_short(texts: &[Text]) -> bool
+    ensures { result ≡ spec.are_short texts.now }
+{
+    for text in texts {
+        if MOST_CHARACTERS < text.len() {
+            return false;
+        }
+    }
+    true
 }
 
 /// Texts as values.

@@ -1,4 +1,6 @@
-use Rattle.std.proofs.Common.{rules, ◌≡◌, ◌+◌, ◌-◌, ℕ, List, [], true, length, get_or, refl, sym, ap, ◌∙◌, subst, arith}
+use Rattle.std.proofs.Common.{◌≡◌, ◌+◌, ◌-◌, ℕ, List, [], true, length, get_or, refl, sym, ap, ◌∙◌, subst, arith}
+use Rattle.std.proofs.lemmas.Bool.{eqb-true}
+use Rattle.std.proofs.lemmas.List.{nil_from_length}
 use Rattle.vb_strings.specs.Searching.{stands, last_in, place_of}
 use Rattle.vb_strings.proofs.BorderTables.{hit_read, miss_read}
 use Rattle.vb_strings.proofs.Found.{last_place_is, last_of_nothing}
@@ -7,7 +9,8 @@ use Rattle.vb_strings.proofs.places.last_place_in.Goals as goal
 
 pub returns-then-is_empty : goal.returns-then-is_empty
 returns-then-is_empty c =
-    let none : c.args.pattern.now ≡ [] = search rules in
+    let none : c.args.pattern.now ≡ [] =
+    nil_from_length c.args.pattern.now (eqb-true (length c.args.pattern.now) 0 (sym c.is_empty.ensures ∙ c.if-is_empty.true)) in
     last_of_nothing c.args.comparison c.args.text.now
     ∙ ap (λ pattern. place_of 0 (last_in c.args.comparison c.args.text.now pattern)) (sym none)
 
