@@ -1,5 +1,5 @@
 -- The character of a character's number.
-use Rattle.std.proofs.Common.{◌≡◌, ℕ, ◌+◌, ◌-◌, ◌<◌, ◌≤◌, ◌^◌, Bool, true, false, ℤ, pos, negsuc, ◌-ℤ◌, List, [], ◌∷◌}
+use Rattle.std.proofs.Common.{◌≡◌, ℕ, suc, ◌+◌, ◌-◌, ◌<◌, ◌≤◌, ◌^◌, Bool, true, false, ℤ, pos, negsuc, ◌-ℤ◌, List, [], ◌∷◌}
 use Rattle.std.proofs.Common.{Result, Ok, refl, sym, ap, ◌∙◌, arith, inl, inr}
 use lib.Utf8.{scalar, scalar_cases}
 use Rattle.std.proofs.lemmas.Int.{ints}
@@ -36,12 +36,14 @@ module _ (character : ℕ) (is : scalar character ≡ true) where
         | inr high ↦
             elim (cases_lt character 65536) [
               | inl middle ↦
-                  let below : pos character -ℤ pos 65536 ≡ negsuc (65535 - character) = omega (arith, ints) in
+                  let below : 65536 - suc character ≡ 65535 - character = omega arith in
                   let back : 65535 - (65535 - character) ≡ character = omega arith in
-                  rw (le-ltb character 32768 high) (rw (lt-ltb character 65536 middle) (rw below
-                  (chr_is (Int (negsuc (65535 - character))) (negsuc (65535 - character))
+                  let number : number_of character ≡ Int (negsuc (65535 - character)) =
+                  rw (le-ltb character 32768 high) (rw (lt-ltb character 65536 middle) (ap (λ less. Int (negsuc less)) below)) in
+                  ap (λ value. call_string_of Chr (value ∷ [])) number
+                  ∙ chr_is (Int (negsuc (65535 - character))) (negsuc (65535 - character))
                   (rw (lt-ltb (65535 - character) (2 ^ 31) (omega arith)) refl)
-                  (rw (lt-ltb (65535 - character) 32768 (omega arith)) (ap Ok back)))))
+                  (rw (lt-ltb (65535 - character) 32768 (omega arith)) (ap Ok back))
               | inr large ↦
                   rw (le-ltb character 32768 high) (rw (le-ltb character 65536 large)
                   (chr_is (Long (pos character)) (pos character) (long_itself character small) refl))

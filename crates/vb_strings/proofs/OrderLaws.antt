@@ -22,6 +22,7 @@ use Rattle.vb_strings.specs.Functions.{call_string_of}
 use Rattle.vb_strings.specs.Laws.{ComparesLetters, ComparesTurned}
 use Rattle.vb_strings.specs.Results.{bounded}
 use Rattle.vb_strings.proofs.Bounds.{limited_fits}
+use Rattle.vb_strings.proofs.Orders.{exact_order}
 
 -- LCase of a text that is not too long
 pub lcase_is : (text : List ℕ) → length text ≤ most_characters
@@ -37,14 +38,9 @@ both_lowered a b next short also =
     ap (λ answer. and_then answer (λ first. and_then (call_string_of LCase (Str b ∷ [])) (next first))) (lcase_is a short)
     ∙ ap (λ answer. and_then answer (next (Str (folded a)))) (lcase_is b also)
 
--- in an exact comparison each character counts as itself
-exact_order : (a b : List ℕ) → order_of Exact a b ≡ slice_cmp nat_cmp a b
-exact_order a b =
-    ap (λ first. slice_cmp nat_cmp first (map (λ (x : ℕ). x) b)) (map-id a) ∙ ap (slice_cmp nat_cmp a) (map-id b)
-
 pub compares_letters : ComparesLetters
 compares_letters a b short also =
-    ap (λ order. Ok (Int (sign_of order))) (sym (exact_order (folded a) (folded b)))
+    ap (λ order. Ok (Int (sign_of order))) (exact_order (folded a) (folded b))
     ∙ sym (both_lowered a b (λ first second. call_string_of StrComp (first ∷ second ∷ Int (pos 0) ∷ [])) short also)
 
 -- the opposite of an order

@@ -78,20 +78,3 @@ parts_joined separator (suc cuts) text =
           ∙ around_first text separator before is
     ] in
     split (first_in Exact text separator) refl
-
--- as many parts as cuts and one more, at most
-pub few_parts : (comparison : Comparison) (separator : List ℕ) (cuts : ℕ) (text : List ℕ)
-    → length (parts comparison separator cuts text) ≤ cuts + 1
-few_parts comparison separator zero text = omega arith
-few_parts comparison separator (suc cuts) text =
-    let split : (first : Option ℕ)
-    → length (cut (length separator) (parts comparison separator cuts) text first) ≤ suc cuts + 1 =
-    elim [
-      | None ↦ omega arith
-      | Some before ↦
-          let rest : List ℕ = drop (before + length separator) text in
-          let fewer : length (parts comparison separator cuts rest) ≤ cuts + 1 =
-          few_parts comparison separator cuts rest in
-          omega arith
-    ] in
-    split (first_in comparison text separator)
