@@ -1,5 +1,5 @@
 -- Which values the functions give: what holds of all errors, of Null, of all numbers and of texts holds of their answers.
-use Rattle.std.proofs.Common.{ℕ, Bool, true, false, ◌||◌, nat_lt, nat_le, if◌then◌else◌, ℤ, pos, negsuc, ◌-ℤ◌, List, [], ◌∷◌}
+use Rattle.std.proofs.Common.{ℕ, Bool, true, false, ◌||◌, nat_lt, if◌then◌else◌, ℤ, pos, negsuc, ◌-ℤ◌, List, [], ◌∷◌}
 use Rattle.std.proofs.Common.{Result, Ok, Err, length}
 use Rattle.vb_value.specs.declared.fault.VbError.{VbError}
 use Rattle.vb_value.specs.declared.value.Value.{Value, Null, Int, Long, Str, out-Value}
@@ -12,12 +12,12 @@ use Rattle.vb_value.specs.Numbers.{as_long}
 use Rattle.vb_strings.specs.declared.comparing.Comparison.{Comparison}
 use Rattle.vb_strings.specs.declared.comparing.Comparison.TheVariants.{Exact}
 use Rattle.vb_strings.specs.Characters.{asc_of, chr_of, number_of, code_of, character_of}
-use Rattle.vb_strings.specs.Comparing.{comparison_of, str_comp_of, compared, sign_of, order_of}
-use Rattle.vb_strings.specs.Joining.{join_of, join_value, join_in, join_level, join_items, joined, texts_of}
+use Rattle.vb_strings.specs.Comparing.{comparison_of, str_comp_of, compared}
+use Rattle.vb_strings.specs.Joining.{join_of, join_value, join_level, join_items, texts_of}
 use Rattle.vb_strings.specs.Letters.{lcase_of, ucase_of, str_reverse_of}
 use Rattle.vb_strings.specs.Parts.{len_of, left_of, right_of, mid_of, ltrim_of, rtrim_of, trim_of, part, front, back, rest, middle, changed}
-use Rattle.vb_strings.specs.Repeating.{space_of, string_of, filled, repeated, filling_of, first_of}
-use Rattle.vb_strings.specs.Replacing.{replace_of, replace_value, replaced_from}
+use Rattle.vb_strings.specs.Repeating.{space_of, string_of, repeated, filling_of, first_of}
+use Rattle.vb_strings.specs.Replacing.{replace_of, replace_value}
 use Rattle.vb_strings.specs.Results.{long, before_place, count_of, most_of}
 use Rattle.vb_strings.specs.Searching.{in_str_of, in_str, search_from, in_str_rev_of, in_str_rev, search_up_to, end_of}
 use Rattle.vb_strings.specs.Splitting.{one_space}

@@ -4,7 +4,7 @@ use Rattle.std.proofs.Common.{inl, inr, length-append}
 use Rattle.std.proofs.lemmas.Bool.{cases_lt, cases_eq, cases_order, eqb-true, eq-eqb}
 use Rattle.std.proofs.lemmas.List.{get_or_append_left, get_or_push, get_or_read}
 use Rattle.vb_strings.specs.declared.comparing.Comparison.{Comparison}
-use Rattle.std.proofs.Common.{Bool, true, false}
+use Rattle.std.proofs.Common.{true, false}
 use Rattle.vb_strings.specs.Comparing.{counted, same}
 use Rattle.vb_strings.specs.Borders.{letter, IsBorder, IsLongestBorder}
 

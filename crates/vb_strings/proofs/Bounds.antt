@@ -1,5 +1,5 @@
 -- The limit on texts: the answers that it lets be.
-use Rattle.std.proofs.Common.{◌-ℤ◌, pos, ◌≡◌, ℕ, Bool, true, false, if◌then◌else◌, ℤ, List, [], ◌∷◌, Result, Ok, Err}
+use Rattle.std.proofs.Common.{◌-ℤ◌, pos, ◌≡◌, ℕ, true, false, if◌then◌else◌, ℤ, List, [], ◌∷◌, Result, Ok, Err}
 use Rattle.std.proofs.Common.{map, length, nat_le, ◌&&◌, refl, ap, ◌∙◌}
 use Rattle.std.proofs.Common.{◌≤◌}
 use Rattle.std.specs.List.{list_all}
@@ -70,6 +70,9 @@ asc_same = asc_of_all Same (λ e. refl) refl (λ n. refl) (λ n. refl)
 
 pub chr_same : (arguments : List Value) → bounded (chr_of arguments) ≡ chr_of arguments
 chr_same = chr_of_all Same (λ e. refl) (λ character. refl)
+
+-- the functions that give none of the texts that have a limit
+pub ruleset same_answers = (len_same, in_str_same, in_str_rev_same, str_comp_same, asc_same, chr_same)
 
 -- an array of texts none of which is too long
 pub array_same : (texts : List (List ℕ)) → are_short texts ≡ true → bounded (array_of texts) ≡ array_of texts

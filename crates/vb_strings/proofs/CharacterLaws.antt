@@ -1,18 +1,15 @@
 -- The character of a character's number.
-use Rattle.std.proofs.Common.{◌≡◌, ℕ, suc, ◌+◌, ◌-◌, ◌<◌, ◌≤◌, ◌^◌, Bool, true, false, ℤ, pos, negsuc, ◌-ℤ◌, List, [], ◌∷◌}
-use Rattle.std.proofs.Common.{Result, Ok, refl, sym, ap, ◌∙◌, arith, inl, inr}
+use Rattle.std.proofs.Common.{◌≡◌, ℕ, suc, ◌-◌, ◌<◌, ◌^◌, true, ℤ, pos, negsuc, [], ◌∷◌}
+use Rattle.std.proofs.Common.{Ok, refl, ap, ◌∙◌, arith, inl, inr}
 use lib.Utf8.{scalar, scalar_cases}
-use Rattle.std.proofs.lemmas.Int.{ints}
 use Rattle.std.proofs.lemmas.Bool.{cases_lt, lt-ltb, le-ltb}
-use Rattle.vb_value.specs.declared.fault.VbError.{VbError}
 use Rattle.vb_value.specs.declared.function.StrFn.TheVariants.{Asc, Chr}
 use Rattle.vb_value.specs.declared.value.Value.{Value, Int, Long, Str}
 use Rattle.vb_value.specs.Conversions.{to_long_of}
 use Rattle.vb_value.specs.Errors.{and_then}
-use Rattle.vb_strings.specs.Characters.{number_of, code_of, character_of}
+use Rattle.vb_strings.specs.Characters.{number_of, code_of}
 use Rattle.vb_strings.specs.Functions.{call_string_of}
 use Rattle.vb_strings.specs.Laws.{CharactersComeBack}
-use Rattle.vb_strings.specs.Results.{bounded}
 use Rattle.vb_strings.proofs.Bounds.{asc_same}
 use Rattle.vb_strings.proofs.TextLaws.{long_itself}
 

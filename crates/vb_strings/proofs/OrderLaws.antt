@@ -1,14 +1,13 @@
 -- The laws of StrComp, and of characters and their numbers.
-use Rattle.std.proofs.Common.{◌≡◌, ℕ, ◌+◌, ◌-◌, ◌<◌, ◌≤◌, ◌^◌, Bool, true, false, ◌||◌, ℤ, pos, negsuc, neg_ℤ, ◌-ℤ◌}
-use Rattle.std.proofs.Common.{List, [], ◌∷◌, map, Result, Ok, Err, length, refl, sym, ap, ◌∙◌, arith, inl, inr}
+use Rattle.std.proofs.Common.{◌≡◌, ℕ, ◌≤◌, pos, neg_ℤ}
+use Rattle.std.proofs.Common.{List, [], ◌∷◌, map, Result, Ok, Err, length, refl, sym, ap, ◌∙◌, arith}
 use Rattle.std.specs.declared.cmp.Ordering.{Ordering}
 use Rattle.std.specs.declared.cmp.Ordering.TheVariants.{Less, Equal, Greater}
 use Rattle.std.specs.Char.{to_ascii_lowercase}
 use Rattle.std.specs.Cmp.Lexicographic.{slice_cmp}
 use Rattle.std.specs.Ordering.{nat_cmp, ordering_reverse}
-use Rattle.std.proofs.lemmas.Bool.{cases_lt, lt-ltb, le-ltb}
 use Rattle.std.proofs.lemmas.Cmp.{nat_list_cmp_total}
-use Rattle.std.proofs.lemmas.List.{map-id, length-map}
+use Rattle.std.proofs.lemmas.List.{length-map}
 use Rattle.vb_value.specs.declared.fault.VbError.{VbError}
 use Rattle.vb_value.specs.declared.function.StrFn.TheVariants.{LCase, StrComp}
 use Rattle.vb_value.specs.declared.value.Value.{Value, Int, Str}
@@ -16,7 +15,6 @@ use Rattle.vb_value.specs.Errors.{and_then}
 use Rattle.vb_value.specs.Folding.{folded}
 use Rattle.vb_value.specs.TextLimit.{most_characters}
 use Rattle.vb_strings.specs.declared.comparing.Comparison.{Comparison}
-use Rattle.vb_strings.specs.declared.comparing.Comparison.TheVariants.{Exact, AnyCase}
 use Rattle.vb_strings.specs.Comparing.{order_of, sign_of, counted, comparison_of}
 use Rattle.vb_strings.specs.Functions.{call_string_of}
 use Rattle.vb_strings.specs.Laws.{ComparesLetters, ComparesTurned}

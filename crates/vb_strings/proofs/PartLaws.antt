@@ -1,14 +1,13 @@
 -- What the parts of a text are: how many, how long, and where a separator stands in them.
 use Rattle.std.proofs.Common.{◌≡◌, ℕ, zero, suc, ◌+◌, ◌-◌, ◌<◌, ◌≤◌, min, nat_le, Bool, true, false, cond, ◌&&◌, List, [], ◌∷◌, ◌++◌}
-use Rattle.std.proofs.Common.{Option, Some, None, length, get_or, take, drop, refl, sym, ap, ◌∙◌, subst, arith, length-drop, length-append}
+use Rattle.std.proofs.Common.{Option, Some, None, length, get_or, take, drop, refl, sym, ap, ◌∙◌, arith, length-drop, length-append}
 use Rattle.std.specs.List.{find, range_with_len, list_all}
 use Rattle.std.proofs.lemmas.Bool.{false_from_ne_true, le-leb}
 use Rattle.std.proofs.lemmas.List.{length-take, length-take-le, get_or_append_left, get_or-append_right, append_assoc, nil_from_length}
 use Rattle.std.proofs.lemmas.List.FromFn.{length-range_with_len, get_or-range_with_len}
 use Rattle.vb_strings.specs.declared.comparing.Comparison.{Comparison}
 use Rattle.vb_strings.specs.declared.comparing.Comparison.TheVariants.{Exact}
-use Rattle.vb_strings.specs.Borders.{letter}
-use Rattle.vb_strings.specs.Searching.{stands, first_in, places_in}
+use Rattle.vb_strings.specs.Searching.{stands, first_in}
 use Rattle.vb_strings.specs.Splitting.{cut, parts}
 use Rattle.vb_strings.specs.Joining.{behind, joined}
 use Rattle.vb_strings.proofs.Found.{fits, first_is}

@@ -4,7 +4,7 @@ use Rattle.std.proofs.Common.{length, drop, refl, sym, ap, ◌∙◌, arith, inl
 use Rattle.std.proofs.Common.{Bool, cond, Some, reverse}
 use Rattle.std.specs.Char.{to_ascii_lowercase}
 use Rattle.std.specs.List.{find, range_with_len}
-use Rattle.std.proofs.lemmas.Bool.{lt-ltb, le-ltb, false_from_ne_true, cases_lt}
+use Rattle.std.proofs.lemmas.Bool.{le-ltb, false_from_ne_true, cases_lt}
 use Rattle.std.proofs.lemmas.List.{take_all, drop_all, drop-map, length-map}
 use Rattle.vb_value.specs.declared.function.StrFn.TheVariants.{InStr, InStrRev}
 use Rattle.vb_value.specs.declared.value.Value.{Long}

@@ -1,6 +1,6 @@
 -- Texts that are split, joined and replaced.
-use Rattle.std.proofs.Common.{◌≡◌, ℕ, zero, suc, ◌+◌, ◌-◌, ◌<◌, ◌≤◌, ◌^◌, min, nat_le, Bool, true, false, if◌then◌else◌}
-use Rattle.std.proofs.Common.{ℤ, pos, negsuc, ◌-ℤ◌, List, [], ◌∷◌, Result, Ok, Err, map, length, drop, refl, sym, ap, ◌∙◌, arith}
+use Rattle.std.proofs.Common.{◌≡◌, ℕ, zero, suc, ◌+◌, ◌-◌, ◌<◌, ◌≤◌, ◌^◌, min, Bool, true, false, if◌then◌else◌}
+use Rattle.std.proofs.Common.{ℤ, pos, negsuc, ◌-ℤ◌, List, [], ◌∷◌, Result, Ok, map, length, refl, sym, ap, ◌∙◌, arith}
 use Rattle.std.proofs.Common.{inl, inr}
 use Rattle.std.proofs.lemmas.Int.{ints}
 use Rattle.std.proofs.lemmas.Bool.{lt-ltb, ne_eqb, cases_lt, lt-leb}
@@ -8,15 +8,14 @@ use Rattle.std.proofs.lemmas.List.{length-map}
 use Rattle.vb_value.specs.declared.fault.VbError.{VbError}
 use Rattle.vb_value.specs.declared.function.StrFn.TheVariants.{Join, Split, Replace}
 use Rattle.vb_value.specs.declared.value.Value.{Value, Long, Str}
-use Rattle.vb_value.specs.declared.value.Value.TheViews.{Arr, outs-Arr}
-use Rattle.vb_value.specs.Errors.{and_then, out_of_string_space}
+use Rattle.vb_value.specs.declared.value.Value.TheViews.{outs-Arr}
+use Rattle.vb_value.specs.Errors.{and_then}
 use Rattle.vb_value.specs.Numbers.{as_long}
 use Rattle.vb_value.specs.TextLimit.{most_characters, limited}
 use Rattle.vb_strings.specs.declared.comparing.Comparison.TheVariants.{Exact}
 use Rattle.vb_strings.specs.Functions.{call_string_of}
 use Rattle.vb_strings.specs.Joining.{join_level, joined, texts_of}
-use Rattle.vb_strings.specs.Laws.{SplitAt, Splits, SplitsAtMost, ReplacesByJoining, array, items_in, items_level}
-use Rattle.vb_strings.specs.Replacing.{replaced, around}
+use Rattle.vb_strings.specs.Laws.{Splits, SplitsAtMost, ReplacesByJoining, array, items_in, items_level}
 use Rattle.vb_strings.specs.Results.{bounded}
 use Rattle.vb_strings.specs.Splitting.{split, parts, array_of, are_short}
 use Rattle.vb_strings.proofs.Bounds.{limited_fits, texts_array, array_short, array_long}

@@ -1,20 +1,17 @@
 -- The laws on lengths and parts of texts, and on characters.
-use Rattle.std.proofs.Common.{◌≡◌, ℕ, zero, suc, ◌+◌, ◌-◌, ◌<◌, ◌≤◌, ◌^◌, min, Bool, true, false, if◌then◌else◌}
-use Rattle.std.proofs.Common.{ℤ, pos, negsuc, ◌-ℤ◌, List, [], ◌∷◌, ◌++◌, Result, Ok, nat_lt, length, take, drop, reverse}
-use Rattle.std.proofs.Common.{refl, sym, ap, ◌∙◌, append_assoc, arith, inl, inr, length-drop, length-append, eqb}
-use Rattle.std.proofs.lemmas.Int.{ints}
-use Rattle.std.proofs.lemmas.Bool.{lt-ltb, le-ltb, ne_eqb, cases_lt}
+use Rattle.std.proofs.Common.{◌≡◌, ℕ, ◌+◌, ◌-◌, ◌<◌, ◌≤◌, ◌^◌, min}
+use Rattle.std.proofs.Common.{pos, List, [], ◌∷◌, ◌++◌, Result, Ok, length, take, drop, reverse}
+use Rattle.std.proofs.Common.{refl, sym, ap, ◌∙◌, append_assoc, arith, length-drop}
+use Rattle.std.proofs.lemmas.Bool.{lt-ltb, ne_eqb}
 use Rattle.std.proofs.lemmas.List.{get_or-reverse, length-reverse, take-append-drop, drop-drop, length-take}
-use lib.Utf8.{scalar}
 use Rattle.vb_value.specs.declared.fault.VbError.{VbError}
-use Rattle.vb_value.specs.declared.function.StrFn.TheVariants.{Left, Right, Mid, Len, Asc, Chr}
-use Rattle.vb_value.specs.declared.value.Value.{Value, Int, Long, Str}
+use Rattle.vb_value.specs.declared.function.StrFn.TheVariants.{Left, Right, Mid, Len}
+use Rattle.vb_value.specs.declared.value.Value.{Value, Long, Str}
 use Rattle.vb_value.specs.Conversions.{to_long_of}
 use Rattle.vb_value.specs.Errors.{and_then}
 use Rattle.vb_value.specs.TextLimit.{most_characters}
-use Rattle.vb_strings.specs.Characters.{number_of, code_of, character_of}
 use Rattle.vb_strings.specs.Functions.{call_string_of}
-use Rattle.vb_strings.specs.Laws.{PartsTogether, EndsMeasured, Reverses, CharactersComeBack, text_in}
+use Rattle.vb_strings.specs.Laws.{PartsTogether, EndsMeasured, Reverses, text_in}
 use Rattle.vb_strings.specs.Results.{before_place, bounded, long}
 use Rattle.vb_strings.proofs.Bounds.{limited_fits}
 

@@ -1,8 +1,8 @@
 -- What the trims leave of a text.
-use Rattle.std.proofs.Common.{◌≡◌, ℕ, zero, suc, ◌+◌, ◌≤◌, ◌==◌, Bool, true, false, if◌then◌else◌, List, [], ◌∷◌, ◌++◌}
-use Rattle.std.proofs.Common.{Ok, length, reverse, replicate, refl, sym, ap, ◌∙◌, append_assoc, append-nil, arith, length-append, eqb}
+use Rattle.std.proofs.Common.{◌≡◌, ℕ, zero, suc, ◌+◌, ◌≤◌, Bool, true, false, if◌then◌else◌, List, [], ◌∷◌, ◌++◌}
+use Rattle.std.proofs.Common.{length, reverse, replicate, refl, sym, ap, ◌∙◌, arith, length-append}
 use Rattle.std.proofs.lemmas.Bool.{eqb-true, eq-eqb}
-use Rattle.std.proofs.lemmas.List.{reverse-reverse, reverse-append, length-reverse, length-replicate, replicate-append-replicate}
+use Rattle.std.proofs.lemmas.List.{reverse-reverse, reverse-append, replicate-append-replicate}
 use Rattle.vb_value.specs.Characters.{space}
 use Rattle.vb_value.specs.NumericText.{without_first, without_last}
 use Rattle.vb_value.specs.TextLimit.{most_characters}

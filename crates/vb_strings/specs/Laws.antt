@@ -1,6 +1,6 @@
 -- Laws of the functions, for readers to hold the definitions against.
 use Rattle.std.specs.Prelude.{◌≡◌, ◌<◌, ◌≤◌, ℕ, ◌+◌, ◌-◌, ◌^◌, min, true, false, ℤ, pos, negsuc, neg_ℤ, List, [], ◌∷◌}
-use Rattle.std.specs.Prelude.{◌++◌, length, map, get_or, replicate, Some, None, Result, Ok, Err}
+use Rattle.std.specs.Prelude.{◌++◌, length, map, get_or, replicate, Some, None, Result, Ok, Err, IfOk}
 use lib.Utf8.{scalar}
 use Rattle.vb_value.specs.declared.fault.VbError.{VbError}
 use Rattle.vb_value.specs.declared.function.StrFn.{StrFn}
@@ -190,5 +190,4 @@ ReplacesByJoining = (text pattern other : List ℕ) → 0 < length text → leng
 
 -- whatever a function is given, what it gives is sound
 abbrev pub GivesSound : Type 0
-GivesSound = (function : StrFn) (arguments : List Value) (value : Value)
-    → call_string_of function arguments ≡ Ok value → IsSound value
+GivesSound = (function : StrFn) (arguments : List Value) → IfOk (call_string_of function arguments) IsSound

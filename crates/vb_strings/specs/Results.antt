@@ -1,5 +1,5 @@
 -- What numbers among the arguments count, and what answers hold.
-use Rattle.std.specs.Prelude.{ℕ, ◌-◌, Bool, true, ◌==◌, nat_le, if◌then◌else◌, ℤ, pos, negsuc, List, length}
+use Rattle.std.specs.Prelude.{ℕ, ◌-◌, Bool, true, ◌==◌, nat_le, if◌then◌else◌, ℤ, pos, negsuc, length}
 use Rattle.std.specs.Prelude.{Result, Ok, Err}
 use Rattle.std.specs.List.{list_all}
 use Rattle.vb_value.specs.declared.fault.VbError.{VbError}

@@ -8,7 +8,6 @@ use vb_value::{List, Memory};
 
 /// The longest border of each beginning of the pattern, the shortest beginning first. The work is linear in the
 /// pattern's length: each step moves the place that is looked at, or the place from which characters agree, on.
-
 pub fn borders(
     alloc: Global,
     comparison: Comparison,

@@ -20,7 +20,7 @@ use vb_value::{StrFn, Value, VbFault};
 /// arguments than it takes, 94 for Null, 13 for an array, a text that is no number and a join of no array, 438 for an
 /// object, 91 for Nothing, 6 out of range, 5 for a number or a text that the function does not take, 14 for an answer
 /// of more than 1,048,576 characters.
-#[tactic(auto, using(crate::proofs::Bounds::len_same, crate::proofs::Bounds::in_str_same, crate::proofs::Bounds::in_str_rev_same, crate::proofs::Bounds::str_comp_same, crate::proofs::Bounds::asc_same, crate::proofs::Bounds::chr_same))]
+#[tactic(auto, using(crate::proofs::Bounds::same_answers))]
 pub fn call_string(alloc: Global, f: StrFn, args: &[Value]) -> Result<Value, VbFault>
     requires few { length args.now ≤ 255 }
     ensures { Answers result VbFault.Memory (told (spec.call_string_of f args.now)) }

@@ -62,6 +62,6 @@ pub fn replaces_by_joining()
 {}
 
 /// What the functions give is sound.
-pub fn gives_sound()
+pub fn results_are_sound()
     ensures { spec.GivesSound }
 {}

@@ -19,8 +19,8 @@ mod texts;
 
 pub use functions::call_string;
 pub use laws::{
-    characters_come_back, compares_letters, compares_turned, ends_measured, gives_sound,
-    parts_together, replaces_by_joining, reverses, searches_agree, searches_letters, splits,
+    characters_come_back, compares_letters, compares_turned, ends_measured, parts_together,
+    replaces_by_joining, results_are_sound, reverses, searches_agree, searches_letters, splits,
     splits_at_most, trims,
 };
 
