@@ -15,7 +15,8 @@ use Rattle.vb_strings.specs.Characters.{asc_of, chr_of, number_of, code_of, char
 use Rattle.vb_strings.specs.Comparing.{comparison_of, str_comp_of, compared}
 use Rattle.vb_strings.specs.Joining.{join_of, join_value, join_level, join_items, texts_of}
 use Rattle.vb_strings.specs.Letters.{lcase_of, ucase_of, str_reverse_of}
-use Rattle.vb_strings.specs.Parts.{len_of, left_of, right_of, mid_of, ltrim_of, rtrim_of, trim_of, part, front, back, rest, middle, changed}
+use Rattle.vb_strings.specs.Parts.{len_of, left_of, right_of, mid_of, ltrim_of, rtrim_of, trim_of, part, front, back}
+use Rattle.vb_strings.specs.Parts.{rest, middle, changed}
 use Rattle.vb_strings.specs.Repeating.{space_of, string_of, repeated, filling_of, first_of}
 use Rattle.vb_strings.specs.Replacing.{replace_of, replace_value}
 use Rattle.vb_strings.specs.Results.{long, before_place, count_of, most_of}
@@ -37,7 +38,7 @@ module _ (P : Result Value VbError → Type 0) (err : (e : VbError) → P (Err e
         → ((value : Value) → P (function value)) → P (and_then (the_argument arguments) (null_or function))
     one_all function arguments each =
         then_all (the_argument arguments) (null_or function) (λ value.
-            if_all (is_null value) (Ok Null) (function value) null (each value))
+        if_all (is_null value) (Ok Null) (function value) null (each value))
 
     long_all : (n : ℕ) → P (long n)
     long_all n = then_all (as_long (pos n)) (λ z. Ok (Long z)) whole
@@ -55,8 +56,8 @@ module _ (P : Result Value VbError → Type 0) (err : (e : VbError) → P (Err e
         → P (in_str from a b comparison)
     in_str_all from a b comparison =
         if_all (is_null a || is_null b) (Ok Null) _ null (then_all from _ (λ place. then_all (to_str_of a) _ (λ text.
-            then_all (to_str_of b) _ (λ pattern. then_all comparison _ (λ chosen.
-            search_from_all chosen text pattern place)))))
+        then_all (to_str_of b) _ (λ pattern. then_all comparison _ (λ chosen.
+        search_from_all chosen text pattern place)))))
 
     pub in_str_of_all : (arguments : List Value) → P (in_str_of arguments)
     in_str_of_all [] = err wrong_number
@@ -75,8 +76,8 @@ module _ (P : Result Value VbError → Type 0) (err : (e : VbError) → P (Err e
         → P (in_str_rev a b from comparison)
     in_str_rev_all a b from comparison =
         if_all (is_null a || is_null b) (Ok Null) _ null (then_all (to_str_of a) _ (λ text.
-            then_all (to_str_of b) _ (λ pattern. then_all from _ (λ place. then_all comparison _ (λ chosen.
-            search_up_to_all chosen text pattern place)))))
+        then_all (to_str_of b) _ (λ pattern. then_all from _ (λ place. then_all comparison _ (λ chosen.
+        search_up_to_all chosen text pattern place)))))
 
     pub in_str_rev_of_all : (arguments : List Value) → P (in_str_rev_of arguments)
     in_str_rev_of_all [] = err wrong_number
@@ -89,7 +90,7 @@ module _ (P : Result Value VbError → Type 0) (err : (e : VbError) → P (Err e
     compared_all : (a b : Value) (comparison : Result Comparison VbError) → P (compared a b comparison)
     compared_all a b comparison =
         if_all (is_null a || is_null b) (Ok Null) _ null (then_all (to_str_of a) _ (λ first.
-            then_all (to_str_of b) _ (λ second. then_all comparison _ (λ chosen. integer _))))
+        then_all (to_str_of b) _ (λ second. then_all comparison _ (λ chosen. integer _))))
 
     pub str_comp_of_all : (arguments : List Value) → P (str_comp_of arguments)
     str_comp_of_all [] = err wrong_number
@@ -101,14 +102,14 @@ module _ (P : Result Value VbError → Type 0) (err : (e : VbError) → P (Err e
     number_all : (character : ℕ) → P (Ok (number_of character))
     number_all character =
         let split : (low middle : Bool) → P (Ok (if low then Int (pos character)
-            else if middle then Int (pos character -ℤ pos 65536) else Long (pos character))) =
+        else if middle then Int (pos character -ℤ pos 65536) else Long (pos character))) =
         λ low middle. elim low as (λ v. P (Ok (if v then Int (pos character)
-            else if middle then Int (pos character -ℤ pos 65536) else Long (pos character)))) [
+        else if middle then Int (pos character -ℤ pos 65536) else Long (pos character)))) [
           | true ↦ integer _
           | false ↦ elim middle as (λ v. P (Ok (if v then Int (pos character -ℤ pos 65536) else Long (pos character)))) [
-              | true ↦ integer _
-              | false ↦ whole _
-            ]
+            | true ↦ integer _
+            | false ↦ whole _
+          ]
         ] in
         split (nat_lt character 32768) (nat_lt character 65536)
 
@@ -194,8 +195,8 @@ module _ (P : Result Value VbError → Type 0) (err : (e : VbError) → P (Err e
         → P (replace_value s a b i n comparison)
     replace_all s a b i n comparison =
         then_all (to_str_of s) _ (λ text. then_all (to_str_of a) _ (λ pattern. then_all (to_str_of b) _ (λ other.
-            then_all i _ (λ place. then_all n _ (λ number. then_all comparison _ (λ chosen.
-            then_all (before_place place) _ (λ skipped. then_all (most_of (length text) number) _ (λ most. made _))))))))
+        then_all i _ (λ place. then_all n _ (λ number. then_all comparison _ (λ chosen.
+        then_all (before_place place) _ (λ skipped. then_all (most_of (length text) number) _ (λ most. made _))))))))
 
     pub replace_of_all : (arguments : List Value) → P (replace_of arguments)
     replace_of_all [] = err wrong_number

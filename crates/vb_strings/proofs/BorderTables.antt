@@ -117,12 +117,12 @@ module _ (comparison : Comparison) (pattern : List ℕ) where
     none_between s behind early all =
         let shorter : border < count = is.shorter in
         is.longest (start + count - s) (omega arith) (omega arith) (λ k below.
-            let place : count - (start + count - s) + k ≡ s - start + k = omega arith in
-            let further : start + (s - start + k) ≡ s + k = omega arith in
-            ap (letter comparison pattern) place
-            ∙ sym (so_far (s - start + k) (omega arith))
-            ∙ ap text further
-            ∙ all k below)
+        let place : count - (start + count - s) + k ≡ s - start + k = omega arith in
+        let further : start + (s - start + k) ≡ s + k = omega arith in
+        ap (letter comparison pattern) place
+        ∙ sym (so_far (s - start + k) (omega arith))
+        ∙ ap text further
+        ∙ all k below)
 
   -- no place before that agrees to the character behind
   pub passed_border : (start count border : ℕ)
@@ -249,12 +249,14 @@ module _ (comparison : Comparison) (pattern : List ℕ) where
       (subst (λ n. IsLongestBorder comparison pattern n (get_or borders (matched - 1) 0)) before
       (known.each (matched - 1) (omega arith))) in
       let shorter : border < matched = is.shorter in
-      let here : start + (matched - border) + border ≡ start + matched = omega arith in
-      (shorter, record {
-        some = omega arith;
-        within = omega arith;
-        one_each = known.one_each ∙ sym here;
-        agrees = border_agrees (letter comparison pattern) start matched border known.agrees is;
-        passed = passed_border start matched border known.agrees miss is known.passed;
-        each = subst (λ n. BordersUpTo borders n) (sym here) known.each;
-      })
+      let here : start + (matched - border) + border ≡ start + matched = omega arith in (
+        shorter,
+        record {
+          some = omega arith;
+          within = omega arith;
+          one_each = known.one_each ∙ sym here;
+          agrees = border_agrees (letter comparison pattern) start matched border known.agrees is;
+          passed = passed_border start matched border known.agrees miss is known.passed;
+          each = subst (λ n. BordersUpTo borders n) (sym here) known.each;
+        },
+      )

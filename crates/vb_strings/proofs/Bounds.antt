@@ -16,7 +16,8 @@ use Rattle.vb_strings.specs.Comparing.{str_comp_of}
 use Rattle.vb_strings.specs.Parts.{len_of}
 use Rattle.vb_strings.specs.Searching.{in_str_of, in_str_rev_of}
 use Rattle.vb_strings.specs.Splitting.{are_short, array_of}
-use Rattle.vb_strings.proofs.AnswerKinds.{then_all, len_all, in_str_of_all, in_str_rev_of_all, str_comp_of_all, asc_of_all, chr_of_all}
+use Rattle.vb_strings.proofs.AnswerKinds.{then_all, len_all, in_str_of_all, in_str_rev_of_all, str_comp_of_all}
+use Rattle.vb_strings.proofs.AnswerKinds.{asc_of_all, chr_of_all}
 
 -- a text that is not too long as an answer
 pub limited_fits : (text : List ℕ) → length text ≤ most_characters → limited text ≡ Ok (Str text)

@@ -1,9 +1,12 @@
 -- What the parts of a text are: how many, how long, and where a separator stands in them.
-use Rattle.std.proofs.Common.{◌≡◌, ℕ, zero, suc, ◌+◌, ◌-◌, ◌<◌, ◌≤◌, min, nat_le, Bool, true, false, cond, ◌&&◌, List, [], ◌∷◌, ◌++◌}
-use Rattle.std.proofs.Common.{Option, Some, None, length, get_or, take, drop, refl, sym, ap, ◌∙◌, arith, length-drop, length-append}
+use Rattle.std.proofs.Common.{◌≡◌, ℕ, zero, suc, ◌+◌, ◌-◌, ◌<◌, ◌≤◌, min, nat_le, Bool, true, false, cond, ◌&&◌, List}
+use Rattle.std.proofs.Common.{[], ◌∷◌, ◌++◌}
+use Rattle.std.proofs.Common.{Option, Some, None, length, get_or, take, drop, refl, sym, ap, ◌∙◌, arith, length-drop}
+use Rattle.std.proofs.Common.{length-append}
 use Rattle.std.specs.List.{find, range_with_len, list_all}
 use Rattle.std.proofs.lemmas.Bool.{false_from_ne_true, le-leb}
-use Rattle.std.proofs.lemmas.List.{length-take, length-take-le, get_or_append_left, get_or-append_right, append_assoc, nil_from_length}
+use Rattle.std.proofs.lemmas.List.{length-take, length-take-le, get_or_append_left, get_or-append_right, append_assoc}
+use Rattle.std.proofs.lemmas.List.{nil_from_length}
 use Rattle.std.proofs.lemmas.List.FromFn.{length-range_with_len, get_or-range_with_len}
 use Rattle.vb_strings.specs.declared.comparing.Comparison.{Comparison}
 use Rattle.vb_strings.specs.declared.comparing.Comparison.TheVariants.{Exact}
@@ -86,16 +89,16 @@ stands_further text more separator k within is =
     let ends : k + length separator ≤ length text = fits Exact text separator k within is in
     let long : length (text ++ more) ≡ length text + length more = length-append text more in
     agrees_stands Exact (text ++ more) separator k (omega arith) (λ j below.
-        get_or_append_left text more 0 (k + j) (omega arith) ∙ stands_agrees Exact text separator k is j below)
+    get_or_append_left text more 0 (k + j) (omega arith) ∙ stands_agrees Exact text separator k is j below)
 
 -- a separator behind a text stands there
 stands_behind : (text separator : List ℕ) → stands Exact (text ++ separator) separator (length text) ≡ true
 stands_behind text separator =
     let long : length (text ++ separator) ≡ length text + length separator = length-append text separator in
     agrees_stands Exact (text ++ separator) separator (length text) (omega arith) (λ j below.
-        let back : length text + j - length text ≡ j = omega arith in
-        get_or-append_right text separator (length text) (length text + j) 0 refl (omega arith)
-        ∙ ap (λ n. get_or separator n 0) back)
+    let back : length text + j - length text ≡ j = omega arith in
+    get_or-append_right text separator (length text) (length text + j) 0 refl (omega arith)
+    ∙ ap (λ n. get_or separator n 0) back)
 
 -- in what stands before the first separator, with the separator behind it, that is the first one too
 first_ended : (text separator : List ℕ) (before : ℕ) → 0 < length separator
@@ -112,12 +115,12 @@ first_ended text separator before wide is =
     ∙ around_first text separator before is in
     first_is Exact (take before text ++ separator) separator (length (take before text)) (omega arith)
     (λ k below. false_from_ne_true (stands Exact (take before text ++ separator) separator k) (λ stood.
-        let further : stands Exact text separator k ≡ true =
-        ap (λ given. stands Exact given separator k) (sym whole)
-        ∙ stands_further (take before text ++ separator) (drop (before + length separator) text) separator k
-        (omega arith) stood in
-        let nowhere : stands Exact text separator k ≡ false = first.none k (omega arith) in
-        absurd (cc)))
+    let further : stands Exact text separator k ≡ true =
+    ap (λ given. stands Exact given separator k) (sym whole)
+    ∙ stands_further (take before text ++ separator) (drop (before + length separator) text) separator k
+    (omega arith) stood in
+    let nowhere : stands Exact text separator k ≡ false = first.none k (omega arith) in
+    absurd (cc)))
     (stands_behind (take before text) separator)
 
 -- each part but the last ends where the separator first stands

@@ -127,9 +127,10 @@ whole_search comparison text pattern =
     (ap (λ front. long (place_of 0 (last_in comparison front pattern))) (take_all (length text) text all))
 
 pub searches_letters : SearchesLetters
-searches_letters text pattern short also =
-    (ap bounded (search_from_folded text pattern)
-    ∙ sym (both_lowered text pattern (λ first second. call_string_of InStr (first ∷ second ∷ [])) short also),
-    ap bounded (whole_search AnyCase text pattern ∙ ap (λ last. long (place_of 0 last)) (last_folded text pattern)
-    ∙ sym (whole_search Exact (folded text) (folded pattern)))
-    ∙ sym (both_lowered text pattern (λ first second. call_string_of InStrRev (first ∷ second ∷ [])) short also))
+searches_letters text pattern short also = (
+  ap bounded (search_from_folded text pattern)
+      ∙ sym (both_lowered text pattern (λ first second. call_string_of InStr (first ∷ second ∷ [])) short also),
+  ap bounded (whole_search AnyCase text pattern ∙ ap (λ last. long (place_of 0 last)) (last_folded text pattern)
+      ∙ sym (whole_search Exact (folded text) (folded pattern)))
+      ∙ sym (both_lowered text pattern (λ first second. call_string_of InStrRev (first ∷ second ∷ [])) short also),
+)

@@ -50,7 +50,7 @@ module _ (comparison : Comparison) (text pattern : List ℕ) where
   agrees_stands start within all =
       let long : length pattern ≤ length (drop start text) = omega (arith, length-drop start text) in
       agrees_begins comparison (drop start text) pattern long (λ k below.
-          ap (counted comparison) (get_or-drop start text k 0) ∙ all k below)
+      ap (counted comparison) (get_or-drop start text k 0) ∙ all k below)
 
   -- the pattern stands nowhere from one place up to another, and at that one so many of its characters agree
   pub record Searched (from start matched : ℕ) : Type 0 where
@@ -95,7 +95,7 @@ module _ (comparison : Comparison) (text pattern : List ℕ) where
     missed_here miss =
         let part : matched < length pattern = so_far.part in
         false_from_ne_true (stands comparison text pattern start) (λ is.
-            miss (stands_agrees start is matched (omega arith)))
+        miss (stands_agrees start is matched (omega arith)))
 
     pub searched_miss : matched ≡ 0
         → (letter comparison text (start + matched) ≡ letter comparison pattern matched → ⊥)
@@ -129,8 +129,8 @@ module _ (comparison : Comparison) (text pattern : List ℕ) where
       → (k : ℕ) → start < k → k < start + (count - border) → stands comparison text pattern k ≡ false
   none_passed start count border is within so_far k behind before =
       false_from_ne_true (stands comparison text pattern k) (λ stood.
-          none_between comparison pattern (letter comparison text) start count border so_far is k behind before
-          (λ j below. stands_agrees k stood j (omega arith)))
+      none_between comparison pattern (letter comparison text) start count border so_far is k behind before
+      (λ j below. stands_agrees k stood j (omega arith)))
 
   module _ (borders : List ℕ) (are : AreBorders comparison pattern borders) where
     -- the next character differs, and the pattern is tried further on
@@ -143,21 +143,23 @@ module _ (comparison : Comparison) (text pattern : List ℕ) where
         let part : matched < length pattern = so_far.part in
         let is : IsLongestBorder comparison pattern matched border =
         border_read borders matched border are some (omega arith) read in
-        let shorter : border < matched = is.shorter in
-        (shorter, record {
-          within = omega arith;
-          part = omega arith;
-          agrees = border_agrees comparison pattern (letter comparison text) start matched border so_far.agrees is;
-          none = λ k behind before.
-              elim (cases_order k start) [
-                | inl same ↦
-                    subst (λ n. stands comparison text pattern n ≡ false) (sym same)
-                    (missed_here from start matched so_far more miss)
-                | inr (inl less) ↦ so_far.none k behind less
-                | inr (inr past) ↦
-                    none_passed start matched border is (omega arith) so_far.agrees k past before
-              ];
-        })
+        let shorter : border < matched = is.shorter in (
+          shorter,
+          record {
+            within = omega arith;
+            part = omega arith;
+            agrees = border_agrees comparison pattern (letter comparison text) start matched border so_far.agrees is;
+            none = λ k behind before.
+                elim (cases_order k start) [
+                  | inl same ↦
+                      subst (λ n. stands comparison text pattern n ≡ false) (sym same)
+                      (missed_here from start matched so_far more miss)
+                  | inr (inl less) ↦ so_far.none k behind less
+                  | inr (inr past) ↦
+                      none_passed start matched border is (omega arith) so_far.agrees k past before
+                ];
+          },
+        )
 
     -- the pattern stands, and is tried further on
     pub searched_on : (from start matched border : ℕ) → Searched from start matched
@@ -170,14 +172,16 @@ module _ (comparison : Comparison) (text pattern : List ℕ) where
         agrees_more (letter comparison text) (letter comparison pattern) start matched so_far.agrees hit in
         let is : IsLongestBorder comparison pattern (matched + 1) border =
         border_read borders (matched + 1) border are (omega arith) (omega arith) read in
-        let shorter : border < matched + 1 = is.shorter in
-        (shorter, record {
-          within = omega arith;
-          part = omega arith;
-          agrees = border_agrees comparison pattern (letter comparison text) start (matched + 1) border all is;
-          none = λ k behind before.
-              none_passed start (matched + 1) border is (omega arith) all k (omega arith) before;
-        })
+        let shorter : border < matched + 1 = is.shorter in (
+          shorter,
+          record {
+            within = omega arith;
+            part = omega arith;
+            agrees = border_agrees comparison pattern (letter comparison text) start (matched + 1) border all is;
+            none = λ k behind before.
+                none_passed start (matched + 1) border is (omega arith) all k (omega arith) before;
+          },
+        )
 
   -- nothing is left to search
   pub searched_all : (from start matched : ℕ) → Searched from start matched → length text ≤ start + matched
@@ -188,7 +192,7 @@ module _ (comparison : Comparison) (text pattern : List ℕ) where
         | inl less ↦ so_far.none k behind less
         | inr least ↦
             false_from_ne_true (stands comparison text pattern k) (λ is.
-                let within : k + length pattern ≤ length text =
-                fits comparison text pattern k (omega arith) is in
-                omega arith)
+            let within : k + length pattern ≤ length text =
+            fits comparison text pattern k (omega arith) is in
+            omega arith)
       ]

@@ -91,8 +91,8 @@ split_sound : (s d : Value) (n : Result ℤ VbError) (comparison : Result Compar
     → Sound (split_value s d n comparison)
 split_sound s d n comparison =
     then_all Sound refused (to_str_of s) _ (λ text. then_all Sound refused (to_str_of d) _ (λ separator.
-        then_all Sound refused n _ (λ number. then_all Sound refused comparison _ (λ chosen.
-        then_all Sound refused (split chosen text separator number) array_of array_of_sound))))
+    then_all Sound refused n _ (λ number. then_all Sound refused comparison _ (λ chosen.
+    then_all Sound refused (split chosen text separator number) array_of array_of_sound))))
 
 split_of_sound : (arguments : List Value) → Sound (split_of arguments)
 split_of_sound [] = refused wrong_number

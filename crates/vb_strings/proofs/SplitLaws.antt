@@ -144,14 +144,15 @@ splits_at_most text separator count some short wide wanted fits =
     ≡ Ok (array (parts Exact separator (count - 1) text)) =
     rw (long_itself count fits)
     (ap (λ answer. bounded (and_then answer array_of)) (split_count text separator count some wide wanted)
-    ∙ parts_given text separator (count - 1) wide short) in
-    (items_count (call_string_of Split (Str text ∷ Str separator ∷ Long (pos count) ∷ []))
-    (parts Exact separator (count - 1) text) given
-    ∙ least_count text separator count wide wanted
-    ∙ ap (min count) (sym (items_count (call_string_of Split (Str text ∷ Str separator ∷ []))
-    (parts Exact separator (length text) text) (split_given text separator some short wide))),
-    ap (λ answer. and_then answer (λ all. call_string_of Join (all ∷ Str separator ∷ []))) given
-    ∙ parts_rejoined text separator (count - 1) wide short)
+    ∙ parts_given text separator (count - 1) wide short) in (
+      items_count (call_string_of Split (Str text ∷ Str separator ∷ Long (pos count) ∷ []))
+          (parts Exact separator (count - 1) text) given
+          ∙ least_count text separator count wide wanted
+          ∙ ap (min count) (sym (items_count (call_string_of Split (Str text ∷ Str separator ∷ []))
+          (parts Exact separator (length text) text) (split_given text separator some short wide))),
+      ap (λ answer. and_then answer (λ all. call_string_of Join (all ∷ Str separator ∷ []))) given
+          ∙ parts_rejoined text separator (count - 1) wide short,
+    )
 
 -- what is joined of texts, or of their array where that is an answer
 joined_answer : (bound : ℤ) (texts : List (List ℕ)) (other : List ℕ)

@@ -95,8 +95,9 @@ len_is text n is fits = ap (λ count. bounded (long count)) is ∙ ap bounded (l
 pub ends_measured : EndsMeasured
 ends_measured text count fits short =
     let from_end : length (drop (length text - count) text) ≡ min count (length text) =
-    length-drop (length text - count) text ∙ omega arith in
-    (ap (λ answer. and_then answer (λ part. call_string_of Len (part ∷ []))) (left_part text count fits short)
-    ∙ len_is (take count text) (min count (length text)) (length-take count text) (omega arith),
-    ap (λ answer. and_then answer (λ part. call_string_of Len (part ∷ []))) (right_part text count fits short)
-    ∙ len_is (drop (length text - count) text) (min count (length text)) from_end (omega arith))
+    length-drop (length text - count) text ∙ omega arith in (
+      ap (λ answer. and_then answer (λ part. call_string_of Len (part ∷ []))) (left_part text count fits short)
+          ∙ len_is (take count text) (min count (length text)) (length-take count text) (omega arith),
+      ap (λ answer. and_then answer (λ part. call_string_of Len (part ∷ []))) (right_part text count fits short)
+          ∙ len_is (drop (length text - count) text) (min count (length text)) from_end (omega arith),
+    )

@@ -19,7 +19,7 @@ use vb_value::{StrFn, Value, VbFault};
 /// What a function gives of its arguments (VBScript 5.6, "String Functions"). Errors: 450 for another number of
 /// arguments than it takes, 94 for Null, 13 for an array, a text that is no number and a join of no array, 438 for an
 /// object, 91 for Nothing, 6 out of range, 5 for a number or a text that the function does not take, 14 for an answer
-/// of more than 1,048,576 characters.
+/// of more than 1,048,576 characters, or one with such a part.
 #[tactic(auto, using(crate::proofs::Bounds::same_answers))]
 pub fn call_string(alloc: Global, f: StrFn, args: &[Value]) -> Result<Value, VbFault>
     requires few { length args.now ≤ 255 }

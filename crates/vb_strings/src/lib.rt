@@ -23,4 +23,3 @@ pub use laws::{
     replaces_by_joining, results_are_sound, reverses, searches_agree, searches_letters, splits,
     splits_at_most, trims,
 };
-

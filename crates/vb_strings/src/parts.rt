@@ -161,7 +161,10 @@ pub fn trim(alloc: Global, args: &[Value]) -> Result<Value, VbFault>
         return Ok(Value::Null);
     }
     let text = as_text(alloc, s)?;
-    text_of(alloc, without_last_spaces(without_first_spaces(text.as_slice())))
+    text_of(
+        alloc,
+        without_last_spaces(without_first_spaces(text.as_slice())),
+    )
 }
 
 /// The text from its first character on that is no space.

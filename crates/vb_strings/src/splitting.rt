@@ -9,8 +9,8 @@ ghost use Rattle.vb_strings.specs.Splitting as spec;
 use crate::borders::borders;
 use crate::comparing::{Comparison, comparison_named};
 use crate::parts::{at_most, behind};
-use crate::results::most;
 use crate::places::first_in;
+use crate::results::most;
 use crate::texts::as_text;
 use std::alloc::Global;
 use vb_value::{

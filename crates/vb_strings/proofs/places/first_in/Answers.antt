@@ -30,5 +30,5 @@ loop-start-preserved c =
 pub returns-clause-place : goal.returns-clause-place
 returns-clause-place c =
     sym (none_found c.args.comparison c.args.text.now c.args.pattern.now (λ k below.
-        searched_all c.args.comparison c.args.text.now c.args.pattern.now 0 c.loop-start.start c.loop-start.matched
-        c.loop-start.invariant (omega arith) k (omega arith) below))
+    searched_all c.args.comparison c.args.text.now c.args.pattern.now 0 c.loop-start.start c.loop-start.matched
+    c.loop-start.invariant (omega arith) k (omega arith) below))
