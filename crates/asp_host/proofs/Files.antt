@@ -100,10 +100,6 @@ refused_at files path read paths is none file there same = inr (λ shown page.
     none shown (subst (λ (bytes : List ℕ). IsPageBody bytes shown) (read_file files path read paths is file there same)
     (unread_page file.bytes shown page)))
 
--- the file of a site's events is refused
-pub global_at : (files : List SiteFile) (path : List ℕ) → IsGlobal path → IsRefusedAt files path
-global_at files path global file there same = inl (subst IsGlobal (sym same) global)
-
 -- what is read of the file at a path shows what the file shows, if it shows anything
 pub read_at : (files : List SiteFile) (path read : List ℕ) (shown : Option (List ℕ)) → AreSitePaths (map path_of files)
     → option_map (take 65537) (bytes_of files path) ≡ Some read → ¬ (IsGlobal path) → IsReadAs read shown

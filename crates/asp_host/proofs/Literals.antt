@@ -9,10 +9,6 @@ use Rattle.vb_value.specs.declared.site_file.FaultKind.{FaultKind}
 use Rattle.vb_value.specs.declared.site_file.FaultKind.TheVariants.{NotYet}
 use Rattle.asp_host.specs.Status.{place_text}
 
-pub no_characters : chars [] ≡ []
-unfolding chars
-no_characters = refl
-
 pub memory_characters : chars (codes "out of memory") ≡ codes "out of memory"
 unfolding chars
 memory_characters = refl

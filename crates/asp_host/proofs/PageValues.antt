@@ -36,11 +36,6 @@ value_grows digits at =
 pub too_great : (digits : List ℕ) (at : ℕ) → 32767 < value_of (take at digits) → ¬ (IsSmall digits)
 too_great digits at great is = absurd (omega (arith, great, is.small, value_grows digits at))
 
--- a sum in which some number is too great
-pub not_bounded : (numbers : List (List ℕ)) (at : ℕ) (number : List ℕ) → at < length numbers
-    → number ≡ get_or numbers at number → ¬ (IsSmall number) → ¬ (IsBounded numbers)
-not_bounded numbers at number within is great bounded = great (subst IsSmall (sym is) (bounded.each at number within))
-
 -- the characters of a number's text
 pub decimal_characters : (value : ℕ) → value < 2 ^ 32 → chars (decimal value) ≡ decimal value
 decimal_characters value fits = chars-IsAscii (decimal value) (IsAscii-decimal value (omega arith))
