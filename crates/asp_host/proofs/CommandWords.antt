@@ -1,8 +1,8 @@
 -- The words of a command line, and the command that they say.
-use Rattle.std.proofs.Common.{◌≡◌, ℕ, List, [], ◌∷◌, length, get_or, codes, arith, sym, ap, chars, refl, ◌∙◌}
+use Rattle.std.proofs.Common.{◌≡◌, ℕ, List, [], ◌∷◌, length, get_or, codes, arith, sym, ap, chars, ◌∙◌}
 use Rattle.asp_host.specs.declared.words.Command.{Command}
 use Rattle.asp_host.specs.declared.words.Command.TheVariants.{Get}
-use Rattle.asp_host.specs.Words.{IsCommand, IsPagePath, SaysGet, SaysNoCommand}
+use Rattle.asp_host.specs.Words.{IsCommand}
 
 -- a list of three items
 pub three_items : {X : Type 0} (items : List X) (a b c : X) → length items ≡ 3

@@ -1,13 +1,10 @@
 -- What `get` ran and wrote, from what it read.
-use Rattle.std.proofs.Common.{◌≡◌, ℕ, ◌∙◌, List, [], ◌∷◌, ◌++◌, Option, Some, None, IfSome, append-nil, refl, sym, subst}
+use Rattle.std.proofs.Common.{◌≡◌, ℕ, List, [], ◌∷◌, Option, IfSome, append-nil, refl}
 use Rattle.vb_value.specs.declared.site_file.SiteFile.{SiteFile}
-use Rattle.asp_io.specs.Copying.{AddsPart}
-use Rattle.asp_io.specs.Sink.{with_bytes}
 use Rattle.asp_host.specs.declared.load.LoadStop.{LoadStop}
 use Rattle.asp_host.specs.declared.load.LoadStop.TheVariants.{Refused, ReadFault, Memory}
-use Rattle.asp_host.specs.declared.status.Status.{Status}
 use Rattle.asp_host.specs.Get.{GetWrites, IsOneRequest}
-use Rattle.asp_host.specs.Journal.{Run, IsAccount, bodies_of}
+use Rattle.asp_host.specs.Journal.{Run, bodies_of}
 use Rattle.asp_host.specs.Reading.{StopsLoading}
 use Rattle.asp_host.specs.Site.{IsAnswer}
 use Rattle.asp_host.specs.Status.{status_of}

@@ -3,7 +3,6 @@ use Rattle.std.proofs.Common.{◌≡◌, inl, inr, ℕ, List, [], ◌∷◌, ◌
 use Rattle.std.specs.List.{Contains}
 use Rattle.std.specs.declared.cmp.Ordering.{Ordering}
 use Rattle.std.specs.declared.cmp.Ordering.TheVariants.{Less, Equal, Greater}
-use Rattle.std.proofs.lemmas.Cmp.{nat_list_cmp_total}
 use Rattle.std.proofs.lemmas.Map.Lookups.{exact_bytes}
 use Rattle.std.proofs.lemmas.Option.{same_Some}
 use Rattle.vb_value.specs.declared.site_file.SiteFile.{SiteFile}
@@ -14,7 +13,7 @@ use Rattle.page_read.proofs.Pieces.{one_list}
 use Rattle.page_read.proofs.Terms.{sums_unique}
 use Rattle.asp_io.specs.Folder.{AreSitePaths, bytes_of, path_of}
 use Rattle.asp_host.specs.Page.{IsPageBody, IsPageText, IsSumText, Shows, ShowTogether, sum_text}
-use Rattle.asp_host.specs.Site.{IsAnswer, IsBefore, IsChosen, IsFileAt, IsFirstRefused, IsRefusal, IsSiteFile, compared}
+use Rattle.asp_host.specs.Site.{IsAnswer, IsBefore, IsFirstRefused, IsRefusal, IsSiteFile, compared}
 use Rattle.asp_host.proofs.ChosenPaths.{behind, one_first}
 use Rattle.asp_host.proofs.Files.{found_file}
 

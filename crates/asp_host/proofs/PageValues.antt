@@ -1,6 +1,6 @@
 -- The values of numbers and of sums, digit by digit and number by number.
 use Rattle.std.proofs.Common.{◌≡◌, ℕ, ◌+◌, ◌*◌, ◌<◌, ◌≤◌, ◌^◌, List, ◌++◌, map, length, get_or, take, drop}
-use Rattle.std.proofs.Common.{arith, sym, ◌∙◌, ap, subst}
+use Rattle.std.proofs.Common.{arith, sym, ◌∙◌, ap}
 use Rattle.std.specs.Fmt.{decimal}
 use Rattle.std.specs.Str.{chars}
 use Rattle.std.specs.Int.Digits.{number_from_digits_after}
@@ -8,7 +8,7 @@ use Rattle.std.proofs.lemmas.List.{take_more, take-append-drop, map-append}
 use Rattle.std.proofs.lemmas.Int.Digits.{number_push, number_after_append, number_after_ge}
 use Rattle.std.proofs.lemmas.Str.{chars-IsAscii}
 use Rattle.std.proofs.lemmas.Fmt.{IsAscii-decimal}
-use Rattle.asp_host.specs.Page.{value_of, digit_of, IsSmall, IsBounded}
+use Rattle.asp_host.specs.Page.{value_of, digit_of, IsSmall}
 
 -- one digit more
 pub value_more : (digits : List ℕ) (at : ℕ) → at < length digits

@@ -1,6 +1,6 @@
 -- The bytes of a page and its text.
 use Rattle.std.proofs.Common.{◌≡◌, ◌≢◌, ℕ, ◌<◌, ◌≤◌, ◌^◌, Bool, true, false, List, [], Ok, Err, Some, length}
-use Rattle.std.proofs.Common.{refl, sym, ◌∙◌, ap, subst, arith, if◌then◌else◌}
+use Rattle.std.proofs.Common.{refl, ap, subst, arith, if◌then◌else◌}
 use Rattle.std.specs.Str.{chars, is_utf8, IsUtf8}
 use Rattle.std.specs.List.{slice_get}
 use Rattle.std.proofs.lemmas.Str.{encodes-chars, length-le-encodes, is_utf8-from_IsUtf8, IsUtf8-from_is_utf8}

@@ -1,5 +1,5 @@
 -- A page's text read piece by piece: what was read, and what is left.
-use Rattle.std.proofs.Common.{◌≡◌, ℕ, ◌+◌, ◌<◌, ◌≤◌, ◌⊎◌, List, [], ◌∷◌, ◌++◌, codes, length, take, drop}
+use Rattle.std.proofs.Common.{◌≡◌, ℕ, ◌+◌, ◌<◌, ◌≤◌, List, [], ◌∷◌, ◌++◌, codes, length, take, drop}
 use Rattle.std.proofs.Common.{refl, sym, ◌∙◌, ap, subst, arith, append_assoc, append-nil}
 use Rattle.std.proofs.lemmas.List.{length-append, length-take-le, drop-drop, drop_all, take-append-drop, take_at}
 use Rattle.vb_value.specs.Lines.{line_at}
@@ -7,7 +7,7 @@ use Rattle.page_read.specs.declared.fragment.Fragment.{Fragment}
 use Rattle.page_read.specs.declared.fragment.Fragment.TheVariants.{Text, Write}
 use Rattle.page_read.specs.Forms.{BeginsForm, BeginsNoFormWithin, EndsPlain, HoldsNoClose}
 use Rattle.page_read.specs.Fragments.{AreCut, IsFirst}
-use Rattle.page_read.specs.Reading.{IsFirstAt, IsNotCutAt}
+use Rattle.page_read.specs.Reading.{IsFirstAt}
 use Rattle.page_read.specs.Sum.{IsSum, IsSomeSum}
 use Rattle.page_read.proofs.Pieces.{close_unique, first_unique, no_first, no_form, no_form_first, write_cut, write_spelled}
 

@@ -1,4 +1,4 @@
-use Rattle.std.proofs.Common.{[], ◌≡◌, ◌∙◌, ℕ, List, Option, sym, subst}
+use Rattle.std.proofs.Common.{[], ◌≡◌, ◌∙◌, ℕ, List, sym, subst}
 use Rattle.asp_io.specs.Copying.{AddsPart}
 use Rattle.asp_io.specs.Sink.{with_bytes}
 use Rattle.asp_host.specs.Get.{GetWrites}

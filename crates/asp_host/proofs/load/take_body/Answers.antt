@@ -1,5 +1,4 @@
-use Rattle.std.proofs.Common.{IfSome, Some, subst, Option, List, ℕ, refl}
-use Rattle.vb_value.specs.declared.site_file.SiteFile.{SiteFile}
+use Rattle.std.proofs.Common.{IfSome, Some, subst, Option, List, ℕ}
 use Rattle.asp_host.specs.Reading.{IsReadAt, Takes}
 use Rattle.asp_host.proofs.Causes.{told}
 use Rattle.asp_host.proofs.load.take_body.Goals as goal
