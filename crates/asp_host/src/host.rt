@@ -18,7 +18,7 @@ use std::thread::Threads;
 /// Runs the command that the words say, without the program's own name.
 ///
 /// The site is what `folder` holds, and the output goes to `sink`. The other things of the outside are for commands
-/// to come: `get` does not use them.
+/// to come.
 pub fn run_host<Rt, F, S, K, W, C>(
     rt: &Rt,
     alloc: Global,
@@ -37,7 +37,7 @@ where
     K: Sink,
     W: Wire + Drop,
     C: Clock,
-    // The command that the words say ends as its own statement has it.
+    // The command that the words say ends as its own statement has it: see `specs/Host.antt`.
     ensures ends { (command : Said) → IsCommand (map string_bytes words.now) command
         → Ends command (record {
           files = F.files folder.old;
