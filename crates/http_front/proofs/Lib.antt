@@ -1,0 +1,11 @@
+mod Blanks
+mod Cuts
+mod Finding
+mod Fronts
+mod HeaderFields
+mod Marks
+mod OpenTargets
+mod Shortest
+mod Streams
+mod Targets
+mod Utf8

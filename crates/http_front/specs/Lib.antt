@@ -1,0 +1,12 @@
+pub mod Target
+pub mod Fields
+pub mod Status
+pub mod Front
+pub mod Shortest
+pub mod Request
+pub mod OpenTarget
+pub mod Mark
+pub mod Parsed
+pub mod Found
+pub mod Waiting
+pub mod Reader
