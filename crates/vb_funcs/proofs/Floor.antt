@@ -1,11 +1,11 @@
 -- Int of a Currency is its floor.
-use Rattle.std.proofs.Common.{◌≡◌, ℕ, suc, ◌+◌, ◌*◌, ◌/◌, ◌^◌, ◌≤◌, Bool, true, false, T, leb, ℤ, pos, negsuc, neg_ℤ}
-use Rattle.std.proofs.Common.{◌*ℤ◌, ◌≤ℤ◌, if◌then◌else◌, Ok, Err, refl, sym, ap, subst, ◌∙◌, arith}
+use Rattle.std.proofs.Common.{◌≡◌, ℕ, suc, ◌+◌, ◌*◌, ◌/◌, ◌≤◌, Bool, true, false, T, leb, ℤ, pos, negsuc, neg_ℤ}
+use Rattle.std.proofs.Common.{◌*ℤ◌, ◌≤ℤ◌, Ok, refl, sym, ap, subst, ◌∙◌, arith}
 use Rattle.std.proofs.Math.IntN.{negsuc-*ℤ-pos}
 use Rattle.std.proofs.lemmas.Bool.Decides.{nat_tests}
 use Rattle.vb_value.specs.declared.value.Value.{Cur}
-use Rattle.vb_value.specs.Errors.{and_then, overflow}
-use Rattle.vb_value.specs.Numbers.{is_within}
+use Rattle.vb_value.specs.Errors.{and_then}
+use Rattle.vb_value.specs.Numbers.{as_currency}
 use Rattle.vb_funcs.specs.Arithmetic.{floor_of}
 use Rattle.vb_funcs.specs.Laws.{IsFloor, Lowers}
 
@@ -23,7 +23,7 @@ tells a b passes = by (leb a b) refl passes
     by false is passed = absurd passed
 
 -- a negative number of whole units
-below : (k : ℕ) → negsuc k *ℤ pos 10000 ≡ negsuc (k * 10000 + 9999)
+pub below : (k : ℕ) → negsuc k *ℤ pos 10000 ≡ negsuc (k * 10000 + 9999)
 below k = negsuc-*ℤ-pos k 10000 ∙ ap (λ n. neg_ℤ (pos n)) times
   where
     times : suc k * 10000 ≡ suc (k * 10000 + 9999)
@@ -64,11 +64,24 @@ is_floor (negsuc less) = subst (IsFloor (negsuc less)) (sym (floor_below less)) 
   greatest = greatest_below less;
 })
 
-given : (fits : Bool) (z floor : ℤ)
-    → and_then (if fits then Ok z else Err overflow) (λ n. Ok (Cur n)) ≡ Ok (Cur floor) → z ≡ floor
-given true z floor is = cc
-given false z floor is = absurd cc
+same_order : (a b : ℤ) → a ≤ℤ b → b ≤ℤ a → a ≡ b
+same_order (pos a) (pos b) one two =
+    let first = tells _ _ one.le in let second = tells _ _ two.le in ap pos (omega (arith, first, second))
+same_order (pos a) (negsuc b) one two = absurd one.le
+same_order (negsuc a) (pos b) one two = absurd two.le
+same_order (negsuc a) (negsuc b) one two =
+    let first = tells _ _ one.le in let second = tells _ _ two.le in ap negsuc (omega (arith, first, second))
+
+at_most_floor : (z one other : ℤ) → IsFloor z one → IsFloor z other → one ≤ℤ other
+at_most_floor z one other first second =
+    let Below : ℤ → Type 0 = λ n. n ≤ℤ z in
+    let Less : ℤ → Type 0 = λ n. n ≤ℤ other in
+    subst Less (sym first.whole) (second.greatest first.units (subst Below first.whole first.at_most))
+
+one_floor : (z one other : ℤ) → IsFloor z one → IsFloor z other → one ≡ other
+one_floor z one other first second =
+    same_order one other (at_most_floor z one other first second) (at_most_floor z other one second first)
 
 pub lowers : (z : ℤ) → Lowers z
 lowers z floor is =
-    subst (IsFloor z) (given (is_within (2 ^ 63) (floor_of z)) (floor_of z) floor is) (is_floor z)
+    ap (λ (n : ℤ). and_then (as_currency n) (λ n. Ok (Cur n))) (one_floor z (floor_of z) floor (is_floor z) is)

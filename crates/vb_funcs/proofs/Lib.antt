@@ -1,3 +1,5 @@
 mod Digits
 mod Floor
 mod ReadBack
+mod SoundResults
+mod Texts

@@ -5,17 +5,13 @@ use Rattle.vb_value.specs.declared.fault.VbError.{VbError}
 use Rattle.vb_value.specs.declared.value.Value.{Value, Arr', Long}
 use Rattle.vb_value.specs.declared.value.Value.TheViews.{Arr}
 use Rattle.vb_value.specs.Conversions.{to_long_of}
-use Rattle.vb_value.specs.Errors.{error, wrong_number, and_then, type_mismatch, invalid_use_of_null}
+use Rattle.vb_value.specs.Errors.{wrong_number, out_of_range, and_then, type_mismatch, invalid_use_of_null}
 use Rattle.vb_value.specs.Arguments.{is_null}
 
 -- Array(..): an array of one dimension that is not fixed, with these values in order
 abbrev pub array_of : List Value → Value
 array_of values =
     Arr (record { bounds = (pos (length values) -ℤ pos 1) ∷ []; fixed = false; items = values })
-
--- Subscript out of range
-abbrev pub out_of_range : VbError
-out_of_range = error 9
 
 -- a bound that was found; Subscript out of range without one
 abbrev pub found : Option ℤ → Result ℤ VbError

@@ -1,9 +1,10 @@
 -- CBool, CCur, CInt, CLng and CStr (VBScript 5.6, "Conversion Functions").
 use Rattle.std.specs.Prelude.{List, Result, Ok}
 use Rattle.vb_value.specs.declared.fault.VbError.{VbError}
-use Rattle.vb_value.specs.declared.value.Value.{Value, Bool as Boolean, Int, Long, Cur, Str}
+use Rattle.vb_value.specs.declared.value.Value.{Value, Bool as Boolean, Int, Long, Cur}
 use Rattle.vb_value.specs.Conversions.{to_bool_of, to_cur_of, to_int_of, to_long_of, to_str_of}
 use Rattle.vb_value.specs.Errors.{and_then}
+use Rattle.vb_value.specs.TextLimit.{limited}
 use Rattle.vb_value.specs.Arguments.{of_one}
 
 -- CBool(x)
@@ -24,4 +25,4 @@ clng_of = of_one (λ x. and_then (to_long_of x) (λ n. Ok (Long n)))
 
 -- CStr(x)
 abbrev pub cstr_of : List Value → Result Value VbError
-cstr_of = of_one (λ x. and_then (to_str_of x) (λ text. Ok (Str text)))
+cstr_of = of_one (λ x. and_then (to_str_of x) limited)

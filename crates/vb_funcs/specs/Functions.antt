@@ -6,11 +6,11 @@ use Rattle.vb_value.specs.declared.function.PlainFn.TheVariants.{Abs, Int, Fix, 
 use Rattle.vb_value.specs.declared.function.PlainFn.TheVariants.{Hex, Oct, IsArray, IsEmpty, IsNull, IsObject}
 use Rattle.vb_value.specs.declared.function.PlainFn.TheVariants.{IsNumeric, VarType, Array, UBound, LBound}
 use Rattle.vb_value.specs.declared.value.Value.{Value}
-use Rattle.vb_value.specs.Arguments.{is_null}
+use Rattle.vb_value.specs.Arguments.{is_empty, is_null}
 use Rattle.vb_funcs.specs.Arithmetic.{abs_of, int_of, fix_of, sgn_of}
 use Rattle.vb_funcs.specs.Converting.{cbool_of, ccur_of, cint_of, clng_of, cstr_of}
 use Rattle.vb_funcs.specs.Bases.{hex_of, oct_of}
-use Rattle.vb_funcs.specs.Testing.{tested, is_array, is_empty, is_object, is_numeric, var_type_of}
+use Rattle.vb_funcs.specs.Testing.{tested, is_array, is_object, is_numeric, var_type_of}
 use Rattle.vb_funcs.specs.Arrays.{array_of, ubound_of, lbound_of}
 
 -- what a function gives of its arguments

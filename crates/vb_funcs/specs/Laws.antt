@@ -1,5 +1,7 @@
 -- Laws of the functions, for readers to hold the definitions against.
-use Rattle.std.specs.Prelude.{◌≡◌, ℕ, ℤ, pos, ◌*ℤ◌, ◌≤ℤ◌, [], ◌∷◌, map, Option, Some, None, Result, Ok}
+use Rattle.std.specs.Prelude.{◌≡◌, ℕ, true, ℤ, pos, ◌*ℤ◌, ◌≤ℤ◌, List, [], ◌∷◌, map, Option, Some, None}
+use Rattle.std.specs.Prelude.{Result, Ok, IfOk}
+use Rattle.std.specs.List.{list_all}
 use Rattle.std.specs.Char.{digit_value}
 use Rattle.std.specs.Int.{Width, cast_signed}
 use Rattle.std.specs.Int.Digits.{number_from_digits}
@@ -7,6 +9,9 @@ use Rattle.vb_value.specs.declared.fault.VbError.{VbError}
 use Rattle.vb_value.specs.declared.function.PlainFn.{PlainFn}
 use Rattle.vb_value.specs.declared.function.PlainFn.TheVariants as function
 use Rattle.vb_value.specs.declared.value.Value.{Value, Cur, Str}
+use Rattle.vb_value.specs.Errors.{and_then}
+use Rattle.vb_value.specs.Numbers.{as_currency}
+use Rattle.vb_value.specs.Sound.{IsSound, is_sound}
 use Rattle.vb_funcs.specs.Functions.{call_func_of}
 
 -- the number whose bits the digits of a text to a base are, for a number of so many bits; none where there
@@ -26,6 +31,20 @@ pub record IsFloor (z floor : ℤ) : Type 0 where
   pub at_most : floor ≤ℤ z
   pub greatest : (other : ℤ) → (other *ℤ pos 10000) ≤ℤ z → (other *ℤ pos 10000) ≤ℤ floor
 
--- what Int gives of so many ten-thousandths is their floor
+-- Int gives the floor of so many ten-thousandths, and Overflow where that is no Currency
 abbrev pub Lowers : ℤ → Type 0
-Lowers z = (floor : ℤ) → call_func_of function.Int (Cur z ∷ []) ≡ Ok (Cur floor) → IsFloor z floor
+Lowers z = (floor : ℤ) → IsFloor z floor
+    → call_func_of function.Int (Cur z ∷ []) ≡ and_then (as_currency floor) (λ n. Ok (Cur n))
+
+-- what a function gives of the text of a value
+abbrev pub of_text : PlainFn → Value → Result Value VbError
+of_text f value = and_then (call_func_of function.CStr (value ∷ [])) (λ text. call_func_of f (text ∷ []))
+
+-- the text of a value reads as that value
+abbrev pub ReadsAgain : PlainFn → Value → Type 0
+ReadsAgain f value = of_text f value ≡ Ok value
+
+-- what the functions give of sound arguments is sound
+abbrev pub GivesSound : Type 0
+GivesSound = (f : PlainFn) (arguments : List Value) → list_all is_sound arguments ≡ true
+    → IfOk (call_func_of f arguments) IsSound

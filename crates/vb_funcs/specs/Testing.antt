@@ -15,11 +15,6 @@ abbrev pub is_array : Value → Bool
 is_array (Arr' bounds fixed shape items) = true
 is_array _ = false
 
--- whether a value is Empty
-abbrev pub is_empty : Value → Bool
-is_empty Empty = true
-is_empty _ = false
-
 -- whether a value is an object or Nothing
 abbrev pub is_object : Value → Bool
 is_object (Obj object) = true

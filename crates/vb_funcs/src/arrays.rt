@@ -6,9 +6,6 @@ ghost use Rattle.vb_funcs.specs.Arrays as spec;
 use std::alloc::Global;
 use vb_value::{Array, List, Memory, Value, VbError, copy, is_null, to_long};
 
-/// A dimension that an array does not have.
-const OUT_OF_RANGE: VbError = VbError { number: 9 };
-
 /// `Array`.
 pub fn array(alloc: Global, values: &[Value]) -> Result<Value, Memory>
     requires { length values.now ≤ 255 }
@@ -81,10 +78,10 @@ fn bound_at(bounds: &[i32], dimension: i32) -> Result<i32, VbError>
     ensures { result ≡ spec.bound_at bounds.now dimension }
 {
     if dimension < 1 {
-        return Err(OUT_OF_RANGE);
+        return Err(VbError::OUT_OF_RANGE);
     }
     match bounds.get(dimension as usize - 1) {
         Some(bound) => Ok(*bound),
-        None => Err(OUT_OF_RANGE),
+        None => Err(VbError::OUT_OF_RANGE),
     }
 }

@@ -1,47 +1,49 @@
 //! The bits of numbers as digits.
 ghost use Rattle.std.specs.Prelude.{◌≡◌, ◌<◌, ◌≤◌, map};
 ghost use Rattle.std.specs.Int.Digits.{digits_of};
+ghost use Rattle.vb_value.specs.Arguments.{of_one, null_or};
 ghost use Rattle.vb_value.specs.Errors.{told};
 ghost use Rattle.vb_value.specs.Outcome.{Answers, Gives};
 ghost use Rattle.vb_funcs.specs.Bases as spec;
 
 use std::alloc::Global;
-use vb_value::{
-    Memory, Number, Text, Value, VbError, VbFault, as_long, is_null, the_argument, to_number,
-};
+use vb_value::{Memory, Text, Value, VbError, VbFault, is_null, limited, the_argument, to_long};
 
 /// `Hex`.
 pub fn hex(alloc: Global, args: &[Value]) -> Result<Value, VbFault>
     ensures { Answers result VbFault.Memory (told (spec.hex_of args.now)) }
 {
-    let x = the_argument(args)?;
-    if is_null(x) {
-        return Ok(Value::Null);
-    }
-    let text = based_text(alloc, 16, bits_of(to_number(x)?)?)?;
-    Ok(Value::Str(text))
+    bits_text(alloc, 16, args)
 }
 
 /// `Oct`.
 pub fn oct(alloc: Global, args: &[Value]) -> Result<Value, VbFault>
     ensures { Answers result VbFault.Memory (told (spec.oct_of args.now)) }
 {
+    bits_text(alloc, 8, args)
+}
+
+/// The text of the bits of the one argument; Null for Null.
+fn bits_text(alloc: Global, base: u32, args: &[Value]) -> Result<Value, VbFault>
+    requires least { 2 ≤ base }
+    requires most { base ≤ 16 }
+    ensures { Answers result VbFault.Memory (told (of_one (null_or (spec.bits_text base)) args.now)) }
+{
     let x = the_argument(args)?;
     if is_null(x) {
         return Ok(Value::Null);
     }
-    let text = based_text(alloc, 8, bits_of(to_number(x)?)?)?;
-    Ok(Value::Str(text))
+    let text = based_text(alloc, base, bits_of(x)?)?;
+    Ok(limited(text)?)
 }
 
-/// The bits of a number: 16 of an Integer, else 32 of a Long.
-fn bits_of(number: Number) -> Result<u32, VbError>
-    ensures { result ≡ spec.bits_of number }
+/// The bits of a value: 16 of an Integer, else 32 of a Long.
+fn bits_of(value: &Value) -> Result<u32, VbError>
+    ensures { result ≡ spec.bits_of value.now }
 {
-    match number {
-        Number::Int(n) => Ok(n.cast_unsigned() as u32),
-        Number::Long(n) => Ok(n.cast_unsigned()),
-        Number::Cur(_) => Ok(as_long(number.whole() as i128)?.cast_unsigned()),
+    match value {
+        Value::Int(n) => Ok(n.cast_unsigned() as u32),
+        other => Ok(to_long(other)?.cast_unsigned()),
     }
 }
 

@@ -5,7 +5,9 @@ ghost use Rattle.vb_value.specs.Outcome.{Answers};
 ghost use Rattle.vb_funcs.specs.Converting as spec;
 
 use std::alloc::Global;
-use vb_value::{Value, VbError, VbFault, the_argument, to_bool, to_cur, to_int, to_long, to_str};
+use vb_value::{
+    Value, VbError, VbFault, limited, the_argument, to_bool, to_cur, to_int, to_long, to_str,
+};
 
 /// `CBool`.
 pub fn cbool(args: &[Value]) -> Result<Value, VbError>
@@ -39,10 +41,10 @@ pub fn clng(args: &[Value]) -> Result<Value, VbError>
     Ok(Value::Long(to_long(x)?))
 }
 
-/// `CStr`.
+/// `CStr`. Error 14 for a text of more than 1,048,576 characters.
 pub fn cstr(alloc: Global, args: &[Value]) -> Result<Value, VbFault>
     ensures { Answers result VbFault.Memory (told (spec.cstr_of args.now)) }
 {
     let x = the_argument(args)?;
-    Ok(Value::Str(to_str(alloc, x)?))
+    Ok(limited(to_str(alloc, x)?)?)
 }

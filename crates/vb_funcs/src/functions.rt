@@ -8,13 +8,14 @@ use crate::arithmetic::{abs, fix, int, sgn};
 use crate::arrays::{array, lbound, ubound};
 use crate::bases::{hex, oct};
 use crate::converting::{cbool, ccur, cint, clng, cstr};
-use crate::testing::{is_array, is_empty, is_numeric, is_object, var_type};
+use crate::testing::{is_array, is_numeric, is_object, var_type};
 use std::alloc::Global;
-use vb_value::{PlainFn, Value, VbFault, is_null, the_argument};
+use vb_value::{PlainFn, Value, VbFault, is_empty, is_null, the_argument};
 
 /// What a function gives of its arguments (VBScript 5.6, "Functions"). Errors: 450 for another number of arguments
 /// than it takes, 94 for Null, 13 for an array, a text that is no number and a bound of no array, 438 for an
-/// object, 91 for Nothing, 9 for a dimension that an array does not have, 6 out of range.
+/// object, 91 for Nothing, 9 for a dimension that an array does not have, 14 for a text of more than 1,048,576
+/// characters, 6 out of range.
 pub fn call_func(alloc: Global, f: PlainFn, args: &[Value]) -> Result<Value, VbFault>
     requires few { length args.now ≤ 255 }
     ensures { Answers result VbFault.Memory (told (spec.call_func_of f args.now)) }

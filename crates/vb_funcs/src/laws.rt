@@ -1,9 +1,9 @@
 //! Laws of the functions' definitions. The functions do nothing: their contracts are the laws.
 ghost use Rattle.std.specs.Int.{w16, w32};
 ghost use Rattle.vb_value.specs.declared.value.Value.{Int, Long};
-ghost use Rattle.vb_funcs.specs.Laws.{Lowers, Writes};
+ghost use Rattle.vb_funcs.specs.Laws.{GivesSound, Lowers, ReadsAgain, Writes};
 
-use vb_value::PlainFn;
+use vb_value::{PlainFn, currency_reads_back};
 
 /// What `Hex` and `Oct` write of an Integer reads back as that Integer.
 pub fn integers_read_back(n: i16)
@@ -21,9 +21,28 @@ pub fn longs_read_back(n: i32)
     let _ = n;
 }
 
-/// What `Int` gives of a Currency is the greatest whole number that is at most as great.
+/// `Int` of a Currency gives the greatest whole number that is at most as great, or error 6 where that is no Currency.
 pub fn int_is_the_floor(amount: i64)
     ensures { Lowers amount }
 {
     let _ = amount;
 }
+
+/// `CInt` of what `CStr` gives of an Integer is that Integer.
+pub fn texts_of_integers_read_back(n: i16)
+    ensures { ReadsAgain PlainFn.CInt (Int n) }
+{
+    currency_reads_back(n as i64 * 10_000);
+}
+
+/// `CLng` of what `CStr` gives of a Long is that Long.
+pub fn texts_of_longs_read_back(n: i32)
+    ensures { ReadsAgain PlainFn.CLng (Long n) }
+{
+    currency_reads_back(n as i64 * 10_000);
+}
+
+/// What the functions give of sound arguments is sound.
+pub fn results_are_sound()
+    ensures { GivesSound }
+{}

@@ -15,16 +15,6 @@ pub fn is_array(value: &Value) -> bool
     }
 }
 
-/// Whether the value is Empty.
-pub fn is_empty(value: &Value) -> bool
-    ensures { result ≡ spec.is_empty value.now }
-{
-    match value {
-        Value::Empty => true,
-        _ => false,
-    }
-}
-
 /// Whether the value is an object or Nothing.
 pub fn is_object(value: &Value) -> bool
     ensures { result ≡ spec.is_object value.now }

@@ -1,10 +1,8 @@
-use Rattle.std.proofs.Common.{lit≤}
-use Rattle.std.specs.Int.{w32}
-use Rattle.vb_funcs.proofs.ReadBack.{bits_read}
+use Rattle.vb_funcs.proofs.ReadBack.{hex_of_long, oct_of_long}
 use Rattle.vb_funcs.proofs.laws.longs_read_back.Goals as goal
 
 pub returns-clause-hex : goal.returns-clause-hex
-returns-clause-hex c = bits_read 16 w32 c.args.n (lit≤ tt) (lit≤ tt) c.ranges.n
+returns-clause-hex c = hex_of_long c.args.n c.ranges.n
 
 pub returns-clause-oct : goal.returns-clause-oct
-returns-clause-oct c = bits_read 8 w32 c.args.n (lit≤ tt) (lit≤ tt) c.ranges.n
+returns-clause-oct c = oct_of_long c.args.n c.ranges.n
