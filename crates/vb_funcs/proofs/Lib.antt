@@ -3,3 +3,4 @@ mod Floor
 mod ReadBack
 mod SoundResults
 mod Texts
+mod Fixing

@@ -8,7 +8,8 @@ use Rattle.std.specs.Int.Digits.{number_from_digits}
 use Rattle.vb_value.specs.declared.fault.VbError.{VbError}
 use Rattle.vb_value.specs.declared.function.PlainFn.{PlainFn}
 use Rattle.vb_value.specs.declared.function.PlainFn.TheVariants as function
-use Rattle.vb_value.specs.declared.value.Value.{Value, Cur, Str}
+use Rattle.vb_value.specs.declared.value.Value.{Value, Int, Cur, Str}
+use Rattle.vb_value.specs.Conversions.{to_cur_of}
 use Rattle.vb_value.specs.Errors.{and_then}
 use Rattle.vb_value.specs.Numbers.{as_currency}
 use Rattle.vb_value.specs.Sound.{IsSound, is_sound}
@@ -35,6 +36,12 @@ pub record IsFloor (z floor : ℤ) : Type 0 where
 abbrev pub Lowers : ℤ → Type 0
 Lowers z = (floor : ℤ) → IsFloor z floor
     → call_func_of function.Int (Cur z ∷ []) ≡ and_then (as_currency floor) (λ n. Ok (Cur n))
+
+-- Fix is Sgn times Int of Abs, by value, where Abs and Int are no Overflow
+abbrev pub FixesBySize : Value → Type 0
+FixesBySize x = (size whole : Value) (sign part : ℤ) → call_func_of function.Abs (x ∷ []) ≡ Ok size
+    → call_func_of function.Int (size ∷ []) ≡ Ok whole → call_func_of function.Sgn (x ∷ []) ≡ Ok (Int sign)
+    → to_cur_of whole ≡ Ok part → and_then (call_func_of function.Fix (x ∷ [])) to_cur_of ≡ Ok (sign *ℤ part)
 
 -- what a function gives of the text of a value
 abbrev pub of_text : PlainFn → Value → Result Value VbError

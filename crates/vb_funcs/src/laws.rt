@@ -1,9 +1,9 @@
 //! Laws of the functions' definitions. The functions do nothing: their contracts are the laws.
 ghost use Rattle.std.specs.Int.{w16, w32};
 ghost use Rattle.vb_value.specs.declared.value.Value.{Int, Long};
-ghost use Rattle.vb_funcs.specs.Laws.{GivesSound, Lowers, ReadsAgain, Writes};
+ghost use Rattle.vb_funcs.specs.Laws.{FixesBySize, GivesSound, Lowers, ReadsAgain, Writes};
 
-use vb_value::{PlainFn, currency_reads_back};
+use vb_value::{PlainFn, Value, currency_reads_back};
 
 /// What `Hex` and `Oct` write of an Integer reads back as that Integer.
 pub fn integers_read_back(n: i16)
@@ -26,6 +26,13 @@ pub fn int_is_the_floor(amount: i64)
     ensures { Lowers amount }
 {
     let _ = amount;
+}
+
+/// `Fix` of a value is its sign times `Int` of its size.
+pub fn fix_is_by_size(value: &Value)
+    ensures { FixesBySize value.now }
+{
+    let _ = value;
 }
 
 /// `CInt` of what `CStr` gives of an Integer is that Integer.
