@@ -7,3 +7,8 @@ pub mod Keeping
 pub mod ValueWeights
 pub mod Fitting
 pub mod Storing
+pub mod ValueReferences
+pub mod Making
+pub mod Indexes
+pub mod ObjectWeights
+pub mod Ending

@@ -94,12 +94,15 @@ part_weight Value-F.Nothing = rw (fold-roll-Value ℕ ℕ value_weight array_wei
 pub least_weight : (value : Value) → 32 ≤ weight_of value
 least_weight value = rw (sym (roll-out-Value value)) (part_weight (out-Value value))
 
+-- what Empty weighs
+pub empty_weight : weight_of Empty ≡ 32
+empty_weight = ap weight_of (sym rolls-Empty) ∙ fold-roll-Value ℕ ℕ value_weight array_weight Value-F.Empty
+
 -- a part weighs no more than the whole
 pub part_within : (steps : List (List ℤ)) (value old : Value) → value_in steps value ≡ Ok old
     → weight_of old ≤ weight_of value
 part_within steps value old is =
     let swapped = weight_with steps Empty value old is in
     let least = least_weight (with_value steps Empty value) in
-    let empty : weight_of Empty ≡ 32 =
-    ap weight_of (sym rolls-Empty) ∙ fold-roll-Value ℕ ℕ value_weight array_weight Value-F.Empty in
+    let empty = empty_weight in
     omega arith

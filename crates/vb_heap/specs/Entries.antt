@@ -82,9 +82,12 @@ abbrev pub with_dictionary : (Dictionary → Dictionary) → ObjNo → Store →
 with_dictionary change object store = changed change object (dictionary_of object store) store
 
 -- a dictionary with an entry more, which is the last
+abbrev pub pair_added : Pair → Dictionary → Dictionary
+pair_added pair dictionary = record dictionary { pairs = dictionary.pairs ++ pair ∷ [] }
+
+-- the same of a key and an item
 abbrev pub entry_added : Value → Value → Dictionary → Dictionary
-entry_added key item dictionary =
-    record dictionary { pairs = dictionary.pairs ++ (record { key = key; item = item }) ∷ [] }
+entry_added key item dictionary = pair_added (record { key = key; item = item }) dictionary
 
 -- an entry with another item
 abbrev pub with_item : Value → Pair → Pair

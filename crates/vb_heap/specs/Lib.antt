@@ -3,14 +3,17 @@ pub mod Places
 pub mod Saturated
 pub mod Keys
 pub mod Dictionary
+pub mod PairWeight
 pub mod Indexed
 pub mod Store
+pub mod Counts
 pub mod References
 pub mod PageWeight
 pub mod Limits
 pub mod Below
 pub mod Inside
 pub mod Cells
+pub mod Room
 pub mod Objects
 pub mod Held
 pub mod Releases

@@ -1,20 +1,12 @@
 -- What the data of a page weigh.
-use Rattle.std.specs.Prelude.{ℕ, ◌+◌, List, sum_by}
+use Rattle.std.specs.Prelude.{ℕ, ◌+◌, sum_by}
 use Rattle.std.specs.Map.{values_of}
-use Rattle.vb_value.specs.declared.session.Pair.{Pair}
 use Rattle.vb_value.specs.Weight.{weight_of}
 use Rattle.vb_heap.specs.declared.object.Content.{Content}
 use Rattle.vb_heap.specs.declared.object.Content.TheVariants.{Fields, Entries}
 use Rattle.vb_heap.specs.declared.object.Object.{Object}
+use Rattle.vb_heap.specs.PairWeight.{entries_weight}
 use Rattle.vb_heap.specs.Store.{Store}
-
--- an entry weighs what its key and its item weigh
-abbrev pub pair_weight : Pair → ℕ
-pair_weight pair = weight_of pair.key + weight_of pair.item
-
--- the weight of the entries of a dictionary
-abbrev pub entries_weight : List Pair → ℕ
-entries_weight pairs = sum_by pair_weight pairs
 
 -- the weight of what an object consists of but its fields
 abbrev pub content_weight : Content → ℕ

@@ -1,6 +1,6 @@
 -- References to objects. They are found by looking everywhere: in each cell and each item of a dictionary with
 -- the items of its arrays at any depth, and among the held ones. The fields of an object are cells.
-use Rattle.std.specs.Prelude.{ℕ, ◌==◌, List, [], ◌∷◌, ◌++◌, count_by}
+use Rattle.std.specs.Prelude.{ℕ, List, [], ◌∷◌, ◌++◌}
 use Rattle.std.specs.List.{concat, flat_map}
 use Rattle.std.specs.Map.{values_of}
 use Rattle.vb_value.specs.declared.value.Value.{Value}
@@ -9,6 +9,7 @@ use Rattle.vb_value.specs.declared.value.Value.TheFolds.{fold-Value}
 use Rattle.vb_heap.specs.declared.object.Content.{Content}
 use Rattle.vb_heap.specs.declared.object.Content.TheVariants.{Fields, Entries}
 use Rattle.vb_heap.specs.declared.object.Object.{Object}
+use Rattle.vb_heap.specs.Counts.{count_of}
 use Rattle.vb_heap.specs.Store.{Store}
 
 -- one value, with the references of an array in its place
@@ -42,4 +43,4 @@ all_references store =
 
 -- how many references there are to an object
 abbrev pub references_to : ℕ → Store → ℕ
-references_to object store = count_by (λ other. other == object) (all_references store)
+references_to object store = count_of object (all_references store)

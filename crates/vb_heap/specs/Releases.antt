@@ -1,10 +1,11 @@
 -- Release points, and how objects end. An object is live, then ending, and then ended.
-use Rattle.std.specs.Prelude.{ℕ, ◌==◌, Bool, true, not, ◌&&◌, if◌then◌else◌, List, [], ◌∷◌, Option, Some, None}
+use Rattle.std.specs.Prelude.{ℕ, ◌==◌, Bool, true, false, not, ◌&&◌, if◌then◌else◌, List, [], ◌∷◌, Option, Some, None}
 use Rattle.std.specs.Option.{option_map_or}
 use Rattle.vb_heap.specs.declared.object.Content.{Content}
 use Rattle.vb_heap.specs.declared.object.Content.TheVariants.{Fields, Entries}
 use Rattle.vb_heap.specs.declared.object.Object.{Object}
 use Rattle.vb_heap.specs.declared.place.CellNo.{CellNo}
+use Rattle.vb_value.specs.declared.value.ObjNo.{ObjNo}
 use Rattle.vb_value.specs.declared.value.Value.{Value}
 use Rattle.vb_heap.specs.References.{references_to}
 use Rattle.vb_heap.specs.Store.{Store, numbered, without, replaced}
@@ -50,14 +51,27 @@ abbrev pub fields_of : Content → List CellNo
 fields_of (Fields class cells) = cells
 fields_of (Entries dictionary) = []
 
+-- cells by their numbers without those of the fields of an object, if it is there
+abbrev pub without_fields : Option Object → List (ℕ × Value) → List (ℕ × Value)
+without_fields (Some object) cells = without_all (fields_of object.content) cells
+without_fields None cells = cells
+
 -- the data without an object, and without its fields or entries
-abbrev pub without_object : ℕ → Object → Store → Store
-without_object number object store = record store {
-  cells = without_all (fields_of object.content) store.cells;
+abbrev pub without_object : ℕ → Option Object → Store → Store
+without_object number found store = record store {
+  cells = without_fields found store.cells;
   objects = without number store.objects;
 }
 
+-- whether an object is there and is ending
+abbrev pub ends_now : Option Object → Bool
+ends_now (Some object) = object.ending
+ends_now None = false
+
 -- `finish_object`: an ending object ends
 abbrev pub finished : ℕ → Option Object → Store → Store
-finished number (Some object) store = if object.ending then without_object number object store else store
-finished number None store = store
+finished number found store = if ends_now found then without_object number found store else store
+
+-- an object by its number
+abbrev pub object_of : ℕ → ObjNo
+object_of number = record { 0 = number }

@@ -1,5 +1,5 @@
 //! Cells by their numbers.
-ghost use Rattle.std.specs.Prelude.{◌≡◌, ◌+◌, ◌≤◌, ◌++◌, ◌∷◌, [], sum_by, IfOk};
+ghost use Rattle.std.specs.Prelude.{◌≡◌, ◌+◌, ◌≤◌, ◌++◌, ◌∷◌, ◌-◌, ◌<◌, ◌^◌, [], length, take, sum_by, IfOk};
 ghost use Rattle.std.specs.Map.{values_of};
 ghost use Rattle.std.specs.Option.{option_map_or};
 ghost use Rattle.vb_value.specs.Errors.{and_then};
@@ -8,10 +8,13 @@ ghost use Rattle.vb_value.specs.Weight.{weight_of};
 ghost use Rattle.vb_heap.specs.Below.{AreBelow};
 ghost use Rattle.vb_heap.specs.Cells.{value_there};
 ghost use Rattle.vb_heap.specs.Limits.{most_weight};
+ghost use Rattle.vb_heap.specs.Objects.{cells_from, empty_cells};
 ghost use Rattle.vb_heap.specs.Places.{value_in, with_value};
+ghost use Rattle.vb_heap.specs.Releases.{without_all};
 ghost use Rattle.vb_heap.specs.Saturated.{weight_told};
 ghost use Rattle.vb_heap.specs.Store.{numbered, without, replaced};
 
+use crate::place::CellNo;
 use crate::within;
 use std::alloc::Global;
 use std::collections::BTreeMap;
@@ -30,6 +33,42 @@ pub fn add_cell(cells: &mut Cells, number: u64, value: Value) -> Result<(), Memo
     Ok(())
 }
 
+/// Drops the newest cell, if there is one.
+#[tactic(auto, using(crate::proofs::Numbered::before_last))]
+fn pop_cell(cells: &mut Cells)
+    ensures { cells.new.entries ≡ take (length cells.old.entries - 1) cells.old.entries }
+{
+    let _ = cells.pop_last();
+}
+
+/// Drops so many of the newest cells.
+fn pop_cells(cells: &mut Cells, count: u32)
+    ensures { cells.new.entries ≡ take (length cells.old.entries - count) cells.old.entries }
+{
+    for _ in 0..count {
+        pop_cell(cells);
+    }
+}
+
+/// Adds so many cells, each of them Empty, whose numbers begin above all others.
+pub fn add_cells(cells: &mut Cells, first: u64, count: u32) -> Result<(), Memory>
+    requires below { AreBelow first cells.old.entries }
+    requires fits { first + count < 2 ^ 64 }
+    ensures { Changes result cells.old.entries cells.new.entries
+        (cells.old.entries ++ empty_cells (cells_from first count)) }
+{
+    for done in 0..count {
+        match add_cell(cells, first + done as u64, Value::Empty) {
+            Ok(()) => {}
+            Err(Memory) => {
+                pop_cells(cells, done);
+                return Err(Memory);
+            }
+        }
+    }
+    Ok(())
+}
+
 /// Drops a cell, and says what it weighed: nothing if there is none.
 #[tactic(auto, using(crate::proofs::CellWeights::removed))]
 pub fn remove_cell(cells: &mut Cells, number: u64) -> u64
@@ -41,6 +80,19 @@ pub fn remove_cell(cells: &mut Cells, number: u64) -> u64
         Some(value) => weight(&value),
         None => 0,
     }
+}
+
+/// Drops cells, and says what they weighed.
+pub fn remove_cells(cells: &mut Cells, gone: &[CellNo]) -> u64
+    requires { sum_by weight_of (values_of cells.old.entries) ≤ most_weight }
+    ensures cells { cells.new.entries ≡ without_all gone.now cells.old.entries }
+    ensures weight { result + sum_by weight_of (values_of cells.new.entries) ≡ sum_by weight_of (values_of cells.old.entries) }
+{
+    let mut weight = 0;
+    for cell in gone {
+        weight += remove_cell(cells, cell.0);
+    }
+    weight
 }
 
 /// What the value at a place in a cell weighs. Error 91 where the cell is gone, 9 where an index is out of range, and 13

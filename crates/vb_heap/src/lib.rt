@@ -7,9 +7,16 @@ mod cells;
 mod depth;
 mod fault;
 mod heap;
+mod held;
 mod key;
 mod object;
+mod object_map;
+mod objects;
+mod pairs;
 mod place;
+mod references;
+mod releases;
+mod saying;
 mod table;
 mod within;
 

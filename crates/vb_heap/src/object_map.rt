@@ -1,0 +1,96 @@
+//! Objects by their numbers.
+ghost use Rattle.std.specs.Prelude.{◌≡◌, ◌+◌, ◌≤◌, ◌++◌, ◌∷◌, ◌-◌, ◌^◌, [], length, min, sum_by, take};
+ghost use Rattle.std.specs.Map.{values_of};
+ghost use Rattle.vb_value.specs.Outcome.{Changes};
+ghost use Rattle.vb_value.specs.Weight.{weight_of};
+ghost use Rattle.vb_heap.specs.Below.{AreBelow};
+ghost use Rattle.vb_heap.specs.Limits.{most_weight};
+ghost use Rattle.vb_heap.specs.PageWeight.{object_weight};
+ghost use Rattle.vb_heap.specs.Releases.{ends_now, fields_of, objects_ending, without_all, without_fields};
+ghost use Rattle.vb_heap.specs.Store.{numbered, without};
+
+use crate::cell_map::{Cells, remove_cells};
+use crate::object::{Content, Object};
+use std::alloc::Global;
+use std::collections::BTreeMap;
+use vb_value::Memory;
+
+/// Objects by their numbers.
+pub type Objects = BTreeMap<u32, Object, Global>;
+
+/// Adds an object, whose number is above all others.
+#[tactic(auto, using(crate::proofs::Numbered::comes_last))]
+pub fn add_object(objects: &mut Objects, number: u32, object: Object) -> Result<(), Memory>
+    requires { AreBelow number objects.old.entries }
+    ensures { Changes result objects.old.entries objects.new.entries (objects.old.entries ++ (number, object) ∷ []) }
+{
+    objects.insert(number, object)?;
+    Ok(())
+}
+
+/// Drops the newest object.
+#[tactic(auto, using(crate::proofs::Numbered::before_last))]
+pub fn pop_object(objects: &mut Objects)
+    ensures { objects.new.entries ≡ take (length objects.old.entries - 1) objects.old.entries }
+{
+    let _ = objects.pop_last();
+}
+
+/// Marks an object as ending, if it is there.
+pub fn set_ending(objects: &mut Objects, number: u32)
+    ensures { objects.new.entries ≡ objects_ending number objects.old.entries }
+{
+    if let Some(object) = objects.get_mut(&number) {
+        object.ending = true;
+    }
+}
+
+/// Whether an object is there and is ending.
+pub fn is_ending(objects: &Objects, number: u32) -> bool
+    ensures { result ≡ ends_now (numbered number objects.now.entries) }
+{
+    match objects.get(&number) {
+        Some(object) => object.ending,
+        None => false,
+    }
+}
+
+/// What an object weighs: 2^64 - 1 stands for more.
+pub fn weight_of_object(object: &Object) -> u64
+    ensures { result ≡ min (object_weight object.now) (2 ^ 64 - 1) }
+{
+    match &object.content {
+        Content::Fields { class: _, cells: _ } => 32,
+        Content::Entries(table) => table.weight().saturating_add(32),
+    }
+}
+
+/// Drops the cells of the fields of what an object consists of, and says what they weighed.
+fn remove_fields(cells: &mut Cells, content: &Content) -> u64
+    requires { sum_by weight_of (values_of cells.old.entries) ≤ most_weight }
+    ensures cells { cells.new.entries ≡ without_all (fields_of content.now) cells.old.entries }
+    ensures weight { result + sum_by weight_of (values_of cells.new.entries) ≡ sum_by weight_of (values_of cells.old.entries) }
+{
+    match content {
+        Content::Fields {
+            class: _,
+            cells: gone,
+        } => remove_cells(cells, gone.as_slice()),
+        Content::Entries(_) => 0,
+    }
+}
+
+/// Drops an object and the cells of its fields, and says what they weighed: nothing if it is not there.
+pub fn remove_object(objects: &mut Objects, cells: &mut Cells, number: u32) -> u64
+    requires { sum_by weight_of (values_of cells.old.entries) + sum_by object_weight (values_of objects.old.entries)
+        ≤ most_weight }
+    ensures objects { objects.new.entries ≡ without number objects.old.entries }
+    ensures cells { cells.new.entries ≡ without_fields (numbered number objects.old.entries) cells.old.entries }
+    ensures weight { result + (sum_by weight_of (values_of cells.new.entries) + sum_by object_weight (values_of objects.new.entries))
+        ≡ sum_by weight_of (values_of cells.old.entries) + sum_by object_weight (values_of objects.old.entries) }
+{
+    match objects.remove(&number) {
+        Some(object) => weight_of_object(&object) + remove_fields(cells, &object.content),
+        None => 0,
+    }
+}
