@@ -2,6 +2,9 @@
 use Rattle.std.proofs.Common.{◌≡◌, ◌⊎◌, inl, inr, ◌<◌, ◌^◌, ℕ, zero, suc, ◌%◌, ℤ, pos, negsuc, neg_ℤ}
 use Rattle.std.proofs.Common.{unsigned_abs, int_div, int_rem, Bool, true, false, if◌then◌else◌}
 use Rattle.std.proofs.Common.{Result, Ok, Err, refl, sym, ap, ◌∙◌, subst, arith}
+use Rattle.std.proofs.Common.{◌≢◌, ◌≤◌, ◌/◌, nat_lt, lit<}
+use Rattle.std.proofs.Math.Nat.{mod-le, div-le_self}
+use Rattle.std.proofs.lemmas.Bool.Decides.{nat_tests}
 use Rattle.std.proofs.lemmas.Int.{quot-rem, rem_below}
 use Rattle.vb_value.specs.declared.fault.VbError.{VbError}
 use Rattle.vb_value.specs.declared.number.Number.{Number}
@@ -16,7 +19,7 @@ use Rattle.vb_value.specs.Numbers.{is_within, is_zero, long_of, whole_of}
 use Rattle.vb_ops.specs.Arithmetic.{divided, integer_or_long, long, quotient_of, remainder_of}
 use Rattle.vb_ops.specs.Arithmetic.{whole_result}
 use Rattle.vb_ops.specs.Operators.{apply2_of}
-use Rattle.vb_ops.specs.Laws.{Divides, IsDivision, is_negative}
+use Rattle.vb_ops.specs.Laws.{DividesAsLongs, IsDivision, is_negative}
 
 -- ---- numbers
 
@@ -110,6 +113,10 @@ number_fine (Arr' bounds fixed shape items) n is = absurd (cc)
 number_fine (Obj object) n is = absurd (cc)
 number_fine Nothing n is = absurd (cc)
 
+given_number : {given : Result Number VbError} {n : Number} → given ≡ Ok n
+    → and_then given (λ z. Ok (number_value z)) ≡ Ok (number_value n)
+given_number is = ap (λ (r : Result Number VbError). and_then r (λ z. Ok (number_value z))) is
+
 -- ---- rests
 
 sign_of_negative : (n : ℕ) → (neg_ℤ (pos n) ≡ pos 0) ⊎ (is_negative (neg_ℤ (pos n)) ≡ true)
@@ -147,18 +154,109 @@ modulo_is : (a b : Value) (n m : Number) → to_number_of a ≡ Ok n → to_numb
     → apply2_of operator.Modulo a b ≡ and_then (remainder_of n m) (λ z. Ok (number_value z))
 modulo_is a b n m is_n is_m fine_a fine_b = rw (fine_a.0, fine_b.0, fine_a.1, fine_b.1, is_n, is_m) refl
 
-pub divides : Divides
-divides a b x y q r to_x to_y quotient rest =
+-- ---- answers
+
+long_answers : (fits : Bool) (z : ℤ) → fits ≡ true
+    → (n : Number) × (and_then (if fits then Ok z else Err overflow) (λ n. Ok (number.Long n)) ≡ Ok n)
+long_answers true z is = (number.Long z, refl)
+long_answers false z is = absurd (cc)
+
+long_given : (z : ℤ) → is_within (2 ^ 31) z ≡ true → (n : Number) × (long z ≡ Ok n)
+unfolding long
+long_given z within = long_answers (is_within (2 ^ 31) z) z within
+
+integer_answers : (fits : Bool) (z : ℤ) → is_within (2 ^ 31) z ≡ true
+    → (n : Number) × ((if fits then Ok (number.Int z) else long z) ≡ Ok n)
+integer_answers true z within = (number.Int z, refl)
+integer_answers false z within = long_given z within
+
+integer_given : (z : ℤ) → is_within (2 ^ 31) z ≡ true → (n : Number) × (integer_or_long z ≡ Ok n)
+unfolding integer_or_long
+integer_given z within = integer_answers (is_within (2 ^ 15) z) z within
+
+result_given : (a b : Number) (z : ℤ) → is_within (2 ^ 31) z ≡ true → (n : Number) × (whole_result a b z ≡ Ok n)
+unfolding whole_result
+result_given (number.Int a) (number.Int b) z within = integer_given z within
+result_given (number.Int a) (number.Long b) z within = long_given z within
+result_given (number.Int a) (number.Cur b) z within = long_given z within
+result_given (number.Long a) b z within = long_given z within
+result_given (number.Cur a) b z within = long_given z within
+
+divided_given : (whole : ℤ → ℤ → ℤ) (a b : Number) (x y : ℤ) → long_of a ≡ Ok x → long_of b ≡ Ok y
+    → is_zero y ≡ false → is_within (2 ^ 31) (whole x y) ≡ true → (n : Number) × (divided whole a b ≡ Ok n)
+divided_given whole a b x y is_x is_y some within =
+    let first = ap (λ (r : Result ℤ VbError). and_then r (λ x. and_then (long_of b) (λ y.
+    if is_zero y then Err division_by_zero else whole_result a b (whole x y)))) is_x in
+    let second = ap (λ (r : Result ℤ VbError). and_then r (λ y.
+    if is_zero y then Err division_by_zero else whole_result a b (whole x y))) is_y in
+    let third = ap (λ (none : Bool). if none then Err division_by_zero else whole_result a b (whole x y)) some in
+    let answer = result_given a b (whole x y) within in
+    (answer.0, first ∙ (second ∙ (third ∙ answer.1)))
+
+below_half : (n : ℕ) → n < 2 ^ 31 → nat_lt n (2 ^ 31) ≡ true
+below_half n small = grind (arith, nat_tests)
+
+half_above : (n : ℕ) → nat_lt n (2 ^ 31) ≡ true → n < 2 ^ 31
+half_above n within = grind (arith, nat_tests)
+
+negative_within : (n : ℕ) → n ≤ 2 ^ 31 → is_within (2 ^ 31) (neg_ℤ (pos n)) ≡ true
+negative_within zero small = below_half 0 (lit< tt)
+negative_within (suc n) small = below_half n (omega (arith, small))
+
+rest_within : (x y : ℤ) → is_within (2 ^ 31) x ≡ true → is_within (2 ^ 31) (int_rem x y) ≡ true
+rest_within (pos n) (pos m) within =
+    let less = mod-le n m in let small = half_above n within in below_half (n % m) (omega (arith, less, small))
+rest_within (pos n) (negsuc m) within =
+    let less = mod-le n (suc m) in
+    let small = half_above n within in below_half (n % suc m) (omega (arith, less, small))
+rest_within (negsuc n) (pos m) within =
+    let less = mod-le (suc n) m in
+    let small = half_above n within in negative_within (suc n % m) (omega (arith, less, small))
+rest_within (negsuc n) (negsuc m) within =
+    let less = mod-le (suc n) (suc m) in
+    let small = half_above n within in negative_within (suc n % suc m) (omega (arith, less, small))
+
+quotient_within : (x y : ℤ) → unsigned_abs x < 2 ^ 31 → is_within (2 ^ 31) (int_div x y) ≡ true
+quotient_within (pos n) (pos m) small =
+    let less = div-le_self n m in below_half (n / m) (omega (arith, less, small))
+quotient_within (pos n) (negsuc m) small =
+    let less = div-le_self n (suc m) in negative_within (n / suc m) (omega (arith, less, small))
+quotient_within (negsuc n) (pos m) small =
+    let less = div-le_self (suc n) m in negative_within (suc n / m) (omega (arith, less, small))
+quotient_within (negsuc n) (negsuc m) small =
+    let less = div-le_self (suc n) (suc m) in below_half (suc n / suc m) (omega (arith, less, small))
+
+long_within : (fits : Bool) (whole x : ℤ) → is_within (2 ^ 31) whole ≡ fits
+    → (if fits then Ok whole else Err overflow) ≡ Ok x → is_within (2 ^ 31) x ≡ true
+long_within true whole x fits is =
+    let same : x ≡ whole = cc in ap (is_within (2 ^ 31)) same ∙ fits
+long_within false whole x fits is = absurd (cc)
+
+is_some : (y : ℤ) → y ≢ pos 0 → is_zero y ≡ false
+is_some (pos zero) some = absurd (some refl)
+is_some (pos (suc n)) some = grind (arith, nat_tests)
+is_some (negsuc n) some = refl
+
+pub divides : DividesAsLongs
+divides a b x y to_x to_y some_y =
     let n = has_long (to_number_of a) x to_x in
     let m = has_long (to_number_of b) y to_y in
     let fine_a = number_fine a n.0 n.1 in
     let fine_b = number_fine b m.0 m.1 in
-    let made_q : apply2_of operator.Divide a b ≡ and_then (quotient_of n.0 m.0) (λ z. Ok (number_value z)) =
-    divide_is a b n.0 m.0 n.1 m.1 fine_a fine_b in
-    let made_r : apply2_of operator.Modulo a b ≡ and_then (remainder_of n.0 m.0) (λ z. Ok (number_value z)) =
-    modulo_is a b n.0 m.0 n.1 m.1 fine_a fine_b in
-    let is_q = divided_is int_div n.0 m.0 q x y n.2 m.2
-    (number_given (quotient_of n.0 m.0) q (sym made_q ∙ quotient)) in
-    let is_r = divided_is int_rem n.0 m.0 r x y n.2 m.2
-    (number_given (remainder_of n.0 m.0) r (sym made_r ∙ rest)) in
-    division x y (whole_of q) (whole_of r) is_q.0 is_q.1 is_r.1
+    let some = is_some y some_y in
+    let made_q = divide_is a b n.0 m.0 n.1 m.1 fine_a fine_b in
+    let made_r = modulo_is a b n.0 m.0 n.1 m.1 fine_a fine_b in
+    let within = long_within (is_within (2 ^ 31) (whole_of n.0)) (whole_of n.0) x refl n.2 in
+    let rest = divided_given int_rem n.0 m.0 x y n.2 m.2 some (rest_within x y within) in
+    let is_r = divided_is int_rem n.0 m.0 rest.0 x y n.2 m.2 rest.1 in
+    record {
+      rest = rest.0;
+      rest_is = made_r ∙ given_number rest.1;
+      answers = λ small.
+          let quotient = divided_given int_div n.0 m.0 x y n.2 m.2 some (quotient_within x y small) in
+          (quotient.0, made_q ∙ given_number quotient.1);
+      division = λ q is.
+          let is_q = divided_is int_div n.0 m.0 q x y n.2 m.2
+          (number_given (quotient_of n.0 m.0) q (sym made_q ∙ is)) in
+          division x y (whole_of q) (whole_of rest.0) some is_q.1 is_r.1;
+    }

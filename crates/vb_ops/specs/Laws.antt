@@ -1,5 +1,5 @@
 -- Laws of the operators, for readers to hold the definitions against.
-use Rattle.std.specs.Prelude.{◌≡◌, ◌⊎◌, ◌<◌, ℕ, Bool, true, false, ℤ, pos, negsuc, ◌+ℤ◌, ◌*ℤ◌, unsigned_abs}
+use Rattle.std.specs.Prelude.{◌≡◌, ◌≢◌, ◌⊎◌, ◌<◌, ◌^◌, ℕ, Bool, true, false, ℤ, pos, negsuc, ◌+ℤ◌, ◌*ℤ◌, unsigned_abs}
 use Rattle.std.specs.Prelude.{List, [], ◌∷◌, Option, Some, option_map, Ok, IsTrue, IfOk}
 use Rattle.std.specs.declared.cmp.Ordering.{Ordering}
 use Rattle.std.specs.Ordering.{nat_cmp, int_cmp, ordering_reverse}
@@ -58,12 +58,18 @@ pub record IsDivision (x y quotient rest : ℤ) : Type 0 where
   pub smaller : unsigned_abs rest < unsigned_abs y
   pub sign : (rest ≡ pos 0) ⊎ (is_negative rest ≡ is_negative x)
 
--- what `\` and `Mod` give are quotient and rest of the two sides as Longs
-abbrev pub Divides : Type 0
-Divides = (a b : Value) (x y : ℤ) (quotient rest : Number) → to_long_of a ≡ Ok x → to_long_of b ≡ Ok y
-    → apply2_of operator.Divide a b ≡ Ok (number_value quotient)
-    → apply2_of operator.Modulo a b ≡ Ok (number_value rest)
-    → IsDivision x y (whole_of quotient) (whole_of rest)
+-- `Mod` has an answer, and so has `\` but for the least Long; together they are quotient and rest of x and y.
+pub record Divides (a b : Value) (x y : ℤ) : Type 0 where
+  pub rest : Number
+  pub rest_is : apply2_of operator.Modulo a b ≡ Ok (number_value rest)
+  pub answers : unsigned_abs x < 2 ^ 31
+      → (quotient : Number) × (apply2_of operator.Divide a b ≡ Ok (number_value quotient))
+  pub division : (quotient : Number) → apply2_of operator.Divide a b ≡ Ok (number_value quotient)
+      → IsDivision x y (whole_of quotient) (whole_of rest)
+
+-- two values divide as the Longs that they are, of which the second is not 0
+abbrev pub DividesAsLongs : Type 0
+DividesAsLongs = (a b : Value) (x y : ℤ) → to_long_of a ≡ Ok x → to_long_of b ≡ Ok y → y ≢ pos 0 → Divides a b x y
 
 -- the table of `Imp`: two operands, and what it gives of them
 abbrev pub implications : List (Value × Value × Value)

@@ -1,5 +1,5 @@
 //! Laws of the operators' definitions. The functions do nothing: their contracts are the laws.
-ghost use Rattle.vb_ops.specs.Laws.{Commutes, ComparesAmounts, ComparesRound, ComparesTexts, Divides, FollowsTable, implications};
+ghost use Rattle.vb_ops.specs.Laws.{Commutes, ComparesAmounts, ComparesRound, ComparesTexts, DividesAsLongs, FollowsTable, implications};
 ghost use Rattle.vb_ops.specs.Laws.{GivesSoundOfOne, GivesSoundOfTwo};
 ghost use Rattle.std.specs.Cmp.{IsTotalOrder};
 ghost use Rattle.std.specs.Cmp.Lexicographic.{slice_cmp};
@@ -32,7 +32,7 @@ pub fn comparison_is_an_order()
 
 /// `\` and `Mod` give a quotient and its rest.
 pub fn division_leaves_a_rest()
-    ensures { Divides }
+    ensures { DividesAsLongs }
 {}
 
 /// `Imp` of Booleans and Null is the table of the reference.
