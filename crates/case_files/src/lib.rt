@@ -1,0 +1,10 @@
+//! Files of cases: texts of which each line is a case with what it gives, and the trial of them all.
+#![tactic(auto)]
+
+mod file;
+mod stop;
+mod text;
+
+pub use file::{Subject, try_file};
+pub use stop::CaseStop;
+pub use text::read_text;
