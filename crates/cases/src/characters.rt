@@ -1,10 +1,12 @@
-//! Texts, their bytes, numbers and cases, and the texts of errors, by the names of their calls.
+//! Texts, their bytes, numbers, lines and cases, and the texts of errors, by the names of their calls.
+ghost use Rattle.std.specs.Prelude.{◌^◌, ◌<◌, length};
 
 use crate::notation::{outcome_text, value_text};
 use case_files::CaseStop;
 use std::alloc::Global;
 use vb_value::{
-    Bytes, Memory, Text, Utf8Stop, Value, cur_of_text, error_text, fold, named_truth,
+    Bytes, Memory, Text, Utf8Stop, Value, cur_of_text, ends_line, error_text, fold, is_blank,
+    is_word, line_ends, named_truth,
 };
 
 /// What a call on a text, or on the number of an error, gives, if there is one of that name.
@@ -15,6 +17,10 @@ pub fn text_answer(
 ) -> Result<Option<String>, CaseStop> {
     match values {
         [Value::Str(text)] => of_text(alloc, name, text),
+        [Value::Str(word), Value::Str(text)] if name == "is_word" => {
+            let bytes = word.to_utf8(alloc)?;
+            Ok(Some(format!(in alloc; "{}", is_word(bytes.as_slice(), text.as_slice()))?))
+        }
         [Value::Long(number)] if name == "error_text" => {
             Ok(Some(quoted(alloc, error_text(alloc, *number)?)?))
         }
@@ -30,10 +36,37 @@ fn of_text(alloc: Global, name: &str, text: &Text) -> Result<Option<String>, Cas
             Some(truth) => format!(in alloc; "{truth}")?,
             None => String::from_str(alloc, "none")?,
         })),
+        "is_blank" => match text.as_slice() {
+            [c] => Ok(Some(format!(in alloc; "{}", is_blank(*c))?)),
+            _ => Ok(None),
+        },
+        "ends_line" => Ok(Some(ending_places(alloc, text.as_slice())?)),
+        "line_ends" => Ok(Some(line_count(alloc, text.as_slice())?)),
         "from_utf8" => Ok(Some(decoded(alloc, text)?)),
         "to_utf8" => Ok(Some(bytes_text(alloc, &text.to_utf8(alloc)?)?)),
         _ => Ok(None),
     }
+}
+
+/// The places at which a line ends, with blanks between them.
+fn ending_places(alloc: Global, text: &[char]) -> Result<String, Memory> {
+    let mut out = String::new(alloc);
+    for at in 0..text.len() {
+        if ends_line(text, at) {
+            if !out.is_empty() {
+                out.push(' ')?;
+            }
+            out.push_str(format!(in alloc; "{at}")?.as_str())?;
+        }
+    }
+    Ok(out)
+}
+
+fn line_count(alloc: Global, text: &[char]) -> Result<String, CaseStop> {
+    if text.len() >= 1 << 32 {
+        return Err(CaseStop::Unreadable);
+    }
+    Ok(format!(in alloc; "{}", line_ends(text.len(), text))?)
 }
 
 fn quoted(alloc: Global, text: Text) -> Result<String, Memory> {

@@ -9,8 +9,7 @@ use vb_value::{Value, VbFault};
 
 /// A value of each kind, and of texts one that is a number, one that names a Boolean, and another. No sum, product or
 /// quotient of two of them is out of range.
-const EACH: &str =
-    "each empty null true 2 40000& 2.5000@ \"3\" \"True\" \"abc\" [] obj1 nothing";
+const EACH: &str = "each empty null true 2 40000& 2.5000@ \"3\" \"True\" \"abc\" [] obj1 nothing";
 
 /// The kinds of what an operator gives for a value and each of [`EACH`], with blanks between them.
 pub fn kinds_answer(alloc: Global, sign: &str, left: &Value) -> Result<String, CaseStop> {

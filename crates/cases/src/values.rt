@@ -6,9 +6,9 @@ use std::alloc::Global;
 use std::cmp::Ordering;
 use vb_ops::{compare, truth};
 use vb_value::{
-    Memory, Number, Value, VbError, VbFault, as_currency, as_integer, as_long, copy, copy_array,
-    is_null, is_plain, number_value, the_argument, to_bool, to_cur, to_int, to_long, to_number,
-    to_str, weight, whole_of_amount,
+    Copied, Memory, Number, Text, Value, VbError, VbFault, as_currency, as_integer, as_long, check,
+    copy, copy_array, is_empty, is_null, is_plain, limited, number_value, the_argument, to_bool,
+    to_cur, to_int, to_long, to_number, to_str, weight, whole_of_amount,
 };
 
 /// What a call gives, if there is one of that name.
@@ -36,6 +36,8 @@ fn one_answer(alloc: Global, name: &str, value: &Value) -> Result<Option<String>
 /// What a call that gives no value says of one.
 fn told_answer(alloc: Global, name: &str, value: &Value) -> Result<Option<String>, CaseStop> {
     match name {
+        "check" => Ok(Some(checked_text(alloc, check(value))?)),
+        "is_empty" => Ok(Some(format!(in alloc; "{}", is_empty(value))?)),
         "is_null" => Ok(Some(format!(in alloc; "{}", is_null(value))?)),
         "is_plain" => Ok(Some(format!(in alloc; "{}", is_plain(value))?)),
         "weight" => Ok(Some(format!(in alloc; "{}", weight(value))?)),
@@ -57,8 +59,10 @@ fn converted(alloc: Global, name: &str, value: &Value) -> Option<Result<Value, V
         "to_bool" => Some(outcome(to_bool(value).map(Value::Bool))),
         "truth" => Some(outcome(truth(value).map(Value::Bool))),
         "to_str" => Some(to_str(alloc, value).map(Value::Str)),
+        "long" => Some(outcome(long(value).map(Value::Long))),
         "copy" => Some(copied(copy(alloc, value))),
         _ => match value {
+            Value::Str(text) if name == "limited" => Some(limited_copy(text)),
             Value::Arr(array) if name == "copy_array" => {
                 Some(copied(copy_array(alloc, array).map(Value::Arr)))
             }
@@ -105,6 +109,21 @@ fn copied(answer: Result<Value, Memory>) -> Result<Value, VbFault> {
     match answer {
         Ok(value) => Ok(value),
         Err(memory) => Err(memory.into()),
+    }
+}
+
+fn long(value: &Value) -> Result<i32, VbError> {
+    to_number(value)?.long()
+}
+
+fn limited_copy(text: &Text) -> Result<Value, VbFault> {
+    Ok(limited(text.copy()?)?)
+}
+
+fn checked_text(alloc: Global, checked: Result<(), VbError>) -> Result<String, Memory> {
+    match checked {
+        Ok(()) => Ok(String::from_str(alloc, "ok")?),
+        Err(error) => Ok(format!(in alloc; "error {}", error.number)?),
     }
 }
 

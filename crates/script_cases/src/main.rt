@@ -1,0 +1,48 @@
+//! Tries the cases of data/: scripts and pages, with their words, trees, programs and faults.
+#![tactic(auto)]
+
+mod expressions;
+mod grammar;
+mod names;
+mod programs;
+mod statements;
+mod stopped;
+mod subject;
+mod units;
+mod words;
+mod writing;
+
+use case_files::try_file;
+use std::io;
+use std::io::ErrorKind;
+use subject::Scripts;
+
+/// The files of cases, and what each is tried on.
+const FILES: [(&str, Scripts); 12] = [
+    ("words.txt", Scripts::Words),
+    ("places.txt", Scripts::Places),
+    ("counts.txt", Scripts::Counts),
+    ("grammar.txt", Scripts::Trees),
+    ("without_edges.txt", Scripts::BareTrees),
+    ("expressions.txt", Scripts::Expressions),
+    ("depths.txt", Scripts::Verdicts),
+    ("printed.txt", Scripts::Printed),
+    ("scripts.txt", Scripts::Programs),
+    ("names.txt", Scripts::Names),
+    ("parts.txt", Scripts::ScriptParts),
+    ("pages.txt", Scripts::PageParts),
+];
+
+fn main(rt: HostRuntime) -> io::Result<()> {
+    let mut all_passed = true;
+    for (name, subject) in FILES {
+        if !try_file(&rt, name, &subject)? {
+            all_passed = false;
+        }
+    }
+    if all_passed {
+        Ok(())
+    } else {
+        Err(ErrorKind::InvalidData.into())
+    }
+}
