@@ -4,7 +4,8 @@ use crate::stop::CaseStop;
 use std::alloc::Global;
 
 /// The text that a case writes so: `|` ends a line, `~e9~` is the character of that hexadecimal number, and
-/// `~200*part~` is the part so many times, in which `#` stands for how many came before it.
+/// `~200*part~` is the part so many times, in which `#` stands for how many came before it and `^` for a carriage
+/// return.
 pub fn read_text(alloc: Global, written: &str) -> Result<String, CaseStop> {
     let mut text = String::new(alloc);
     let mut is_open = true;
@@ -47,18 +48,19 @@ fn push_times(text: &mut String, alloc: Global, count: u32, part: &str) -> Resul
     Ok(())
 }
 
-/// Adds a part with the number in place of each `#`.
 fn push_numbered(
     text: &mut String,
     alloc: Global,
     number: u32,
     part: &str,
 ) -> Result<(), CaseStop> {
-    for (i, piece) in part.split('#').enumerate() {
-        if i > 0 {
-            text.push_str(format!(in alloc; "{number}")?.as_str())?;
+    for c in part.chars() {
+        match c {
+            '#' => text.push_str(format!(in alloc; "{number}")?.as_str())?,
+            '^' => text.push('\r')?,
+            '|' => text.push('\n')?,
+            _ => text.push(c)?,
         }
-        push_part(text, piece)?;
     }
     Ok(())
 }

@@ -1,0 +1,88 @@
+//! What the host's commands do.
+
+use crate::sites::read_site;
+use asp_host::{Command, Status, WordStop, read_words, run_host, status_code, status_text};
+use asp_io::{MemClock, MemFolder, MemSink, SureSource, SureWire};
+use case_files::{CaseStop, Subject};
+use std::alloc::Global;
+use std::sync::Wait;
+use std::thread::Threads;
+use vb_value::{Bytes, List, Memory, Text};
+
+/// How many bytes an output may have.
+const ROOM: usize = 100_000;
+
+/// The words of a command line, each with the command that they say.
+pub struct CommandWords;
+
+/// The words of a command line and the files of a site, each with the exit status, what is said of the end, and the
+/// output.
+#[derive(Drop)]
+pub struct Commands<'a, R> {
+    pub rt: &'a R,
+}
+
+impl Subject for CommandWords {
+    fn answer(&self, alloc: Global, case: &str) -> Result<String, CaseStop> {
+        let words = words_of(alloc, case)?;
+        match read_words(alloc, words.as_slice()) {
+            Ok(Command::Get { site, path, query }) => {
+                let (site, path) = (site.to_string(alloc)?, path.to_string(alloc)?);
+                let count = query.len();
+                Ok(format!(in alloc; "get the page {path} of {site}, query of {count} bytes")?)
+            }
+            Err(WordStop::Usage) => Ok(String::from_str(alloc, "usage")?),
+            Err(WordStop::Memory) => Err(CaseStop::Memory),
+        }
+    }
+}
+
+impl<R: Threads + Wait + Sync> Subject for Commands<'_, R> {
+    fn answer(&self, alloc: Global, case: &str) -> Result<String, CaseStop> {
+        let mut parts = case.split(" ## ");
+        let words = words_of(alloc, parts.next().unwrap_or(""))?;
+        let mut folder = read_site(alloc, parts)?;
+        let mut sink = MemSink::new(alloc, ROOM, List::new(alloc))?;
+        let status = run(self.rt, alloc, words.as_slice(), &mut folder, &mut sink);
+        ended_text(alloc, &status, sink.held())
+    }
+}
+
+fn run<R: Threads + Wait + Sync>(
+    rt: &R,
+    alloc: Global,
+    words: &[String],
+    folder: &mut MemFolder,
+    sink: &mut MemSink,
+) -> Status {
+    let mut source = SureSource::new(Bytes::new(alloc));
+    let wire = SureWire::new(List::new(alloc));
+    run_host(rt, alloc, words, folder, &mut source, sink, wire, &MemClock, [0; 32])
+}
+
+fn words_of(alloc: Global, written: &str) -> Result<Vec<String>, Memory> {
+    let mut words = Vec::new(alloc);
+    for word in written.split_whitespace() {
+        words.push(String::from_str(alloc, word)?)?;
+    }
+    Ok(words)
+}
+
+/// The exit status, what is said of the end, and the output, with blanks between them.
+fn ended_text(alloc: Global, status: &Status, held: &[u8]) -> Result<String, CaseStop> {
+    let mut out = format!(in alloc; "{}", status_code(status))?;
+    push_part(&mut out, status_text(alloc, status)?.to_string(alloc)?.as_str())?;
+    let Ok(held) = Text::from_utf8(alloc, held) else {
+        return Err(CaseStop::Unreadable);
+    };
+    push_part(&mut out, held.to_string(alloc)?.as_str())?;
+    Ok(out)
+}
+
+fn push_part(out: &mut String, part: &str) -> Result<(), Memory> {
+    if part.is_empty() {
+        return Ok(());
+    }
+    out.push(' ')?;
+    Ok(out.push_str(part)?)
+}

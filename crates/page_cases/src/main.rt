@@ -1,0 +1,26 @@
+//! Tries the cases of data/: page files with their pieces, sums, and commands over sites.
+#![tactic(auto)]
+
+mod commands;
+mod hexadecimal;
+mod pages;
+mod sites;
+
+use case_files::try_file;
+use commands::{CommandWords, Commands};
+use pages::{PageBytes, Pages, Sums};
+use std::io;
+use std::io::ErrorKind;
+
+fn main(rt: HostRuntime) -> io::Result<()> {
+    let pages = try_file(&rt, "pages.txt", &Pages)?;
+    let bytes = try_file(&rt, "bytes.txt", &PageBytes)?;
+    let sums = try_file(&rt, "sums.txt", &Sums)?;
+    let words = try_file(&rt, "words.txt", &CommandWords)?;
+    let sites = try_file(&rt, "sites.txt", &Commands { rt: &rt })?;
+    if pages && bytes && sums && words && sites {
+        Ok(())
+    } else {
+        Err(ErrorKind::InvalidData.into())
+    }
+}

@@ -1,0 +1,76 @@
+//! What page files and sums are made of.
+
+use crate::hexadecimal::read_bytes;
+use case_files::{CaseStop, Subject, read_text};
+use page_read::{Fragment, PageStop, SumStop, fragments, sum_numbers};
+use std::alloc::Global;
+use vb_value::{Memory, Text};
+
+/// Page files, each with its pieces: text in quotes, and a value that is written in quotes behind its line.
+pub struct Pages;
+
+/// Page files by their bytes in hexadecimal.
+pub struct PageBytes;
+
+/// Sums, each with its numbers.
+pub struct Sums;
+
+impl Subject for Pages {
+    fn answer(&self, alloc: Global, case: &str) -> Result<String, CaseStop> {
+        pieces_text(alloc, read_text(alloc, case)?.as_str().as_bytes())
+    }
+}
+
+impl Subject for PageBytes {
+    fn answer(&self, alloc: Global, case: &str) -> Result<String, CaseStop> {
+        pieces_text(alloc, read_bytes(alloc, case)?.as_slice())
+    }
+}
+
+impl Subject for Sums {
+    fn answer(&self, alloc: Global, case: &str) -> Result<String, CaseStop> {
+        let text = Text::from_str(alloc, read_text(alloc, case)?.as_str())?;
+        let numbers = match sum_numbers(alloc, text.as_slice()) {
+            Ok(numbers) => numbers,
+            Err(SumStop::NoSum) => return Ok(String::from_str(alloc, "no sum")?),
+            Err(SumStop::Memory) => return Err(CaseStop::Memory),
+        };
+        let mut out = String::new(alloc);
+        for number in numbers.as_slice() {
+            if !out.is_empty() {
+                out.push(' ')?;
+            }
+            out.push_str(number.to_string(alloc)?.as_str())?;
+        }
+        Ok(out)
+    }
+}
+
+fn pieces_text(alloc: Global, bytes: &[u8]) -> Result<String, CaseStop> {
+    let pieces = match fragments(alloc, bytes) {
+        Ok(pieces) => pieces,
+        Err(PageStop::Fault { kind, line }) => return Ok(format!(in alloc; "{kind:?} {line}")?),
+        Err(PageStop::Memory) => return Err(CaseStop::Memory),
+    };
+    let mut out = String::new(alloc);
+    for piece in pieces.as_slice() {
+        if !out.is_empty() {
+            out.push_str(", ")?;
+        }
+        push_piece(&mut out, alloc, piece)?;
+    }
+    Ok(out)
+}
+
+fn push_piece(out: &mut String, alloc: Global, piece: &Fragment) -> Result<(), Memory> {
+    let text = match piece {
+        Fragment::Text(text) => text,
+        Fragment::Write { text, line } => {
+            out.push_str(format!(in alloc; "{line}: ")?.as_str())?;
+            text
+        }
+    };
+    out.push('"')?;
+    out.push_str(text.to_string(alloc)?.as_str())?;
+    Ok(out.push('"')?)
+}

@@ -1,0 +1,83 @@
+//! The longest texts, the deepest arrays, the most parts and names.
+
+use page_build::{ScriptFault, ScriptStop, script_program};
+use std::alloc::Global;
+use std::test::Fail;
+use vb_strings::call_string;
+use vb_syntax::ScopeFault;
+use vb_value::{Array, Bytes, Copied, List, StrFn, Text, Value, is_plain};
+
+#[test]
+fn a_million_characters(rt: HostRuntime) -> Result<(), Fail> {
+    let alloc = rt.alloc();
+    let mut text = Text::new(alloc);
+    for n in 0..1_000_000u32 {
+        text.push(if n % 2 == 0 { 'a' } else { '\u{e9}' })?;
+    }
+    let copy = text.copy()?;
+    assert!(rt; copy == text && copy.len() == 1_000_000);
+    let bytes: Bytes = text.to_utf8(alloc)?;
+    assert_eq!(rt; bytes.len(), 1_500_000);
+    let mut twice = Text::new(alloc);
+    twice.append_slice(text.as_slice())?;
+    twice.append_slice(copy.as_slice())?;
+    assert!(rt; twice > text && twice.get(1_999_999) == Some(&'\u{e9}'));
+    Ok(())
+}
+
+/// An array of one place.
+fn array_of(alloc: Global, item: Value) -> Result<Value, Fail> {
+    let mut items = List::new(alloc);
+    items.push(item)?;
+    Ok(Value::Arr(Array {
+        bounds: List::from_slice(alloc, &[0])?,
+        fixed: false,
+        items,
+    }))
+}
+
+/// Arrays may nest 64 deep in a plain value, and no deeper.
+#[test]
+fn arrays_in_arrays(rt: HostRuntime) -> Result<(), Fail> {
+    let mut value = Value::Empty;
+    for _ in 0..65 {
+        assert!(rt; is_plain(&value));
+        value = array_of(rt.alloc(), value)?;
+    }
+    assert!(rt; !is_plain(&value));
+    Ok(())
+}
+
+/// A long text with many separators, and its parts joined without them.
+#[test]
+fn many_parts(rt: HostRuntime) -> Result<(), Fail> {
+    let text = call_string(rt.alloc(), StrFn::Space, &[Value::Long(600_000)])?;
+    let parts = call_string(rt.alloc(), StrFn::Split, &[text])?;
+    let joined = call_string(rt.alloc(), StrFn::Join, &[parts, Value::Empty])?;
+    let length = call_string(rt.alloc(), StrFn::Len, &[joined]);
+    assert!(rt; matches!(length, Ok(Value::Long(0))));
+    Ok(())
+}
+
+/// A script that declares 65,535 names, and what stands behind them.
+fn names_script(alloc: Global, behind: &str) -> Result<Text, Fail> {
+    let mut script = Text::from_str(alloc, "Dim n")?;
+    for i in 1..65_535u32 {
+        script.push_str(format!(in alloc; ", n{i}")?.as_str())?;
+    }
+    script.push_str(behind)?;
+    Ok(script)
+}
+
+#[test]
+fn as_many_names_as_there_may_be(rt: HostRuntime) -> Result<(), Fail> {
+    let alloc = rt.alloc();
+    let most = names_script(alloc, "\nn = n1")?;
+    let more = names_script(alloc, "\nn = n1\nnew_name = 1")?;
+    assert!(rt; most.len() < 1 << 31 && more.len() < 1 << 31);
+    assert!(rt; script_program(alloc, &most).is_ok());
+    let stop = script_program(alloc, &more).err();
+    let kind = ScriptFault::Scope(ScopeFault::TooMany);
+    assert!(rt; stop == Some(ScriptStop::Fault { kind, line: 3 }));
+    Ok(())
+}

@@ -1,0 +1,92 @@
+//! The forms in memory.
+
+use asp_io::{
+    Clock, Failed, Folder, Link, MemClock, MemFolder, MemSink, Source, SureFolder, SureLink,
+    SureSink, SureSource, SureWire, Wire, write_all,
+};
+use std::alloc::Global;
+use std::test::Fail;
+use vb_value::{Bytes, List, Memory, SiteFile, Text};
+
+/// The files with these paths and texts.
+fn files(alloc: Global, pairs: &[(&str, &str)]) -> Result<List<SiteFile>, Memory> {
+    let mut files = List::new(alloc);
+    for (path, text) in pairs {
+        files.push(SiteFile {
+            path: Text::from_str(alloc, path)?,
+            bytes: Bytes::from_slice(alloc, text.as_bytes())?,
+        })?;
+    }
+    Ok(files)
+}
+
+#[test]
+fn a_folder_has_rooted_paths_that_differ(rt: HostRuntime) -> Result<(), Fail> {
+    let alloc = rt.alloc();
+    let right = [("/a", "1"), ("/b/a", "2")];
+    let alike = [("/a", "1"), ("/b", ""), ("/a", "2")];
+    let bare = [("/a", "1"), ("b", "2")];
+    assert!(rt; SureFolder::new(files(alloc, right.as_slice())?).is_some());
+    assert!(rt; SureFolder::new(files(alloc, alike.as_slice())?).is_none());
+    assert!(rt; SureFolder::new(files(alloc, bare.as_slice())?).is_none());
+    Ok(())
+}
+
+#[test]
+fn listed_calls_of_a_folder_fail(rt: HostRuntime) -> Result<(), Fail> {
+    let alloc = rt.alloc();
+    let pairs = [("/a", "one"), ("/b", "two")];
+    let Some(folder) = SureFolder::new(files(alloc, pairs.as_slice())?) else {
+        return Err(Fail::from(Failed));
+    };
+    let mut fails = List::new(alloc);
+    fails.push(2)?;
+    let mut folder = MemFolder::new(folder, fails);
+    let mut counts = List::new(alloc);
+    for _ in 0..3 {
+        counts.push(folder.names(alloc).map_or(9, |names| names.len()))?;
+    }
+    assert_eq!(rt; counts.as_slice(), [2, 9, 2].as_slice());
+    assert_eq!(rt; folder.plan.faults, 1);
+    Ok(())
+}
+
+/// What a sink holds after a piece, where it has so much room and its call of that number fails, or none at 0.
+#[test]
+fn a_piece_goes_to_a_sink(rt: HostRuntime) -> Result<(), Fail> {
+    let alloc = rt.alloc();
+    let cases: [(usize, u64, Result<(), Failed>, &str); 3] = [
+        (9, 0, Ok(()), "ne"),
+        (1, 0, Err(Failed), "n"),
+        (9, 1, Err(Failed), ""),
+    ];
+    for (room, fails, want, held) in cases {
+        let mut sink = MemSink::new(alloc, room, List::from_slice(alloc, &[fails])?)?;
+        assert_eq!(rt; write_all(&mut sink, b"ne"), want, "{room}");
+        assert_eq!(rt; sink.held(), held.as_bytes(), "{room}");
+    }
+    Ok(())
+}
+
+#[test]
+fn what_never_fails(rt: HostRuntime) -> Result<(), Fail> {
+    let alloc = rt.alloc();
+    let mut links = List::new(alloc);
+    links.push(SureLink::new(Bytes::from_slice(alloc, b"abc")?))?;
+    let mut wire = SureWire::new(links);
+    let Ok(Some(mut link)) = wire.accept() else {
+        return Err(Fail::from(Failed));
+    };
+    let mut buffer = [0u8; 2];
+    for want in [Ok(2), Ok(1), Ok(0)] {
+        assert_eq!(rt; link.read(&mut buffer), want);
+    }
+    assert_eq!(rt; buffer, *b"cb");
+    assert_eq!(rt; link.write(b"abc"), Ok(3));
+    assert!(rt; matches!(wire.accept(), Ok(None)));
+    let mut source = SureSource::new(Bytes::from_slice(alloc, b"x")?);
+    assert_eq!(rt; source.read(&mut buffer), Ok(1));
+    assert_eq!(rt; write_all(&mut SureSink, b"abc"), Ok(()));
+    assert_eq!(rt; MemClock.seconds(), 0);
+    Ok(())
+}
