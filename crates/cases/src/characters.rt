@@ -5,8 +5,8 @@ use crate::notation::{outcome_text, value_text};
 use case_files::CaseStop;
 use std::alloc::Global;
 use vb_value::{
-    Bytes, Memory, Text, Utf8Stop, Value, cur_of_text, ends_line, error_text, fold, is_blank,
-    is_word, line_ends, named_truth,
+    Bytes, Memory, Text, Utf8Stop, Value, VbFault, cur_of_text, ends_line, error_text, fold,
+    is_blank, is_word, line_ends, named_truth,
 };
 
 /// What a call on a text, or on the number of an error, gives, if there is one of that name.
@@ -21,9 +21,16 @@ pub fn text_answer(
             let bytes = word.to_utf8(alloc)?;
             Ok(Some(format!(in alloc; "{}", is_word(bytes.as_slice(), text.as_slice()))?))
         }
-        [Value::Long(number)] if name == "error_text" => {
-            Ok(Some(quoted(alloc, error_text(alloc, *number)?)?))
-        }
+        [Value::Long(number)] => of_error(alloc, name, *number),
+        _ => Ok(None),
+    }
+}
+
+/// What a call on the number of an error gives, and the error as it is printed.
+fn of_error(alloc: Global, name: &str, number: i32) -> Result<Option<String>, CaseStop> {
+    match name {
+        "error_text" => Ok(Some(quoted(alloc, error_text(alloc, number)?)?)),
+        "print" => Ok(Some(format!(in alloc; "{}", VbFault::Error(number))?)),
         _ => Ok(None),
     }
 }

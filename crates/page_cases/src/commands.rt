@@ -57,7 +57,17 @@ fn run<R: Threads + Wait + Sync>(
 ) -> Status {
     let mut source = SureSource::new(Bytes::new(alloc));
     let wire = SureWire::new(List::new(alloc));
-    run_host(rt, alloc, words, folder, &mut source, sink, wire, &MemClock, [0; 32])
+    run_host(
+        rt,
+        alloc,
+        words,
+        folder,
+        &mut source,
+        sink,
+        wire,
+        &MemClock,
+        [0; 32],
+    )
 }
 
 fn words_of(alloc: Global, written: &str) -> Result<Vec<String>, Memory> {
@@ -71,7 +81,10 @@ fn words_of(alloc: Global, written: &str) -> Result<Vec<String>, Memory> {
 /// The exit status, what is said of the end, and the output, with blanks between them.
 fn ended_text(alloc: Global, status: &Status, held: &[u8]) -> Result<String, CaseStop> {
     let mut out = format!(in alloc; "{}", status_code(status))?;
-    push_part(&mut out, status_text(alloc, status)?.to_string(alloc)?.as_str())?;
+    push_part(
+        &mut out,
+        status_text(alloc, status)?.to_string(alloc)?.as_str(),
+    )?;
     let Ok(held) = Text::from_utf8(alloc, held) else {
         return Err(CaseStop::Unreadable);
     };

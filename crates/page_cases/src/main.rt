@@ -5,12 +5,14 @@ mod commands;
 mod hexadecimal;
 mod pages;
 mod sites;
+mod web;
 
 use case_files::try_file;
 use commands::{CommandWords, Commands};
 use pages::{PageBytes, Pages, Sums};
 use std::io;
 use std::io::ErrorKind;
+use web::Web;
 
 fn main(rt: HostRuntime) -> io::Result<()> {
     let pages = try_file(&rt, "pages.txt", &Pages)?;
@@ -18,7 +20,8 @@ fn main(rt: HostRuntime) -> io::Result<()> {
     let sums = try_file(&rt, "sums.txt", &Sums)?;
     let words = try_file(&rt, "words.txt", &CommandWords)?;
     let sites = try_file(&rt, "sites.txt", &Commands { rt: &rt })?;
-    if pages && bytes && sums && words && sites {
+    let web = try_file(&rt, "web.txt", &Web)?;
+    if pages && bytes && sums && words && sites && web {
         Ok(())
     } else {
         Err(ErrorKind::InvalidData.into())
