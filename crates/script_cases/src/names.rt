@@ -5,7 +5,9 @@ use crate::stopped::Stopped;
 use case_files::CaseStop;
 use std::alloc::Global;
 use vb_syntax::Program;
-use vb_syntax::program::{Expression, Path, Procedure, Statement, StatementKind};
+use vb_syntax::program::{
+    Expression, Head, Named, Path, Procedure, Statement, StatementKind,
+};
 use vb_value::Memory;
 
 /// What the names stand for in a statement of a script. The case names it: `page:` and the script for the last of the
@@ -51,9 +53,18 @@ fn last(body: &[Statement]) -> Option<&Statement> {
     }
 }
 
+fn head_text(alloc: Global, head: &Head) -> Result<String, Memory> {
+    match head {
+        Head::Named(Named::Unknown(_)) => Ok(String::from_str(alloc, "Unknown")?),
+        Head::Named(name) => Ok(format!(in alloc; "{name:?}")?),
+        Head::Member(member) => Ok(format!(in alloc; "{member:?}")?),
+        _ => Ok(format!(in alloc; "{head:?}")?),
+    }
+}
+
 fn path_text(alloc: Global, path: &Path) -> Result<String, Memory> {
-    let (head, steps) = (&path.head, path.steps.len());
-    Ok(format!(in alloc; "{head:?} {steps}")?)
+    let (head, steps) = (head_text(alloc, &path.head)?, path.steps.len());
+    Ok(format!(in alloc; "{head} {steps}")?)
 }
 
 fn value_text(alloc: Global, value: &Expression) -> Result<String, Memory> {
