@@ -52,7 +52,7 @@ fn told_answer(alloc: Global, name: &str, value: &Value) -> Result<Option<String
 /// What a call that gives a value gives.
 fn converted(alloc: Global, name: &str, value: &Value) -> Option<Result<Value, VbFault>> {
     match name {
-        "to_number" => Some(outcome(to_number(value).map(number_value))),
+        "to_number" => Some(outcome(number_of(value))),
         "to_int" => Some(outcome(to_int(value).map(Value::Int))),
         "to_long" => Some(outcome(to_long(value).map(Value::Long))),
         "to_cur" => Some(outcome(to_cur(value).map(Value::Cur))),
@@ -110,6 +110,10 @@ fn copied(answer: Result<Value, Memory>) -> Result<Value, VbFault> {
         Ok(value) => Ok(value),
         Err(memory) => Err(memory.into()),
     }
+}
+
+fn number_of(value: &Value) -> Result<Value, VbError> {
+    Ok(number_value(to_number(value)?))
 }
 
 fn long(value: &Value) -> Result<i32, VbError> {
