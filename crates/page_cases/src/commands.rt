@@ -39,9 +39,9 @@ impl Subject for CommandWords {
 
 impl<R: Threads + Wait + Sync> Subject for Commands<'_, R> {
     fn answer(&self, alloc: Global, case: &str) -> Result<String, CaseStop> {
-        let mut parts = case.split(" ## ");
-        let words = words_of(alloc, parts.next().unwrap_or(""))?;
-        let mut folder = read_site(alloc, parts)?;
+        let (words, _) = case.split_once(" ## ").unwrap_or((case, ""));
+        let words = words_of(alloc, words)?;
+        let mut folder = read_site(alloc, case)?;
         let mut sink = MemSink::new(alloc, ROOM, List::new(alloc))?;
         let status = run(self.rt, alloc, words.as_slice(), &mut folder, &mut sink);
         ended_text(alloc, &status, sink.held())

@@ -6,15 +6,14 @@ use case_files::{CaseStop, read_text};
 use std::alloc::Global;
 use vb_value::{Bytes, List, SiteFile, Text};
 
-/// The site whose files are written so, each behind ` ## `: its path, a colon, and its text behind a blank; or its path,
-/// `=`, and its bytes in hexadecimal.
-pub fn read_site<'a>(
-    alloc: Global,
-    files: impl Iterator<Item = &'a str> + Drop,
-) -> Result<MemFolder, CaseStop> {
+/// The site of a case, whose files are written each behind ` ## `: its path, a colon, and its text behind a blank; or its
+/// path, `=`, and its bytes in hexadecimal.
+pub fn read_site(alloc: Global, case: &str) -> Result<MemFolder, CaseStop> {
     let mut site = List::new(alloc);
-    for file in files {
-        site.push(read_file(alloc, file)?)?;
+    for (i, part) in case.split(" ## ").enumerate() {
+        if i > 0 {
+            site.push(read_file(alloc, part)?)?;
+        }
     }
     match SureFolder::new(site) {
         Some(folder) => Ok(MemFolder::new(folder, List::new(alloc))),

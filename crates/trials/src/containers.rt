@@ -49,8 +49,17 @@ fn names_in_tables(rt: HostRuntime) -> Result<(), Fail> {
 
 #[test]
 fn a_stop_keeps_its_line(rt: HostRuntime) {
-    let fault = Stop::Fault { kind: 2u32, line: 7 };
-    assert!(rt; fault.map(|kind| kind == 2) == Stop::Fault { kind: true, line: 7 });
+    let fault = Stop::Fault {
+        kind: 2u32,
+        line: 7,
+    };
+    assert!(rt;
+        fault.map(|kind| kind == 2)
+            == Stop::Fault {
+                kind: true,
+                line: 7
+            }
+    );
     let stop: Stop<u32> = Memory.into();
     assert!(rt; stop.map(|kind| kind == 2) == Stop::Memory);
 }
