@@ -1,19 +1,19 @@
 -- The program of a script's text: its words, the unit that they spell, and what that resolves to.
 use Rattle.std.specs.Prelude.{◌≡◌, ℕ, List, Result, Ok, Err}
+use Rattle.vb_value.specs.declared.stop.Stop.{Stop}
+use Rattle.vb_value.specs.declared.stop.Stop.TheVariants as stops
 use Rattle.vb_value.specs.declared.token.Token.{Token}
 use Rattle.vb_lex.specs.Tokens.{FaultsAt, Tokenizes}
-use Rattle.vb_lex.specs.declared.fault.LexStop.{LexStop}
-use Rattle.vb_lex.specs.declared.fault.LexStop.TheVariants as words
+use Rattle.vb_lex.specs.declared.fault.LexFault.{LexFault}
 use Rattle.vb_syntax.specs.grammar.Units.{Derives}
 use Rattle.vb_syntax.specs.scope.Resolving.{IsFirstFault, Resolves}
 use Rattle.vb_syntax.specs.scope.Programs.{Parts}
 use Rattle.vb_syntax.specs.declared.program.Program.{Program}
 use Rattle.vb_syntax.specs.declared.unit.Unit.{Unit as Script}
-use Rattle.vb_parse.specs.Outcome.{IsUnitKind, HasFault as HasGrammarFault}
-use Rattle.vb_parse.specs.declared.fault.ParseStop.{ParseStop}
-use Rattle.vb_parse.specs.declared.fault.ParseStop.TheVariants as grammar
-use Rattle.vb_names.specs.declared.fault.ScopeStop.{ScopeStop}
-use Rattle.vb_names.specs.declared.fault.ScopeStop.TheVariants as scope
+use Rattle.vb_parse.specs.Outcome.{HasFault as HasGrammarFault}
+use Rattle.vb_parse.specs.declared.fault.ParseFault.{ParseFault}
+use Rattle.vb_syntax.specs.declared.note.ScopeFault.{ScopeFault}
+use Rattle.vb_value.specs.declared.stop.Stop.TheVariants as scope
 use Rattle.vb_scope.specs.Answers.{parts_of}
 use Rattle.page_build.specs.declared.fault.ScriptFault.{ScriptFault}
 use Rattle.page_build.specs.declared.fault.ScriptFault.TheVariants.{Words, Grammar, Scope}
@@ -36,7 +36,7 @@ pub record IsProgramOf (text : List ℕ) (program : Parts) : Type 0 where
 abbrev pub HasFault : List ℕ → ScriptFault → ℕ → Type 0
 HasFault text (Words kind) line = FaultsAt text kind line
 HasFault text (Grammar kind) line =
-    (tokens : List Token) × Tokenizes text tokens × HasGrammarFault Derives IsUnitKind tokens kind line
+    (tokens : List Token) × Tokenizes text tokens × HasGrammarFault tokens kind line
 HasFault text (Scope kind) line = (unit : Script) × IsScript text unit × IsFirstFault unit kind line
 
 -- ---- what the call answers
@@ -56,16 +56,16 @@ OnFault (Err Memory) fact = Unit {0}
 -- ---- why it stops, by the stop of each of its steps
 
 -- the words
-abbrev pub of_words : LexStop → ScriptStop
-of_words (words.Fault kind line) = Fault (Words kind) line
-of_words words.Memory = Memory
+abbrev pub of_words : Stop LexFault → ScriptStop
+of_words (stops.Fault kind line) = Fault (Words kind) line
+of_words stops.Memory = Memory
 
 -- the grammar
-abbrev pub of_grammar : ParseStop → ScriptStop
-of_grammar (grammar.Fault kind line) = Fault (Grammar kind) line
-of_grammar grammar.Memory = Memory
+abbrev pub of_grammar : Stop ParseFault → ScriptStop
+of_grammar (stops.Fault kind line) = Fault (Grammar kind) line
+of_grammar stops.Memory = Memory
 
 -- the names
-abbrev pub of_scope : ScopeStop → ScriptStop
+abbrev pub of_scope : Stop ScopeFault → ScriptStop
 of_scope (scope.Fault kind line) = Fault (Scope kind) line
 of_scope scope.Memory = Memory

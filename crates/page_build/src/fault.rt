@@ -1,10 +1,11 @@
 //! Why a script is no program.
 ghost use Rattle.std.specs.Prelude.{◌≡◌};
 
+use std::fmt;
 use vb_lex::{LexFault, LexStop};
 use vb_parse::{ParseFault, ParseStop};
-use vb_scope::ScopeStop;
-use vb_syntax::ScopeFault;
+use vb_syntax::{ScopeFault, ScopeStop};
+use vb_value::Stop;
 
 /// What is wrong with a script. Its words come before its grammar, and its grammar before its names.
 #[derive(Clone, Copy, Debug, PartialEq, Eq)]
@@ -15,6 +16,16 @@ pub enum ScriptFault {
     Grammar(ParseFault),
     /// A name may not stand as it does.
     Scope(ScopeFault),
+}
+
+impl fmt::Display for ScriptFault {
+    fn fmt<W: fmt::Write>(&self, f: &mut fmt::Formatter<W>) -> fmt::Result {
+        match self {
+            ScriptFault::Words(kind) => write!(f, "{kind:?}"),
+            ScriptFault::Grammar(kind) => write!(f, "{kind:?}"),
+            ScriptFault::Scope(kind) => write!(f, "{kind}"),
+        }
+    }
 }
 
 /// Why a script has no program.
@@ -38,11 +49,11 @@ impl From<LexStop> for ScriptStop {
 
     fn from(cause: LexStop) -> ScriptStop {
         match cause {
-            LexStop::Fault { kind, line } => ScriptStop::Fault {
+            Stop::Fault { kind, line } => ScriptStop::Fault {
                 kind: ScriptFault::Words(kind),
                 line,
             },
-            LexStop::Memory => ScriptStop::Memory,
+            Stop::Memory => ScriptStop::Memory,
         }
     }
 }
@@ -54,11 +65,11 @@ impl From<ParseStop> for ScriptStop {
 
     fn from(cause: ParseStop) -> ScriptStop {
         match cause {
-            ParseStop::Fault { kind, line } => ScriptStop::Fault {
+            Stop::Fault { kind, line } => ScriptStop::Fault {
                 kind: ScriptFault::Grammar(kind),
                 line,
             },
-            ParseStop::Memory => ScriptStop::Memory,
+            Stop::Memory => ScriptStop::Memory,
         }
     }
 }

@@ -4,8 +4,8 @@ ghost use Rattle.vb_syntax.specs.scope.Programs.{Parts};
 ghost use Rattle.page_build.specs.declared.fault.ScriptFault.{ScriptFault};
 ghost use Rattle.page_build.specs.Script.{HasFault, IsProgramOf};
 
-use vb_lex::{one_fault, one_token_list, tokens_or_fault};
-use vb_parse::laws::{one_unit, one_unit_fault, unit_faultless};
+use vb_lex::{one_fault as one_word_fault, one_token_list, tokens_or_fault};
+use vb_parse::laws::{one_fault as one_grammar_fault, one_unit, unit_faultless};
 use vb_scope::{one_program as one_program_of_unit, program_faultless};
 
 /// A text has one program at most.
@@ -29,15 +29,15 @@ pub fn program_or_fault()
     program_faultless();
 }
 
-/// A text has faults in one line alone.
-pub fn one_fault_line()
+/// A text has one fault, in one line.
+pub fn one_fault()
     ensures { (text : List ℕ) (kind other : ScriptFault) (line number : ℕ) → HasFault text kind line
-        → HasFault text other number → line ≡ number }
+        → HasFault text other number → (kind ≡ other) × (line ≡ number) }
 {
     one_token_list();
-    one_fault();
+    one_word_fault();
     tokens_or_fault();
     one_unit();
-    one_unit_fault();
+    one_grammar_fault();
     unit_faultless();
 }

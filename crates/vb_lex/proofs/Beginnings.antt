@@ -7,7 +7,7 @@ use Rattle.std.proofs.lemmas.Bool.{false≢true}
 use Rattle.std.proofs.lemmas.Bool.Decides.{nat_tests}
 use Rattle.std.specs.Char.{is_ascii_alphabetic, to_ascii_lowercase}
 use Rattle.std.specs.List.{list_all, prefix_len}
-use Rattle.std.specs.Str.{str_eq_ignore_ascii_case}
+use Rattle.vb_value.specs.Folding.{same_name}
 use Rattle.vb_value.specs.declared.token.Keyword.{Keyword}
 use Rattle.vb_value.specs.declared.token.Symbol.{Symbol}
 use Rattle.vb_value.specs.declared.token.Symbol.TheVariants as s
@@ -17,7 +17,8 @@ use Rattle.vb_lex.specs.declared.names.TheConstants.{KEYWORDS}
 use Rattle.vb_lex.specs.Characters.{ampersand}
 use Rattle.vb_lex.specs.Characters.{is_decimal, is_line_end, is_name_part}
 use Rattle.vb_lex.specs.Characters.{open_bracket, quote}
-use Rattle.vb_lex.specs.Names.{keyword, keyword_among}
+use Rattle.vb_value.specs.Folding.{beside}
+use Rattle.vb_lex.specs.Names.{keyword}
 use Rattle.vb_lex.specs.Spelling.{HasValue, IsDecimal, IsLineEnd, IsSpelled, symbol_text}
 use Rattle.vb_lex.proofs.StringLemmas.{other}
 
@@ -46,29 +47,29 @@ pub lower_letter : (c d : ℕ) → is_ascii_alphabetic c ≡ true → (to_ascii_
 lower_letter c d is same = grind (arith, nat_tests)
 
 pub same_letters : (word name : List ℕ) → list_all is_ascii_alphabetic word ≡ true
-    → str_eq_ignore_ascii_case word name ≡ true → list_all is_ascii_alphabetic name ≡ true
+    → same_name word name ≡ true → list_all is_ascii_alphabetic name ≡ true
 same_letters [] [] all same = refl
 same_letters [] (d ∷ name) all same = absurd (false≢true same)
 same_letters (c ∷ word) [] all same = absurd (false≢true same)
 same_letters (c ∷ word) (d ∷ name) all same =
     let first : is_ascii_alphabetic d ≡ true = lower_letter c d
     (first_true (is_ascii_alphabetic c) (list_all is_ascii_alphabetic word) all)
-    (first_true (to_ascii_lowercase c == to_ascii_lowercase d) (str_eq_ignore_ascii_case word name) same) in
+    (first_true (to_ascii_lowercase c == to_ascii_lowercase d) (same_name word name) same) in
     let rest = same_letters word name
     (second_true (is_ascii_alphabetic c) (list_all is_ascii_alphabetic word) all)
-    (second_true (to_ascii_lowercase c == to_ascii_lowercase d) (str_eq_ignore_ascii_case word name) same) in
+    (second_true (to_ascii_lowercase c == to_ascii_lowercase d) (same_name word name) same) in
     rw (first, rest) refl
 
 abbrev pub has_letters : List ℕ × Keyword → Bool
 has_letters entry = list_all is_ascii_alphabetic entry.0
 
 pub among_letters : (entries : List (List ℕ × Keyword)) (name : List ℕ) (word : Keyword)
-    → list_all has_letters entries ≡ true → keyword_among entries name ≡ Some word
+    → list_all has_letters entries ≡ true → beside entries name ≡ Some word
     → list_all is_ascii_alphabetic name ≡ true
 among_letters [] name word all found = cc
 among_letters (entry ∷ entries) name word all found =
-    let go : (b : Bool) → str_eq_ignore_ascii_case entry.0 name ≡ b
-    → (if b then Some entry.1 else keyword_among entries name) ≡ Some word
+    let go : (b : Bool) → same_name entry.0 name ≡ b
+    → (if b then Some entry.1 else beside entries name) ≡ Some word
     → list_all is_ascii_alphabetic name ≡ true =
     elim [
       | true ↦ λ same _. same_letters entry.0 name (first_true (has_letters entry)
@@ -76,7 +77,7 @@ among_letters (entry ∷ entries) name word all found =
       | false ↦ λ _ more. among_letters entries name word (second_true (has_letters entry)
           (list_all has_letters entries) all) more
     ] in
-    go (str_eq_ignore_ascii_case entry.0 name) refl found
+    go (same_name entry.0 name) refl found
 
 pub keyword_letters : (name : List ℕ) (word : Keyword) → keyword name ≡ Some word
     → list_all is_ascii_alphabetic name ≡ true

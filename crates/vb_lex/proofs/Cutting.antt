@@ -8,7 +8,7 @@ use Rattle.vb_lex.specs.declared.fault.LexFault.{LexFault}
 use Rattle.vb_lex.specs.declared.piece.Piece.{Piece}
 use Rattle.vb_lex.specs.declared.piece.Piece.TheVariants.{Gap, Word, Fault}
 use Rattle.vb_lex.specs.declared.place.Place.{Place}
-use Rattle.vb_lex.specs.Lines.{line_at}
+use Rattle.vb_value.specs.Lines.{line_at}
 use Rattle.vb_lex.specs.Places.{first_place, past, token_at}
 use Rattle.vb_lex.specs.Tokens.{FaultsAt, IsCut, IsTaken, Reaches, Tokenizes, edge, piece_at, tokens_from}
 use Rattle.vb_lex.proofs.Within.{IsWithin, piece_within}

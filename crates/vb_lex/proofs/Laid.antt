@@ -7,7 +7,7 @@ use Rattle.vb_value.specs.declared.token.TokenKind.{TokenKind}
 use Rattle.vb_lex.specs.declared.piece.Piece.{Piece}
 use Rattle.vb_lex.specs.declared.piece.Piece.TheVariants.{Gap, Word, Fault}
 use Rattle.vb_lex.specs.declared.place.Place.{Place}
-use Rattle.vb_lex.specs.Lines.{line_at}
+use Rattle.vb_value.specs.Lines.{line_at}
 use Rattle.vb_lex.specs.Places.{first_place, past}
 use Rattle.vb_lex.specs.Spelling.{IsLaid, IsLineEnd, IsSpelled}
 use Rattle.vb_lex.specs.Tokens.{IsCut, Tokenizes, edge, piece_at, tokens_from}

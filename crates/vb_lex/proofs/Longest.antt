@@ -14,9 +14,11 @@ use Rattle.vb_lex.specs.declared.piece.Piece.{Piece}
 use Rattle.vb_lex.specs.declared.piece.Piece.TheVariants.{Word}
 use Rattle.std.proofs.lemmas.List.{append_assoc, length-take-le, get_or-take, take-append-drop, get_or_push}
 use Rattle.std.proofs.lemmas.List.{length_push, take-take, take_at}
-use Rattle.vb_lex.specs.Characters.{ampersand, carriage_return, close_bracket, equal, greater}
+use Rattle.vb_value.specs.Characters.{carriage_return}
+use Rattle.vb_lex.specs.Characters.{ampersand, close_bracket, equal, greater}
 use Rattle.vb_lex.specs.Characters.{is_bracketed, is_decimal, is_line_end, is_name_part}
-use Rattle.vb_lex.specs.Characters.{less, line_feed, open_bracket, quote}
+use Rattle.vb_value.specs.Characters.{line_feed}
+use Rattle.vb_lex.specs.Characters.{less, open_bracket, quote}
 use Rattle.vb_lex.specs.Gaps.{line_end_length}
 use Rattle.vb_lex.specs.Symbols.{beside, greater_word, less_word, one_character, symbol}
 use Rattle.vb_lex.specs.Spelling.{IsLineEnd, IsSpelled, doubled, symbol_text}

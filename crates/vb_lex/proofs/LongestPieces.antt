@@ -6,7 +6,7 @@ use Rattle.std.proofs.lemmas.Bool.{eq-eqb, eqb-true, false≢true}
 use Rattle.std.proofs.lemmas.List.{length-drop}
 use Rattle.std.specs.Char.{is_ascii_alphabetic}
 use Rattle.std.specs.List.{prefix_len}
-use Rattle.std.specs.Str.{str_eq_ignore_ascii_case}
+use Rattle.vb_value.specs.Folding.{same_name}
 use Rattle.std.specs.Str.Parse.{digits_value}
 use Rattle.vb_value.specs.declared.token.Token.{Token}
 use Rattle.vb_value.specs.declared.token.TokenKind.{TokenKind}
@@ -16,7 +16,8 @@ use Rattle.vb_lex.specs.declared.piece.Piece.{Piece}
 use Rattle.vb_lex.specs.declared.piece.Piece.TheVariants.{Gap, Word, Fault}
 use Rattle.vb_lex.specs.declared.place.Behind.{Behind}
 use Rattle.vb_lex.specs.declared.place.Place.{Place}
-use Rattle.vb_lex.specs.Characters.{ampersand, apostrophe, close_bracket, is_blank, is_bracketed, is_decimal}
+use Rattle.vb_value.specs.Characters.{is_blank}
+use Rattle.vb_lex.specs.Characters.{ampersand, apostrophe, close_bracket, is_bracketed, is_decimal}
 use Rattle.vb_lex.specs.Characters.{is_line_end, is_name_part, open_bracket, point, quote}
 use Rattle.vb_lex.specs.Gaps.{blank_length, line_end_length, line_length}
 use Rattle.vb_lex.specs.Names.{bracketed, is_behind_point, keyword, kind_of_name, named}
@@ -39,11 +40,11 @@ named_most before c rest is =
     let name : List ℕ = take size (c ∷ rest) in
     let most = name_most c rest is in
     let last : Piece = Word (kind_of_name (keyword name) name) size in
-    let third : Piece = if str_eq_ignore_ascii_case (codes "rem") name then Gap (line_length (c ∷ rest)) else last in
+    let third : Piece = if same_name (codes "rem") name then Gap (line_length (c ∷ rest)) else last in
     let second : Piece = if is_behind_point before then Word (kind.Name name false) size else third in
     pick (IsMostOf c rest) (ltb 255 size) (Fault LongName) second (λ _. tt) (λ _.
     pick (IsMostOf c rest) (is_behind_point before) (Word (kind.Name name false) size) third (λ _. most) (λ _.
-    pick (IsMostOf c rest) (str_eq_ignore_ascii_case (codes "rem") name) (Gap (line_length (c ∷ rest))) last
+    pick (IsMostOf c rest) (same_name (codes "rem") name) (Gap (line_length (c ∷ rest))) last
     (λ _. tt) (λ _. most)))
 
 decimal_most_of : (c : ℕ) (rest : List ℕ) → is_decimal c ≡ true → IsMostOf c rest (decimal (c ∷ rest))

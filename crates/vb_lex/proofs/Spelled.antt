@@ -9,7 +9,7 @@ use Rattle.std.proofs.lemmas.Grind.{flat_map-append}
 use Rattle.std.specs.List.{list_all, prefix_len}
 use Rattle.std.specs.Char.{is_ascii_alphabetic}
 use Rattle.std.specs.Int.{w16, w32, cast_signed}
-use Rattle.std.specs.Str.{str_eq_ignore_ascii_case}
+use Rattle.vb_value.specs.Folding.{same_name}
 use Rattle.std.specs.Str.Parse.{digits_value}
 use Rattle.std.proofs.Math.Seq.{take-append-add}
 use Rattle.vb_value.specs.declared.token.Keyword.{Keyword}
@@ -21,7 +21,8 @@ use Rattle.vb_lex.specs.declared.piece.Piece.TheVariants.{Gap, Word, Fault}
 use Rattle.vb_lex.specs.declared.place.Behind.{Behind}
 use Rattle.vb_lex.specs.declared.place.Behind.TheVariants as behind
 use Rattle.vb_lex.specs.Characters.{ampersand, apostrophe, capital_h, capital_o, close_bracket, equal, greater}
-use Rattle.vb_lex.specs.Characters.{is_blank, is_bracketed, is_decimal, is_hexadecimal, is_line_end, is_name_part}
+use Rattle.vb_value.specs.Characters.{is_blank}
+use Rattle.vb_lex.specs.Characters.{is_bracketed, is_decimal, is_hexadecimal, is_line_end, is_name_part}
 use Rattle.vb_lex.specs.Characters.{is_octal, less, open_bracket, point, quote, small_h, small_o}
 use Rattle.vb_lex.specs.Gaps.{blank_length, line_end_length, line_length}
 use Rattle.vb_lex.specs.Names.{bracketed, is_behind_point, keyword, kind_of_name, named}
@@ -98,7 +99,7 @@ named_right before c rest is =
     let passes = run_passes is_name_part text in
     let first : is_ascii_alphabetic (get_or name 0 0) ≡ true =
     ap (λ t. is_ascii_alphabetic (get_or t 0 0)) (run_first is_name_part c rest (letter_part c is)) ∙ is in
-    one_of_four (IsRight (c ∷ rest)) (ltb 255 size) (is_behind_point before) (str_eq_ignore_ascii_case
+    one_of_four (IsRight (c ∷ rest)) (ltb 255 size) (is_behind_point before) (same_name
     (codes "rem") name)
     (Fault LongName) (Word (kind.Name name false) size) (Gap (line_length text))
     (Word (kind_of_name (keyword name) name) size)

@@ -1,16 +1,16 @@
 -- A text has one list of tokens at most, or one fault.
 use Rattle.std.proofs.Common.{◌≡◌, ℕ, ◌<◌, List, [], ◌∷◌, ◌++◌, Ok, Err, Result, IfOk, length, refl, sym, ap, ◌∙◌}
 use Rattle.std.proofs.Common.{subst, arith}
-use Rattle.vb_value.specs.Outcome.{Answers}
+use Rattle.vb_value.specs.Outcome.{Answers, OnFault}
+use Rattle.vb_value.specs.declared.stop.Stop.{Stop}
+use Rattle.vb_value.specs.declared.stop.Stop.TheVariants as stop
 use Rattle.vb_value.specs.declared.token.Token.{Token}
 use Rattle.vb_lex.specs.declared.fault.LexFault.{LexFault}
-use Rattle.vb_lex.specs.declared.fault.LexStop.{LexStop}
-use Rattle.vb_lex.specs.declared.fault.LexStop.TheVariants as stop
 use Rattle.vb_lex.specs.declared.piece.Piece.{Piece}
 use Rattle.vb_lex.specs.declared.piece.Piece.TheVariants.{Fault}
 use Rattle.vb_lex.specs.declared.place.Place.{Place}
 use Rattle.vb_lex.specs.Places.{first_place, past}
-use Rattle.vb_lex.specs.Tokens.{FaultsAt, IsCut, IsTaken, OnFault, Reaches, Tokenizes, edge, piece_at, tokens_from}
+use Rattle.vb_lex.specs.Tokens.{FaultsAt, IsCut, IsTaken, Reaches, Tokenizes, edge, piece_at, tokens_from}
 
 -- No piece goes on from the place.
 abbrev Stops : List ℕ → Place → Type 0
@@ -75,7 +75,7 @@ tokens_or_fault text tokens fault line one two =
     omega arith
 
 -- what a call answers whose Ok and faults are right
-pub only_tokens : (text : List ℕ) (result : Result (List Token) LexStop) → IfOk result (Tokenizes text)
+pub only_tokens : (text : List ℕ) (result : Result (List Token) (Stop LexFault)) → IfOk result (Tokenizes text)
     → OnFault result (FaultsAt text) → (tokens : List Token) → Tokenizes text tokens
     → Answers result stop.Memory (Ok tokens)
 only_tokens text (Ok found) right faulty tokens is = ap (λ ts. Ok ts) (tokens_one text tokens found is right)
@@ -83,7 +83,7 @@ only_tokens text (Err stop.Memory) right faulty tokens is = λ differs. absurd (
 only_tokens text (Err (stop.Fault fault line)) right faulty tokens is =
     absurd (tokens_or_fault text tokens fault line is faulty)
 
-pub only_fault : (text : List ℕ) (result : Result (List Token) LexStop) → IfOk result (Tokenizes text)
+pub only_fault : (text : List ℕ) (result : Result (List Token) (Stop LexFault)) → IfOk result (Tokenizes text)
     → OnFault result (FaultsAt text) → (fault : LexFault) (line : ℕ) → FaultsAt text fault line
     → Answers result stop.Memory (Err (stop.Fault fault line))
 only_fault text (Ok found) right faulty fault line is = absurd (tokens_or_fault text found fault line right is)

@@ -10,7 +10,8 @@ use Rattle.vb_value.specs.declared.token.TokenKind.TheVariants.{LineEnd}
 use Rattle.vb_lex.specs.declared.place.Behind.{Behind}
 use Rattle.vb_lex.specs.declared.piece.Piece.{Piece}
 use Rattle.vb_lex.specs.declared.piece.Piece.TheVariants.{Gap, Word, Fault}
-use Rattle.vb_lex.specs.Characters.{is_blank, is_bracketed, is_decimal, is_hexadecimal, is_line_end, is_name_part}
+use Rattle.vb_value.specs.Characters.{is_blank}
+use Rattle.vb_lex.specs.Characters.{is_bracketed, is_decimal, is_hexadecimal, is_line_end, is_name_part}
 use Rattle.vb_lex.specs.Characters.{is_octal, is_on_line, quote}
 use Rattle.vb_lex.specs.Gaps.{blank_length, line_end_length, line_length, underscore_length}
 use Rattle.vb_lex.specs.Names.{bracketed, named}
@@ -91,10 +92,6 @@ bracketed_within c text =
     grind (arith, nat_tests)
 
 -- numbers
-decimal_kind_within : (text : List ℕ) (value length : ℕ) → IsWithin text (Gap length)
-    → IsWithin text (decimal_kind value length)
-decimal_kind_within text value length within = grind arith
-
 decimal_within : (c : ℕ) (text : List ℕ) → is_decimal c ≡ true → IsWithin (c ∷ text) (decimal (c ∷ text))
 decimal_within c text is =
     let moves = run_moves is_decimal c text is in

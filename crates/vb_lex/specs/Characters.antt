@@ -1,24 +1,9 @@
 -- The characters of a script, by their numbers, and the classes of them that words are made of.
 use Rattle.std.specs.Prelude.{ℕ, Bool, not, ◌&&◌, ◌||◌, ◌==◌}
 use Rattle.std.specs.Char.{is_ascii_alphanumeric, is_digit}
+use Rattle.vb_value.specs.Characters.{carriage_return, is_blank, line_feed}
 use Rattle.vb_lex.specs.declared.characters.Class.{Class}
 use Rattle.vb_lex.specs.declared.characters.Class.TheVariants as class
-
--- a tab
-abbrev pub tab : ℕ
-tab = 9
-
--- LF
-abbrev pub line_feed : ℕ
-line_feed = 10
-
--- CR
-abbrev pub carriage_return : ℕ
-carriage_return = 13
-
--- a space
-abbrev pub space : ℕ
-space = 32
 
 -- `"`
 abbrev pub quote : ℕ
@@ -119,10 +104,6 @@ small_h = 104
 -- `o`
 abbrev pub small_o : ℕ
 small_o = 111
-
--- a space or a tab
-abbrev pub is_blank : ℕ → Bool
-is_blank c = c == space || c == tab
 
 -- a character of a line end
 abbrev pub is_line_end : ℕ → Bool

@@ -2,7 +2,8 @@
 -- of lines. Each is given by its number of characters at the front of a text.
 use Rattle.std.specs.Prelude.{ℕ, ◌+◌, ◌&&◌, List, drop, if◌then◌else◌, ◌==◌, nat_lt, slice_index}
 use Rattle.std.specs.List.{prefix_len}
-use Rattle.vb_lex.specs.Characters.{line_feed, carriage_return, underscore, is_blank, is_on_line}
+use Rattle.vb_value.specs.Characters.{line_feed, carriage_return, is_blank}
+use Rattle.vb_lex.specs.Characters.{underscore, is_on_line}
 
 -- A line ends in CR LF, in CR or in LF.
 abbrev pub line_end_length : List ℕ → ℕ

@@ -5,7 +5,6 @@ pub mod Numbers
 pub mod Strings
 pub mod Symbols
 pub mod Pieces
-pub mod Lines
 pub mod Places
 pub mod Tokens
 pub mod Spelling

@@ -2,7 +2,7 @@
 use Rattle.std.specs.Prelude.{ℕ, ◌+◌, Bool, true, false, List, [], ◌∷◌, drop, map, take, Option, Some, None}
 use Rattle.std.specs.Prelude.{if◌then◌else◌, ◌==◌, nat_lt, slice_index, codes}
 use Rattle.std.specs.List.{prefix_len}
-use Rattle.std.specs.Str.{str_eq_ignore_ascii_case}
+use Rattle.vb_value.specs.Folding.{same_name, beside}
 use Rattle.vb_value.specs.declared.token.Keyword.{Keyword}
 use Rattle.vb_value.specs.declared.token.TokenKind.{TokenKind}
 use Rattle.vb_value.specs.declared.token.TokenKind.TheVariants.{Name, Keyword as KeywordKind}
@@ -15,15 +15,9 @@ use Rattle.vb_lex.specs.declared.piece.Piece.TheVariants.{Gap, Word, Fault}
 use Rattle.vb_lex.specs.Characters.{close_bracket, is_bracketed, is_name_part}
 use Rattle.vb_lex.specs.Gaps.{line_length}
 
--- the keyword that a word is in a table, in any ASCII case
-abbrev pub keyword_among : List (List ℕ × Keyword) → List ℕ → Option Keyword
-keyword_among [] name = None
-keyword_among (entry ∷ entries) name =
-    if str_eq_ignore_ascii_case entry.0 name then Some entry.1 else keyword_among entries name
-
 -- the keyword that a word is, in any ASCII case
 unfoldable pub keyword : List ℕ → Option Keyword
-keyword = keyword_among (map (λ entry. (entry.0.now, entry.1)) KEYWORDS)
+keyword = beside (map (λ entry. (entry.0.now, entry.1)) KEYWORDS)
 
 -- the kind of a word that is made of the characters of a name
 abbrev pub kind_of_name : Option Keyword → List ℕ → TokenKind
@@ -43,7 +37,7 @@ named before text =
     let name = take length text in
     if nat_lt 255 length then Fault LongName
     else (if is_behind_point before then Word (Name name false) length
-    else (if str_eq_ignore_ascii_case (codes "rem") name then Gap (line_length text)
+    else (if same_name (codes "rem") name then Gap (line_length text)
     else Word (kind_of_name (keyword name) name) length))
 
 -- A name in brackets has any characters but `]` and line ends.

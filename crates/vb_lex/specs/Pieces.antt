@@ -5,7 +5,8 @@ use Rattle.vb_value.specs.declared.token.TokenKind.TheVariants.{LineEnd}
 use Rattle.vb_lex.specs.declared.place.Behind.{Behind}
 use Rattle.vb_lex.specs.declared.piece.Piece.{Piece}
 use Rattle.vb_lex.specs.declared.piece.Piece.TheVariants.{Gap, Word}
-use Rattle.vb_lex.specs.Characters.{ampersand, apostrophe, is_blank, is_decimal, is_line_end, open_bracket, point}
+use Rattle.vb_value.specs.Characters.{is_blank}
+use Rattle.vb_lex.specs.Characters.{ampersand, apostrophe, is_decimal, is_line_end, open_bracket, point}
 use Rattle.vb_lex.specs.Characters.{quote}
 use Rattle.vb_lex.specs.Gaps.{blank_length, line_end_length, line_length}
 use Rattle.vb_lex.specs.Names.{bracketed, named}

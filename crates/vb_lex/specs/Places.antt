@@ -10,7 +10,7 @@ use Rattle.vb_lex.specs.declared.piece.Piece.TheVariants.{Gap, Word, Fault}
 use Rattle.vb_lex.specs.declared.place.Behind.{Behind}
 use Rattle.vb_lex.specs.declared.place.Behind.TheVariants.{Path, Point, Other}
 use Rattle.vb_lex.specs.declared.place.Place.{Place}
-use Rattle.vb_lex.specs.Lines.{line_at}
+use Rattle.vb_value.specs.Lines.{line_at}
 use Rattle.vb_lex.specs.Names.{is_behind_point}
 
 -- the place of the first character, behind the line end that the text's edge is

@@ -1,4 +1,5 @@
--- How each word is written. A token's text, from its start to its end, is written so.
+-- How each word is written. A token's text, from its start to its end, is written so. The bounds on numbers, names and
+-- strings stand in Numbers.antt, Names.antt and Strings.antt.
 use Rattle.std.specs.Prelude.{◌≡◌, ℕ, ◌<◌, ◌≤◌, ◌⊎◌, Bool, true, false, List, [], ◌∷◌, ◌++◌, length, Some, ℤ, pos}
 use Rattle.std.specs.Prelude.{if◌then◌else◌, ◌==◌, codes, slice_index, slice_range}
 use Rattle.std.specs.Char.{is_ascii_alphabetic}
@@ -10,10 +11,12 @@ use Rattle.vb_value.specs.declared.token.Symbol.TheVariants as s
 use Rattle.vb_value.specs.declared.token.Token.{Token}
 use Rattle.vb_value.specs.declared.token.TokenKind.{TokenKind}
 use Rattle.vb_value.specs.declared.token.TokenKind.TheVariants as kind
-use Rattle.vb_lex.specs.Characters.{ampersand, capital_h, capital_o, carriage_return, close_bracket, is_bracketed}
-use Rattle.vb_lex.specs.Characters.{is_decimal, is_hexadecimal, is_name_part, is_octal, line_feed, open_bracket}
+use Rattle.vb_value.specs.Characters.{carriage_return}
+use Rattle.vb_lex.specs.Characters.{ampersand, capital_h, capital_o, close_bracket, is_bracketed}
+use Rattle.vb_value.specs.Characters.{line_feed}
+use Rattle.vb_lex.specs.Characters.{is_decimal, is_hexadecimal, is_name_part, is_octal, open_bracket}
 use Rattle.vb_lex.specs.Characters.{quote, small_h, small_o}
-use Rattle.vb_lex.specs.Lines.{line_at}
+use Rattle.vb_value.specs.Lines.{line_at}
 use Rattle.vb_lex.specs.Names.{keyword}
 
 -- the characters of a symbol

@@ -1,11 +1,9 @@
 -- The words of a script: a text is cut into pieces, each the longest word or gap at its place, and the
 -- words among them are its tokens, between two line ends, which the edges of the text are.
-use Rattle.std.specs.Prelude.{◌≡◌, ℕ, ◌<◌, ◌⊎◌, List, [], ◌∷◌, ◌++◌, drop, length, Result, Err}
+use Rattle.std.specs.Prelude.{◌≡◌, ℕ, ◌<◌, ◌⊎◌, List, [], ◌∷◌, ◌++◌, drop, length}
 use Rattle.vb_value.specs.declared.token.Token.{Token}
 use Rattle.vb_value.specs.declared.token.TokenKind.TheVariants.{LineEnd}
 use Rattle.vb_lex.specs.declared.fault.LexFault.{LexFault}
-use Rattle.vb_lex.specs.declared.fault.LexStop.{LexStop}
-use Rattle.vb_lex.specs.declared.fault.LexStop.TheVariants as stop
 use Rattle.vb_lex.specs.declared.piece.Piece.{Piece}
 use Rattle.vb_lex.specs.declared.piece.Piece.TheVariants.{Gap, Word, Fault}
 use Rattle.vb_lex.specs.declared.place.Place.{Place}
@@ -66,8 +64,3 @@ pub record FaultsAt (text : List ℕ) (fault : LexFault) (line : ℕ) : Type 0 w
 abbrev pub HasAnswer : List ℕ → Type 0
 HasAnswer text =
     ((tokens : List Token) × Tokenizes text tokens) ⊎ ((fault : LexFault) × (line : ℕ) × FaultsAt text fault line)
-
--- a fact of the fault that a call answered, and of its line
-abbrev pub OnFault : {T : Type 0} → Result T LexStop → (LexFault → ℕ → Type 0) → Type 0
-OnFault (Err (stop.Fault fault line)) fact = fact fault line
-OnFault _ fact = Unit {0}

@@ -3,19 +3,14 @@ ghost use Rattle.std.specs.Prelude.{◌≡◌, ◌≢◌, ◌<◌, ◌≤◌, le
 ghost use Rattle.std.specs.List.{prefix_len};
 ghost use Rattle.vb_lex.specs.Characters as spec;
 
+use vb_value::is_blank;
+
 /// The character at a place, or NUL where the text has none.
 pub fn character(text: &[char], at: usize) -> char
     ensures value { result ≡ slice_index text.now at }
     ensures within { result ≢ 0 → at < length text.now }
 {
     if at < text.len() { text[at] } else { '\0' }
-}
-
-/// Whether the character is a blank.
-pub fn is_blank(c: char) -> bool
-    ensures { result ≡ spec.is_blank c }
-{
-    c == ' ' || c == '\t'
 }
 
 /// Whether the character belongs to a line end.

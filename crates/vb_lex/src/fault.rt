@@ -1,8 +1,8 @@
 //! Why a text has no words.
-ghost use Rattle.std.specs.Prelude.{◌≡◌};
 
-use std::alloc::{AllocError, AllocFailed};
-use vb_value::Memory;
+use std::error::Error;
+use std::fmt;
+use vb_value::Stop;
 
 /// What can be wrong with the words of a script.
 #[derive(Clone, Copy, Debug, PartialEq, Eq)]
@@ -23,26 +23,14 @@ pub enum LexFault {
     BadCharacter,
 }
 
-/// Why [`lex`](crate::lex) gave no words.
-#[derive(Clone, Copy, Debug, PartialEq, Eq)]
-pub enum LexStop {
-    /// The first fault of the text.
-    Fault {
-        /// What is wrong.
-        kind: LexFault,
-        /// The line on which it stands, counted from 1.
-        line: u32,
-    },
-    /// Memory ran out.
-    Memory,
-}
-
-impl From<Memory> for LexStop {
-    ghost use Rattle.vb_lex.specs.declared.fault.LexStop.TheVariants.{Memory as OutOfMemory};
-
-    ghost from_gives = { λ _ stop. stop ≡ OutOfMemory };
-
-    fn from(_: Memory) -> LexStop {
-        LexStop::Memory
+impl fmt::Display for LexFault {
+    /// The name of the fault.
+    fn fmt<W: fmt::Write>(&self, f: &mut fmt::Formatter<W>) -> fmt::Result {
+        write!(f, "{self:?}")
     }
 }
+
+impl Error for LexFault {}
+
+/// Why [`lex`](crate::lex) gave no words: the first fault of the text and its line, or memory ran out.
+pub type LexStop = Stop<LexFault>;

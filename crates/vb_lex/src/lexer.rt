@@ -1,11 +1,11 @@
 //! The words of a text.
 ghost use Rattle.std.specs.Prelude.{◌^◌, ◌<◌, ◌≤◌, ℕ, length, IfOk, List as Tokens};
-ghost use Rattle.vb_value.specs.Outcome.{Answers, Gives};
+ghost use Rattle.vb_value.specs.Outcome.{Answers, Gives, OnFault};
 ghost use Rattle.vb_lex.specs.declared.fault.LexFault.{LexFault};
 ghost use Rattle.vb_lex.specs.Pieces as pieces;
 ghost use Rattle.vb_lex.specs.Tokens as spec;
 
-use crate::characters::{Class, character, is_blank, is_in, is_line_end, run};
+use crate::characters::{Class, character, is_in, is_line_end, run};
 use crate::fault::LexStop;
 use crate::gaps::{blank_length, line_end_length};
 use crate::names::{bracketed, named};
@@ -15,8 +15,9 @@ use crate::place::{Behind, Place, past_gap, past_word, token};
 use crate::strings::string;
 use crate::symbols::{point_word, symbol};
 use std::alloc::Global;
-use vb_value::{List, Memory, Text, Token, TokenKind};
+use vb_value::{List, Memory, Stop, Text, Token, TokenKind, is_blank};
 
+/// The piece at the front of a text that begins with a mark.
 #[tactic(auto, unfolding(crate::specs::Pieces::marked))]
 fn marked(alloc: Global, behind: Behind, text: &[char]) -> Result<Piece, Memory>
     requires { 0 < length text.now }
@@ -34,6 +35,7 @@ fn marked(alloc: Global, behind: Behind, text: &[char]) -> Result<Piece, Memory>
     }
 }
 
+/// The piece at the front of a text.
 #[tactic(auto, unfolding(crate::specs::Pieces::piece))]
 fn piece(alloc: Global, behind: Behind, text: &[char]) -> Result<Piece, Memory>
     requires { 0 < length text.now }
@@ -58,6 +60,7 @@ fn piece(alloc: Global, behind: Behind, text: &[char]) -> Result<Piece, Memory>
     marked(alloc, behind, text)
 }
 
+/// Takes the piece at a place, and answers the place behind it.
 #[tactic(auto, using(crate::proofs::Cutting::reached_fault))]
 fn step(
     alloc: Global,
@@ -71,7 +74,7 @@ fn step(
     ensures next { IfOk result (spec.Reaches text.now tokens.new) }
     ensures moves { IfOk result (λ next. place.at < next.at) }
     ensures within { IfOk result (λ next. next.at ≤ length text.now) }
-    ensures fault { spec.OnFault result (spec.FaultsAt text.now) }
+    ensures fault { OnFault result (spec.FaultsAt text.now) }
 {
     match piece(alloc, place.behind, &text[place.at..])? {
         Piece::Gap { length } => Ok(past_gap(text, place, length)),
@@ -80,17 +83,18 @@ fn step(
             tokens.push(token(kind, place, length))?;
             Ok(next)
         }
-        Piece::Fault { kind } => Err(LexStop::Fault {
+        Piece::Fault { kind } => Err(Stop::Fault {
             kind,
             line: place.line,
         }),
     }
 }
 
+/// All words of a text.
 fn read(alloc: Global, text: &[char]) -> Result<List<Token>, LexStop>
     requires { length text.now < 2 ^ 31 }
     ensures ok { IfOk result (spec.Tokenizes text.now) }
-    ensures fault { spec.OnFault result (spec.FaultsAt text.now) }
+    ensures fault { OnFault result (spec.FaultsAt text.now) }
 {
     let mut tokens = List::new(alloc);
     let mut place = Place {
@@ -115,12 +119,12 @@ pub fn lex(alloc: Global, text: &Text) -> Result<List<Token>, LexStop>
     requires { length text.now < 2 ^ 31 }
     ensures ok { IfOk result (spec.Tokenizes text.now) }
     ensures ok_only { (tokens : Tokens Token) → spec.Tokenizes text.now tokens
-        → Answers result LexStop.Memory (Ok tokens) }
+        → Answers result Stop.Memory (Ok tokens) }
 
     // The first fault, where there is one.
-    ensures fault { spec.OnFault result (spec.FaultsAt text.now) }
+    ensures fault { OnFault result (spec.FaultsAt text.now) }
     ensures fault_only { (kind : LexFault) (line : ℕ) → spec.FaultsAt text.now kind line
-        → Answers result LexStop.Memory (Err (LexStop.Fault kind line)) }
+        → Answers result Stop.Memory (Err (Stop.Fault kind line)) }
 {
     read(alloc, text.as_slice())
 }

@@ -6,15 +6,12 @@ mod fault;
 mod gaps;
 mod laws;
 mod lexer;
-mod lines;
 mod names;
 mod numbers;
 mod piece;
 mod place;
 mod strings;
 mod symbols;
-#[cfg(test)]
-mod tests;
 
 pub use fault::{LexFault, LexStop};
 pub use laws::{

@@ -1,6 +1,5 @@
 //! Names and keywords.
 ghost use Rattle.std.specs.Prelude.{◌≡◌, ◌<◌, ◌≤◌, length, map};
-ghost use Rattle.std.specs.Str.{str_eq_ignore_ascii_case};
 ghost use Rattle.vb_value.specs.Outcome.{Gives};
 ghost use Rattle.vb_lex.specs.Names as spec;
 
@@ -9,7 +8,7 @@ use crate::fault::LexFault;
 use crate::piece::Piece;
 use crate::place::Behind;
 use std::alloc::Global;
-use vb_value::{Keyword, Memory, Text, TokenKind};
+use vb_value::{Keyword, Memory, Text, TokenKind, among, is_word};
 
 /// The keywords of the language, in small letters.
 pub const KEYWORDS: [(&[u8], Keyword); 54] = [
@@ -69,36 +68,11 @@ pub const KEYWORDS: [(&[u8], Keyword); 54] = [
     (b"xor", Keyword::Xor),
 ];
 
-fn is_word(word: &[u8], name: &[char]) -> bool
-    ensures { result ≡ str_eq_ignore_ascii_case word.now name.now }
-{
-    if word.len() != name.len() {
-        return false;
-    }
-    for i in 0..word.len() {
-        if word[i].to_ascii_lowercase() as u32 != name[i].to_ascii_lowercase() as u32 {
-            return false;
-        }
-    }
-    true
-}
-
-fn keyword_among(mut table: &[(&[u8], Keyword)], name: &[char]) -> Option<Keyword>
-    ensures { result ≡ spec.keyword_among (map (λ entry. (entry.0.now, entry.1)) table.entry.now) name.now }
-{
-    while let [entry, rest @ ..] = table {
-        if is_word(entry.0, name) {
-            return Some(entry.1);
-        }
-        table = rest;
-    }
-    None
-}
-
+/// The keyword that a word is, in any ASCII case.
 fn keyword(name: &[char]) -> Option<Keyword>
     ensures { result ≡ spec.keyword name.now }
 {
-    keyword_among(&KEYWORDS, name)
+    among(&KEYWORDS, name)
 }
 
 fn name(alloc: Global, text: &[char], bracketed: bool) -> Result<TokenKind, Memory>

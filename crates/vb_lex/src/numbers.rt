@@ -23,8 +23,8 @@ fn digit(c: char) -> u64
     }
 }
 
+/// The value of digits, or the number past every value where it is greater.
 #[tactic(auto, using(crate::proofs::NumberLemmas::value_more, crate::proofs::NumberLemmas::product_le))]
-// The value of digits, or the number past every value where it is greater.
 fn value(base: u64, digits: &[char]) -> u64
     requires low { 1 ≤ base }
     requires high { base ≤ 16 }

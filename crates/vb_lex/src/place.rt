@@ -1,11 +1,10 @@
 //! Places in a text.
 ghost use Rattle.std.specs.Prelude.{◌≡◌, ◌+◌, ◌^◌, ◌<◌, ◌≤◌, length};
-ghost use Rattle.vb_lex.specs.Lines.{line_at};
+ghost use Rattle.vb_value.specs.Lines.{line_at};
 ghost use Rattle.vb_lex.specs.Places as spec;
 ghost use Rattle.vb_lex.specs.declared.piece.Piece.TheVariants.{Gap, Word};
 
-use crate::lines::line_ends;
-use vb_value::{Keyword, Symbol, Token, TokenKind};
+use vb_value::{Keyword, Symbol, Token, TokenKind, line_ends};
 
 /// What stands before a place, as far as the next word's kind hangs on it.
 #[derive(Clone, Copy, Debug, PartialEq, Eq)]
@@ -50,7 +49,8 @@ fn behind_gap(behind: Behind) -> Behind
     }
 }
 
-#[tactic(auto, using(crate::proofs::LineLemmas::line_ends_add, crate::proofs::LineLemmas::line_ends_le))]
+/// The place so many characters further on.
+#[tactic(auto, using(vb_value::proofs::LineEnds::line_ends_add, vb_value::proofs::LineEnds::line_ends_le))]
 fn moved(text: &[char], place: Place, taken: usize, behind: Behind) -> Place
     requires line { place.line ≡ line_at text.now place.at }
     requires within { place.at + taken ≤ length text.now }

@@ -1,5 +1,3 @@
 pub mod Names
-pub mod Members
-pub mod Tables
-pub mod Uses
+pub mod Declarations
 pub mod Checking

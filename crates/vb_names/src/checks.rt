@@ -2,20 +2,16 @@
 ghost use Rattle.std.specs.Prelude.{◌≡◌, ◌∷◌, ◌++◌, [], false, IfOk, OnOk};
 ghost use Rattle.vb_value.specs.Outcome.{Gives};
 ghost use Rattle.vb_syntax.specs.scope.Faults as spec;
-ghost use Rattle.vb_syntax.specs.scope.Names.{add_name};
-ghost use Rattle.vb_syntax.specs.scope.Scopes.{named_in};
-ghost use Rattle.vb_names.specs.Checking.{Finds, declared_seen, so_far};
-ghost use Rattle.vb_names.specs.Tables.{scopes_seen};
+ghost use Rattle.vb_syntax.specs.scope.Names.{add_name, has_name};
+ghost use Rattle.vb_names.specs.Checking.{Finds, declared_seen, is_declared_apart, names_of_kind, so_far};
+ghost use Rattle.vb_names.specs.Declarations.{scopes_seen};
 
-use crate::declared::push_name;
-use crate::fault::ScopeStop;
 use crate::members::member_meant;
-use crate::names::Names;
-use crate::tables::Tables;
-use crate::undeclared::{add, has};
+use crate::names::{Names, has};
+use crate::scopes::Scopes;
 use std::alloc::Global;
 use vb_syntax::program::Named;
-use vb_syntax::{Note, NoteKind, PropertyKind, ScopeFault, Shape};
+use vb_syntax::{Note, NoteKind, PropertyKind, ScopeFault, ScopeStop, Shape};
 use vb_value::{Memory, Text};
 
 /// How many names a script may have.
@@ -55,41 +51,57 @@ fn refuse(kind: ScopeFault, line: u32) -> Result<(), ScopeStop>
     Err(ScopeStop::Fault { kind, line })
 }
 
-/// Whether a name is declared already.
-fn is_declared(
+/// Whether a name is declared already as something that it can't stand together with, but for its own kind.
+fn is_declared_apart(
     declared: &DeclaredNames,
     name: &Text,
     accessor: Option<PropertyKind>,
 ) -> Result<bool, Memory>
-    ensures { Gives result (spec.is_declared (declared_seen declared.now) name.now accessor) }
+    ensures { Gives result (is_declared_apart (declared_seen declared.now) name.now accessor) }
 {
-    let others = has(&declared.others, name)?;
-    let gets = has(&declared.gets, name)?;
-    let lets = has(&declared.lets, name)?;
-    let sets = has(&declared.sets, name)?;
     match accessor {
-        None => Ok(others || gets || lets || sets),
-        Some(PropertyKind::Get) => Ok(others || gets),
-        Some(PropertyKind::Let) => Ok(others || lets),
-        Some(PropertyKind::Set) => Ok(others || sets),
+        None => {
+            let gets = has(&declared.gets, name)?;
+            let lets = has(&declared.lets, name)?;
+            let sets = has(&declared.sets, name)?;
+            Ok(gets || lets || sets)
+        }
+        Some(_) => has(&declared.others, name),
     }
 }
 
-/// Adds a declaration.
+/// Adds a name to those that are declared as it is. It answers whether it was there.
+fn add_to_kind(
+    declared: &mut DeclaredNames,
+    name: &Text,
+    accessor: Option<PropertyKind>,
+) -> Result<bool, Memory>
+    ensures was { IfOk result (λ was. was ≡ has_name (names_of_kind (declared_seen declared.old) accessor) name.now) }
+    ensures added { IfOk result (λ was. was ≡ false → declared_seen declared.new
+        ≡ spec.declare (declared_seen declared.old) name.now accessor) }
+{
+    match accessor {
+        None => declared.others.add(name),
+        Some(PropertyKind::Get) => declared.gets.add(name),
+        Some(PropertyKind::Let) => declared.lets.add(name),
+        Some(PropertyKind::Set) => declared.sets.add(name),
+    }
+}
+
+/// Adds a declaration. It answers whether the name is declared already.
 fn declare(
     declared: &mut DeclaredNames,
     name: &Text,
     accessor: Option<PropertyKind>,
-) -> Result<(), Memory>
-    ensures { IfOk result (λ _. declared_seen declared.new
+) -> Result<bool, Memory>
+    ensures was { IfOk result (λ was. was ≡ spec.is_declared (declared_seen declared.old) name.now accessor) }
+    ensures added { IfOk result (λ was. was ≡ false → declared_seen declared.new
         ≡ spec.declare (declared_seen declared.old) name.now accessor) }
 {
-    match accessor {
-        None => push_name(&mut declared.others, name),
-        Some(PropertyKind::Get) => push_name(&mut declared.gets, name),
-        Some(PropertyKind::Let) => push_name(&mut declared.lets, name),
-        Some(PropertyKind::Set) => push_name(&mut declared.sets, name),
+    if is_declared_apart(declared, name, accessor)? {
+        return Ok(true);
     }
+    add_to_kind(declared, name, accessor)
 }
 
 /// Checks a name of the script, and adds it to the names so far.
@@ -100,7 +112,7 @@ fn check_name(names: &mut Names, line: u32, name: &Text) -> Result<(), ScopeStop
     if names.len() >= MOST_NAMES && !has(names, name)? {
         return refuse(ScopeFault::TooMany, line);
     }
-    add(names, name)?;
+    let _ = names.add(name)?;
     Ok(())
 }
 
@@ -117,12 +129,10 @@ fn check_declaration(
     ensures after { OnOk result (so_far names.new declared.new
         ≡ spec.behind_declaration (so_far names.old declared.old) name.now accessor) }
 {
-    if is_declared(declared, name, accessor)? {
+    if declare(declared, name, accessor)? {
         return refuse(ScopeFault::Redefined, line);
     }
-    check_name(names, line, name)?;
-    declare(declared, name, accessor)?;
-    Ok(())
+    check_name(names, line, name)
 }
 
 /// Whether a name stands for a constant.
@@ -138,30 +148,29 @@ fn is_constant(named: &Named) -> bool
 /// Checks a name that is written alone.
 fn check_write(
     names: &mut Names,
-    tables: Tables<'_>,
+    scopes: Scopes<'_>,
     line: u32,
     name: &Text,
 ) -> Result<(), ScopeStop>
     ensures faults { Finds result (spec.in_line line
-        (spec.write_faults (scopes_seen tables.entry) names.old name.now)) }
+        (spec.write_faults (scopes_seen scopes.entry) names.old name.now)) }
     ensures after { OnOk result (names.new ≡ add_name names.old name.now) }
 {
     let alloc = *name.allocator();
-    let none = Names::new(alloc);
-    if is_constant(&tables.named(alloc, &none, false, name)?) {
+    if is_constant(&scopes.named(alloc, false, name)?) {
         return refuse(ScopeFault::ConstTarget, line);
     }
-    if tables.object(alloc, name)?.is_some() {
+    if scopes.object(alloc, name)?.is_some() {
         return refuse(ScopeFault::BadMember, line);
     }
     check_name(names, line, name)
 }
 
 /// Whether a name is an object of the page, and stands without a member that it has.
-fn is_bare(tables: Tables<'_>, name: &Text, steps: &[Shape], is_group: bool) -> Result<bool, Memory>
-    ensures { Gives result (spec.is_bare (scopes_seen tables.entry) name.now steps.now is_group) }
+fn is_bare(scopes: Scopes<'_>, name: &Text, steps: &[Shape], is_group: bool) -> Result<bool, Memory>
+    ensures { Gives result (spec.is_bare (scopes_seen scopes.entry) name.now steps.now is_group) }
 {
-    match tables.object(*name.allocator(), name)? {
+    match scopes.object(*name.allocator(), name)? {
         None => Ok(false),
         Some(object) => Ok(member_meant(object, is_group, steps).is_none()),
     }
@@ -170,17 +179,17 @@ fn is_bare(tables: Tables<'_>, name: &Text, steps: &[Shape], is_group: bool) -> 
 /// Checks a name at the head of a path.
 fn check_use(
     names: &mut Names,
-    tables: Tables<'_>,
+    scopes: Scopes<'_>,
     line: u32,
     name: &Text,
     steps: &[Shape],
     is_group: bool,
 ) -> Result<(), ScopeStop>
     ensures faults { Finds result (spec.in_line line
-        (spec.use_faults (scopes_seen tables.entry) names.old name.now steps.now is_group)) }
+        (spec.use_faults (scopes_seen scopes.entry) names.old name.now steps.now is_group)) }
     ensures after { OnOk result (names.new ≡ add_name names.old name.now) }
 {
-    if is_bare(tables, name, steps, is_group)? {
+    if is_bare(scopes, name, steps, is_group)? {
         return refuse(ScopeFault::BadMember, line);
     }
     check_name(names, line, name)
@@ -190,12 +199,12 @@ fn check_use(
 fn check_kind(
     names: &mut Names,
     declared: &mut DeclaredNames,
-    tables: Tables<'_>,
+    scopes: Scopes<'_>,
     line: u32,
     kind: &NoteKind,
 ) -> Result<(), ScopeStop>
     ensures faults { Finds result (spec.in_line line
-        (spec.kind_faults (scopes_seen tables.entry) (so_far names.old declared.old) kind.now)) }
+        (spec.kind_faults (scopes_seen scopes.entry) (so_far names.old declared.old) kind.now)) }
     ensures after { OnOk result (so_far names.new declared.new
         ≡ spec.after_kind (so_far names.old declared.old) kind.now) }
 {
@@ -203,17 +212,20 @@ fn check_kind(
         NoteKind::Fault(found) => refuse(*found, line),
         NoteKind::Variable(found) => check_declaration(names, declared, line, &found.name, None),
         NoteKind::Constant(found) => check_declaration(names, declared, line, &found.name, None),
-        NoteKind::Procedure { name, accessor } => {
+        NoteKind::Procedure(name) | NoteKind::Class(name) | NoteKind::Result(name) => {
+            check_declaration(names, declared, line, name, None)
+        }
+        NoteKind::Member { name, accessor } => {
             check_declaration(names, declared, line, name, *accessor)
         }
         NoteKind::Use {
             name,
             steps,
             is_group,
-        } => { check_use(names, tables, line, name, steps.as_slice(), *is_group) }
-        NoteKind::Write(name) => check_write(names, tables, line, name),
-        NoteKind::Resize(name) => check_write(names, tables, line, name),
-        NoteKind::Mention(name) => check_name(names, line, name),
+        } => { check_use(names, scopes, line, name, steps.as_slice(), *is_group) }
+        NoteKind::Write(name) => check_write(names, scopes, line, name),
+        NoteKind::Resize(name) => check_write(names, scopes, line, name),
+        NoteKind::Part(name) => check_name(names, line, name),
     }
 }
 
@@ -221,16 +233,16 @@ fn check_kind(
 pub fn check_notes(
     names: &mut Names,
     declared: &mut DeclaredNames,
-    tables: Tables<'_>,
+    scopes: Scopes<'_>,
     mut notes: &[Note],
 ) -> Result<(), ScopeStop>
     ensures faults { Finds result
-        (spec.notes_faults (scopes_seen tables.entry) (so_far names.old declared.old) notes.entry.now) }
+        (spec.notes_faults (scopes_seen scopes.entry) (so_far names.old declared.old) notes.entry.now) }
     ensures after { OnOk result (so_far names.new declared.new
         ≡ spec.after_notes (so_far names.old declared.old) notes.entry.now) }
 {
     while let [note, rest @ ..] = notes {
-        check_kind(names, declared, tables, note.line, &note.kind)?;
+        check_kind(names, declared, scopes, note.line, &note.kind)?;
         notes = rest;
     }
     Ok(())

@@ -3,12 +3,12 @@ ghost use Rattle.std.specs.Prelude.{◌≡◌, map};
 ghost use Rattle.std.specs.Option.{option_copied};
 ghost use Rattle.vb_value.specs.Outcome.{Gives};
 ghost use Rattle.vb_syntax.specs.scope.Names as spec;
-ghost use Rattle.vb_syntax.specs.scope.Names.{same_name, beside};
+ghost use Rattle.vb_value.specs.Folding.{beside};
 
 use std::alloc::Global;
-use vb_syntax::program::Named;
+use vb_syntax::program::{DictionaryMember, Named};
 use vb_syntax::{Literal, PageObject};
-use vb_value::{List, Memory, PlainFn, StrFn};
+use vb_value::{List, Memory, PlainFn, StrFn, among, is_word};
 
 /// The functions on texts.
 const STRING_FUNCTIONS: [(&[u8], StrFn); 22] = [
@@ -87,36 +87,21 @@ const PAGE_OBJECTS: [(&[u8], PageObject); 5] = [
     (b"application", PageObject::Application),
 ];
 
+/// The members of a Dictionary.
+const DICTIONARY_MEMBERS: [(&[u8], DictionaryMember); 9] = [
+    (b"add", DictionaryMember::Add),
+    (b"item", DictionaryMember::Item),
+    (b"exists", DictionaryMember::Exists),
+    (b"remove", DictionaryMember::Remove),
+    (b"removeall", DictionaryMember::RemoveAll),
+    (b"keys", DictionaryMember::Keys),
+    (b"items", DictionaryMember::Items),
+    (b"count", DictionaryMember::Count),
+    (b"comparemode", DictionaryMember::CompareMode),
+];
+
 /// `vbObjectError`
 const OBJECT_ERROR: i32 = -2147221504;
-
-/// Whether a name is a word, in any ASCII case.
-pub fn is_word(word: &[u8], name: &[char]) -> bool
-    ensures { result ≡ same_name word.now name.now }
-{
-    if word.len() != name.len() {
-        return false;
-    }
-    for i in 0..word.len() {
-        if word[i].to_ascii_lowercase() as u32 != name[i].to_ascii_lowercase() as u32 {
-            return false;
-        }
-    }
-    true
-}
-
-/// What stands beside a name in a table.
-pub fn among<T: Copy>(mut table: &[(&[u8], T)], name: &[char]) -> Option<T>
-    ensures { result ≡ beside (map (λ entry. (entry.0.now, entry.1)) table.entry.now) name.now }
-{
-    while let [entry, rest @ ..] = table {
-        if is_word(entry.0, name) {
-            return Some(entry.1);
-        }
-        table = rest;
-    }
-    None
-}
 
 fn string_function(name: &[char]) -> Option<StrFn>
     ensures { result ≡ beside spec.string_functions name.now }
@@ -142,6 +127,14 @@ pub fn object_named(name: &[char]) -> Option<PageObject>
     ensures { result ≡ spec.object_named name.now }
 {
     among(&PAGE_OBJECTS, name)
+}
+
+#[tactic(auto, unfolding(vb_syntax::specs::scope::Names::dictionary_member))]
+/// The member of a Dictionary that a name says (Microsoft Scripting Runtime, "Dictionary Object").
+pub fn dictionary_member(name: &[char]) -> Option<DictionaryMember>
+    ensures { result ≡ spec.dictionary_member name.now }
+{
+    among(&DICTIONARY_MEMBERS, name)
 }
 
 fn text(name: &[char]) -> Option<&'static [char]>

@@ -2,24 +2,17 @@
 #![tactic(auto)]
 
 mod checks;
-mod declared;
-mod fault;
+mod declarations;
 mod language;
 mod members;
 mod names;
-mod page_scope;
-mod result_name;
 mod scopes;
-mod tables;
 mod undeclared;
-mod unit_checks;
 
-pub use checks::DeclaredNames;
-pub use fault::ScopeStop;
-pub use members::{err_meant, member_meant};
+pub use checks::{DeclaredNames, check_notes};
+pub use declarations::{Declarations, copy_array, declared};
+pub use language::dictionary_member;
+pub use members::{err_meant, groups_behind, length_of, member_meant};
 pub use names::Names;
-pub use page_scope::{PageParts, page_notes, page_parts};
-pub use result_name::ResultName;
-pub use scopes::{BodyParts, body_notes, body_parts, class_table};
-pub use tables::{BodyTable, ClassTable, PageTable, Tables};
-pub use unit_checks::check_items;
+pub use scopes::{Scopes, class_number};
+pub use undeclared::{body_scope, page_scope};

@@ -1,18 +1,18 @@
 //! Names in an order, which are found by their numbers.
 ghost use Rattle.std.specs.Prelude.{◌≡◌, ◌++◌, ◌∷◌, [], length, ℕ, List as Items, true, false, cond};
-ghost use Rattle.std.specs.Prelude.{Ok, Some, None, is_some, OnErr};
+ghost use Rattle.std.specs.Prelude.{Ok, Some, None, is_some, IfOk, OnErr};
 ghost use Rattle.std.specs.BTreeMap.{get, is_at, IsUnchanged};
 ghost use Rattle.std.specs.Cmp.Lexicographic.{slice_cmp};
 ghost use Rattle.std.specs.Ordering.{nat_cmp};
 ghost use Rattle.vb_value.specs.Folding.{folded};
-ghost use Rattle.vb_value.specs.Outcome.{Changes};
-ghost use Rattle.vb_syntax.specs.scope.Names.{number_of_key};
+ghost use Rattle.vb_value.specs.Outcome.{Adds, Changes, Gives};
+ghost use Rattle.vb_syntax.specs.scope.Names.{number_of_key, add_name, has_name};
 
 use std::alloc::Global;
 use std::collections::BTreeMap;
 use std::collections::btree_map::Entry;
 use std::marker::Model;
-use vb_value::{List, Memory, Text};
+use vb_value::{Copied, List, Memory, Text, fold};
 
 /// Names in an order. A name is found in it by its key, which is the name with its letters made small.
 #[derive(Debug, Drop)]
@@ -94,6 +94,47 @@ impl Names {
             }
         }
     }
+
+    /// Adds a name at the end, unless one with its key is there. It answers whether one was.
+    pub fn add(&mut self, name: &Text) -> Result<bool, Memory>
+        ensures was { IfOk result (λ was. was ≡ has_name self.old name.now) }
+        ensures added { IfOk result (λ _. self.new ≡ add_name self.old name.now) }
+    {
+        let key = fold(*name.allocator(), name)?;
+        let number = u32::try_from(self.written.len()).map_err(|_| Memory)?;
+        self.written.push(name.copy()?)?;
+        match put_first(&mut self.numbers, key, number) {
+            Ok(true) => Ok(false),
+            Ok(false) => {
+                let _ = self.written.pop();
+                Ok(true)
+            }
+            Err(_) => {
+                let _ = self.written.pop();
+                Err(Memory)
+            }
+        }
+    }
+}
+
+/// Adds a name at the end of some.
+pub fn push_name(names: &mut Names, name: &Text) -> Result<(), Memory>
+    ensures { Adds result names.old names.new (name.now ∷ []) }
+{
+    let written = name.copy()?;
+    let key = fold(*name.allocator(), name)?;
+    names.push(written, key)
+}
+
+/// Whether a name is among some.
+pub fn has(names: &Names, name: &Text) -> Result<bool, Memory>
+    ensures { Gives result (has_name names.now name.now) }
+{
+    if names.len() == 0 {
+        return Ok(false);
+    }
+    let key = fold(*name.allocator(), name)?;
+    Ok(names.number(&key).is_some())
 }
 
 /// Puts a number at a key, if there is none. It answers whether it did.

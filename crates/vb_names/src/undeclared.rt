@@ -1,158 +1,146 @@
-//! Names that nothing declares.
-ghost use Rattle.std.specs.Prelude.{◌≡◌, ◌∷◌, ◌++◌, [], true, false, IfOk, map};
+//! Scopes with the variables that undeclared names make.
+ghost use Rattle.std.specs.Prelude.{◌≡◌, false, IfOk};
+ghost use Rattle.std.specs.Option.{option_copied};
 ghost use Rattle.vb_value.specs.Outcome.{Gives};
-ghost use Rattle.vb_syntax.specs.scope.Names.{add_name, has_name};
 ghost use Rattle.vb_syntax.specs.scope.Scopes as spec;
-ghost use Rattle.vb_notes.specs.Outcome.{Adds};
-ghost use Rattle.vb_names.specs.Tables.{scopes_seen};
-ghost use Rattle.vb_names.specs.Uses.{uses_seen};
+ghost use Rattle.vb_names.specs.Declarations.{declarations_seen, scopes_seen};
 
-use crate::declared::push_name;
+use crate::declarations::{Declarations, declared, push_variable};
 use crate::language::object_named;
-use crate::names::Names;
-use crate::tables::Tables;
+use crate::scopes::Scopes;
 use std::alloc::Global;
-use vb_syntax::{Declared, Note, NoteKind};
-use vb_value::{Copied, List, Memory, Text, fold};
+use vb_syntax::{Level, Note, NoteKind};
+use vb_value::{Memory, Text, fold};
 
-/// A use of a name that nothing declares.
-#[derive(Debug, Drop)]
-pub struct Use {
-    /// The name, as written.
-    pub name: Text,
-    /// ReDim uses it.
-    pub by_redim: bool,
-}
-
-/// Adds a use of a name, if nothing declares it.
-fn push_use(
-    uses: &mut List<Use>,
-    tables: Tables<'_>,
-    name: &Text,
-    by_redim: bool,
-) -> Result<(), Memory>
-    ensures { Adds result (uses_seen uses.old) (uses_seen uses.new)
-        (spec.if_undeclared (scopes_seen tables.entry) (name.now, by_redim)) }
+/// A name that is mentioned, where that makes it a variable.
+fn mentioned<'a>(
+    explicit: bool,
+    scopes: Scopes<'_>,
+    name: &'a Text,
+) -> Result<Option<&'a Text>, Memory>
+    ensures { IfOk result (λ made. option_copied made ≡ spec.mentioned explicit (scopes_seen scopes.entry) name.now) }
 {
-    if !tables.is_unknown(*name.allocator(), name)? || object_named(name.as_slice()).is_some() {
-        return Ok(());
+    if explicit {
+        return Ok(None);
     }
-    uses.push(Use {
-        name: name.copy()?,
-        by_redim,
-    })
+    if scopes.is_unknown(*name.allocator(), name)? && object_named(name.as_slice()).is_none() {
+        return Ok(Some(name));
+    }
+    Ok(None)
 }
 
-/// Adds the use of such a name at one place.
-fn push_said(uses: &mut List<Use>, tables: Tables<'_>, kind: &NoteKind) -> Result<(), Memory>
-    ensures { Adds result (uses_seen uses.old) (uses_seen uses.new)
-        (spec.undeclared_said (scopes_seen tables.entry) kind.now) }
+/// A name that ReDim gives bounds, where that makes it a variable.
+fn resized<'a>(scopes: Scopes<'_>, name: &'a Text) -> Result<Option<&'a Text>, Memory>
+    ensures { IfOk result (λ made. option_copied made ≡ spec.resized (scopes_seen scopes.entry) name.now) }
+{
+    let key = fold(*name.allocator(), name)?;
+    if scopes.declared(false, &key).is_some() {
+        return Ok(None);
+    }
+    Ok(Some(name))
+}
+
+/// The name that one place makes a variable.
+fn made_by<'a>(
+    explicit: bool,
+    scopes: Scopes<'_>,
+    kind: &'a NoteKind,
+) -> Result<Option<&'a Text>, Memory>
+    ensures { IfOk result (λ made. option_copied made ≡ spec.made_by explicit (scopes_seen scopes.entry) kind.now) }
 {
     match kind {
-        NoteKind::Use {
-            name,
-            steps: _,
-            is_group: _,
-        } => push_use(uses, tables, name, false),
-        NoteKind::Write(name) => push_use(uses, tables, name, false),
-        NoteKind::Resize(name) => push_use(uses, tables, name, true),
-        _ => Ok(()),
+        NoteKind::Use { name, .. } => mentioned(explicit, scopes, name),
+        NoteKind::Write(name) => mentioned(explicit, scopes, name),
+        NoteKind::Resize(name) => resized(scopes, name),
+        _ => Ok(None),
     }
 }
 
-/// Adds the uses of such names, in the order in which they stand.
-pub fn push_undeclared(
-    uses: &mut List<Use>,
-    tables: Tables<'_>,
-    notes: &[Note],
-) -> Result<(), Memory>
-    ensures { Adds result (uses_seen uses.old) (uses_seen uses.new)
-        (spec.undeclared (scopes_seen tables.entry) notes.now) }
+/// Adds the variable that is made.
+fn push_made(found: &mut Declarations, level: Level, made: Option<&Text>) -> Result<(), Memory>
+    ensures { IfOk result (λ _. declarations_seen found.new
+        ≡ spec.with_made level (declarations_seen found.old) (option_copied made.entry)) }
 {
-    for note in notes {
-        push_said(uses, tables, &note.kind)?;
+    match made {
+        None => Ok(()),
+        Some(name) => push_variable(found, level, name, None),
     }
-    Ok(())
 }
 
-/// Adds a name, if ReDim uses it.
-fn push_if_resized(names: &mut Names, found: &Use) -> Result<(), Memory>
-    ensures { Adds result names.old names.new (spec.resized ((found.now.name, found.now.by_redim) ∷ [])) }
-{
-    if found.by_redim {
-        return push_name(names, &found.name);
-    }
-    Ok(())
-}
-
-/// Adds the names among some uses that ReDim uses.
-pub fn push_resized(names: &mut Names, uses: &[Use]) -> Result<(), Memory>
-    ensures { Adds result names.old names.new (spec.resized (uses_seen uses.now)) }
-{
-    for found in uses {
-        push_if_resized(names, found)?;
-    }
-    Ok(())
-}
-
-/// Adds a name, if it is not there yet.
-pub fn add(names: &mut Names, name: &Text) -> Result<(), Memory>
-    ensures { IfOk result (λ _. names.new ≡ add_name names.old name.now) }
-{
-    let key = fold(*name.allocator(), name)?;
-    if names.number(&key).is_some() {
-        return Ok(());
-    }
-    names.push(name.copy()?, key)
-}
-
-/// Whether a name is among some.
-pub fn has(names: &Names, name: &Text) -> Result<bool, Memory>
-    ensures { Gives result (has_name names.now name.now) }
-{
-    if names.len() == 0 {
-        return Ok(false);
-    }
-    let key = fold(*name.allocator(), name)?;
-    Ok(names.number(&key).is_some())
-}
-
-/// Adds the name of a use, if the use makes a variable.
-fn make(names: &mut Names, explicit: bool, redim: &Names, found: &Use) -> Result<(), Memory>
-    ensures { IfOk result (λ _. names.new
-        ≡ spec.made_behind explicit redim.now names.old (found.now.name, found.now.by_redim)) }
-{
-    if explicit && !has(redim, &found.name)? {
-        return Ok(());
-    }
-    add(names, &found.name)
-}
-
-/// The names of the variables that some uses make.
-pub fn made_names(
+/// Adds the variable that one place of the page makes.
+fn make_on_page(
+    page: &mut Declarations,
     alloc: Global,
     explicit: bool,
-    redim: &Names,
-    uses: &[Use],
-) -> Result<Names, Memory>
-    ensures { Gives result (spec.made_names explicit redim.now (uses_seen uses.now)) }
+    note: &Note,
+) -> Result<(), Memory>
+    ensures { IfOk result (λ _. declarations_seen page.new
+        ≡ spec.make_on_page explicit (declarations_seen page.old) note.now) }
 {
-    let mut names = Names::new(alloc);
-    for found in uses {
-        make(&mut names, explicit, redim, found)?;
-    }
-    Ok(names)
+    let nothing = Declarations::new(alloc);
+    let made = made_by(
+        explicit,
+        Scopes {
+            page: &*page,
+            class: &nothing,
+            body: &nothing,
+        },
+        &note.kind,
+    )?;
+    push_made(page, Level::Page, made)
 }
 
-/// Adds variables of these names, which are no arrays yet.
-pub fn push_made(variables: &mut List<Declared>, names: &[Text]) -> Result<(), Memory>
-    ensures { Adds result variables.old variables.new (map spec.made_variable names.now) }
+#[tactic(auto, unfolding(vb_syntax::specs::scope::Scopes::page_scope_of))]
+/// A page's scope, by its notes.
+pub fn page_scope(alloc: Global, explicit: bool, notes: &[Note]) -> Result<Declarations, Memory>
+    ensures { IfOk result (λ page. declarations_seen page ≡ spec.page_scope_of explicit notes.now) }
 {
-    for name in names {
-        variables.push(Declared {
-            name: name.copy()?,
-            bounds: None,
-        })?;
+    let mut page = declared(alloc, Level::Page, notes)?;
+    for note in notes {
+        make_on_page(&mut page, alloc, explicit, note)?;
     }
-    Ok(())
+    Ok(page)
+}
+
+/// Adds the variable that one place of a procedure makes.
+fn make_in_body(
+    body: &mut Declarations,
+    explicit: bool,
+    page: &Declarations,
+    class: &Declarations,
+    note: &Note,
+) -> Result<(), Memory>
+    ensures { IfOk result (λ _. declarations_seen body.new
+        ≡ spec.make_in_body explicit (declarations_seen page.now) (declarations_seen class.now)
+        (declarations_seen body.old) note.now) }
+{
+    let made = made_by(
+        explicit,
+        Scopes {
+            page,
+            class,
+            body: &*body,
+        },
+        &note.kind,
+    )?;
+    push_made(body, Level::Body, made)
+}
+
+#[tactic(auto, unfolding(vb_syntax::specs::scope::Scopes::body_scope_of))]
+/// A procedure's scope, by its notes.
+pub fn body_scope(
+    alloc: Global,
+    explicit: bool,
+    page: &Declarations,
+    class: &Declarations,
+    notes: &[Note],
+) -> Result<Declarations, Memory>
+    ensures { IfOk result (λ body. declarations_seen body ≡ spec.body_scope_of explicit
+        (declarations_seen page.now) (declarations_seen class.now) notes.now) }
+{
+    let mut body = declared(alloc, Level::Body, notes)?;
+    for note in notes {
+        make_in_body(&mut body, explicit, page, class, note)?;
+    }
+    Ok(body)
 }

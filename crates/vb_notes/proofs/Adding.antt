@@ -1,7 +1,7 @@
 -- Calls that add to a list, one behind the other.
 use Rattle.std.proofs.Common.{◌≡◌, List, ◌++◌, Result, Ok, Err, sym, ap, ◌∙◌, append_assoc}
 use Rattle.vb_value.specs.declared.memory.Memory.{Memory}
-use Rattle.vb_notes.specs.Outcome.{Adds}
+use Rattle.vb_value.specs.Outcome.{Adds}
 
 -- what is added last, behind what was added before
 pub adds_more : {T A : Type 0} (result : Result T Memory) (old middle new first more whole : List A)

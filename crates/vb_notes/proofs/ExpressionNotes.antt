@@ -13,7 +13,7 @@ use Rattle.vb_syntax.specs.declared.note.PathUse.{PathUse}
 use Rattle.vb_syntax.specs.declared.note.Shape.{Shape}
 use Rattle.vb_syntax.specs.scope.Notes.{Notes, expression_layer, step_layer, operation_layer, path_layer, head_notes}
 use Rattle.vb_syntax.specs.scope.Notes.{expression_notes, operation_notes, path_notes, step_notes}
-use Rattle.vb_notes.specs.Shapes.{shape_of, layer_shape}
+use Rattle.vb_syntax.specs.scope.Shapes.{shape_of, layer_shape, used_steps}
 
 module _ (line : ℕ) (around : Around) where
   pub notes-chain : (first : Expression) (rest : List Operation) → expression_notes line around (e.Chain first rest)
@@ -49,12 +49,12 @@ module _ (line : ℕ) (around : Around) where
   said-steps (step ∷ steps) = ap (λ l. (step_notes line around step).1 ++ l) (said-steps steps)
 
   pub notes-path : (path : Path) (used : PathUse) → path_notes line around path used
-      ≡ head_notes line around used path.head (map shape_of path.steps)
+      ≡ head_notes line around used path.head (used_steps used (map shape_of path.steps))
       ++ flat_map (λ (step : Step). (step_notes line around step).1) path.steps
   notes-path path used = ap (λ (said : PathUse → Notes). said used)
       (fold_out-Path Notes (Shape × Notes) Notes (PathUse → Notes)
       (expression_layer line around) (step_layer line around) (operation_layer line around) (path_layer line around)
       path)
-      ∙ ap (λ l. head_notes line around used path.head l ++ flat_map (λ (said : Shape × Notes). said.1)
+      ∙ ap (λ l. head_notes line around used path.head (used_steps used l) ++ flat_map (λ (said : Shape × Notes). said.1)
       (map (step_notes line around) path.steps)) (shapes-steps path.steps)
-      ∙ ap (λ l. head_notes line around used path.head (map shape_of path.steps) ++ l) (said-steps path.steps)
+      ∙ ap (λ l. head_notes line around used path.head (used_steps used (map shape_of path.steps)) ++ l) (said-steps path.steps)

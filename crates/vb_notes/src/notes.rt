@@ -6,5 +6,6 @@ mod statements;
 mod units;
 mod words;
 
+pub use expressions::steps_used;
 pub use units::{note_body, note_item, note_items, note_member, note_members};
-pub use words::shapes;
+pub use words::call_use;

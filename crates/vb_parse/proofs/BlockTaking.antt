@@ -15,7 +15,7 @@ use Rattle.vb_parse.specs.ReadLines as lines
 use Rattle.vb_parse.specs.ReadLines.{breaks}
 use Rattle.vb_parse.specs.ReadStatements as spec
 use Rattle.vb_parse.specs.ReadStatements.{begins_statement, kind_begins_statement, sees_const, sees_loop_word}
-use Rattle.vb_parse.specs.Runs.{opens}
+use Rattle.vb_parse.specs.Depths.{opens}
 use Rattle.vb_parse.proofs.Taking.{Takes}
 use Rattle.vb_parse.proofs.Binding.{Within}
 use Rattle.vb_parse.proofs.Tags.{among, outside, all_have}

@@ -23,7 +23,7 @@ use Rattle.vb_parse.specs.ReadExpressions as read
 use Rattle.vb_parse.specs.ReadExpressions.{goes_on_path}
 use Rattle.vb_parse.specs.ReadCalls as spec
 use Rattle.vb_parse.specs.ReadCalls.{Tail, plain, grouped, tail}
-use Rattle.vb_parse.specs.Runs.{opens, inside}
+use Rattle.vb_parse.specs.Depths.{opens, inside}
 use Rattle.vb_parse.proofs.Reading.{Reads, ReadsAt, Lives, wider_at, case_at, bind_at, lives_bind, reads_pure}
 use Rattle.vb_parse.proofs.Reading.{reads_refuse, reads_same, reads_wider, reads_bind, reads_choice, reads_many}
 use Rattle.vb_parse.proofs.Reading.{reads_word, full_bind, full_word}

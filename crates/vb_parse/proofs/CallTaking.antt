@@ -26,7 +26,7 @@ use Rattle.vb_parse.specs.ReadExpressions as read
 use Rattle.vb_parse.specs.ReadExpressions.{goes_on_path}
 use Rattle.vb_parse.specs.ReadCalls as spec
 use Rattle.vb_parse.specs.ReadCalls.{Tail, plain, grouped, tail}
-use Rattle.vb_parse.specs.Runs.{opens, inside}
+use Rattle.vb_parse.specs.Depths.{opens, inside}
 use Rattle.vb_parse.proofs.Taking.{Takes, takes_narrow}
 use Rattle.vb_parse.proofs.Beginning.{HeadIn}
 use Rattle.vb_parse.proofs.Binding.{Within, bind_left}

@@ -1,19 +1,22 @@
 -- The end of a path, and the operators behind a first operand.
 use Rattle.std.proofs.Common.{◌≡◌, ℕ, zero, suc, ◌+◌, ◌-◌, ◌<◌, ◌==◌, Bool, List, [], ◌∷◌, ◌++◌, Ok, Err}
-use Rattle.std.proofs.Common.{ap, ◌∙◌, subst, arith}
+use Rattle.std.proofs.Common.{MatchOption, ap, ◌∙◌, subst, arith}
 use Rattle.vb_syntax.specs.declared.expression.Expression.{Expression}
 use Rattle.vb_syntax.specs.declared.expression.Step.{Step}
 use Rattle.vb_syntax.specs.declared.expression.Step.TheVariants as behind
 use Rattle.vb_syntax.specs.declared.expression.Step.TheVariants.{outs-Group, outs-Member}
 use Rattle.vb_syntax.specs.grammar.Rules.{Tokens}
 use Rattle.vb_syntax.specs.grammar.Expressions.{not_level}
-use Rattle.vb_parse.specs.declared.cursor.Stop.{Stop}
-use Rattle.vb_parse.specs.declared.cursor.Stop.TheVariants.{Fault, Memory}
-use Rattle.vb_parse.specs.Runs.{Stops}
-use Rattle.vb_parse.specs.Reader.{Outcome, and_then}
+use Rattle.vb_parse.specs.declared.cursor.ReadStop.{ReadStop}
+use Rattle.vb_parse.specs.declared.cursor.ReadStop.TheVariants.{Fault, Memory}
+use Rattle.vb_parse.specs.Reader.{Outcome, and_then, stopped_at}
 use Rattle.vb_parse.specs.ReadCalls as spec
 use Rattle.vb_parse.specs.ReadCalls.{plain, grouped, tail}
 use Rattle.vb_parse.specs.ReadExpressions.{Inside, operators}
+
+-- a function stops where the reader does
+abbrev Stops : {A : Type 0} → Outcome A → ReadStop → Tokens → Type 0
+Stops outcome stop left = MatchOption (stopped_at stop left) (Unit {0}) (λ failed. outcome ≡ Err failed)
 
 -- ---- the end of a path
 
@@ -78,7 +81,7 @@ module _ (opens : Bool) (inside : Inside) (first : Expression) (tokens : Tokens)
       left before here))
 
   -- where the operators of a level stop, those up to a later one stop
-  pub level_stop : (level last : ℕ) (found : Expression) (middle left : Tokens) (stop : Stop) → level < last
+  pub level_stop : (level last : ℕ) (found : Expression) (middle left : Tokens) (stop : ReadStop) → level < last
       → up_to level ≡ Ok (found, middle)
       → Stops (spec.level_from opens inside ((level + 1) == not_level) (level + 1) (operators opens inside level) found
       middle) stop left → Stops (up_to last) stop left

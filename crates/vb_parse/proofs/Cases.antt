@@ -1,23 +1,25 @@
 -- Loops over the parts of If and Select, and over statements.
-use Rattle.std.proofs.Common.{◌≡◌, ◌<◌, ℕ, zero, suc, length, IsTrue, true, false, cond, List, [], ◌∷◌, ◌++◌, Option}
+use Rattle.std.proofs.Common.{◌≡◌, ◌<◌, ℕ, zero, suc, length, IsTrue, Bool, true, false, cond, List, [], ◌∷◌, ◌++◌, Option}
 use Rattle.std.proofs.Common.{Some, None, Ok, refl, ap, ◌∙◌, arith}
 use Rattle.std.specs.declared.ops.ControlFlow.TheVariants.{Continue, Break}
 use Rattle.vb_value.specs.declared.token.Keyword.TheVariants as k
 use Rattle.vb_value.specs.declared.token.TokenKind.TheVariants as kind
+use Rattle.vb_syntax.specs.declared.expression.Expression.{Expression}
 use Rattle.vb_syntax.specs.declared.statement.Case.{Case}
 use Rattle.vb_syntax.specs.declared.statement.Statement.{Statement}
+use Rattle.vb_syntax.specs.declared.statement.StatementKind.TheVariants as st
 use Rattle.vb_syntax.specs.grammar.Rules.{Tokens}
-use Rattle.vb_syntax.specs.grammar.SimpleStatements.{Looser}
+use Rattle.vb_syntax.specs.grammar.SimpleStatements.{Looser, statement}
 use Rattle.vb_parse.specs.Reader as reader
 use Rattle.vb_parse.specs.Reader.{Reader, Outcome, Turn, and_then, next}
-use Rattle.vb_parse.specs.ReadLines.{Blocks}
+use Rattle.vb_parse.specs.ReadLines.{Blocks, «end»}
 use Rattle.vb_parse.specs.ReadStatements as spec
 use Rattle.vb_parse.specs.ReadStatements.{blocks_inside}
-use Rattle.vb_parse.specs.Runs.{opens}
+use Rattle.vb_parse.specs.Depths.{opens}
 use Rattle.vb_parse.proofs.Reading.{Moves, moves, full_bind, full_word}
 use Rattle.vb_parse.proofs.Until.{OnwardMoves, onward_moves}
 use Rattle.vb_parse.proofs.Untils.{until_more}
-use Rattle.vb_parse.proofs.StatementReading.{reads_loose_text, reads_else_if, reads_case_turn, reads_sentence}
+use Rattle.vb_parse.proofs.StatementReading.{reads_passed_text, full_passed_text, reads_else_if, reads_case_turn, reads_sentence}
 use Rattle.vb_parse.proofs.StatementReading.{full_sentence, inner_blocks}
 
 -- what the turns of Select give
@@ -31,8 +33,8 @@ opens_some (suc depth) some = refl
 
 -- ---- what is read in a turn takes a token
 
-pub moves_loose_text : Moves spec.loose_text
-moves_loose_text = moves _ _ reads_loose_text (full_bind _ _ (full_word (kind.PageText [])))
+pub moves_passed_text : (any : Bool) → Moves (spec.passed_text any)
+moves_passed_text any = moves _ _ (reads_passed_text any) (full_passed_text any)
 
 pub moves_sentence : (looser : Looser) (depth : ℕ) → Moves (spec.sentence looser depth (blocks_inside looser depth))
 moves_sentence looser depth = moves _ _ (reads_sentence looser depth _ _ (inner_blocks looser depth))
@@ -99,3 +101,14 @@ module _ (looser : Looser) (depth : ℕ) (opens : IsTrue (opens depth)) where
     cases_more new middle rest line x inv is word no_else from e =
         until_more (spec.case_turn looser depth inner) onward cases_value whole found tokens rest new x inv
         (turn_case tokens middle rest line x is word no_else from) e
+
+-- Select from its end on, behind what was read before that
+pub select_from : (looser : Looser) (depth : ℕ) (inner : Blocks) (t0 t1 t2 t3 t4 t5 t6 : Tokens) (line x : ℕ)
+    (subject : Expression) (found : List Case × Option (List Statement)) → IsTrue (opens depth)
+    → reader.keyword k.Select t0 ≡ Ok (line, t1) → reader.keyword k.Case t1 ≡ Ok (x, t2)
+    → spec.within looser depth inner t2 ≡ Ok (subject, t3) → «end» t3 ≡ Ok (tt, t4)
+    → spec.passed_texts looser.texts t4 ≡ Ok (tt, t5) → spec.cases looser depth inner t5 ≡ Ok (found, t6)
+    → spec.select looser depth inner t0 ≡ reader.◌>>◌ (reader.keyword k.End) (reader.◌>>◌ (reader.keyword k.Select)
+    (reader.pure (statement line (st.Select subject found.0 found.1)))) t6
+select_from looser depth inner t0 t1 t2 t3 t4 t5 t6 line x subject found is e0 e1 e2 e3 e4 e5 =
+    rw (is, e0, e1, e2, e3, e4, e5) refl

@@ -44,7 +44,8 @@ use Rattle.vb_parse.proofs.DeclarationTaking.{access_heads, asks_access, begins_
 use Rattle.vb_parse.proofs.DeclarationTaking.{takes_declared, takes_declared_from, opening, begins_bounds}
 use Rattle.vb_parse.proofs.Following.{name_head}
 use Rattle.vb_parse.proofs.SimpleTaking.{quoted_begins}
-use Rattle.vb_parse.proofs.EndTaking.{break_heads, takes_end, begins_end, skips_quoted, text_head, takes_texts}
+use Rattle.vb_parse.proofs.EndTaking.{break_heads, takes_end, begins_end, skips_quoted, takes_texts}
+use Rattle.vb_parse.proofs.BlankTexts.{text_head}
 use Rattle.vb_parse.proofs.EndTaking.{leads_texts}
 use Rattle.vb_parse.proofs.ProcedureTaking.{asks_procedure, begins_procedure, takes_procedure, procedure_apart}
 use Rattle.vb_parse.proofs.ProcedureTaking.{asks_property, begins_property, takes_property_from, property_word}
@@ -303,9 +304,9 @@ module _ (looser : Looser) (depth : ℕ) where
   takes_member_line : Takes (spec.member_line looser depth) (grammar.member_line looser depth) (Before member_ends)
   takes_member_line = takes_then {l = break_heads} (takes_within (member_asked looser depth) (chosen_member looser
       depth).takes)
-      (λ found. takes_then {l = member_ends ++ (text_head ++ member_ends)} (takes_end refl)
-      (λ _. takes_then {l = member_ends} (takes_texts looser refl refl) (λ _. takes_pure found _) (λ _. leads_pure))
-      (λ _. leads_bind {m = member_ends} (leads_texts looser) (λ _. leads_pure)))
+      (λ found. takes_then {l = text_head ++ member_ends} (takes_end refl)
+      (λ _. takes_then {l = member_ends} (takes_texts looser.texts refl refl) (λ _. takes_pure found _) (λ _. leads_pure))
+      (λ _. leads_bind {m = member_ends} (leads_texts looser.texts) (λ _. leads_pure)))
       (λ found. leads_begins (begins_then begins_end))
 
   starts_member : Starts spec.begins_member (grammar.member_line looser depth)
@@ -341,13 +342,13 @@ module _ (looser : Looser) (depth : ℕ) where
 pub takes_class : (looser : Looser) (depth : ℕ) {v : Follow} → Takes (spec.class looser depth)
     (grammar.class looser depth) v
 takes_class looser depth {v} = takes_opened depth (λ within. takes_word (λ line. takes_word (λ name.
-    takes_then {l = member_ends ++ (text_head ++ member_ends)} (takes_end refl)
-    (λ _. takes_then {l = member_ends} (takes_texts looser refl refl)
+    takes_then {l = text_head ++ member_ends} (takes_end refl)
+    (λ _. takes_then {l = member_ends} (takes_texts looser.texts refl refl)
     (λ _. takes_then {l = end_word} (takes_members looser within) (λ found. takes_word (λ _. takes_word
     (λ _. takes_pure _ v)))
     (λ found. leads_begins (begins_word_then (kind.Keyword k.End))))
     (λ _. leads_members within))
-    (λ _. leads_bind {m = member_ends} (leads_texts looser) (λ _. leads_members within)))))
+    (λ _. leads_bind {m = member_ends} (leads_texts looser.texts) (λ _. leads_members within)))))
   where
     leads_members : (within : ℕ) {B : Type 0} {w : Follow} {f : List ClassMember → Rule B} → Leads member_ends
         (rule.◌>>=◌ (rule.many (grammar.member_line looser within)) (λ found. rule.◌>>◌ (words.keyword k.End)

@@ -10,7 +10,7 @@ use Rattle.vb_syntax.specs.grammar.Words as words
 use Rattle.vb_syntax.specs.grammar.Words.{tag, name_of}
 use Rattle.vb_syntax.specs.grammar.SimpleStatements.{Looser, quoted_at}
 use Rattle.vb_syntax.specs.grammar.Statements as grammar
-use Rattle.vb_syntax.specs.grammar.Statements.{break_of}
+use Rattle.vb_syntax.specs.grammar.Statements.{break_of, passed}
 use Rattle.vb_parse.specs.Reader.{Reader, Turn, Look, and_then, next, sees, passes, is_some}
 use Rattle.vb_parse.specs.Reader as reader
 use Rattle.vb_parse.specs.ReadSimpleStatements.{sees_quoted}
@@ -23,11 +23,13 @@ use Rattle.vb_parse.proofs.Binding.{Within}
 use Rattle.vb_parse.proofs.Tags.{or_last, among, outside, all_have, not_true, among_has}
 use Rattle.vb_parse.proofs.Following.{next_in, Before, before_head, before_wider, BeginsIn, Leads, leads_begins}
 use Rattle.vb_parse.proofs.Following.{leads_pure, leads_or, leads_bind, leads_many, begins_kind, begins_then}
-use Rattle.vb_parse.proofs.Following.{begins_word_then, Asks, asks_kind, asks_no, leads_within, Skips, starts}
+use Rattle.vb_parse.proofs.Following.{begins_word_then, Asks, asks_kind, asks_no, Skips, starts, starts_one}
+use Rattle.vb_parse.proofs.Following.{begins_only, passes_no}
 use Rattle.vb_parse.proofs.Choosing.{starts_word, takes_or, takes_within, takes_word, takes_then, takes_map}
 use Rattle.vb_parse.proofs.Choosing.{takes_each}
 use Rattle.vb_parse.proofs.Following.{name_head}
-use Rattle.vb_parse.proofs.SimpleTaking.{quoted_tag}
+use Rattle.vb_parse.proofs.SimpleTaking.{quoted_only}
+use Rattle.vb_parse.proofs.BlankTexts.{text_head, passed_only}
 use Rattle.vb_parse.proofs.LineTaking.{Trailing, after_line}
 
 -- ---- ends
@@ -134,60 +136,20 @@ takes_line_end none = takes_then (takes_each (sees (kind.Symbol s.Colon)) (begin
 
 -- ---- quoted words
 
-no_quoted : (text : List ℕ) (token : Token) → among name_head (tag token.kind) ≡ false
-    → is_some (quoted_at text token) ≡ false
-no_quoted text token none = go (quoted_at text token) refl
-  where
-    go : (found : Option ℕ) → quoted_at text token ≡ found → is_some found ≡ false
-    go None is = refl
-    go (Some x) is = let clash : true ≡ false = sym (quoted_tag text token.kind token.line x is) ∙ none in absurd cc
-
 pub skips_quoted : {A : Type 0} (text : List ℕ) {l : List ℕ} {r : Rule A} {v : Follow} → Leads l r v
     → all_have (outside name_head) l ≡ true → Skips (sees_quoted text) r v
-skips_quoted text {l} leads none front rest x h ok = go (next (front ++ rest)) (leads.leads front rest x h ok).fits
-  where
-    go : (token : Option Token) → next_in (among l) token ≡ true → sees_quoted text token ≡ false
-    go None is = refl
-    go (Some token) is = no_quoted text token (not_true (among name_head (tag token.kind))
-        (among_has (outside name_head) l none (tag token.kind) is))
+skips_quoted text leads none front rest x h ok = passes_no (quoted_only text) none (front ++ rest)
+    (leads.leads front rest x h ok)
 
--- ---- texts that say nothing
+-- ---- texts that are passed over
 
-abbrev pub text_head : List ℕ
-text_head = tag (kind.PageText []) ∷ []
-
-abbrev some_texts : Rule (Unit {0})
-some_texts = rule.◌>>◌ (rule.many grammar.loose_text) (rule.pure tt)
-
-takes_some_texts : {v : List ℕ} → all_have (outside text_head) v ≡ true
+pub takes_texts : (any : Bool) {v : List ℕ} → all_have (outside text_head) v ≡ true
     → all_have (outside break_heads) (text_head ++ v) ≡ true
-    → Takes (spec.texts_where true) some_texts (Before v)
-takes_some_texts none quiet = takes_map (λ _. tt) (takes_each (sees (kind.PageText []))
-    (begins_word_then (kind.PageText [])) (starts_word (kind.PageText [])) (asks_no (asks_kind (kind.PageText [])) none)
+    → Takes (spec.passed_texts any) (grammar.passed_texts any) (Before v)
+unfolding spec.passed_texts
+takes_texts any none quiet = takes_map (λ _. tt) (takes_each (passes (passed any))
+    (begins_then (begins_only (passed_only any))) starts_one (passes_no (passed_only any) none)
     (takes_word (λ _. takes_end quiet)))
 
-no_texts : Within (rule.pure (tt {0})) some_texts
-no_texts front x h = record {
-  front = [];
-  back = front;
-  thing = [];
-  split = refl;
-  first_spells = refl;
-  next_spells = h;
-}
-
-takes_texts_where : (b : Bool) {v : List ℕ} → all_have (outside text_head) v ≡ true
-    → all_have (outside break_heads) (text_head ++ v) ≡ true
-    → Takes (spec.texts_where b) (rule.◌or◌ (rule.pure (tt {0})) (rule.where_true b some_texts)) (Before v)
-takes_texts_where true none quiet = takes_or (takes_within no_texts (takes_some_texts none quiet))
-    (takes_within (λ front x h. h.1) (takes_some_texts none quiet))
-takes_texts_where false none quiet = takes_or (takes_pure tt _) (record { takes = λ front rest x h ok. absurd cc })
-
-pub takes_texts : (looser : Looser) {v : List ℕ} → all_have (outside text_head) v ≡ true
-    → all_have (outside break_heads) (text_head ++ v) ≡ true
-    → Takes (spec.loose_texts looser) (grammar.loose_texts looser) (Before v)
-takes_texts looser none quiet = takes_texts_where looser.texts none quiet
-
-pub leads_texts : (looser : Looser) {v : List ℕ} → Leads (v ++ (text_head ++ v)) (grammar.loose_texts looser) (Before v)
-leads_texts looser = leads_or leads_pure (leads_within (λ front x h. h.1) (leads_bind (leads_many (begins_word_then
-    (kind.PageText []))) (λ _. leads_pure)))
+pub leads_texts : (any : Bool) {v : List ℕ} → Leads (text_head ++ v) (grammar.passed_texts any) (Before v)
+leads_texts any = leads_bind (leads_many (begins_then (begins_only (passed_only any)))) (λ _. leads_pure)

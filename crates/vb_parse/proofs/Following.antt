@@ -256,6 +256,27 @@ asks_name = record {
   some = λ token. name_tag token.kind ∙ sym (or_last (tag token.kind == tag (kind.Name [] false)));
 }
 
+-- only tokens of the kinds with these numbers pass the test
+pub record Only {A : Type 0} (test : Token → Option A) (l : List ℕ) : Type 0 where
+  pub only : (token : Token) (x : A) → test token ≡ Some x → among l (tag token.kind) ≡ true
+
+pub begins_only : {A : Type 0} {test : Token → Option A} {l : List ℕ} → Only test l → BeginsIn l (rule.one test)
+begins_only only = record { head = λ front x h. (h.token, [], h.alone, only.only h.token x h.passes) }
+
+-- no token that passes the test comes next
+pub passes_no : {A : Type 0} {test : Token → Option A} {a l : List ℕ} → Only test a → all_have (outside a) l ≡ true
+    → (rest : Tokens) → Before l rest → passes test (next rest) ≡ false
+passes_no {A} {test} {a} {l} only none rest b = go (next rest) b.fits
+  where
+    refused : (token : Token) → among a (tag token.kind) ≡ false → (o : Option A) → test token ≡ o → is_some o ≡ false
+    refused token differs None is = refl
+    refused token differs (Some x) is = let clash : true ≡ false = sym (only.only token x is) ∙ differs in absurd cc
+
+    go : (token : Option Token) → next_in (among l) token ≡ true → passes test token ≡ false
+    go None is = refl
+    go (Some token) is = refused token (not_true (among a (tag token.kind))
+        (among_has (outside a) l none (tag token.kind) is)) (test token) refl
+
 -- the one question or the other
 pub asks_either : {f g : Look} {l m : List ℕ} → Asks f l → Asks g m → Asks (λ token. f token || g token) (l ++ m)
 asks_either {f} {g} {l} {m} one other = record {

@@ -18,7 +18,7 @@ use Rattle.vb_syntax.specs.grammar.SimpleStatements as grammar
 use Rattle.vb_syntax.specs.grammar.SimpleStatements.{Looser, named_at, ends_in_group, statement}
 use Rattle.vb_parse.specs.ReadCalls as spec
 use Rattle.vb_parse.specs.ReadCalls.{Tail, plain, grouped, tail}
-use Rattle.vb_parse.specs.Runs.{opens}
+use Rattle.vb_parse.specs.Depths.{opens}
 use Rattle.vb_parse.proofs.OperandReading.{empty_pair}
 use Rattle.vb_parse.proofs.PathReading.{path_group}
 use Rattle.vb_parse.proofs.Turns.{rules_inside}

@@ -13,7 +13,6 @@ pub mod Untils
 pub mod Lines
 pub mod Cases
 pub mod Theorems
-pub mod ParseExpression
 pub mod Binding
 pub mod Until
 pub mod DeclarationReading
@@ -21,6 +20,7 @@ pub mod Guarding
 pub mod PathReading
 pub mod Tags
 pub mod Following
+pub mod BlankTexts
 pub mod Choosing
 pub mod Placing
 pub mod DeclarationTaking
@@ -43,6 +43,7 @@ pub mod UnitReading
 pub mod ProcedureTaking
 pub mod ClassTaking
 pub mod UnitTaking
+pub mod ScriptTaking
 pub mod Telling
 pub mod ParseUnit
-mod ParseScript
+pub mod ParseScript

@@ -18,7 +18,7 @@ use Rattle.vb_parse.specs.Reader.{Reader, Turn}
 use Rattle.vb_parse.specs.Reader as reader
 use Rattle.vb_parse.specs.ReadLines as spec
 use Rattle.vb_parse.specs.ReadLines.{LineRead, LastRead}
-use Rattle.vb_parse.specs.Runs.{opens, inside}
+use Rattle.vb_parse.specs.Depths.{opens, inside}
 use Rattle.vb_parse.proofs.Reading.{Reads, Lives, NoEmpty, reads_pure, reads_refuse, reads_wider, reads_bind, reads_one}
 use Rattle.vb_parse.proofs.Reading.{reads_choice, reads_both, reads_many, reads_word, full_one, full_bind, full_word}
 use Rattle.vb_parse.proofs.Reading.{token_of, Moves, moves}

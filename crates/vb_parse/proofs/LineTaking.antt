@@ -20,7 +20,7 @@ use Rattle.vb_parse.specs.Reader.{Reader, Turn, and_then, next, sees}
 use Rattle.vb_parse.specs.Reader as reader
 use Rattle.vb_parse.specs.ReadLines as spec
 use Rattle.vb_parse.specs.ReadLines.{begins_line_statement, kind_begins_line_statement, LineRead, LastRead}
-use Rattle.vb_parse.specs.Runs.{opens}
+use Rattle.vb_parse.specs.Depths.{opens}
 use Rattle.vb_parse.proofs.Taking.{Any, Takes, takes_one}
 use Rattle.vb_parse.proofs.Binding.{within_then, bind_right, bind_wider, pure_out}
 use Rattle.vb_parse.proofs.Beginning.{HeadIn}

@@ -1,5 +1,5 @@
 -- What a parser of units answers, from what its readers read.
-use Rattle.std.proofs.Common.{◌≡◌, ℕ, ◌<◌, ◌≤◌, ◌⊎◌, length, Ok, Err, refl}
+use Rattle.std.proofs.Common.{◌≡◌, ℕ, ◌<◌, ◌≤◌, length, Ok, Err, refl}
 use Rattle.vb_syntax.specs.declared.unit.Unit.{Unit as Script}
 use Rattle.vb_syntax.specs.grammar.Rules.{Tokens}
 use Rattle.vb_syntax.specs.grammar.SimpleStatements.{Looser}
@@ -8,11 +8,11 @@ use Rattle.vb_syntax.specs.grammar.Faults.{IsFault, WouldGoOn}
 use Rattle.vb_parse.specs.Outcome.{Leaves}
 use Rattle.vb_parse.specs.ReadUnits as spec
 use Rattle.vb_parse.specs.ReadUnits.{whole_unit}
-use Rattle.vb_parse.proofs.Theorems.{Fits, fits, unique, sound, stops_at_fault, spelled_or_fault, spelled_no_fault}
+use Rattle.vb_parse.proofs.Theorems.{Fits, fits, unique, sound, stops_at_fault, spelled_no_fault}
 use Rattle.vb_parse.proofs.Theorems.{fault_unique}
 use Rattle.vb_parse.proofs.Telling.{would_go_on, would_not_go_on}
 use Rattle.vb_parse.proofs.UnitReading.{reads_unit}
-use Rattle.vb_parse.proofs.UnitTaking.{takes_unit}
+use Rattle.vb_parse.proofs.ScriptTaking.{takes_unit}
 
 unit_fits : (looser : Looser) (depth : ℕ) → Fits (spec.unit looser depth) (grammar.unit looser depth)
 unit_fits looser depth = fits (reads_unit looser depth) (takes_unit looser depth) (record { fits = refl })
@@ -33,27 +33,6 @@ unit_stops looser depth = stops_at_fault (spec.unit looser depth) (grammar.unit 
 pub unit_unique : (looser : Looser) (depth : ℕ) (tokens : Tokens) (x y : Script) → grammar.unit looser depth tokens x
     → grammar.unit looser depth tokens y → x ≡ y
 unit_unique looser depth = unique (spec.unit looser depth) (grammar.unit looser depth) (unit_fits looser depth)
-
--- every list of tokens spells a unit or has a fault
-pub unit_or_fault : (looser : Looser) (depth : ℕ) (tokens : Tokens)
-    → ((x : Script) × grammar.unit looser depth tokens x) ⊎ ((left : Tokens) × IsFault
-    (grammar.unit looser depth) tokens
-    left)
-unit_or_fault looser depth = spelled_or_fault (spec.unit looser depth) (grammar.unit looser depth)
-    (unit_fits looser depth)
-
--- what is spelled is read
-pub unit_only : (looser : Looser) (depth : ℕ) (tokens rest : Tokens) (x y : Script)
-    → whole_unit looser depth tokens ≡ Ok (x, rest) → grammar.unit looser depth tokens y → x ≡ y
-unit_only looser depth tokens rest x y read h = unit_unique looser depth tokens x y
-    (unit_sound looser depth tokens rest x
-    read) h
-
--- where the reader stops nothing is spelled
-pub unit_none : (looser : Looser) (depth : ℕ) (tokens left : Tokens) (y : Script)
-    → whole_unit looser depth tokens ≡ Err left → grammar.unit looser depth tokens y → ⊥
-unit_none looser depth tokens left y read h = spelled_no_fault (grammar.unit looser depth) tokens left y h
-    (unit_stops looser depth tokens left read)
 
 -- what is spelled has no fault
 pub unit_faultless : (looser : Looser) (depth : ℕ) (tokens left : Tokens) (x : Script)

@@ -26,7 +26,7 @@ use Rattle.vb_parse.specs.ReadExpressions as read
 use Rattle.vb_parse.specs.ReadExpressions.{goes_on_path}
 use Rattle.vb_parse.specs.ReadCalls as spec
 use Rattle.vb_parse.specs.ReadCalls.{Tail, plain, grouped, tail}
-use Rattle.vb_parse.specs.Runs.{opens, inside}
+use Rattle.vb_parse.specs.Depths.{opens, inside}
 use Rattle.vb_parse.proofs.Reading.{Reads, NoEmpty, Moves, moves, ok_tail, reads_pure, reads_bind, reads_one}
 use Rattle.vb_parse.proofs.Reading.{reads_choice, reads_many, reads_word, reads_name, full_one, full_bind, full_word}
 use Rattle.vb_parse.proofs.Reading.{token_of}

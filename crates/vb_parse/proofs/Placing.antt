@@ -15,7 +15,7 @@ use Rattle.vb_parse.specs.Reader.{Reader, next, passes}
 use Rattle.vb_parse.specs.ReadExpressions as spec
 use Rattle.vb_parse.specs.ReadExpressions.{goes_on_path}
 use Rattle.vb_parse.specs.ReadDeclarations as read_declarations
-use Rattle.vb_parse.specs.Runs.{opens, inside}
+use Rattle.vb_parse.specs.Depths.{opens, inside}
 use Rattle.vb_parse.proofs.Taking.{Follow, Takes, takes_narrow}
 use Rattle.vb_parse.proofs.Beginning.{other_level, level_tag, tag_level, tag_is_literal}
 use Rattle.vb_parse.proofs.ExpressionEnds.{Ends, positive_differs, tag_is_expression}

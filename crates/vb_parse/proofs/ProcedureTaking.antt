@@ -18,7 +18,7 @@ use Rattle.vb_syntax.specs.grammar.Units as grammar
 use Rattle.vb_parse.specs.Reader.{sees}
 use Rattle.vb_parse.specs.ReadDeclarations.{begun}
 use Rattle.vb_parse.specs.ReadUnits as spec
-use Rattle.vb_parse.specs.Runs.{opens}
+use Rattle.vb_parse.specs.Depths.{opens}
 use Rattle.vb_parse.proofs.Taking.{Follow, Takes, takes_pure}
 use Rattle.vb_parse.proofs.Binding.{Within, within_then, bind_wider, or_within, or_wider}
 use Rattle.vb_parse.proofs.ProcedureReading.{procedure_rest, procedure_open, either_open, property_rest, property_open}

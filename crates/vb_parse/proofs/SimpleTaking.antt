@@ -21,14 +21,15 @@ use Rattle.vb_parse.specs.ReadDeclarations.{sees_access, begun}
 use Rattle.vb_parse.specs.ReadCalls as calls
 use Rattle.vb_parse.specs.ReadSimpleStatements as spec
 use Rattle.vb_parse.specs.ReadSimpleStatements.{zero_of, zero_by}
-use Rattle.vb_parse.specs.Runs.{opens}
+use Rattle.vb_parse.specs.Depths.{opens}
 use Rattle.vb_parse.proofs.Taking.{Follow, Takes, takes_pure, takes_one, takes_narrow}
 use Rattle.vb_parse.proofs.Binding.{bind_left}
 use Rattle.vb_parse.proofs.PathReading.{takes_path_at}
 use Rattle.vb_parse.proofs.Tags.{among, outside, all_have}
 use Rattle.vb_parse.proofs.Following.{Before, BeginsIn, leads_begins, leads_pure, begins_then, begins_word_then}
 use Rattle.vb_parse.proofs.Following.{begins_either, begins_within, name_head, name_begins, asks_kind}
-use Rattle.vb_parse.proofs.Following.{skips, starts, closed_first, closed_next}
+use Rattle.vb_parse.proofs.Following.{skips, starts, closed_first, closed_next, Only, begins_only}
+use Rattle.vb_parse.proofs.BlankTexts.{text_head}
 use Rattle.vb_parse.proofs.Choosing.{takes_on, takes_off, takes_on_word, takes_off_word, takes_or, takes_within}
 use Rattle.vb_parse.proofs.Choosing.{takes_word, takes_then, takes_map, takes_list, Chosen, chosen, choose, choose_by}
 use Rattle.vb_parse.proofs.Choosing.{takes_gated}
@@ -40,30 +41,31 @@ use Rattle.vb_parse.proofs.CallTaking.{begins_path_statement}
 
 -- ---- with what a rule begins
 
-pub quoted_tag : (text : List ℕ) (kind : TokenKind) (line x : ℕ) → line_of_quoted text kind line ≡ Some x
-    → among name_head (tag kind) ≡ true
-quoted_tag text (kind.Name name bracketed) line x e = refl
-quoted_tag text (kind.Keyword keyword) line x e = absurd cc
-quoted_tag text (kind.Symbol symbol) line x e = absurd cc
-quoted_tag text _ line x e = absurd cc
+-- a quoted word is a name
+pub quoted_only : (text : List ℕ) → Only (quoted_at text) name_head
+quoted_only text = record { only = λ token x e. go token.kind token.line x e }
+  where
+    go : (kind : TokenKind) (line x : ℕ) → line_of_quoted text kind line ≡ Some x → among name_head (tag kind) ≡ true
+    go (kind.Name name bracketed) line x e = refl
+    go (kind.Keyword keyword) line x e = absurd cc
+    go (kind.Symbol symbol) line x e = absurd cc
+    go _ line x e = absurd cc
 
 pub quoted_begins : (text : List ℕ) → BeginsIn name_head (grammar.quoted text)
-quoted_begins text = record {
-  head = λ front x h. (h.token, [], h.alone, quoted_tag text h.token.kind h.token.line x h.passes);
-}
+quoted_begins text = begins_only (quoted_only text)
 
-abbrev text_head : List ℕ
-text_head = tag (kind.PageText []) ∷ []
+text_only : Only grammar.text_at text_head
+text_only = record { only = λ token x e. go token.kind token.line x e }
+  where
+    go : (kind : TokenKind) (line : ℕ) (x : ℕ × List ℕ) → text_of_kind kind line ≡ Some x
+        → among text_head (tag kind) ≡ true
+    go (kind.PageText text) line x e = refl
+    go (kind.Keyword keyword) line x e = absurd cc
+    go (kind.Symbol symbol) line x e = absurd cc
+    go _ line x e = absurd cc
 
 text_begins : BeginsIn text_head grammar.page_text
-text_begins = record { head = λ front x h. (h.token, [], h.alone, text_tag h.token.kind h.token.line x h.passes) }
-  where
-    text_tag : (kind : TokenKind) (line : ℕ) (x : ℕ × List ℕ) → text_of_kind kind line ≡ Some x
-        → among text_head (tag kind) ≡ true
-    text_tag (kind.PageText text) line x e = refl
-    text_tag (kind.Keyword keyword) line x e = absurd cc
-    text_tag (kind.Symbol symbol) line x e = absurd cc
-    text_tag _ line x e = absurd cc
+text_begins = begins_only text_only
 
 -- ---- constants
 

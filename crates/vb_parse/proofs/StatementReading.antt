@@ -1,5 +1,5 @@
 -- The readers of statements that hold others, and of blocks, read the grammar's.
-use Rattle.std.proofs.Common.{ℕ, zero, suc, inl, inr, Bool, true, false, IsTrue, List, [], ◌∷◌, ◌++◌, Option, Some}
+use Rattle.std.proofs.Common.{◌≡◌, ℕ, zero, suc, inl, inr, Bool, true, false, IsTrue, List, [], ◌∷◌, ◌++◌, Option, Some}
 use Rattle.std.proofs.Common.{None, refl, sym, ap, ◌∙◌, append_assoc, append-nil, subst, codes}
 use Rattle.std.specs.declared.ops.ControlFlow.TheVariants.{Continue, Break}
 use Rattle.vb_value.specs.declared.token.Keyword.TheVariants as k
@@ -16,13 +16,15 @@ use Rattle.vb_syntax.specs.grammar.Words as words
 use Rattle.vb_syntax.specs.grammar.SimpleStatements as simple
 use Rattle.vb_syntax.specs.grammar.SimpleStatements.{Looser, statement, quoted_at}
 use Rattle.vb_syntax.specs.grammar.Statements as grammar
+use Rattle.vb_syntax.specs.grammar.Statements.{passed}
 use Rattle.vb_parse.specs.Reader.{Reader, Turn}
 use Rattle.vb_parse.specs.Reader as reader
 use Rattle.vb_parse.specs.ReadLines as lines
 use Rattle.vb_parse.specs.ReadStatements as spec
-use Rattle.vb_parse.specs.Runs.{opens}
+use Rattle.vb_parse.specs.Depths.{opens}
 use Rattle.vb_parse.proofs.Reading.{Reads, Lives, NoEmpty, reads_pure, reads_wider, reads_bind, reads_one, reads_choice}
-use Rattle.vb_parse.proofs.Reading.{reads_both, reads_gate, reads_many, reads_word, reads_name, full_bind, full_word}
+use Rattle.vb_parse.proofs.Reading.{reads_both, reads_gate, reads_many, reads_word, reads_name, full_one, full_bind}
+use Rattle.vb_parse.proofs.Reading.{full_word}
 use Rattle.vb_parse.proofs.Reading.{token_of}
 use Rattle.vb_parse.proofs.Binding.{Within, within_then, bind_wider, first_wider, bind_left, bind_right, pure_in}
 use Rattle.vb_parse.proofs.Binding.{pure_out, bind_or, or_wider, or_within}
@@ -33,19 +35,23 @@ use Rattle.vb_parse.proofs.SimpleReading.{full_or, reads_const, reads_simple, li
 use Rattle.vb_parse.proofs.LineReading.{reads_end, reads_line_end, maybe_colon, InnerBlocks, reads_inside, else_rule}
 use Rattle.vb_parse.proofs.LineReading.{reads_line_if_from, reads_line}
 
--- ---- texts that say nothing
+-- ---- texts that are passed over
 
-pub reads_loose_text : Reads spec.loose_text grammar.loose_text
-reads_loose_text = reads_bind (reads_word (kind.PageText [])) (λ _. reads_end)
+no_text_passes : (any : Bool) → passed any (token_of (kind.PageText [])) ≡ Some tt
+no_text_passes true = refl
+no_text_passes false = refl
 
-reads_texts_where : (b : Bool) → Reads (spec.texts_where b)
-    (rule.◌or◌ (rule.pure tt) (rule.where_true b (rule.◌>>◌ (rule.many grammar.loose_text) (rule.pure tt))))
-reads_texts_where true = reads_wider (λ _ _ h. inr (refl, h)) (reads_bind (reads_many (reader.sees (kind.PageText []))
-    reads_loose_text (full_bind _ _ (full_word (kind.PageText []))) refl) (λ _. reads_pure tt))
-reads_texts_where false = reads_wider (λ _ _ h. inl h) (reads_pure tt)
+pub reads_passed_text : (any : Bool) → Reads (spec.passed_text any) (grammar.passed_text any)
+reads_passed_text any = reads_bind (reads_one (passed any) (token_of (kind.PageText [])) tt (no_text_passes any))
+    (λ _. reads_end)
 
-pub reads_loose_texts : (looser : Looser) → Reads (spec.loose_texts looser) (grammar.loose_texts looser)
-reads_loose_texts looser = reads_texts_where looser.texts
+pub full_passed_text : (any : Bool) → NoEmpty (grammar.passed_text any)
+full_passed_text any = full_bind _ _ (full_one (passed any))
+
+pub reads_passed_texts : (any : Bool) → Reads (spec.passed_texts any) (grammar.passed_texts any)
+unfolding spec.passed_texts
+reads_passed_texts any = reads_bind (reads_many (reader.passes (passed any)) (reads_passed_text any)
+    (full_passed_text any) refl) (λ _. reads_pure tt)
 
 -- ---- words
 
@@ -202,7 +208,7 @@ module _ (looser : Looser) (depth : ℕ) (bp : lines.Blocks) (br : grammar.Block
   reads_select : Reads (spec.select looser depth bp) statement_rule
   reads_select = reads_compound (λ _ _ h. inr (inl h)) (λ is. reads_bind (reads_word (kind.Keyword k.Select))
       (λ line. reads_bind (reads_word (kind.Keyword k.Case)) (λ _. reads_bind (reads_within is)
-      (λ subject. reads_bind reads_end (λ _. reads_bind (reads_loose_texts looser)
+      (λ subject. reads_bind reads_end (λ _. reads_bind (reads_passed_texts looser.texts)
       (λ _. reads_wider until_apart (reads_bind (reads_cases is) (λ found. reads_bind (reads_word (kind.Keyword k.End))
       (λ _. reads_bind (reads_word (kind.Keyword k.Select)) (λ _. reads_pure (statement line (st.Select subject found.0
       found.1))))))))))))

@@ -26,7 +26,7 @@ use Rattle.vb_parse.specs.ReadLines as lines
 use Rattle.vb_parse.specs.ReadLines.{breaks}
 use Rattle.vb_parse.specs.ReadStatements as spec
 use Rattle.vb_parse.specs.ReadStatements.{begins_statement, kind_begins_statement, sees_const, sees_loop_word}
-use Rattle.vb_parse.specs.Runs.{opens}
+use Rattle.vb_parse.specs.Depths.{opens}
 use Rattle.vb_parse.proofs.Taking.{Follow, Takes, takes_pure}
 use Rattle.vb_parse.proofs.Binding.{Within, within_then, bind_left, bind_right, bind_wider, first_wider, pure_in}
 use Rattle.vb_parse.proofs.Binding.{pure_out, or_out, or_within}
@@ -42,7 +42,8 @@ use Rattle.vb_parse.proofs.Placing.{begins_expression, takes_expression, takes_i
 use Rattle.vb_parse.proofs.Placing.{tag_ends}
 use Rattle.vb_parse.proofs.Following.{name_head}
 use Rattle.vb_parse.proofs.SimpleTaking.{quoted_begins}
-use Rattle.vb_parse.proofs.EndTaking.{break_heads, takes_end, begins_end, skips_quoted, text_head, takes_texts}
+use Rattle.vb_parse.proofs.EndTaking.{break_heads, takes_end, begins_end, skips_quoted, takes_texts}
+use Rattle.vb_parse.proofs.BlankTexts.{text_head}
 use Rattle.vb_parse.proofs.EndTaking.{leads_texts}
 use Rattle.vb_parse.proofs.IfTaking.{block_ends, block_heads, BlocksTaken, last_apart, leads_inner, asks_loop}
 use Rattle.vb_parse.proofs.IfTaking.{takes_condition, begins_condition}
@@ -175,12 +176,12 @@ module _ (looser : Looser) (depth : ℕ) (ip : lines.Blocks) (ir : grammar.Block
       (closed_inside depth))))
       (takes_word (λ line. takes_word (λ _. takes_then {l = break_heads} (takes_place refl)
       (λ subject. takes_then {l = text_head ++ cases_heads} (takes_end refl)
-      (λ _. takes_then {l = cases_heads} (takes_texts looser refl refl)
+      (λ _. takes_then {l = cases_heads} (takes_texts looser.texts refl refl)
       (λ _. takes_within (cases_apart line subject) (takes_then takes_cases
       (λ found. takes_word (λ _. takes_word (λ _. takes_pure _ v)))
       (λ found. leads_begins (begins_word_then (kind.Keyword k.End)))))
       (λ _. leads_select_cases line subject))
-      (λ _. leads_bind (leads_wider refl (leads_texts looser)) (λ _. leads_select_cases line subject)))
+      (λ _. leads_bind (leads_texts looser.texts) (λ _. leads_select_cases line subject)))
       (λ subject. leads_begins (begins_then begins_end)))))
 
   -- ---- loops

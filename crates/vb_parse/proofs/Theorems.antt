@@ -118,14 +118,6 @@ module _ {A : Type 0} (p : Reader A) (r : Rule A) (fit : Fits p r) where
             ends = stops at left refl;
           }
 
-  -- every list of tokens spells a thing or has a fault
-  pub spelled_or_fault : (tokens : Tokens) → ((x : A) × r tokens x) ⊎ ((left : Tokens) × IsFault r tokens left)
-  spelled_or_fault tokens = go (whole p tokens) refl
-    where
-      go : (o : Outcome A) → whole p tokens ≡ o → ((x : A) × r tokens x) ⊎ ((left : Tokens) × IsFault r tokens left)
-      go (Ok q) e = inl (q.0, sound tokens q.1 q.0 e)
-      go (Err left) e = inr (left, stops_at_fault tokens left e)
-
 -- ---- a fault stands at one place
 
 goes_on_front : {A : Type 0} (r : Rule A) (front back : Tokens) → GoesOn r (front ++ back) → GoesOn r front

@@ -8,7 +8,7 @@ use Rattle.vb_syntax.specs.grammar.Expressions.{not_level}
 use Rattle.vb_parse.specs.Reader as reader
 use Rattle.vb_parse.specs.Reader.{Reader, Outcome, Look, and_then, next}
 use Rattle.vb_parse.specs.ReadExpressions as spec
-use Rattle.vb_parse.specs.Runs.{opens, inside}
+use Rattle.vb_parse.specs.Depths.{opens, inside}
 use Rattle.vb_parse.proofs.Reading.{Moves, moves, more_with, many_step}
 use Rattle.vb_parse.proofs.ExpressionEnds.{Taken}
 use Rattle.vb_parse.proofs.ExpressionTaking.{closed_taken, expressions_taken}

@@ -1,9 +1,10 @@
 -- The readers of classes, items and units read the grammar's.
-use Rattle.std.proofs.Common.{ℕ, zero, suc, inl, inr, true, false, List, ◌∷◌, Some, None, refl, codes}
+use Rattle.std.proofs.Common.{ℕ, zero, suc, inl, inr, Bool, true, false, List, [], ◌∷◌, ◌++◌, Some, None, refl, codes}
 use Rattle.vb_value.specs.declared.token.Keyword.TheVariants as k
 use Rattle.vb_value.specs.declared.token.Symbol.TheVariants as s
 use Rattle.vb_value.specs.declared.token.TokenKind.TheVariants as kind
 use Rattle.vb_syntax.specs.declared.declaration.Access.{Access}
+use Rattle.vb_syntax.specs.declared.statement.Statement.{Statement}
 use Rattle.vb_syntax.specs.declared.unit.Class.{Class}
 use Rattle.vb_syntax.specs.declared.unit.ClassMember.{ClassMember}
 use Rattle.vb_syntax.specs.declared.unit.ClassMember.TheVariants as member
@@ -11,6 +12,7 @@ use Rattle.vb_syntax.specs.declared.unit.FieldAccess.{FieldAccess}
 use Rattle.vb_syntax.specs.declared.unit.FieldAccess.TheVariants as field
 use Rattle.vb_syntax.specs.declared.unit.Item.{Item}
 use Rattle.vb_syntax.specs.declared.unit.Item.TheVariants as item
+use Rattle.vb_syntax.specs.declared.unit.Unit.{Unit as Script}
 use Rattle.vb_syntax.specs.grammar.Rules.{Tokens, Rule}
 use Rattle.vb_syntax.specs.grammar.Rules as rule
 use Rattle.vb_syntax.specs.grammar.Words as words
@@ -32,16 +34,31 @@ use Rattle.vb_parse.proofs.Reading.{reads_choice, reads_both, reads_many, reads_
 use Rattle.vb_parse.proofs.Reading.{full_word, token_of, Moves, moves}
 use Rattle.vb_parse.proofs.Binding.{Within, within_then, bind_wider, first_wider, bind_left, bind_right, pure_in}
 use Rattle.vb_parse.proofs.Binding.{pure_out, bind_or, or_out, or_within}
+use Rattle.vb_parse.proofs.BlankTexts.{blank_is_text, blank_line, blank_statement, as_texts, many_joined}
+use Rattle.vb_parse.proofs.BlankTexts.{explicit_word, explicit_open, explicit_closed}
 use Rattle.vb_parse.proofs.ExpressionReading.{reads_list_of}
 use Rattle.vb_parse.proofs.DeclarationReading.{reads_opened_then, bounds_behind, reads_declared_from, reads_declared}
 use Rattle.vb_parse.proofs.DeclarationReading.{reads_access_word, with_access}
 use Rattle.vb_parse.proofs.SimpleReading.{full_or, reads_property_word, const_behind, reads_const_from}
 use Rattle.vb_parse.proofs.LineReading.{reads_end}
-use Rattle.vb_parse.proofs.StatementReading.{reads_loose_texts, inner_blocks, reads_sentence, full_sentence}
+use Rattle.vb_parse.proofs.StatementReading.{reads_passed_texts, inner_blocks, reads_sentence, full_sentence}
 use Rattle.vb_parse.proofs.ProcedureReading.{full_opened, full_with_access, either_open, reads_procedure}
 use Rattle.vb_parse.proofs.ProcedureReading.{procedure_behind, procedure_alone, full_procedure, property_open}
 use Rattle.vb_parse.proofs.ProcedureReading.{reads_property_open, reads_property_from, plain_name, reads_quoted_name}
 use Rattle.vb_parse.proofs.ProcedureReading.{property_behind, property_alone}
+
+-- ---- blank texts
+
+pub reads_blank_item : Reads spec.blank_item blank_line
+reads_blank_item = reads_bind (reads_one spec.blank_at (token_of (kind.PageText [])) (1, []) refl)
+    (λ found. reads_bind reads_end (λ _. reads_pure _))
+
+pub full_blank_line : NoEmpty blank_line
+full_blank_line = full_bind _ _ (full_one spec.blank_at)
+
+-- a blank text takes a token
+pub moves_blank_item : Moves spec.blank_item
+moves_blank_item = moves _ _ reads_blank_item full_blank_line
 
 -- ---- fields
 
@@ -191,7 +208,7 @@ module _ (looser : Looser) where
 
   reads_member_line : (depth : ℕ) → Reads (spec.member_line looser depth) (grammar.member_line looser depth)
   reads_member_line depth = reads_bind (reads_class_member depth) (λ found. reads_bind reads_end (λ _. reads_bind
-      (reads_loose_texts looser) (λ _. reads_pure found)))
+      (reads_passed_texts looser.texts) (λ _. reads_pure found)))
 
   -- a member takes a token
   pub moves_member_line : (depth : ℕ) → Moves (spec.member_line looser depth)
@@ -203,7 +220,7 @@ module _ (looser : Looser) where
   reads_class depth made whole lives wider = reads_opened_then depth lives wider
       (λ within. reads_bind (reads_word (kind.Keyword k.Class)) (λ line. reads_bind reads_name
       (λ name. reads_bind reads_end
-      (λ _. reads_bind (reads_loose_texts looser) (λ _. reads_bind (reads_many spec.begins_member
+      (λ _. reads_bind (reads_passed_texts looser.texts) (λ _. reads_bind (reads_many spec.begins_member
       (reads_member_line within)
       (full_bind _ _ (full_member within)) refl) (λ members. reads_bind (reads_word (kind.Keyword k.End))
       (λ _. reads_bind
@@ -310,13 +327,61 @@ module _ (looser : Looser) where
   reads_explicit_word : Reads (reader.one (quoted_at (codes "explicit"))) (simple.quoted (codes "explicit"))
   reads_explicit_word = reads_one (quoted_at (codes "explicit")) (token_of (kind.Name (codes "explicit") false)) 1 refl
 
-  reads_option_explicit : Reads (spec.option_explicit looser) (grammar.option_explicit looser)
+  -- ---- blank texts before them
+
+  sentence_item : {r : Rule Statement} (depth : ℕ) → Within r (simple.simple looser depth)
+      → Within (rule.◌>>=◌ r (λ found. ended (item.Statement found))) (grammar.item_line looser depth)
+  sentence_item depth wider = within_then (within_then (bind_wider (λ found. within_then (bind_wider (λ _. pure_in))
+      bind_left)) bind_left) (λ front x h. inl (first_wider (λ _ _ g. inl (first_wider (λ _ _ w. inr (inr (wider _ _
+      w))) _ _ g)) front x h))
+
+  -- a blank text is an item
+  blank_spells : (depth : ℕ) → Within blank_line (grammar.item_line looser depth)
+  blank_spells depth = within_then (first_wider blank_text) (within_then (within_then (bind_wider (λ found. pure_in {y =
+      blank_statement found})) bind_left) (sentence_item {r = rule.◌>>=◌ simple.page_text (λ found. rule.pure
+      (blank_statement found))} depth (λ _ _ h. inr (inr (inr (inr (inr (inr (inr (inr (inr (inl h))))))))))))
+    where
+      blank_text : Within (rule.one spec.blank_at) simple.page_text
+      blank_text front x h = record {
+        token = h.token;
+        alone = h.alone;
+        passes = blank_is_text h.token x h.passes;
+      }
+
+  -- ---- Option Explicit
+
+  reads_option_explicit : Reads (spec.option_explicit looser) (rule.◌or◌ explicit_word (rule.pure false))
   reads_option_explicit = reads_choice (reader.sees (kind.Keyword k.Option))
       (reads_bind (reads_word (kind.Keyword k.Option)) (λ _. reads_bind reads_explicit_word (λ _. reads_bind reads_end
       (λ _. reads_pure true))))
       (reads_pure false)
 
+  -- the items of a script, behind those that were read before them
+  abbrev pub items_behind : ℕ → List Item → Bool → Rule Script
+  items_behind depth first explicit = rule.◌>>=◌ (rule.many (grammar.item_line looser depth)) (λ found. rule.pure
+      (record { option_explicit = explicit; items = spec.kept explicit first ++ found }))
+
+  -- the items of a script
+  abbrev pub items_of : ℕ → Bool → Rule Script
+  items_of depth explicit = rule.◌>>=◌ (rule.many (grammar.item_line looser depth)) (λ found. rule.pure
+      (record { option_explicit = explicit; items = found }))
+
+  -- what is read behind the first end
+  abbrev pub unit_behind : ℕ → Rule Script
+  unit_behind depth = rule.◌>>=◌ (rule.many blank_line) (λ first. rule.◌>>=◌ (rule.◌or◌ explicit_word (rule.pure
+      false)) (items_behind depth first))
+
+  unit_spells : (depth : ℕ) → Within (unit_behind depth) (rule.◌>>=◌ (grammar.option_explicit looser) (items_of depth))
+  unit_spells depth = within_then (bind_wider (λ first. or_out)) (within_then bind_or (or_within
+      (within_then (bind_wider (λ first. explicit_open)) (within_then as_texts (within_then (bind_wider (λ _.
+      explicit_closed {s = items_of depth})) (within_then bind_left (first_wider (λ _ _ h. inl h))))))
+      (within_then (bind_wider (λ first. pure_out)) (within_then (many_joined {g = λ found. record {
+        option_explicit = false;
+        items = found;
+      }} (blank_spells depth)) (within_then (pure_in {y = false}) (first_wider (λ _ _ h. inr h)))))))
+
   pub reads_unit : (depth : ℕ) → Reads (spec.unit looser depth) (grammar.unit looser depth)
-  reads_unit depth = reads_bind (reads_choice lines.breaks reads_end (reads_pure tt)) (λ _. reads_bind
-      reads_option_explicit (λ explicit. reads_bind (reads_many spec.begins_item (reads_item_line depth)
-      (full_item_line depth) refl) (λ items. reads_pure _)))
+  reads_unit depth = reads_wider (bind_wider (λ _. unit_spells depth)) (reads_bind (reads_choice lines.breaks reads_end
+      (reads_pure tt)) (λ _. reads_bind (reads_many (reader.passes spec.blank_at) reads_blank_item full_blank_line refl)
+      (λ first. reads_bind reads_option_explicit (λ explicit. reads_bind (reads_many spec.begins_item (reads_item_line
+      depth) (full_item_line depth) refl) (λ items. reads_pure _)))))

@@ -1,6 +1,6 @@
--- The readers of items and units take whatever the grammar spells.
+-- The readers of items take whatever the grammar spells.
 use Rattle.std.proofs.Common.{◌≡◌, ℕ, ◌⊎◌, inl, inr, Bool, true, false, List, [], ◌∷◌, ◌++◌, Option, Some, None, Ok}
-use Rattle.std.proofs.Common.{refl, ap, ◌∙◌}
+use Rattle.std.proofs.Common.{refl, sym, ap, ◌∙◌, append_assoc}
 use Rattle.vb_value.specs.declared.token.Keyword.TheVariants as k
 use Rattle.vb_value.specs.declared.token.Symbol.TheVariants as s
 use Rattle.vb_value.specs.declared.token.TokenKind.{TokenKind}
@@ -18,8 +18,9 @@ use Rattle.vb_syntax.specs.grammar.Declarations as declarations
 use Rattle.vb_syntax.specs.grammar.SimpleStatements as simple
 use Rattle.vb_syntax.specs.grammar.SimpleStatements.{Looser}
 use Rattle.vb_syntax.specs.grammar.Statements as statements
+use Rattle.vb_syntax.specs.grammar.Statements.{passed_texts}
 use Rattle.vb_syntax.specs.grammar.Units as grammar
-use Rattle.vb_parse.specs.Reader.{Reader, Look, next}
+use Rattle.vb_parse.specs.Reader.{Reader, Look, and_then, next, sees, passes}
 use Rattle.vb_parse.specs.Reader as reader
 use Rattle.vb_parse.specs.ReadDeclarations as read_declarations
 use Rattle.vb_parse.specs.ReadDeclarations.{begun, sees_access}
@@ -28,7 +29,8 @@ use Rattle.vb_parse.specs.ReadSimpleStatements.{const_from as const_reader}
 use Rattle.vb_parse.specs.ReadLines as lines
 use Rattle.vb_parse.specs.ReadStatements as read_statements
 use Rattle.vb_parse.specs.ReadUnits as spec
-use Rattle.vb_parse.proofs.Taking.{Takes, takes_pure}
+use Rattle.vb_parse.proofs.Reading.{many_step, more_with}
+use Rattle.vb_parse.proofs.Taking.{Takes, takes_pure, only}
 use Rattle.vb_parse.proofs.Beginning.{HeadIn}
 use Rattle.vb_parse.proofs.Binding.{Within, within_then, bind_wider, first_wider, bind_left, bind_right, pure_in}
 use Rattle.vb_parse.proofs.Binding.{pure_out, or_out, or_within}
@@ -38,7 +40,7 @@ use Rattle.vb_parse.proofs.Tags.{among, outside, all_have}
 use Rattle.vb_parse.proofs.Following.{Before, BeginsIn, Leads, leads_begins, leads_bind, leads_many, leads_or}
 use Rattle.vb_parse.proofs.Following.{leads_pure, begins_then, begins_either, begins_more, begins_within}
 use Rattle.vb_parse.proofs.Following.{begins_word_then, name_begins, Asks, asks_kind, asks_either, asks_no, starts}
-use Rattle.vb_parse.proofs.Following.{skips}
+use Rattle.vb_parse.proofs.Following.{skips, starts_one, begins_only, passes_no}
 use Rattle.vb_parse.proofs.Choosing.{takes_on, takes_off, takes_on_word, takes_off_word, takes_or, takes_within}
 use Rattle.vb_parse.proofs.Choosing.{takes_word, takes_then, takes_map, takes_list, takes_each, takes_before, Chosen}
 use Rattle.vb_parse.proofs.Choosing.{chosen, choose_by}
@@ -46,7 +48,10 @@ use Rattle.vb_parse.proofs.DeclarationTaking.{access_heads, asks_access, begins_
 use Rattle.vb_parse.proofs.DeclarationTaking.{takes_declared}
 use Rattle.vb_parse.proofs.Following.{name_head}
 use Rattle.vb_parse.proofs.SimpleTaking.{simple_heads, takes_const_from, begins_simple}
-use Rattle.vb_parse.proofs.EndTaking.{break_heads, asks_breaks, takes_end, begins_end}
+use Rattle.vb_parse.proofs.EndTaking.{break_heads, asks_breaks, takes_end, begins_end, leads_texts}
+use Rattle.vb_parse.proofs.BlankTexts.{text_head, blank_only, blank_is_text, blank_line, blank_statement, as_items}
+use Rattle.vb_parse.proofs.BlankTexts.{explicit_word, explicit_open, explicit_closed}
+use Rattle.vb_parse.proofs.UnitReading.{items_of, items_behind, moves_blank_item}
 use Rattle.vb_parse.proofs.IfTaking.{sentence_heads}
 use Rattle.vb_parse.proofs.BlockTaking.{takes_sentence, begins_sentence, inside_taken}
 use Rattle.vb_parse.proofs.ProcedureTaking.{asks_procedure, begins_procedure, takes_procedure, procedure_apart}
@@ -251,7 +256,7 @@ module _ (looser : Looser) (depth : ℕ) where
       (takes_or (takes_within procedure_asked (takes_other none)) (takes_within class_asked (takes_other none))))
 
 -- the numbers of the tokens that begin an item
-abbrev item_heads : List ℕ
+abbrev pub item_heads : List ℕ
 item_heads = tag (kind.Keyword k.Class) ∷ tag (kind.Keyword k.Function) ∷ tag (kind.Keyword k.Sub) ∷ sentence_heads
 
 item_tag : (kind : TokenKind) → spec.kind_begins_item kind ≡ among item_heads (tag kind)
@@ -265,7 +270,7 @@ asks_item : Asks spec.begins_item item_heads
 asks_item = record { none = refl; some = λ token. item_tag token.kind }
 
 module _ (looser : Looser) (depth : ℕ) where
-  begins_item_line : BeginsIn item_heads (grammar.item_line looser depth)
+  pub begins_item_line : BeginsIn item_heads (grammar.item_line looser depth)
   begins_item_line = begins_more {m = item_heads} refl (begins_either
       (begins_then (begins_sentence looser depth _ _ (inside_taken looser depth)))
       (begins_either (begins_within (variables_asked looser depth) (begins_then (chosen_item looser depth).begins))
@@ -273,34 +278,6 @@ module _ (looser : Looser) (depth : ℕ) where
       (begins_within (class_asked looser depth) (begins_then (chosen_item looser depth).begins)))))
 
   -- before the end of the tokens
-  takes_items : Takes (spec.items looser depth) (rule.many (grammar.item_line looser depth)) (Before [])
+  pub takes_items : Takes (spec.items looser depth) (rule.many (grammar.item_line looser depth)) (Before [])
   takes_items = takes_each spec.begins_item begins_item_line (starts asks_item begins_item_line refl)
       (asks_no asks_item refl) (takes_item_line looser depth refl)
-
-  -- ---- units
-
-  leads_items : (explicit : Bool) → Leads {A = Script} item_heads (rule.◌>>=◌ (rule.many
-      (grammar.item_line looser depth))
-      (λ items. rule.pure (record { option_explicit = explicit; items = items }))) (Before [])
-  leads_items explicit = leads_bind (leads_many begins_item_line) (λ items. leads_pure)
-
-  takes_option : Takes (spec.option_explicit looser) (grammar.option_explicit looser) (Before item_heads)
-  takes_option = takes_or
-      (takes_on_word (kind.Keyword k.Option) _ (takes_word (λ _. takes_word (λ _. takes_then (takes_end refl)
-      (λ _. takes_pure true _) (λ _. leads_pure)))))
-      (takes_off_word (kind.Keyword k.Option) _ leads_pure refl (takes_pure false _))
-
-  abbrev unit_heads : List ℕ
-  unit_heads = (tag (kind.Keyword k.Option) ∷ []) ++ item_heads
-
-  leads_option : Leads unit_heads (grammar.option_explicit looser) (Before item_heads)
-  leads_option = leads_or (leads_begins (begins_word_then (kind.Keyword k.Option))) leads_pure
-
-  takes_first_end : Takes (spec.first_end looser) (rule.◌or◌ statements.«end» (rule.pure tt)) (Before unit_heads)
-  takes_first_end = takes_or (takes_on lines.breaks _ (starts asks_breaks begins_end refl) (takes_end refl))
-      (takes_off lines.breaks _ (skips asks_breaks leads_pure refl) (takes_pure tt _))
-
-  pub takes_unit : Takes (spec.unit looser depth) (grammar.unit looser depth) (Before [])
-  takes_unit = takes_then {l = unit_heads} takes_first_end
-      (λ _. takes_then {l = item_heads} takes_option (λ explicit. takes_map _ takes_items) leads_items)
-      (λ _. leads_bind leads_option leads_items)

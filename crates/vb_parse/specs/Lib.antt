@@ -1,6 +1,6 @@
 pub mod Reader
 pub mod ReadExpressions
-pub mod Runs
+pub mod Depths
 pub mod ReadDeclarations
 pub mod ReadCalls
 pub mod ReadSimpleStatements

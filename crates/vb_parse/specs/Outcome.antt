@@ -1,46 +1,26 @@
--- What the parser answers: the tree that the tokens spell, or the fault with its kind and its line.
-use Rattle.std.specs.Prelude.{◌≡◌, ℕ, suc, nat_lt, if◌then◌else◌, length, Result, Ok, Err}
-use Rattle.vb_syntax.specs.grammar.Rules.{Tokens, Rule}
-use Rattle.vb_syntax.specs.grammar.Faults.{IsFault, WouldGoOn, fault_line}
-use Rattle.vb_syntax.specs.grammar.Units.{IsTooDeep, IsCallParens, IsTextHere}
+-- What the parser answers where the tokens spell no script: the fault, with its kind and its line.
+use Rattle.std.specs.Prelude.{◌≡◌, ℕ, nat_lt, if◌then◌else◌, length, Ok, Err}
+use Rattle.vb_syntax.specs.grammar.Rules.{Tokens}
+use Rattle.vb_syntax.specs.grammar.Faults.{IsFault, fault_line}
+use Rattle.vb_syntax.specs.grammar.Units.{Derives, IsTooDeep, IsCallParens, IsTextHere}
 use Rattle.vb_parse.specs.declared.fault.ParseFault.{ParseFault}
 use Rattle.vb_parse.specs.declared.fault.ParseFault.TheVariants as kind
-use Rattle.vb_parse.specs.declared.fault.ParseStop.{ParseStop}
-use Rattle.vb_parse.specs.declared.fault.ParseStop.TheVariants.{Fault, Memory}
 use Rattle.vb_parse.specs.Reader.{Outcome}
 
--- The answer is this tree, or memory ran out.
-abbrev pub Finds : {A : Type 0} → Result A ParseStop → A → Type 0
-Finds (Ok found) tree = found ≡ tree
-Finds (Err (Fault kind line)) tree = ⊥
-Finds (Err Memory) tree = Unit {0}
-
--- The answer is no fault, or one of which the fact holds.
-abbrev pub OnFault : {A : Type 0} → Result A ParseStop → (ParseFault → ℕ → Type 0) → Type 0
-OnFault (Ok found) fact = Unit {0}
-OnFault (Err (Fault kind line)) fact = fact kind line
-OnFault (Err Memory) fact = Unit {0}
-
--- An expression's fault is TooDeep where with one more construct something would go on, and else Unexpected.
-abbrev pub IsKind : {A : Type 0} → (ℕ → Rule A) → ℕ → Tokens → Tokens → ParseFault → Type 0
-IsKind rules depth front left kind.TooDeep = WouldGoOn (rules (suc depth)) front left
-IsKind rules depth front left kind.Unexpected = ¬ (WouldGoOn (rules (suc depth)) front left)
-IsKind rules depth front left _ = ⊥
-
--- A script's fault is Unexpected where no other kind applies.
-abbrev pub IsUnitKind : Tokens → Tokens → ParseFault → Type 0
-IsUnitKind front left kind.TooDeep = IsTooDeep front left
-IsUnitKind front left kind.CallParens = IsCallParens front left
-IsUnitKind front left kind.TextHere = IsTextHere front left
-IsUnitKind front left kind.Unexpected =
+-- The kind of the fault at the first of the tokens that are left, behind those in front. The kinds stand in an order:
+-- of those that hold the first counts, and Unexpected where no other holds.
+abbrev pub IsKind : Tokens → Tokens → ParseFault → Type 0
+IsKind front left kind.TooDeep = IsTooDeep front left
+IsKind front left kind.CallParens = (¬ (IsTooDeep front left)) × IsCallParens front left
+IsKind front left kind.TextHere = (¬ (IsTooDeep front left)) × (¬ (IsCallParens front left)) × IsTextHere front left
+IsKind front left kind.Unexpected =
     (¬ (IsTooDeep front left)) × (¬ (IsCallParens front left)) × (¬ (IsTextHere front left))
 
--- The tokens have a fault in this line, of a kind that is told by the tokens before it and those from it on.
-pub record HasFault {A : Type 0} (rule : Rule A) (is_kind_of : Tokens → Tokens → ParseFault → Type 0)
-    (tokens : Tokens) (kind : ParseFault) (line : ℕ) : Type 0 where
+-- The first token with which no script goes on is a fault of this kind, in this line.
+pub record HasFault (tokens : Tokens) (kind : ParseFault) (line : ℕ) : Type 0 where
   pub left : Tokens
-  pub fault : IsFault rule tokens left
-  pub is_kind : is_kind_of fault.front left kind
+  pub fault : IsFault Derives tokens left
+  pub is_kind : IsKind fault.front left kind
   pub in_line : line ≡ fault_line tokens left
 
 -- how many tokens a reader leaves, none where it comes to its end

@@ -19,7 +19,7 @@ use Rattle.vb_syntax.specs.grammar.Expressions.{chain, path_of, not_level, last_
 use Rattle.vb_syntax.specs.grammar.SimpleStatements.{Looser, named_at, statement}
 use Rattle.vb_parse.specs.Reader.{Reader, Look, ◌>>=◌, ◌>>◌, pure, one, keyword, symbol, sees, passes, asks, case, gate}
 use Rattle.vb_parse.specs.ReadExpressions.{Inside, expressions, turns, operators, steps, list_of, more_of}
-use Rattle.vb_parse.specs.Runs.{opens, inside}
+use Rattle.vb_parse.specs.Depths.{opens, inside}
 
 -- ---- paths
 

@@ -148,7 +148,3 @@ closed = record { primary = refuse; negated = refuse; expression = refuse }
 abbrev pub expressions : ℕ → Inside
 expressions zero = readers_here false closed
 expressions (suc depth) = readers_here true (expressions depth)
-
--- an expression, with no token behind it
-unfoldable pub whole_expression : ℕ → Reader Expression
-whole_expression depth = whole (expressions depth).expression

@@ -14,7 +14,7 @@ use Rattle.vb_syntax.specs.grammar.Statements.{break_of}
 use Rattle.vb_parse.specs.Reader.{Reader, Look, ◌>>=◌, ◌>>◌, pure, one, word, keyword, symbol, sees, passes, asks, case}
 use Rattle.vb_parse.specs.Reader.{gate, many, Turn, until}
 use Rattle.vb_parse.specs.ReadSimpleStatements.{keyword_begins_simple, kind_begins_simple, simple}
-use Rattle.vb_parse.specs.Runs.{opens, inside}
+use Rattle.vb_parse.specs.Depths.{opens, inside}
 
 -- ---- ends
 

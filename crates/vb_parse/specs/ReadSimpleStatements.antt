@@ -22,7 +22,7 @@ use Rattle.vb_parse.specs.Reader.{Reader, Look, ◌>>=◌, ◌>>◌, pure, one, 
 use Rattle.vb_parse.specs.ReadExpressions.{expressions, list_of}
 use Rattle.vb_parse.specs.ReadDeclarations.{opened, sees_access, access_word, begun, declared, constant}
 use Rattle.vb_parse.specs.ReadCalls.{expression, path_at, value_behind, from_path}
-use Rattle.vb_parse.specs.Runs.{opens}
+use Rattle.vb_parse.specs.Depths.{opens}
 
 -- ---- words
 

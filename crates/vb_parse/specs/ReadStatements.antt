@@ -17,29 +17,26 @@ use Rattle.vb_syntax.specs.declared.statement.Statement.{Statement}
 use Rattle.vb_syntax.specs.declared.statement.StatementKind.TheVariants as st
 use Rattle.vb_syntax.specs.grammar.Words.{name_of}
 use Rattle.vb_syntax.specs.grammar.SimpleStatements.{Looser, statement}
-use Rattle.vb_parse.specs.Reader.{Reader, Look, ◌>>=◌, ◌>>◌, pure, refuse, one, word, keyword, symbol, sees, asks, case}
-use Rattle.vb_parse.specs.Reader.{gate, many, Turn, until}
+use Rattle.vb_syntax.specs.grammar.Statements.{passed}
+use Rattle.vb_parse.specs.Reader.{Reader, Look, ◌>>=◌, ◌>>◌, pure, refuse, one, keyword, symbol, sees, asks, passes}
+use Rattle.vb_parse.specs.Reader.{case, gate, many, Turn, until}
 use Rattle.vb_parse.specs.ReadExpressions.{list_of}
 use Rattle.vb_parse.specs.ReadDeclarations.{sees_access}
 use Rattle.vb_parse.specs.ReadCalls.{expression}
 use Rattle.vb_parse.specs.ReadSimpleStatements.{quoted, sees_quoted, const, simple}
 use Rattle.vb_parse.specs.ReadLines.{breaks, «end», line_end, keyword_begins_line_statement, kind_begins_line_statement}
 use Rattle.vb_parse.specs.ReadLines.{Blocks, line_if_from, line, inside_expression}
-use Rattle.vb_parse.specs.Runs.{opens}
+use Rattle.vb_parse.specs.Depths.{opens}
 
--- ---- texts that say nothing
+-- ---- texts that are passed over
 
 -- a text and its end
-abbrev pub loose_text : Reader (Unit {0})
-loose_text = do word (kind.PageText []); «end»
+abbrev pub passed_text : Bool → Reader (Unit {0})
+passed_text any = do one (passed any); «end»
 
-abbrev pub texts_where : Bool → Reader (Unit {0})
-texts_where true = do many (sees (kind.PageText [])) loose_text; pure tt
-texts_where false = pure tt
-
--- texts and their ends, where they are allowed
-abbrev pub loose_texts : Looser → Reader (Unit {0})
-loose_texts looser = texts_where looser.texts
+-- any number of them
+unfoldable pub passed_texts : Bool → Reader (Unit {0})
+passed_texts any = do many (passes (passed any)) (passed_text any); pure tt
 
 -- ---- what begins a statement or a constant
 
@@ -170,7 +167,7 @@ module _ (looser : Looser) (depth : ℕ) (inner : Blocks) where
     keyword k.Case
     subject ← within
     «end»
-    loose_texts looser
+    passed_texts looser.texts
     found ← cases
     keyword k.End
     keyword k.Select

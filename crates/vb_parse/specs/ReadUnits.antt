@@ -1,6 +1,6 @@
 -- Reading procedures, classes and whole units: each reader is the rule of its name, and asks the next token alone.
 -- What a word before it may begin is read from behind that word.
-use Rattle.std.specs.Prelude.{ℕ, Bool, true, false, ◌||◌, List, ◌∷◌, Option, Some, None, codes}
+use Rattle.std.specs.Prelude.{ℕ, Bool, true, false, ◌||◌, List, [], ◌∷◌, ◌++◌, Option, Some, None, codes}
 use Rattle.vb_value.specs.declared.token.Keyword.{Keyword}
 use Rattle.vb_value.specs.declared.token.Keyword.TheVariants as k
 use Rattle.vb_value.specs.declared.token.Token.{Token}
@@ -9,6 +9,7 @@ use Rattle.vb_value.specs.declared.token.TokenKind.TheVariants as kind
 use Rattle.vb_syntax.specs.declared.declaration.Access.{Access}
 use Rattle.vb_syntax.specs.declared.declaration.Access.TheVariants as access
 use Rattle.vb_syntax.specs.declared.statement.Statement.{Statement}
+use Rattle.vb_syntax.specs.declared.statement.StatementKind.TheVariants as st
 use Rattle.vb_syntax.specs.declared.unit.Class.{Class}
 use Rattle.vb_syntax.specs.declared.unit.ClassMember.{ClassMember}
 use Rattle.vb_syntax.specs.declared.unit.ClassMember.TheVariants as member
@@ -24,16 +25,18 @@ use Rattle.vb_syntax.specs.declared.unit.PropertyKind.{PropertyKind}
 use Rattle.vb_syntax.specs.declared.unit.PropertyKind.TheVariants as property_kind
 use Rattle.vb_syntax.specs.declared.unit.Unit.{Unit as Script}
 use Rattle.vb_syntax.specs.grammar.Words.{name_of}
-use Rattle.vb_syntax.specs.grammar.SimpleStatements.{Looser, quoted_at}
-use Rattle.vb_parse.specs.Reader.{Reader, Look, ◌>>=◌, ◌>>◌, pure, one, keyword, sees, asks, case, gate, many, whole}
+use Rattle.vb_syntax.specs.grammar.SimpleStatements.{Looser, quoted_at, statement, text_at}
+use Rattle.vb_syntax.specs.grammar.Statements.{passed}
+use Rattle.vb_parse.specs.Reader.{Reader, Look, ◌>>=◌, ◌>>◌, pure, one, keyword, sees, asks, passes, case, gate, many}
+use Rattle.vb_parse.specs.Reader.{whole}
 use Rattle.vb_parse.specs.ReadExpressions.{list_of, more_of}
 use Rattle.vb_parse.specs.ReadDeclarations.{opened, sees_access, access_word, begun, declared, declared_from}
 use Rattle.vb_parse.specs.ReadDeclarations.{parameters}
 use Rattle.vb_parse.specs.ReadSimpleStatements.{quoted, sees_quoted, const_from}
 use Rattle.vb_parse.specs.ReadLines.{breaks, «end»}
-use Rattle.vb_parse.specs.ReadStatements.{loose_texts, keyword_begins_statement, kind_begins_statement, sentence}
+use Rattle.vb_parse.specs.ReadStatements.{passed_texts, keyword_begins_statement, kind_begins_statement, sentence}
 use Rattle.vb_parse.specs.ReadStatements.{blocks, blocks_inside}
-use Rattle.vb_parse.specs.Runs.{opens}
+use Rattle.vb_parse.specs.Depths.{opens}
 
 -- ---- procedures
 
@@ -179,9 +182,9 @@ module _ (looser : Looser) where
       (case sees_procedure (do found ← procedure looser depth None; pure (member.Method found))
       (do found ← property_alone looser depth; pure (member.Property found))))
 
-  -- a member and its end, before texts where they are allowed
+  -- a member and its end, before texts that are passed over
   abbrev pub member_line : ℕ → Reader ClassMember
-  member_line depth = do found ← class_member depth; «end»; loose_texts looser; pure found
+  member_line depth = do found ← class_member depth; «end»; passed_texts looser.texts; pure found
 
   -- { member end }
   abbrev pub members : ℕ → Reader (List ClassMember)
@@ -193,7 +196,7 @@ module _ (looser : Looser) where
     line ← keyword k.Class
     name ← one name_of
     «end»
-    loose_texts looser
+    passed_texts looser.texts
     found ← members within
     keyword k.End
     keyword k.Class
@@ -213,6 +216,30 @@ kind_begins_item kind = kind_begins_statement kind
 
 abbrev pub begins_item : Look
 begins_item = asks kind_begins_item
+
+-- a blank text, with its line
+abbrev pub text_where : Option (Unit {0}) → Option (ℕ × List ℕ) → Option (ℕ × List ℕ)
+text_where None text = None
+text_where (Some is_blank) text = text
+
+abbrev pub blank_at : Token → Option (ℕ × List ℕ)
+blank_at token = text_where (passed false token) (text_at token)
+
+-- a blank text as an item, and its end
+abbrev pub blank_item : Reader Item
+blank_item = do
+  found ← one blank_at
+  «end»
+  pure (item.Statement (statement found.0 (st.PageText found.1)))
+
+-- The blank texts that a script begins with. Where "Option" "Explicit" stands behind them they are passed over, and
+-- else they are its first items.
+abbrev pub blank_items : Reader (List Item)
+blank_items = many (passes blank_at) blank_item
+
+abbrev pub kept : Bool → List Item → List Item
+kept true first = []
+kept false first = first
 
 module _ (looser : Looser) where
   -- Behind "Public" or "Private" at the top: a constant, a procedure, or variables.
@@ -256,9 +283,10 @@ module _ (looser : Looser) where
   abbrev pub unit : ℕ → Reader Script
   unit depth = do
     first_end
+    first ← blank_items
     explicit ← option_explicit
     found ← items depth
-    pure (record { option_explicit = explicit; items = found })
+    pure (record { option_explicit = explicit; items = kept explicit first ++ found })
 
 -- a unit, with no token behind it
 unfoldable pub whole_unit : Looser → ℕ → Reader Script

@@ -10,10 +10,17 @@ use Rattle.vb_value.specs.declared.token.TokenKind.{TokenKind}
 use Rattle.vb_value.specs.declared.token.TokenKind.TheVariants as kind
 use Rattle.vb_syntax.specs.grammar.Rules.{Tokens}
 use Rattle.vb_syntax.specs.grammar.Words.{tag, line_of}
+use Rattle.vb_parse.specs.declared.cursor.ReadStop.{ReadStop}
+use Rattle.vb_parse.specs.declared.cursor.ReadStop.TheVariants.{Fault, Memory}
 
 -- what was read and the tokens behind it, or the tokens from the faulty one on
 abbrev pub Outcome : Type 0 → Type 0
 Outcome A = Result (A × Tokens) Tokens
+
+-- the tokens that a function leaves where it stops at a fault
+abbrev pub stopped_at : ReadStop → Tokens → Option Tokens
+stopped_at Fault left = Some left
+stopped_at Memory left = None
 
 -- what reads some of the tokens, from the front
 abbrev pub Reader : Type 0 → Type 0

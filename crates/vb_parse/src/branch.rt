@@ -2,10 +2,13 @@
 ghost use Rattle.std.specs.Prelude.{◌≡◌, ◌<◌};
 ghost use Rattle.vb_parse.specs.ReadStatements as spec;
 ghost use Rattle.vb_parse.specs.Nests.{Nests};
-ghost use Rattle.vb_parse.specs.Runs.{Runs, rules};
+ghost use Rattle.vb_value.specs.Outcome.{Runs};
+ghost use Rattle.vb_parse.specs.Reader.{stopped_at};
+ghost use Rattle.vb_parse.specs.Depths.{rules};
 
-use crate::condition::loose_texts;
-use crate::cursor::{Cursor, Stop};
+use crate::condition::passed_texts;
+use crate::cursor::{Cursor, ReadStop};
+use crate::ends::with_last;
 use crate::line::Head;
 use crate::looser::Looser;
 use crate::place::Place;
@@ -13,25 +16,25 @@ use std::alloc::Global;
 use vb_syntax::{Case, ElseIf, Statement, StatementKind};
 use vb_value::{Keyword, List};
 
-impl<F: Fn(Global, &mut Cursor<'_>, Looser, u32) -> Result<List<Statement>, Stop>> Place<F> {
-    fn else_block(&self, cursor: &mut Cursor<'_>) -> Result<List<Statement>, Stop>
+impl<F: Fn(Global, &mut Cursor<'_>, Looser, u32) -> Result<List<Statement>, ReadStop>> Place<F> {
+    fn else_block(&self, cursor: &mut Cursor<'_>) -> Result<List<Statement>, ReadStop>
         requires nests { Nests self.now.looser self.now.depth (F.pre self.now.block) (F.post self.now.block) }
         requires opens { 0 < self.now.depth }
-        ensures { Runs (spec.else_block (rules self.now.looser) self.now.depth
-            (spec.blocks_inside (rules self.now.looser) self.now.depth)
-            cursor.old.rest.now) result cursor.new.rest.now }
+        ensures { Runs result stopped_at cursor.new.rest.now
+            (spec.else_block (rules self.now.looser) self.now.depth (spec.blocks_inside (rules self.now.looser)
+            self.now.depth) cursor.old.rest.now) }
     {
         cursor.keyword(Keyword::Else)?;
         cursor.end()?;
         self.inner_block(cursor)
     }
 
-    fn else_part(&self, cursor: &mut Cursor<'_>) -> Result<Option<List<Statement>>, Stop>
+    fn else_part(&self, cursor: &mut Cursor<'_>) -> Result<Option<List<Statement>>, ReadStop>
         requires nests { Nests self.now.looser self.now.depth (F.pre self.now.block) (F.post self.now.block) }
         requires opens { 0 < self.now.depth }
-        ensures { Runs (spec.else_part (rules self.now.looser) self.now.depth
-            (spec.blocks_inside (rules self.now.looser) self.now.depth)
-            cursor.old.rest.now) result cursor.new.rest.now }
+        ensures { Runs result stopped_at cursor.new.rest.now
+            (spec.else_part (rules self.now.looser) self.now.depth (spec.blocks_inside (rules self.now.looser)
+            self.now.depth) cursor.old.rest.now) }
     {
         if cursor.sees_keyword(Keyword::Else) {
             Ok(Some(self.else_block(cursor)?))
@@ -40,12 +43,12 @@ impl<F: Fn(Global, &mut Cursor<'_>, Looser, u32) -> Result<List<Statement>, Stop
         }
     }
 
-    fn else_if(&self, cursor: &mut Cursor<'_>) -> Result<ElseIf, Stop>
+    fn else_if(&self, cursor: &mut Cursor<'_>) -> Result<ElseIf, ReadStop>
         requires nests { Nests self.now.looser self.now.depth (F.pre self.now.block) (F.post self.now.block) }
         requires opens { 0 < self.now.depth }
-        ensures { Runs (spec.else_if (rules self.now.looser) self.now.depth
-            (spec.blocks_inside (rules self.now.looser) self.now.depth)
-            cursor.old.rest.now) result cursor.new.rest.now }
+        ensures { Runs result stopped_at cursor.new.rest.now
+            (spec.else_if (rules self.now.looser) self.now.depth (spec.blocks_inside (rules self.now.looser)
+            self.now.depth) cursor.old.rest.now) }
     {
         let line = cursor.keyword(Keyword::ElseIf)?;
         let condition = self.expression(cursor)?;
@@ -59,12 +62,12 @@ impl<F: Fn(Global, &mut Cursor<'_>, Looser, u32) -> Result<List<Statement>, Stop
         })
     }
 
-    fn else_ifs(&self, cursor: &mut Cursor<'_>) -> Result<List<ElseIf>, Stop>
+    fn else_ifs(&self, cursor: &mut Cursor<'_>) -> Result<List<ElseIf>, ReadStop>
         requires nests { Nests self.now.looser self.now.depth (F.pre self.now.block) (F.post self.now.block) }
         requires opens { 0 < self.now.depth }
-        ensures { Runs (spec.else_ifs (rules self.now.looser) self.now.depth
-            (spec.blocks_inside (rules self.now.looser) self.now.depth)
-            cursor.old.rest.now) result cursor.new.rest.now }
+        ensures { Runs result stopped_at cursor.new.rest.now
+            (spec.else_ifs (rules self.now.looser) self.now.depth (spec.blocks_inside (rules self.now.looser)
+            self.now.depth) cursor.old.rest.now) }
     {
         let mut found = List::new(self.alloc);
         while cursor.sees_keyword(Keyword::ElseIf) {
@@ -74,20 +77,17 @@ impl<F: Fn(Global, &mut Cursor<'_>, Looser, u32) -> Result<List<Statement>, Stop
     }
 
     /// A block If behind its `Then`.
-    fn block_if(&self, cursor: &mut Cursor<'_>, head: Head) -> Result<Statement, Stop>
+    fn block_if(&self, cursor: &mut Cursor<'_>, head: Head) -> Result<Statement, ReadStop>
         requires nests { Nests self.now.looser self.now.depth (F.pre self.now.block) (F.post self.now.block) }
         requires opens { 0 < self.now.depth }
-        ensures { Runs (spec.block_if_from (rules self.now.looser) self.now.depth
-            (spec.blocks_inside (rules self.now.looser) self.now.depth)
-            head.line head.condition
-            cursor.old.rest.now) result cursor.new.rest.now }
+        ensures { Runs result stopped_at cursor.new.rest.now
+            (spec.block_if_from (rules self.now.looser) self.now.depth (spec.blocks_inside (rules self.now.looser)
+            self.now.depth) head.line head.condition cursor.old.rest.now) }
     {
         cursor.end()?;
         let then = self.inner_block(cursor)?;
         let others = self.else_ifs(cursor)?;
         let otherwise = self.else_part(cursor)?;
-        cursor.keyword(Keyword::End)?;
-        cursor.keyword(Keyword::If)?;
         let Head { line, condition } = head;
         let kind = StatementKind::If {
             condition,
@@ -95,17 +95,16 @@ impl<F: Fn(Global, &mut Cursor<'_>, Looser, u32) -> Result<List<Statement>, Stop
             others,
             otherwise,
         };
-        Ok(Statement { line, kind })
+        with_last(cursor, Statement { line, kind }, Keyword::If)
     }
 
     /// An If behind its `Then`, and what ends it.
-    fn if_from(&self, cursor: &mut Cursor<'_>, head: Head) -> Result<Statement, Stop>
+    fn if_from(&self, cursor: &mut Cursor<'_>, head: Head) -> Result<Statement, ReadStop>
         requires nests { Nests self.now.looser self.now.depth (F.pre self.now.block) (F.post self.now.block) }
         requires opens { 0 < self.now.depth }
-        ensures { Runs (spec.if_from (rules self.now.looser) self.now.depth
-            (spec.blocks_inside (rules self.now.looser) self.now.depth)
-            head.line head.condition
-            cursor.old.rest.now) result cursor.new.rest.now }
+        ensures { Runs result stopped_at cursor.new.rest.now
+            (spec.if_from (rules self.now.looser) self.now.depth (spec.blocks_inside (rules self.now.looser)
+            self.now.depth) head.line head.condition cursor.old.rest.now) }
     {
         if cursor.sees_break() {
             let found = self.block_if(cursor, head)?;
@@ -119,26 +118,26 @@ impl<F: Fn(Global, &mut Cursor<'_>, Looser, u32) -> Result<List<Statement>, Stop
     }
 
     /// An If, and what ends it.
-    pub fn if_sentence(&self, cursor: &mut Cursor<'_>) -> Result<Statement, Stop>
+    pub fn if_sentence(&self, cursor: &mut Cursor<'_>) -> Result<Statement, ReadStop>
         requires { Nests self.now.looser self.now.depth (F.pre self.now.block) (F.post self.now.block) }
-        ensures { Runs (spec.if_sentence (rules self.now.looser) self.now.depth
-            (spec.blocks_inside (rules self.now.looser) self.now.depth)
-            cursor.old.rest.now) result cursor.new.rest.now }
+        ensures { Runs result stopped_at cursor.new.rest.now
+            (spec.if_sentence (rules self.now.looser) self.now.depth (spec.blocks_inside (rules self.now.looser)
+            self.now.depth) cursor.old.rest.now) }
     {
         if self.depth == 0 {
-            return Err(Stop::Fault);
+            return Err(ReadStop::Fault);
         }
         let head = self.head(cursor)?;
         self.if_from(cursor, head)
     }
 
     /// A `Case` behind that word.
-    fn case_from(&self, cursor: &mut Cursor<'_>, line: u32) -> Result<Case, Stop>
+    fn case_from(&self, cursor: &mut Cursor<'_>, line: u32) -> Result<Case, ReadStop>
         requires nests { Nests self.now.looser self.now.depth (F.pre self.now.block) (F.post self.now.block) }
         requires opens { 0 < self.now.depth }
-        ensures { Runs (spec.case_from (rules self.now.looser) self.now.depth
-            (spec.blocks_inside (rules self.now.looser) self.now.depth) line
-            cursor.old.rest.now) result cursor.new.rest.now }
+        ensures { Runs result stopped_at cursor.new.rest.now
+            (spec.case_from (rules self.now.looser) self.now.depth (spec.blocks_inside (rules self.now.looser)
+            self.now.depth) line cursor.old.rest.now) }
     {
         let values = self.expressions(cursor)?;
         cursor.end()?;
@@ -147,12 +146,15 @@ impl<F: Fn(Global, &mut Cursor<'_>, Looser, u32) -> Result<List<Statement>, Stop
     }
 
     /// The `Case` parts, and the `Case Else` part.
-    fn cases(&self, cursor: &mut Cursor<'_>) -> Result<(List<Case>, Option<List<Statement>>), Stop>
+    fn cases(
+        &self,
+        cursor: &mut Cursor<'_>,
+    ) -> Result<(List<Case>, Option<List<Statement>>), ReadStop>
         requires nests { Nests self.now.looser self.now.depth (F.pre self.now.block) (F.post self.now.block) }
         requires opens { 0 < self.now.depth }
-        ensures { Runs (spec.cases (rules self.now.looser) self.now.depth
-            (spec.blocks_inside (rules self.now.looser) self.now.depth)
-            cursor.old.rest.now) result cursor.new.rest.now }
+        ensures { Runs result stopped_at cursor.new.rest.now
+            (spec.cases (rules self.now.looser) self.now.depth (spec.blocks_inside (rules self.now.looser)
+            self.now.depth) cursor.old.rest.now) }
     {
         let mut found = List::new(self.alloc);
         while cursor.sees_keyword(Keyword::Case) {
@@ -167,28 +169,26 @@ impl<F: Fn(Global, &mut Cursor<'_>, Looser, u32) -> Result<List<Statement>, Stop
     }
 
     /// A `Select`, from its first word to its last.
-    pub fn select(&self, cursor: &mut Cursor<'_>) -> Result<Statement, Stop>
+    pub fn select(&self, cursor: &mut Cursor<'_>) -> Result<Statement, ReadStop>
         requires { Nests self.now.looser self.now.depth (F.pre self.now.block) (F.post self.now.block) }
-        ensures { Runs (spec.select (rules self.now.looser) self.now.depth
-            (spec.blocks_inside (rules self.now.looser) self.now.depth)
-            cursor.old.rest.now) result cursor.new.rest.now }
+        ensures { Runs result stopped_at cursor.new.rest.now
+            (spec.select (rules self.now.looser) self.now.depth (spec.blocks_inside (rules self.now.looser)
+            self.now.depth) cursor.old.rest.now) }
     {
         if self.depth == 0 {
-            return Err(Stop::Fault);
+            return Err(ReadStop::Fault);
         }
         let line = cursor.keyword(Keyword::Select)?;
         cursor.keyword(Keyword::Case)?;
         let subject = self.expression(cursor)?;
         cursor.end()?;
-        loose_texts(cursor, self.looser)?;
+        passed_texts(cursor, self.looser.texts)?;
         let (cases, otherwise) = self.cases(cursor)?;
-        cursor.keyword(Keyword::End)?;
-        cursor.keyword(Keyword::Select)?;
         let kind = StatementKind::Select {
             subject,
             cases,
             otherwise,
         };
-        Ok(Statement { line, kind })
+        with_last(cursor, Statement { line, kind }, Keyword::Select)
     }
 }

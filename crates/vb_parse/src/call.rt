@@ -4,9 +4,11 @@ ghost use Rattle.vb_syntax.specs.grammar.Expressions.{last_level, not_level};
 ghost use Rattle.vb_parse.specs.Reader as reader;
 ghost use Rattle.vb_parse.specs.ReadCalls as spec;
 ghost use Rattle.vb_parse.specs.ReadExpressions.{more_of, operators};
-ghost use Rattle.vb_parse.specs.Runs.{Runs, opens, inside, rules};
+ghost use Rattle.vb_value.specs.Outcome.{Runs};
+ghost use Rattle.vb_parse.specs.Reader.{stopped_at};
+ghost use Rattle.vb_parse.specs.Depths.{opens, inside, rules};
 
-use crate::cursor::{Cursor, Stop};
+use crate::cursor::{Cursor, ReadStop};
 use crate::expression::{
     LAST_LEVEL, NOT_LEVEL, chain, expression, list, list_from, operations, steps,
 };
@@ -15,8 +17,8 @@ use std::alloc::Global;
 use vb_syntax::{Expression, Path, PathHead, Statement, StatementKind, Step};
 use vb_value::{Boxed, Keyword, List, Memory, Symbol};
 
-fn head_at(cursor: &mut Cursor<'_>) -> Result<(u32, PathHead), Stop>
-    ensures { Runs (spec.head_at cursor.old.rest.now) result cursor.new.rest.now }
+fn head_at(cursor: &mut Cursor<'_>) -> Result<(u32, PathHead), ReadStop>
+    ensures { Runs result stopped_at cursor.new.rest.now (spec.head_at cursor.old.rest.now) }
 {
     if cursor.sees_name() {
         cursor.named()
@@ -35,8 +37,8 @@ pub fn path_at(
     alloc: Global,
     cursor: &mut Cursor<'_>,
     depth: u32,
-) -> Result<(u32, PathHead, List<Step>), Stop>
-    ensures { Runs (spec.path_at depth cursor.old.rest.now) result cursor.new.rest.now }
+) -> Result<(u32, PathHead, List<Step>), ReadStop>
+    ensures { Runs result stopped_at cursor.new.rest.now (spec.path_at depth cursor.old.rest.now) }
 {
     let (line, head) = head_at(cursor)?;
     let steps = steps(alloc, cursor, depth)?;
@@ -69,10 +71,11 @@ fn level_from(
     depth: u32,
     level: u32,
     first: Expression,
-) -> Result<Expression, Stop>
+) -> Result<Expression, ReadStop>
     requires { level < 12 }
-    ensures { Runs (spec.level_from (opens depth) (inside depth) ((level + 1) == not_level) (level + 1)
-        (operators (opens depth) (inside depth) level) first cursor.old.rest.now) result cursor.new.rest.now }
+    ensures { Runs result stopped_at cursor.new.rest.now
+        (spec.level_from (opens depth) (inside depth) ((level + 1) == not_level) (level + 1) (operators (opens depth)
+        (inside depth) level) first cursor.old.rest.now) }
 {
     if level + 1 == NOT_LEVEL {
         return Ok(first);
@@ -88,9 +91,9 @@ fn expression_from(
     cursor: &mut Cursor<'_>,
     depth: u32,
     first: Expression,
-) -> Result<Expression, Stop>
-    ensures { Runs (spec.operators_from (opens depth) (inside depth) last_level first
-        cursor.old.rest.now) result cursor.new.rest.now }
+) -> Result<Expression, ReadStop>
+    ensures { Runs result stopped_at cursor.new.rest.now
+        (spec.operators_from (opens depth) (inside depth) last_level first cursor.old.rest.now) }
 {
     let mut found = first;
     for level in 0..LAST_LEVEL {
@@ -100,15 +103,23 @@ fn expression_from(
 }
 
 /// What stands behind an `=`.
-pub fn value_behind(alloc: Global, cursor: &mut Cursor<'_>, depth: u32) -> Result<Expression, Stop>
-    ensures { Runs (spec.value_behind depth cursor.old.rest.now) result cursor.new.rest.now }
+pub fn value_behind(
+    alloc: Global,
+    cursor: &mut Cursor<'_>,
+    depth: u32,
+) -> Result<Expression, ReadStop>
+    ensures { Runs result stopped_at cursor.new.rest.now (spec.value_behind depth cursor.old.rest.now) }
 {
     cursor.symbol(Symbol::Equal)?;
     expression(alloc, cursor, depth)
 }
 
-fn arguments(alloc: Global, cursor: &mut Cursor<'_>, depth: u32) -> Result<List<Expression>, Stop>
-    ensures { Runs (spec.arguments depth cursor.old.rest.now) result cursor.new.rest.now }
+fn arguments(
+    alloc: Global,
+    cursor: &mut Cursor<'_>,
+    depth: u32,
+) -> Result<List<Expression>, ReadStop>
+    ensures { Runs result stopped_at cursor.new.rest.now (spec.arguments depth cursor.old.rest.now) }
 {
     if cursor.begins_expression() {
         list(alloc, cursor, depth)
@@ -123,10 +134,11 @@ fn arguments_behind(
     cursor: &mut Cursor<'_>,
     depth: u32,
     held: Expression,
-) -> Result<List<Expression>, Stop>
-    ensures { Runs ((reader.◌>>=◌ (spec.operators_from (opens depth) (inside depth) last_level
-        (Expression.Parenthesis held)) (λ first. reader.◌>>=◌ (more_of (spec.expression depth))
-        (λ more. reader.pure (first ∷ more)))) cursor.old.rest.now) result cursor.new.rest.now }
+) -> Result<List<Expression>, ReadStop>
+    ensures { Runs result stopped_at cursor.new.rest.now
+        ((reader.◌>>=◌ (spec.operators_from (opens depth) (inside depth) last_level (Expression.Parenthesis held)) (λ
+        first. reader.◌>>=◌ (more_of (spec.expression depth)) (λ more. reader.pure (first ∷ more))))
+        cursor.old.rest.now) }
 {
     let held = Expression::Parenthesis(Boxed::new(alloc, held)?);
     let first = expression_from(alloc, cursor, depth, held)?;
@@ -140,14 +152,15 @@ fn arguments_from(
     looser: Looser,
     depth: u32,
     mut held: List<Expression>,
-) -> Result<List<Expression>, Stop>
-    ensures { Runs (spec.arguments_from (rules looser) depth held cursor.old.rest.now) result cursor.new.rest.now }
+) -> Result<List<Expression>, ReadStop>
+    ensures { Runs result stopped_at cursor.new.rest.now
+        (spec.arguments_from (rules looser) depth held cursor.old.rest.now) }
 {
     if held.len() > 1 {
         return if looser.several {
             Ok(held)
         } else {
-            Err(Stop::Fault)
+            Err(ReadStop::Fault)
         };
     }
     match held.pop() {
@@ -163,9 +176,9 @@ fn call_from(
     looser: Looser,
     depth: u32,
     target: (u32, PathHead, List<Step>),
-) -> Result<Statement, Stop>
-    ensures { Runs (spec.call_from (rules looser) depth target.0 target.1 target.2 (spec.tail target.2)
-        cursor.old.rest.now) result cursor.new.rest.now }
+) -> Result<Statement, ReadStop>
+    ensures { Runs result stopped_at cursor.new.rest.now
+        (spec.call_from (rules looser) depth target.0 target.1 target.2 (spec.tail target.2) cursor.old.rest.now) }
 {
     let (line, head, mut steps) = target;
     let arguments = match take_group(&mut steps)? {
@@ -183,8 +196,8 @@ pub fn from_path(
     cursor: &mut Cursor<'_>,
     looser: Looser,
     depth: u32,
-) -> Result<Statement, Stop>
-    ensures { Runs (spec.from_path (rules looser) depth cursor.old.rest.now) result cursor.new.rest.now }
+) -> Result<Statement, ReadStop>
+    ensures { Runs result stopped_at cursor.new.rest.now (spec.from_path (rules looser) depth cursor.old.rest.now) }
 {
     let target = path_at(alloc, cursor, depth)?;
     if !cursor.sees_symbol(Symbol::Equal) {

@@ -1,12 +1,14 @@
 //! Reading classes, where `depth` more constructs may open.
 ghost use Rattle.std.specs.Prelude.{◌≡◌};
 ghost use Rattle.vb_parse.specs.ReadUnits as spec;
-ghost use Rattle.vb_parse.specs.Runs.{Runs, rules};
+ghost use Rattle.vb_value.specs.Outcome.{Runs};
+ghost use Rattle.vb_parse.specs.Reader.{stopped_at};
+ghost use Rattle.vb_parse.specs.Depths.{rules};
 
-use crate::condition::loose_texts;
-use crate::cursor::{Cursor, Stop};
+use crate::condition::passed_texts;
+use crate::cursor::{Cursor, ReadStop};
 use crate::declaration::{access_word, declared_from, variables_from};
-use crate::ends::with_end;
+use crate::ends::{with_end, with_last};
 use crate::looser::Looser;
 use crate::procedure::{procedure, property_alone, property_from};
 use std::alloc::Global;
@@ -20,8 +22,9 @@ fn fields_from(
     depth: u32,
     first: (u32, FieldAccess),
     name: Text,
-) -> Result<ClassMember, Stop>
-    ensures { Runs (spec.fields_from depth first.0 first.1 name cursor.old.rest.now) result cursor.new.rest.now }
+) -> Result<ClassMember, ReadStop>
+    ensures { Runs result stopped_at cursor.new.rest.now
+        (spec.fields_from depth first.0 first.1 name cursor.old.rest.now) }
 {
     let variable = declared_from(alloc, cursor, depth, name)?;
     let fields = variables_from(alloc, cursor, depth, variable)?;
@@ -33,8 +36,8 @@ fn fields_from(
     })
 }
 
-fn dim_fields(alloc: Global, cursor: &mut Cursor<'_>, depth: u32) -> Result<ClassMember, Stop>
-    ensures { Runs (spec.dim_fields depth cursor.old.rest.now) result cursor.new.rest.now }
+fn dim_fields(alloc: Global, cursor: &mut Cursor<'_>, depth: u32) -> Result<ClassMember, ReadStop>
+    ensures { Runs result stopped_at cursor.new.rest.now (spec.dim_fields depth cursor.old.rest.now) }
 {
     let line = cursor.keyword(Keyword::Dim)?;
     let name = cursor.name()?;
@@ -59,9 +62,9 @@ fn behind_property(
     depth: u32,
     before: (u32, Access),
     name: Text,
-) -> Result<ClassMember, Stop>
-    ensures { Runs (spec.behind_property (rules looser) depth before name cursor.old.rest.now) result
-        cursor.new.rest.now }
+) -> Result<ClassMember, ReadStop>
+    ensures { Runs result stopped_at cursor.new.rest.now
+        (spec.behind_property (rules looser) depth before name cursor.old.rest.now) }
 {
     let (line, access) = before;
     if cursor.sees_property_kind() {
@@ -79,8 +82,9 @@ fn behind_access(
     looser: Looser,
     depth: u32,
     before: (u32, Access),
-) -> Result<ClassMember, Stop>
-    ensures { Runs (spec.behind_access (rules looser) depth before cursor.old.rest.now) result cursor.new.rest.now }
+) -> Result<ClassMember, ReadStop>
+    ensures { Runs result stopped_at cursor.new.rest.now
+        (spec.behind_access (rules looser) depth before cursor.old.rest.now) }
 {
     if cursor.sees_procedure() {
         let found = procedure(alloc, cursor, looser, depth, Some(before))?;
@@ -100,8 +104,9 @@ fn class_member(
     cursor: &mut Cursor<'_>,
     looser: Looser,
     depth: u32,
-) -> Result<ClassMember, Stop>
-    ensures { Runs (spec.class_member (rules looser) depth cursor.old.rest.now) result cursor.new.rest.now }
+) -> Result<ClassMember, ReadStop>
+    ensures { Runs result stopped_at cursor.new.rest.now
+        (spec.class_member (rules looser) depth cursor.old.rest.now) }
 {
     if cursor.sees_access() {
         let before = access_word(cursor)?;
@@ -123,12 +128,12 @@ fn member_line(
     cursor: &mut Cursor<'_>,
     looser: Looser,
     depth: u32,
-) -> Result<ClassMember, Stop>
-    ensures { Runs (spec.member_line (rules looser) depth cursor.old.rest.now) result cursor.new.rest.now }
+) -> Result<ClassMember, ReadStop>
+    ensures { Runs result stopped_at cursor.new.rest.now (spec.member_line (rules looser) depth cursor.old.rest.now) }
 {
     let found = class_member(alloc, cursor, looser, depth)?;
     let found = with_end(cursor, found)?;
-    loose_texts(cursor, looser)?;
+    passed_texts(cursor, looser.texts)?;
     Ok(found)
 }
 
@@ -137,8 +142,8 @@ fn members(
     cursor: &mut Cursor<'_>,
     looser: Looser,
     depth: u32,
-) -> Result<List<ClassMember>, Stop>
-    ensures { Runs (spec.members (rules looser) depth cursor.old.rest.now) result cursor.new.rest.now }
+) -> Result<List<ClassMember>, ReadStop>
+    ensures { Runs result stopped_at cursor.new.rest.now (spec.members (rules looser) depth cursor.old.rest.now) }
 {
     let mut found = List::new(alloc);
     while cursor.begins_member() {
@@ -154,22 +159,21 @@ pub fn class(
     cursor: &mut Cursor<'_>,
     looser: Looser,
     depth: u32,
-) -> Result<Class, Stop>
-    ensures { Runs (spec.class (rules looser) depth cursor.old.rest.now) result cursor.new.rest.now }
+) -> Result<Class, ReadStop>
+    ensures { Runs result stopped_at cursor.new.rest.now (spec.class (rules looser) depth cursor.old.rest.now) }
 {
     if depth == 0 {
-        return Err(Stop::Fault);
+        return Err(ReadStop::Fault);
     }
     let line = cursor.keyword(Keyword::Class)?;
     let name = cursor.name()?;
     cursor.end()?;
-    loose_texts(cursor, looser)?;
+    passed_texts(cursor, looser.texts)?;
     let members = members(alloc, cursor, looser, depth - 1)?;
-    cursor.keyword(Keyword::End)?;
-    cursor.keyword(Keyword::Class)?;
-    Ok(Class {
+    let found = Class {
         line,
         name,
         members,
-    })
+    };
+    with_last(cursor, found, Keyword::Class)
 }

@@ -3,9 +3,11 @@ ghost use Rattle.std.specs.Prelude.{◌≡◌, true};
 ghost use Rattle.vb_syntax.specs.grammar.Units.{strict};
 ghost use Rattle.vb_parse.specs.ReadExpressions.{expressions};
 ghost use Rattle.vb_parse.specs.ReadStatements as spec;
-ghost use Rattle.vb_parse.specs.Runs.{Runs, rules};
+ghost use Rattle.vb_value.specs.Outcome.{Runs};
+ghost use Rattle.vb_parse.specs.Reader.{stopped_at};
+ghost use Rattle.vb_parse.specs.Depths.{rules};
 
-use crate::cursor::{Cursor, Stop};
+use crate::cursor::{Cursor, ReadStop};
 use crate::expression::expression;
 use crate::looser::Looser;
 use std::alloc::Global;
@@ -13,8 +15,8 @@ use vb_syntax::{Condition, Repetition};
 use vb_value::Keyword;
 
 /// `While` or `Until`, its line, and whether it is the second.
-fn loop_word(cursor: &mut Cursor<'_>) -> Result<(u32, bool), Stop>
-    ensures { Runs (spec.loop_word cursor.old.rest.now) result cursor.new.rest.now }
+fn loop_word(cursor: &mut Cursor<'_>) -> Result<(u32, bool), ReadStop>
+    ensures { Runs result stopped_at cursor.new.rest.now (spec.loop_word cursor.old.rest.now) }
 {
     if cursor.sees_keyword(Keyword::While) {
         let line = cursor.keyword(Keyword::While)?;
@@ -30,8 +32,9 @@ pub fn condition(
     alloc: Global,
     cursor: &mut Cursor<'_>,
     depth: u32,
-) -> Result<(u32, Condition), Stop>
-    ensures { Runs (spec.condition (expressions depth).expression cursor.old.rest.now) result cursor.new.rest.now }
+) -> Result<(u32, Condition), ReadStop>
+    ensures { Runs result stopped_at cursor.new.rest.now
+        (spec.condition (expressions depth).expression cursor.old.rest.now) }
 {
     let (line, is_until) = loop_word(cursor)?;
     let test = expression(alloc, cursor, depth)?;
@@ -43,9 +46,9 @@ pub fn loop_condition(
     alloc: Global,
     cursor: &mut Cursor<'_>,
     depth: u32,
-) -> Result<Repetition, Stop>
-    ensures { Runs (spec.loop_condition strict depth spec.no_blocks cursor.old.rest.now) result
-        cursor.new.rest.now }
+) -> Result<Repetition, ReadStop>
+    ensures { Runs result stopped_at cursor.new.rest.now
+        (spec.loop_condition strict depth spec.no_blocks cursor.old.rest.now) }
 {
     if cursor.sees_loop_word() {
         let (line, condition) = condition(alloc, cursor, depth)?;
@@ -55,20 +58,14 @@ pub fn loop_condition(
     }
 }
 
-/// Takes texts and what ends them.
-fn texts(cursor: &mut Cursor<'_>) -> Result<(), Stop>
-    ensures { Runs (spec.texts_where true cursor.old.rest.now) result cursor.new.rest.now }
+/// Passes over texts of the page and what ends them: blank ones, or any.
+#[tactic(auto, unfolding(crate::specs::ReadStatements::passed_texts))]
+pub fn passed_texts(cursor: &mut Cursor<'_>, any: bool) -> Result<(), ReadStop>
+    ensures { Runs result stopped_at cursor.new.rest.now (spec.passed_texts any cursor.old.rest.now) }
 {
-    while cursor.sees_page_text() {
-        cursor.take_page_text()?;
+    while cursor.sees_passed(any) {
+        cursor.pass(any)?;
         cursor.end()?;
     }
     Ok(())
-}
-
-/// Takes texts and what ends them, where they are allowed.
-pub fn loose_texts(cursor: &mut Cursor<'_>, looser: Looser) -> Result<(), Stop>
-    ensures { Runs (spec.loose_texts (rules looser) cursor.old.rest.now) result cursor.new.rest.now }
-{
-    if looser.texts { texts(cursor) } else { Ok(()) }
 }

@@ -4,28 +4,29 @@ ghost use Rattle.vb_syntax.specs.grammar.Words.{tag, name_of, literal_of, litera
 ghost use Rattle.vb_syntax.specs.grammar.Expressions as grammar;
 ghost use Rattle.vb_parse.specs.Reader as reader;
 ghost use Rattle.vb_parse.specs.ReadExpressions.{goes_on_path, sees_leaf};
-ghost use Rattle.vb_parse.specs.Runs.{Runs};
+ghost use Rattle.vb_value.specs.Outcome.{Runs};
+ghost use Rattle.vb_parse.specs.Reader.{stopped_at};
 
 use vb_syntax::Literal;
 use vb_value::{Copied, Keyword, Memory, Op2, Symbol, Text, Token, TokenKind};
 
 /// Why a reading function has no result.
 #[derive(Clone, Copy, Debug, PartialEq, Eq)]
-pub enum Stop {
+pub enum ReadStop {
     /// The tokens that are left begin with the faulty one.
     Fault,
     /// Memory ran out.
     Memory,
 }
 
-impl From<Memory> for Stop {
+impl From<Memory> for ReadStop {
     ghost use Rattle.std.specs.Prelude.{◌≡◌};
-    ghost use Rattle.vb_parse.specs.declared.cursor.Stop.TheVariants.{Memory as OutOfMemory};
+    ghost use Rattle.vb_parse.specs.declared.cursor.ReadStop.TheVariants.{Memory as OutOfMemory};
 
     ghost from_gives = { λ _ stop. stop ≡ OutOfMemory };
 
-    fn from(_: Memory) -> Stop {
-        Stop::Memory
+    fn from(_: Memory) -> ReadStop {
+        ReadStop::Memory
     }
 }
 
@@ -192,35 +193,35 @@ impl<'a> Cursor<'a> {
     }
 
     /// Takes a word of this kind, and answers its line.
-    pub fn word(&mut self, kind: &TokenKind) -> Result<u32, Stop>
-        ensures { Runs (reader.word kind.now self.old.rest.now) result self.new.rest.now }
+    pub fn word(&mut self, kind: &TokenKind) -> Result<u32, ReadStop>
+        ensures { Runs result stopped_at self.new.rest.now (reader.word kind.now self.old.rest.now) }
     {
         match self.rest {
             [token, rest @ ..] if tag(&token.kind) == tag(kind) => {
                 self.rest = rest;
                 Ok(token.line)
             }
-            _ => Err(Stop::Fault),
+            _ => Err(ReadStop::Fault),
         }
     }
 
     /// Takes this keyword, and answers its line.
-    pub fn keyword(&mut self, keyword: Keyword) -> Result<u32, Stop>
-        ensures { Runs (reader.keyword keyword self.old.rest.now) result self.new.rest.now }
+    pub fn keyword(&mut self, keyword: Keyword) -> Result<u32, ReadStop>
+        ensures { Runs result stopped_at self.new.rest.now (reader.keyword keyword self.old.rest.now) }
     {
         self.word(&TokenKind::Keyword(keyword))
     }
 
     /// Takes this symbol, and answers its line.
-    pub fn symbol(&mut self, symbol: Symbol) -> Result<u32, Stop>
-        ensures { Runs (reader.symbol symbol self.old.rest.now) result self.new.rest.now }
+    pub fn symbol(&mut self, symbol: Symbol) -> Result<u32, ReadStop>
+        ensures { Runs result stopped_at self.new.rest.now (reader.symbol symbol self.old.rest.now) }
     {
         self.word(&TokenKind::Symbol(symbol))
     }
 
     /// Takes a name.
-    pub fn name(&mut self) -> Result<Text, Stop>
-        ensures { Runs (reader.one name_of self.old.rest.now) result self.new.rest.now }
+    pub fn name(&mut self) -> Result<Text, ReadStop>
+        ensures { Runs result stopped_at self.new.rest.now (reader.one name_of self.old.rest.now) }
     {
         match self.rest {
             [token, rest @ ..] => match &token.kind {
@@ -229,9 +230,9 @@ impl<'a> Cursor<'a> {
                     self.rest = rest;
                     Ok(name)
                 }
-                _ => Err(Stop::Fault),
+                _ => Err(ReadStop::Fault),
             },
-            [] => Err(Stop::Fault),
+            [] => Err(ReadStop::Fault),
         }
     }
 
@@ -246,18 +247,18 @@ impl<'a> Cursor<'a> {
     }
 
     /// Takes a value that is written down.
-    pub fn literal(&mut self) -> Result<Literal, Stop>
-        ensures { Runs (reader.one literal_of self.old.rest.now) result self.new.rest.now }
+    pub fn literal(&mut self) -> Result<Literal, ReadStop>
+        ensures { Runs result stopped_at self.new.rest.now (reader.one literal_of self.old.rest.now) }
     {
         match self.rest {
             [token, rest @ ..] => {
                 let Some(found) = literal(&token.kind)? else {
-                    return Err(Stop::Fault);
+                    return Err(ReadStop::Fault);
                 };
                 self.rest = rest;
                 Ok(found)
             }
-            [] => Err(Stop::Fault),
+            [] => Err(ReadStop::Fault),
         }
     }
 
@@ -272,8 +273,9 @@ impl<'a> Cursor<'a> {
     }
 
     /// Takes an operator of the level.
-    pub fn operator(&mut self, level: u32) -> Result<Op2, Stop>
-        ensures { Runs (reader.one (grammar.operator_at level) self.old.rest.now) result self.new.rest.now }
+    pub fn operator(&mut self, level: u32) -> Result<Op2, ReadStop>
+        ensures { Runs result stopped_at self.new.rest.now
+            (reader.one (grammar.operator_at level) self.old.rest.now) }
     {
         match self.rest {
             [token, rest @ ..] => match operator_at(&token.kind, level) {
@@ -281,20 +283,20 @@ impl<'a> Cursor<'a> {
                     self.rest = rest;
                     Ok(operator)
                 }
-                None => Err(Stop::Fault),
+                None => Err(ReadStop::Fault),
             },
-            [] => Err(Stop::Fault),
+            [] => Err(ReadStop::Fault),
         }
     }
 
     /// Sees that no token is left.
-    pub fn at_end(&mut self) -> Result<(), Stop>
-        ensures { Runs (reader.at_end self.old.rest.now) result self.new.rest.now }
+    pub fn at_end(&mut self) -> Result<(), ReadStop>
+        ensures { Runs result stopped_at self.new.rest.now (reader.at_end self.old.rest.now) }
     {
         if self.rest.is_empty() {
             Ok(())
         } else {
-            Err(Stop::Fault)
+            Err(ReadStop::Fault)
         }
     }
 }

@@ -5,16 +5,17 @@ ghost use Rattle.vb_syntax.specs.grammar.Declarations.{number_of};
 ghost use Rattle.vb_parse.specs.Reader as reader;
 ghost use Rattle.vb_parse.specs.ReadDeclarations as spec;
 ghost use Rattle.vb_parse.specs.ReadExpressions.{list_of, more_of};
-ghost use Rattle.vb_parse.specs.Runs.{Runs};
+ghost use Rattle.vb_value.specs.Outcome.{Runs};
+ghost use Rattle.vb_parse.specs.Reader.{stopped_at};
 
-use crate::cursor::{Cursor, Stop};
+use crate::cursor::{Cursor, ReadStop};
 use std::alloc::Global;
 use vb_syntax::{Access, Constant, ConstantValue, Declared, Parameter};
 use vb_value::{Keyword, List, Symbol, Text};
 
 /// `Public` or `Private`, and its line.
-pub fn access_word(cursor: &mut Cursor<'_>) -> Result<(u32, Access), Stop>
-    ensures { Runs (spec.access_word cursor.old.rest.now) result cursor.new.rest.now }
+pub fn access_word(cursor: &mut Cursor<'_>) -> Result<(u32, Access), ReadStop>
+    ensures { Runs result stopped_at cursor.new.rest.now (spec.access_word cursor.old.rest.now) }
 {
     if cursor.sees_keyword(Keyword::Public) {
         let line = cursor.keyword(Keyword::Public)?;
@@ -35,8 +36,8 @@ pub fn begun(before: Option<(u32, Access)>, line: u32) -> (u32, Option<Access>)
     }
 }
 
-fn numbers(alloc: Global, cursor: &mut Cursor<'_>) -> Result<List<i32>, Stop>
-    ensures { Runs (list_of (reader.one number_of) cursor.old.rest.now) result cursor.new.rest.now }
+fn numbers(alloc: Global, cursor: &mut Cursor<'_>) -> Result<List<i32>, ReadStop>
+    ensures { Runs result stopped_at cursor.new.rest.now (list_of (reader.one number_of) cursor.old.rest.now) }
 {
     let mut found = List::new(alloc);
     found.push(cursor.number()?)?;
@@ -47,11 +48,11 @@ fn numbers(alloc: Global, cursor: &mut Cursor<'_>) -> Result<List<i32>, Stop>
     Ok(found)
 }
 
-fn bounds(alloc: Global, cursor: &mut Cursor<'_>, depth: u32) -> Result<List<i32>, Stop>
-    ensures { Runs (spec.bounds depth cursor.old.rest.now) result cursor.new.rest.now }
+fn bounds(alloc: Global, cursor: &mut Cursor<'_>, depth: u32) -> Result<List<i32>, ReadStop>
+    ensures { Runs result stopped_at cursor.new.rest.now (spec.bounds depth cursor.old.rest.now) }
 {
     if depth == 0 {
-        return Err(Stop::Fault);
+        return Err(ReadStop::Fault);
     }
     cursor.symbol(Symbol::Open)?;
     let found = if cursor.sees_symbol(Symbol::Close) {
@@ -67,8 +68,8 @@ fn bounds_behind(
     alloc: Global,
     cursor: &mut Cursor<'_>,
     depth: u32,
-) -> Result<Option<List<i32>>, Stop>
-    ensures { Runs (spec.bounds_behind depth cursor.old.rest.now) result cursor.new.rest.now }
+) -> Result<Option<List<i32>>, ReadStop>
+    ensures { Runs result stopped_at cursor.new.rest.now (spec.bounds_behind depth cursor.old.rest.now) }
 {
     if cursor.sees_symbol(Symbol::Open) {
         Ok(Some(bounds(alloc, cursor, depth)?))
@@ -83,15 +84,15 @@ pub fn declared_from(
     cursor: &mut Cursor<'_>,
     depth: u32,
     name: Text,
-) -> Result<Declared, Stop>
-    ensures { Runs (spec.declared_from depth name cursor.old.rest.now) result cursor.new.rest.now }
+) -> Result<Declared, ReadStop>
+    ensures { Runs result stopped_at cursor.new.rest.now (spec.declared_from depth name cursor.old.rest.now) }
 {
     let bounds = bounds_behind(alloc, cursor, depth)?;
     Ok(Declared { name, bounds })
 }
 
-fn declared(alloc: Global, cursor: &mut Cursor<'_>, depth: u32) -> Result<Declared, Stop>
-    ensures { Runs (spec.declared depth cursor.old.rest.now) result cursor.new.rest.now }
+fn declared(alloc: Global, cursor: &mut Cursor<'_>, depth: u32) -> Result<Declared, ReadStop>
+    ensures { Runs result stopped_at cursor.new.rest.now (spec.declared depth cursor.old.rest.now) }
 {
     let name = cursor.name()?;
     declared_from(alloc, cursor, depth, name)
@@ -103,9 +104,9 @@ pub fn variables_from(
     cursor: &mut Cursor<'_>,
     depth: u32,
     first: Declared,
-) -> Result<List<Declared>, Stop>
-    ensures { Runs ((reader.◌>>=◌ (more_of (spec.declared depth)) (λ more. reader.pure (first ∷ more)))
-        cursor.old.rest.now) result cursor.new.rest.now }
+) -> Result<List<Declared>, ReadStop>
+    ensures { Runs result stopped_at cursor.new.rest.now
+        ((reader.◌>>=◌ (more_of (spec.declared depth)) (λ more. reader.pure (first ∷ more))) cursor.old.rest.now) }
 {
     let mut found = List::new(alloc);
     found.push(first)?;
@@ -117,15 +118,19 @@ pub fn variables_from(
 }
 
 /// Variables with commas between.
-pub fn variables(alloc: Global, cursor: &mut Cursor<'_>, depth: u32) -> Result<List<Declared>, Stop>
-    ensures { Runs (list_of (spec.declared depth) cursor.old.rest.now) result cursor.new.rest.now }
+pub fn variables(
+    alloc: Global,
+    cursor: &mut Cursor<'_>,
+    depth: u32,
+) -> Result<List<Declared>, ReadStop>
+    ensures { Runs result stopped_at cursor.new.rest.now (list_of (spec.declared depth) cursor.old.rest.now) }
 {
     let first = declared(alloc, cursor, depth)?;
     variables_from(alloc, cursor, depth, first)
 }
 
-fn constant_value(cursor: &mut Cursor<'_>) -> Result<ConstantValue, Stop>
-    ensures { Runs (spec.constant_value cursor.old.rest.now) result cursor.new.rest.now }
+fn constant_value(cursor: &mut Cursor<'_>) -> Result<ConstantValue, ReadStop>
+    ensures { Runs result stopped_at cursor.new.rest.now (spec.constant_value cursor.old.rest.now) }
 {
     if cursor.sees_symbol(Symbol::Minus) {
         cursor.symbol(Symbol::Minus)?;
@@ -135,8 +140,8 @@ fn constant_value(cursor: &mut Cursor<'_>) -> Result<ConstantValue, Stop>
     }
 }
 
-fn constant(cursor: &mut Cursor<'_>) -> Result<Constant, Stop>
-    ensures { Runs (spec.constant cursor.old.rest.now) result cursor.new.rest.now }
+fn constant(cursor: &mut Cursor<'_>) -> Result<Constant, ReadStop>
+    ensures { Runs result stopped_at cursor.new.rest.now (spec.constant cursor.old.rest.now) }
 {
     let name = cursor.name()?;
     cursor.symbol(Symbol::Equal)?;
@@ -145,8 +150,8 @@ fn constant(cursor: &mut Cursor<'_>) -> Result<Constant, Stop>
 }
 
 /// Constants with commas between.
-pub fn constants(alloc: Global, cursor: &mut Cursor<'_>) -> Result<List<Constant>, Stop>
-    ensures { Runs (list_of spec.constant cursor.old.rest.now) result cursor.new.rest.now }
+pub fn constants(alloc: Global, cursor: &mut Cursor<'_>) -> Result<List<Constant>, ReadStop>
+    ensures { Runs result stopped_at cursor.new.rest.now (list_of spec.constant cursor.old.rest.now) }
 {
     let mut found = List::new(alloc);
     found.push(constant(cursor)?)?;
@@ -157,8 +162,8 @@ pub fn constants(alloc: Global, cursor: &mut Cursor<'_>) -> Result<List<Constant
     Ok(found)
 }
 
-fn passing(cursor: &mut Cursor<'_>) -> Result<bool, Stop>
-    ensures { Runs (spec.passing cursor.old.rest.now) result cursor.new.rest.now }
+fn passing(cursor: &mut Cursor<'_>) -> Result<bool, ReadStop>
+    ensures { Runs result stopped_at cursor.new.rest.now (spec.passing cursor.old.rest.now) }
 {
     if cursor.sees_keyword(Keyword::ByVal) {
         cursor.keyword(Keyword::ByVal)?;
@@ -171,22 +176,22 @@ fn passing(cursor: &mut Cursor<'_>) -> Result<bool, Stop>
     }
 }
 
-fn array_mark(cursor: &mut Cursor<'_>, depth: u32) -> Result<(), Stop>
-    ensures { Runs (spec.array_mark depth cursor.old.rest.now) result cursor.new.rest.now }
+fn array_mark(cursor: &mut Cursor<'_>, depth: u32) -> Result<(), ReadStop>
+    ensures { Runs result stopped_at cursor.new.rest.now (spec.array_mark depth cursor.old.rest.now) }
 {
     if !cursor.sees_symbol(Symbol::Open) {
         return Ok(());
     }
     if depth == 0 {
-        return Err(Stop::Fault);
+        return Err(ReadStop::Fault);
     }
     cursor.symbol(Symbol::Open)?;
     cursor.symbol(Symbol::Close)?;
     Ok(())
 }
 
-fn parameter(cursor: &mut Cursor<'_>, depth: u32) -> Result<Parameter, Stop>
-    ensures { Runs (spec.parameter depth cursor.old.rest.now) result cursor.new.rest.now }
+fn parameter(cursor: &mut Cursor<'_>, depth: u32) -> Result<Parameter, ReadStop>
+    ensures { Runs result stopped_at cursor.new.rest.now (spec.parameter depth cursor.old.rest.now) }
 {
     let by_value = passing(cursor)?;
     let name = cursor.name()?;
@@ -198,8 +203,8 @@ fn parameter_list(
     alloc: Global,
     cursor: &mut Cursor<'_>,
     depth: u32,
-) -> Result<List<Parameter>, Stop>
-    ensures { Runs (list_of (spec.parameter depth) cursor.old.rest.now) result cursor.new.rest.now }
+) -> Result<List<Parameter>, ReadStop>
+    ensures { Runs result stopped_at cursor.new.rest.now (list_of (spec.parameter depth) cursor.old.rest.now) }
 {
     let mut found = List::new(alloc);
     found.push(parameter(cursor, depth)?)?;
@@ -215,11 +220,11 @@ fn opened_parameters(
     alloc: Global,
     cursor: &mut Cursor<'_>,
     depth: u32,
-) -> Result<List<Parameter>, Stop>
-    ensures { Runs (spec.opened_parameters depth cursor.old.rest.now) result cursor.new.rest.now }
+) -> Result<List<Parameter>, ReadStop>
+    ensures { Runs result stopped_at cursor.new.rest.now (spec.opened_parameters depth cursor.old.rest.now) }
 {
     if depth == 0 {
-        return Err(Stop::Fault);
+        return Err(ReadStop::Fault);
     }
     cursor.symbol(Symbol::Open)?;
     let found = if cursor.sees_symbol(Symbol::Close) {
@@ -236,8 +241,8 @@ pub fn parameters(
     alloc: Global,
     cursor: &mut Cursor<'_>,
     depth: u32,
-) -> Result<List<Parameter>, Stop>
-    ensures { Runs (spec.parameters depth cursor.old.rest.now) result cursor.new.rest.now }
+) -> Result<List<Parameter>, ReadStop>
+    ensures { Runs result stopped_at cursor.new.rest.now (spec.parameters depth cursor.old.rest.now) }
 {
     if cursor.sees_symbol(Symbol::Open) {
         opened_parameters(alloc, cursor, depth)

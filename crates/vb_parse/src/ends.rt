@@ -3,11 +3,12 @@ ghost use Rattle.vb_value.specs.declared.token.Symbol.TheVariants as symbols;
 ghost use Rattle.vb_syntax.specs.grammar.Statements.{break_of};
 ghost use Rattle.vb_parse.specs.Reader as reader;
 ghost use Rattle.vb_parse.specs.ReadLines as spec;
-ghost use Rattle.vb_parse.specs.Runs.{Runs};
+ghost use Rattle.vb_value.specs.Outcome.{Runs};
+ghost use Rattle.vb_parse.specs.Reader.{stopped_at};
 ghost use Rattle.std.specs.Prelude.{◌≡◌};
 
-use crate::cursor::{Cursor, Stop, tag};
-use vb_value::{Symbol, Token, TokenKind};
+use crate::cursor::{Cursor, ReadStop, tag};
+use vb_value::{Keyword, Symbol, Token, TokenKind};
 
 fn is_break(token: &Token) -> bool
     ensures { result ≡ reader.is_some (break_of token.now) }
@@ -28,22 +29,22 @@ impl<'a> Cursor<'a> {
     }
 
     /// Takes a ":" or a line end.
-    fn take_break(&mut self) -> Result<(), Stop>
-        ensures { Runs (reader.one break_of self.old.rest.now) result self.new.rest.now }
+    fn take_break(&mut self) -> Result<(), ReadStop>
+        ensures { Runs result stopped_at self.new.rest.now (reader.one break_of self.old.rest.now) }
     {
         match self.rest {
             [token, rest @ ..] if is_break(token) => {
                 self.rest = rest;
                 Ok(())
             }
-            _ => Err(Stop::Fault),
+            _ => Err(ReadStop::Fault),
         }
     }
 
     /// Takes all that comes next of ":" and line ends.
-    fn breaks(&mut self) -> Result<(), Stop>
-        ensures { Runs ((reader.◌>>◌ (reader.many spec.breaks (reader.one break_of)) (reader.pure tt))
-            self.old.rest.now) result self.new.rest.now }
+    fn breaks(&mut self) -> Result<(), ReadStop>
+        ensures { Runs result stopped_at self.new.rest.now
+            ((reader.◌>>◌ (reader.many spec.breaks (reader.one break_of)) (reader.pure tt)) self.old.rest.now) }
     {
         while self.sees_break() {
             self.take_break()?;
@@ -52,16 +53,17 @@ impl<'a> Cursor<'a> {
     }
 
     /// Takes what ends a statement: ":" and line ends, at least one.
-    pub fn end(&mut self) -> Result<(), Stop>
-        ensures { Runs (spec.«end» self.old.rest.now) result self.new.rest.now }
+    pub fn end(&mut self) -> Result<(), ReadStop>
+        ensures { Runs result stopped_at self.new.rest.now (spec.«end» self.old.rest.now) }
     {
         self.take_break()?;
         self.breaks()
     }
 
     /// Takes all that comes next of ":".
-    fn colons(&mut self) -> Result<(), Stop>
-        ensures { Runs ((reader.◌>>◌ spec.colons (reader.pure tt)) self.old.rest.now) result self.new.rest.now }
+    fn colons(&mut self) -> Result<(), ReadStop>
+        ensures { Runs result stopped_at self.new.rest.now
+            ((reader.◌>>◌ spec.colons (reader.pure tt)) self.old.rest.now) }
     {
         while self.sees_symbol(Symbol::Colon) {
             self.symbol(Symbol::Colon)?;
@@ -70,8 +72,8 @@ impl<'a> Cursor<'a> {
     }
 
     /// Takes what ends a one-line If: an end on whose first line nothing stands.
-    pub fn line_end(&mut self) -> Result<(), Stop>
-        ensures { Runs (spec.line_end self.old.rest.now) result self.new.rest.now }
+    pub fn line_end(&mut self) -> Result<(), ReadStop>
+        ensures { Runs result stopped_at self.new.rest.now (spec.line_end self.old.rest.now) }
     {
         self.colons()?;
         self.word(&TokenKind::LineEnd)?;
@@ -80,9 +82,33 @@ impl<'a> Cursor<'a> {
 }
 
 /// What was read, where what ends it comes next. It is generic so that what a fault drops is a call.
-pub fn with_end<T: Drop>(cursor: &mut Cursor<'_>, found: T) -> Result<T, Stop>
-    ensures { Runs ((reader.◌>>◌ spec.«end» (reader.pure found)) cursor.old.rest.now) result cursor.new.rest.now }
+pub fn with_end<T: Drop>(cursor: &mut Cursor<'_>, found: T) -> Result<T, ReadStop>
+    ensures { Runs result stopped_at cursor.new.rest.now
+        ((reader.◌>>◌ spec.«end» (reader.pure found)) cursor.old.rest.now) }
 {
     cursor.end()?;
     Ok(found)
+}
+
+/// What was read, where this keyword comes next, as with [`with_end`].
+pub fn with_keyword<T: Drop>(
+    cursor: &mut Cursor<'_>,
+    found: T,
+    last: Keyword,
+) -> Result<T, ReadStop>
+    ensures { Runs result stopped_at cursor.new.rest.now
+        ((reader.◌>>◌ (reader.keyword last) (reader.pure found)) cursor.old.rest.now) }
+{
+    cursor.keyword(last)?;
+    Ok(found)
+}
+
+/// What was read, where `End` and this keyword come next, as with [`with_end`].
+pub fn with_last<T: Drop>(cursor: &mut Cursor<'_>, found: T, last: Keyword) -> Result<T, ReadStop>
+    ensures { Runs result stopped_at cursor.new.rest.now
+        ((reader.◌>>◌ (reader.keyword Keyword.End) (reader.◌>>◌ (reader.keyword last) (reader.pure found)))
+        cursor.old.rest.now) }
+{
+    cursor.keyword(Keyword::End)?;
+    with_keyword(cursor, found, last)
 }

@@ -4,9 +4,11 @@ ghost use Rattle.std.specs.Prelude.{◌≡◌, ◌≤◌, ◌<◌, ◌≢◌, �
 ghost use Rattle.vb_syntax.specs.grammar.Expressions.{chain};
 ghost use Rattle.vb_parse.specs.Reader as reader;
 ghost use Rattle.vb_parse.specs.ReadExpressions as spec;
-ghost use Rattle.vb_parse.specs.Runs.{Runs, opens, inside};
+ghost use Rattle.vb_value.specs.Outcome.{Runs};
+ghost use Rattle.vb_parse.specs.Reader.{stopped_at};
+ghost use Rattle.vb_parse.specs.Depths.{opens, inside};
 
-use crate::cursor::{Cursor, Stop};
+use crate::cursor::{Cursor, ReadStop};
 use std::alloc::Global;
 use vb_syntax::{Expression, Operation, Path, PathHead, Step};
 use vb_value::{Boxed, Keyword, List, Memory, Symbol};
@@ -17,12 +19,12 @@ pub const NOT_LEVEL: u32 = 7;
 pub const LAST_LEVEL: u32 = 12;
 
 #[cycle(expression)]
-fn group(alloc: Global, cursor: &mut Cursor<'_>, depth: u32) -> Result<List<Expression>, Stop>
-    ensures { Runs (spec.group (opens depth) (inside depth)
-        cursor.old.rest.now) result cursor.new.rest.now }
+fn group(alloc: Global, cursor: &mut Cursor<'_>, depth: u32) -> Result<List<Expression>, ReadStop>
+    ensures { Runs result stopped_at cursor.new.rest.now
+        (spec.group (opens depth) (inside depth) cursor.old.rest.now) }
 {
     if depth == 0 {
-        return Err(Stop::Fault);
+        return Err(ReadStop::Fault);
     }
     cursor.symbol(Symbol::Open)?;
     let arguments = if cursor.sees_symbol(Symbol::Close) {
@@ -36,9 +38,13 @@ fn group(alloc: Global, cursor: &mut Cursor<'_>, depth: u32) -> Result<List<Expr
 
 /// Expressions with commas between.
 #[cycle(expression)]
-pub fn list(alloc: Global, cursor: &mut Cursor<'_>, depth: u32) -> Result<List<Expression>, Stop>
-    ensures { Runs (spec.list_of (spec.expressions depth).expression
-        cursor.old.rest.now) result cursor.new.rest.now }
+pub fn list(
+    alloc: Global,
+    cursor: &mut Cursor<'_>,
+    depth: u32,
+) -> Result<List<Expression>, ReadStop>
+    ensures { Runs result stopped_at cursor.new.rest.now
+        (spec.list_of (spec.expressions depth).expression cursor.old.rest.now) }
 {
     let first = expression(alloc, cursor, depth)?;
     list_from(alloc, cursor, depth, first)
@@ -51,9 +57,10 @@ pub fn list_from(
     cursor: &mut Cursor<'_>,
     depth: u32,
     first: Expression,
-) -> Result<List<Expression>, Stop>
-    ensures { Runs ((reader.◌>>=◌ (spec.more_of (spec.expressions depth).expression)
-        (λ more. reader.pure (first ∷ more))) cursor.old.rest.now) result cursor.new.rest.now }
+) -> Result<List<Expression>, ReadStop>
+    ensures { Runs result stopped_at cursor.new.rest.now
+        ((reader.◌>>=◌ (spec.more_of (spec.expressions depth).expression) (λ more. reader.pure (first ∷ more)))
+        cursor.old.rest.now) }
 {
     let mut found = List::new(alloc);
     found.push(first)?;
@@ -65,9 +72,9 @@ pub fn list_from(
 }
 
 #[cycle(expression)]
-fn step(alloc: Global, cursor: &mut Cursor<'_>, depth: u32) -> Result<Step, Stop>
-    ensures { Runs (spec.step (opens depth) (inside depth)
-        cursor.old.rest.now) result cursor.new.rest.now }
+fn step(alloc: Global, cursor: &mut Cursor<'_>, depth: u32) -> Result<Step, ReadStop>
+    ensures { Runs result stopped_at cursor.new.rest.now
+        (spec.step (opens depth) (inside depth) cursor.old.rest.now) }
 {
     if cursor.sees_symbol(Symbol::PathPoint) {
         cursor.symbol(Symbol::PathPoint)?;
@@ -79,9 +86,9 @@ fn step(alloc: Global, cursor: &mut Cursor<'_>, depth: u32) -> Result<Step, Stop
 
 /// What stands behind the head of a path.
 #[cycle(expression)]
-pub fn steps(alloc: Global, cursor: &mut Cursor<'_>, depth: u32) -> Result<List<Step>, Stop>
-    ensures { Runs (spec.steps (opens depth) (inside depth)
-        cursor.old.rest.now) result cursor.new.rest.now }
+pub fn steps(alloc: Global, cursor: &mut Cursor<'_>, depth: u32) -> Result<List<Step>, ReadStop>
+    ensures { Runs result stopped_at cursor.new.rest.now
+        (spec.steps (opens depth) (inside depth) cursor.old.rest.now) }
 {
     let mut found = List::new(alloc);
     while cursor.goes_on_path() {
@@ -91,8 +98,8 @@ pub fn steps(alloc: Global, cursor: &mut Cursor<'_>, depth: u32) -> Result<List<
 }
 
 /// Where a path begins.
-fn path_head(cursor: &mut Cursor<'_>) -> Result<PathHead, Stop>
-    ensures { Runs (spec.path_head cursor.old.rest.now) result cursor.new.rest.now }
+fn path_head(cursor: &mut Cursor<'_>) -> Result<PathHead, ReadStop>
+    ensures { Runs result stopped_at cursor.new.rest.now (spec.path_head cursor.old.rest.now) }
 {
     if cursor.sees_name() {
         Ok(PathHead::Name(cursor.name()?))
@@ -106,9 +113,9 @@ fn path_head(cursor: &mut Cursor<'_>) -> Result<PathHead, Stop>
 }
 
 #[cycle(expression)]
-fn path(alloc: Global, cursor: &mut Cursor<'_>, depth: u32) -> Result<Path, Stop>
-    ensures { Runs (spec.path (opens depth) (inside depth)
-        cursor.old.rest.now) result cursor.new.rest.now }
+fn path(alloc: Global, cursor: &mut Cursor<'_>, depth: u32) -> Result<Path, ReadStop>
+    ensures { Runs result stopped_at cursor.new.rest.now
+        (spec.path (opens depth) (inside depth) cursor.old.rest.now) }
 {
     let head = path_head(cursor)?;
     let steps = steps(alloc, cursor, depth)?;
@@ -116,12 +123,12 @@ fn path(alloc: Global, cursor: &mut Cursor<'_>, depth: u32) -> Result<Path, Stop
 }
 
 #[cycle(expression)]
-fn parenthesis(alloc: Global, cursor: &mut Cursor<'_>, depth: u32) -> Result<Expression, Stop>
-    ensures { Runs (spec.parenthesis (opens depth) (inside depth)
-        cursor.old.rest.now) result cursor.new.rest.now }
+fn parenthesis(alloc: Global, cursor: &mut Cursor<'_>, depth: u32) -> Result<Expression, ReadStop>
+    ensures { Runs result stopped_at cursor.new.rest.now
+        (spec.parenthesis (opens depth) (inside depth) cursor.old.rest.now) }
 {
     if depth == 0 {
-        return Err(Stop::Fault);
+        return Err(ReadStop::Fault);
     }
     cursor.symbol(Symbol::Open)?;
     let inner = expression(alloc, cursor, depth - 1)?;
@@ -130,12 +137,12 @@ fn parenthesis(alloc: Global, cursor: &mut Cursor<'_>, depth: u32) -> Result<Exp
 }
 
 #[cycle(expression)]
-fn negative(alloc: Global, cursor: &mut Cursor<'_>, depth: u32) -> Result<Expression, Stop>
-    ensures { Runs (spec.negative (opens depth) (inside depth)
-        cursor.old.rest.now) result cursor.new.rest.now }
+fn negative(alloc: Global, cursor: &mut Cursor<'_>, depth: u32) -> Result<Expression, ReadStop>
+    ensures { Runs result stopped_at cursor.new.rest.now
+        (spec.negative (opens depth) (inside depth) cursor.old.rest.now) }
 {
     if depth == 0 {
-        return Err(Stop::Fault);
+        return Err(ReadStop::Fault);
     }
     cursor.symbol(Symbol::Minus)?;
     let operand = minus_operand(alloc, cursor, depth - 1)?;
@@ -143,12 +150,12 @@ fn negative(alloc: Global, cursor: &mut Cursor<'_>, depth: u32) -> Result<Expres
 }
 
 #[cycle(expression)]
-fn negated(alloc: Global, cursor: &mut Cursor<'_>, depth: u32) -> Result<Expression, Stop>
-    ensures { Runs (spec.negated (opens depth) (inside depth)
-        cursor.old.rest.now) result cursor.new.rest.now }
+fn negated(alloc: Global, cursor: &mut Cursor<'_>, depth: u32) -> Result<Expression, ReadStop>
+    ensures { Runs result stopped_at cursor.new.rest.now
+        (spec.negated (opens depth) (inside depth) cursor.old.rest.now) }
 {
     if depth == 0 {
-        return Err(Stop::Fault);
+        return Err(ReadStop::Fault);
     }
     cursor.keyword(Keyword::Not)?;
     let operand = not_operand(alloc, cursor, depth - 1)?;
@@ -156,24 +163,22 @@ fn negated(alloc: Global, cursor: &mut Cursor<'_>, depth: u32) -> Result<Express
 }
 
 #[cycle(expression)]
-fn minus_operand(alloc: Global, cursor: &mut Cursor<'_>, depth: u32) -> Result<Expression, Stop>
-    ensures { Runs ((spec.expressions depth).primary
-        cursor.old.rest.now) result cursor.new.rest.now }
+fn minus_operand(alloc: Global, cursor: &mut Cursor<'_>, depth: u32) -> Result<Expression, ReadStop>
+    ensures { Runs result stopped_at cursor.new.rest.now ((spec.expressions depth).primary cursor.old.rest.now) }
 {
     primary(alloc, cursor, depth)
 }
 
 #[cycle(expression)]
-fn not_operand(alloc: Global, cursor: &mut Cursor<'_>, depth: u32) -> Result<Expression, Stop>
-    ensures { Runs ((spec.expressions depth).negated
-        cursor.old.rest.now) result cursor.new.rest.now }
+fn not_operand(alloc: Global, cursor: &mut Cursor<'_>, depth: u32) -> Result<Expression, ReadStop>
+    ensures { Runs result stopped_at cursor.new.rest.now ((spec.expressions depth).negated cursor.old.rest.now) }
 {
     operators(alloc, cursor, depth, NOT_LEVEL)
 }
 
 /// A word that is an operand by itself.
-fn leaf(cursor: &mut Cursor<'_>) -> Result<Expression, Stop>
-    ensures { Runs (spec.leaf cursor.old.rest.now) result cursor.new.rest.now }
+fn leaf(cursor: &mut Cursor<'_>) -> Result<Expression, ReadStop>
+    ensures { Runs result stopped_at cursor.new.rest.now (spec.leaf cursor.old.rest.now) }
 {
     if cursor.sees_literal() {
         Ok(Expression::Literal(cursor.literal()?))
@@ -189,9 +194,9 @@ fn leaf(cursor: &mut Cursor<'_>) -> Result<Expression, Stop>
 }
 
 #[cycle(expression)]
-fn primary(alloc: Global, cursor: &mut Cursor<'_>, depth: u32) -> Result<Expression, Stop>
-    ensures { Runs (spec.primary (opens depth) (inside depth)
-        cursor.old.rest.now) result cursor.new.rest.now }
+fn primary(alloc: Global, cursor: &mut Cursor<'_>, depth: u32) -> Result<Expression, ReadStop>
+    ensures { Runs result stopped_at cursor.new.rest.now
+        (spec.primary (opens depth) (inside depth) cursor.old.rest.now) }
 {
     if cursor.sees_leaf() {
         leaf(cursor)
@@ -211,11 +216,11 @@ fn operation(
     cursor: &mut Cursor<'_>,
     depth: u32,
     level: u32,
-) -> Result<Operation, Stop>
+) -> Result<Operation, ReadStop>
     requires below { level < 12 }
     requires no_not { level ≢ 6 }
-    ensures { Runs (spec.turn (level + 1) (spec.operators (opens depth) (inside depth) level)
-        cursor.old.rest.now) result cursor.new.rest.now }
+    ensures { Runs result stopped_at cursor.new.rest.now
+        (spec.turn (level + 1) (spec.operators (opens depth) (inside depth) level) cursor.old.rest.now) }
 {
     let operator = cursor.operator(level + 1)?;
     let operand = operators(alloc, cursor, depth, level)?;
@@ -229,11 +234,11 @@ pub fn operations(
     cursor: &mut Cursor<'_>,
     depth: u32,
     level: u32,
-) -> Result<List<Operation>, Stop>
+) -> Result<List<Operation>, ReadStop>
     requires below { level < 12 }
     requires no_not { level ≢ 6 }
-    ensures { Runs (spec.turns (level + 1) (spec.operators (opens depth) (inside depth) level)
-        cursor.old.rest.now) result cursor.new.rest.now }
+    ensures { Runs result stopped_at cursor.new.rest.now
+        (spec.turns (level + 1) (spec.operators (opens depth) (inside depth) level) cursor.old.rest.now) }
 {
     let mut found = List::new(alloc);
     while cursor.sees_operator(level + 1) {
@@ -261,11 +266,11 @@ fn chained(
     cursor: &mut Cursor<'_>,
     depth: u32,
     level: u32,
-) -> Result<Expression, Stop>
+) -> Result<Expression, ReadStop>
     requires below { level < 12 }
     requires no_not { level ≢ 6 }
-    ensures { Runs (spec.chained (level + 1) (spec.operators (opens depth) (inside depth) level)
-        cursor.old.rest.now) result cursor.new.rest.now }
+    ensures { Runs result stopped_at cursor.new.rest.now
+        (spec.chained (level + 1) (spec.operators (opens depth) (inside depth) level) cursor.old.rest.now) }
 {
     let first = operators(alloc, cursor, depth, level)?;
     let rest = operations(alloc, cursor, depth, level)?;
@@ -279,10 +284,10 @@ fn operators(
     cursor: &mut Cursor<'_>,
     depth: u32,
     level: u32,
-) -> Result<Expression, Stop>
+) -> Result<Expression, ReadStop>
     requires { level ≤ 12 }
-    ensures { Runs (spec.operators (opens depth) (inside depth) level
-        cursor.old.rest.now) result cursor.new.rest.now }
+    ensures { Runs result stopped_at cursor.new.rest.now
+        (spec.operators (opens depth) (inside depth) level cursor.old.rest.now) }
 {
     if level == 0 {
         primary(alloc, cursor, depth)
@@ -297,9 +302,12 @@ fn operators(
 
 /// An expression.
 #[cycle(expression)]
-pub fn expression(alloc: Global, cursor: &mut Cursor<'_>, depth: u32) -> Result<Expression, Stop>
-    ensures { Runs ((spec.expressions depth).expression
-        cursor.old.rest.now) result cursor.new.rest.now }
+pub fn expression(
+    alloc: Global,
+    cursor: &mut Cursor<'_>,
+    depth: u32,
+) -> Result<Expression, ReadStop>
+    ensures { Runs result stopped_at cursor.new.rest.now ((spec.expressions depth).expression cursor.old.rest.now) }
 {
     operators(alloc, cursor, depth, LAST_LEVEL)
 }

@@ -1,6 +1,8 @@
 //! Why a list of words is no script.
 
-use vb_value::Memory;
+use std::error::Error;
+use std::fmt;
+use vb_value::Stop;
 
 /// What is wrong with a word (VBScript 5.6 language reference, "Syntax errors").
 #[derive(Clone, Copy, Debug, PartialEq, Eq)]
@@ -10,34 +12,21 @@ pub enum ParseFault {
     /// The word could stand here if the parenthesis of the call statement before it could hold several arguments:
     /// `f(1, 2)` wants `f 1, 2` or `Call f(1, 2)`.
     CallParens,
-    /// Text of the page inside Class, or between `Select Case` and its first `Case`.
+    /// Text of the page that is not blank, inside Class or between `Select Case` and its first `Case`.
     TextHere,
     /// No word like this may stand here, or one is missing.
     Unexpected,
 }
 
-/// Why the parser has no tree.
-#[derive(Clone, Copy, Debug, PartialEq, Eq)]
-pub enum ParseStop {
-    /// The first word with which no tree goes on.
-    Fault {
-        /// What is wrong with it.
-        kind: ParseFault,
-        /// Its line, counted from 1. Where the words end too early it is that of the last one, and 1 where
-        /// there is no word at all.
-        line: u32,
-    },
-    /// Memory ran out.
-    Memory,
-}
-
-impl From<Memory> for ParseStop {
-    ghost use Rattle.std.specs.Prelude.{◌≡◌};
-    ghost use Rattle.vb_parse.specs.declared.fault.ParseStop.TheVariants.{Memory as OutOfMemory};
-
-    ghost from_gives = { λ _ stop. stop ≡ OutOfMemory };
-
-    fn from(_: Memory) -> ParseStop {
-        ParseStop::Memory
+impl fmt::Display for ParseFault {
+    /// The name of the fault.
+    fn fmt<W: fmt::Write>(&self, f: &mut fmt::Formatter<W>) -> fmt::Result {
+        write!(f, "{self:?}")
     }
 }
+
+impl Error for ParseFault {}
+
+/// Why the parser has no tree: the first word with which none goes on, or memory ran out. Where the words end too early
+/// the line is that of the last one, and 1 where there is no word at all.
+pub type ParseStop = Stop<ParseFault>;

@@ -19,13 +19,9 @@ mod procedure;
 mod repeat;
 mod simple;
 mod statement;
-#[cfg(test)]
-mod tests;
 mod unit;
-mod whole_expression;
 mod whole_unit;
 mod word;
 
 pub use fault::{ParseFault, ParseStop};
-pub use whole_expression::parse_expression;
 pub use whole_unit::parse;

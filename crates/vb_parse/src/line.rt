@@ -6,9 +6,11 @@ ghost use Rattle.vb_parse.specs.Heads.{head_of};
 ghost use Rattle.vb_parse.specs.ReadExpressions.{expressions};
 ghost use Rattle.vb_parse.specs.ReadLines as spec;
 ghost use Rattle.vb_parse.specs.ReadStatements.{blocks, blocks_inside};
-ghost use Rattle.vb_parse.specs.Runs.{Runs, rules};
+ghost use Rattle.vb_value.specs.Outcome.{Runs};
+ghost use Rattle.vb_parse.specs.Reader.{stopped_at};
+ghost use Rattle.vb_parse.specs.Depths.{rules};
 
-use crate::cursor::{Cursor, Stop};
+use crate::cursor::{Cursor, ReadStop};
 use crate::expression::expression;
 use crate::looser::Looser;
 use crate::simple::simple;
@@ -41,9 +43,10 @@ fn else_line(
     within: u32,
     head: Head,
     body: LineRead,
-) -> Result<LastRead, Stop>
-    ensures { Runs (spec.else_line (rules looser) (suc within) (blocks (rules looser) within) (body.2 || body.1)
-        head.line head.condition body cursor.old.rest.now) result cursor.new.rest.now }
+) -> Result<LastRead, ReadStop>
+    ensures { Runs result stopped_at cursor.new.rest.now
+        (spec.else_line (rules looser) (suc within) (blocks (rules looser) within) (body.2 || body.1) head.line
+        head.condition body cursor.old.rest.now) }
 {
     let Head { line, condition } = head;
     let (then, takes_else, ended) = body;
@@ -73,17 +76,19 @@ pub fn line_if_from(
     looser: Looser,
     within: u32,
     head: Head,
-) -> Result<LastRead, Stop>
-    ensures { Runs (spec.line_if_from (rules looser) (suc within) (blocks (rules looser) within)
-        head.line head.condition cursor.old.rest.now) result cursor.new.rest.now }
+) -> Result<LastRead, ReadStop>
+    ensures { Runs result stopped_at cursor.new.rest.now
+        (spec.line_if_from (rules looser) (suc within) (blocks (rules looser) within) head.line head.condition
+        cursor.old.rest.now) }
 {
     let body = line_of(alloc, cursor, looser, within)?;
     else_line(alloc, cursor, looser, within, head, body)
 }
 
 /// `If`, a condition and `Then`.
-pub fn if_head(alloc: Global, cursor: &mut Cursor<'_>, within: u32) -> Result<Head, Stop>
-    ensures { Runs (head_of (expressions within).expression cursor.old.rest.now) result cursor.new.rest.now }
+pub fn if_head(alloc: Global, cursor: &mut Cursor<'_>, within: u32) -> Result<Head, ReadStop>
+    ensures { Runs result stopped_at cursor.new.rest.now
+        (head_of (expressions within).expression cursor.old.rest.now) }
 {
     let line = cursor.keyword(Keyword::If)?;
     let condition = expression(alloc, cursor, within)?;
@@ -97,23 +102,23 @@ fn line_if(
     cursor: &mut Cursor<'_>,
     looser: Looser,
     depth: u32,
-) -> Result<LastRead, Stop>
-    ensures { Runs (spec.line_if (rules looser) depth (blocks_inside (rules looser) depth)
-        cursor.old.rest.now) result cursor.new.rest.now }
+) -> Result<LastRead, ReadStop>
+    ensures { Runs result stopped_at cursor.new.rest.now
+        (spec.line_if (rules looser) depth (blocks_inside (rules looser) depth) cursor.old.rest.now) }
 {
     if depth == 0 {
-        return Err(Stop::Fault);
+        return Err(ReadStop::Fault);
     }
     let head = if_head(alloc, cursor, depth - 1)?;
     line_if_from(alloc, cursor, looser, depth - 1, head)
 }
 
 /// Behind a statement of a line: nothing where another follows, else whether a ":" was taken.
-fn behind_simple(cursor: &mut Cursor<'_>) -> Result<Option<bool>, Stop>
-    ensures { Runs (reader.case (reader.sees (TokenKind.Symbol Symbol.Colon))
-        (reader.◌>>◌ (reader.symbol Symbol.Colon) (reader.case spec.begins_line_statement
-        (reader.pure None) (reader.pure (Some true))))
-        (reader.pure (Some false)) cursor.old.rest.now) result cursor.new.rest.now }
+fn behind_simple(cursor: &mut Cursor<'_>) -> Result<Option<bool>, ReadStop>
+    ensures { Runs result stopped_at cursor.new.rest.now
+        (reader.case (reader.sees (TokenKind.Symbol Symbol.Colon)) (reader.◌>>◌ (reader.symbol Symbol.Colon)
+        (reader.case spec.begins_line_statement (reader.pure None) (reader.pure (Some true)))) (reader.pure (Some
+        false)) cursor.old.rest.now) }
 {
     if !cursor.sees_symbol(Symbol::Colon) {
         return Ok(Some(false));
@@ -133,8 +138,8 @@ fn line_of(
     cursor: &mut Cursor<'_>,
     looser: Looser,
     depth: u32,
-) -> Result<LineRead, Stop>
-    ensures { Runs ((blocks (rules looser) depth).line cursor.old.rest.now) result cursor.new.rest.now }
+) -> Result<LineRead, ReadStop>
+    ensures { Runs result stopped_at cursor.new.rest.now ((blocks (rules looser) depth).line cursor.old.rest.now) }
 {
     let mut statements = List::new(alloc);
     while !cursor.sees_keyword(Keyword::If) {

@@ -6,9 +6,11 @@ ghost use Rattle.vb_parse.specs.ReadExpressions.{list_of};
 ghost use Rattle.vb_parse.specs.ReadLines.{line_if_from};
 ghost use Rattle.vb_parse.specs.ReadStatements as spec;
 ghost use Rattle.vb_parse.specs.Nests.{Nests};
-ghost use Rattle.vb_parse.specs.Runs.{Runs, inside, rules};
+ghost use Rattle.vb_value.specs.Outcome.{Runs};
+ghost use Rattle.vb_parse.specs.Reader.{stopped_at};
+ghost use Rattle.vb_parse.specs.Depths.{inside, rules};
 
-use crate::cursor::{Cursor, Stop};
+use crate::cursor::{Cursor, ReadStop};
 use crate::expression::{expression, list};
 use crate::line::{Head, LastRead, if_head, line_if_from};
 use crate::looser::Looser;
@@ -27,55 +29,54 @@ pub struct Place<F> {
     pub block: F,
 }
 
-impl<F: Fn(Global, &mut Cursor<'_>, Looser, u32) -> Result<List<Statement>, Stop>> Place<F> {
+impl<F: Fn(Global, &mut Cursor<'_>, Looser, u32) -> Result<List<Statement>, ReadStop>> Place<F> {
     /// A block inside the construct that opens here.
-    pub fn inner_block(&self, cursor: &mut Cursor<'_>) -> Result<List<Statement>, Stop>
+    pub fn inner_block(&self, cursor: &mut Cursor<'_>) -> Result<List<Statement>, ReadStop>
         requires nests { Nests self.now.looser self.now.depth (F.pre self.now.block) (F.post self.now.block) }
         requires opens { 0 < self.now.depth }
-        ensures { Runs ((spec.blocks_inside (rules self.now.looser) self.now.depth).block
-            cursor.old.rest.now) result cursor.new.rest.now }
+        ensures { Runs result stopped_at cursor.new.rest.now
+            ((spec.blocks_inside (rules self.now.looser) self.now.depth).block cursor.old.rest.now) }
     {
         (self.block)(self.alloc, cursor, self.looser, self.depth - 1)
     }
 
     /// An expression inside the construct that opens here.
-    pub fn expression(&self, cursor: &mut Cursor<'_>) -> Result<Expression, Stop>
+    pub fn expression(&self, cursor: &mut Cursor<'_>) -> Result<Expression, ReadStop>
         requires nests { Nests self.now.looser self.now.depth (F.pre self.now.block) (F.post self.now.block) }
         requires opens { 0 < self.now.depth }
-        ensures { Runs ((inside self.now.depth).expression
-            cursor.old.rest.now) result cursor.new.rest.now }
+        ensures { Runs result stopped_at cursor.new.rest.now
+            ((inside self.now.depth).expression cursor.old.rest.now) }
     {
         expression(self.alloc, cursor, self.depth - 1)
     }
 
     /// The expressions of this construct, with commas between.
-    pub fn expressions(&self, cursor: &mut Cursor<'_>) -> Result<List<Expression>, Stop>
+    pub fn expressions(&self, cursor: &mut Cursor<'_>) -> Result<List<Expression>, ReadStop>
         requires nests { Nests self.now.looser self.now.depth (F.pre self.now.block) (F.post self.now.block) }
         requires opens { 0 < self.now.depth }
-        ensures { Runs (list_of (inside self.now.depth).expression
-            cursor.old.rest.now) result cursor.new.rest.now }
+        ensures { Runs result stopped_at cursor.new.rest.now
+            (list_of (inside self.now.depth).expression cursor.old.rest.now) }
     {
         list(self.alloc, cursor, self.depth - 1)
     }
 
     /// The `If`, the condition and the `Then` of this construct.
-    pub fn head(&self, cursor: &mut Cursor<'_>) -> Result<Head, Stop>
+    pub fn head(&self, cursor: &mut Cursor<'_>) -> Result<Head, ReadStop>
         requires nests { Nests self.now.looser self.now.depth (F.pre self.now.block) (F.post self.now.block) }
         requires opens { 0 < self.now.depth }
-        ensures { Runs (head_of (inside self.now.depth).expression
-            cursor.old.rest.now) result cursor.new.rest.now }
+        ensures { Runs result stopped_at cursor.new.rest.now
+            (head_of (inside self.now.depth).expression cursor.old.rest.now) }
     {
         if_head(self.alloc, cursor, self.depth - 1)
     }
 
     /// What stands behind the `Then` of a one-line If.
-    pub fn line_if(&self, cursor: &mut Cursor<'_>, head: Head) -> Result<LastRead, Stop>
+    pub fn line_if(&self, cursor: &mut Cursor<'_>, head: Head) -> Result<LastRead, ReadStop>
         requires nests { Nests self.now.looser self.now.depth (F.pre self.now.block) (F.post self.now.block) }
         requires opens { 0 < self.now.depth }
-        ensures { Runs (line_if_from (rules self.now.looser) self.now.depth
-            (spec.blocks_inside (rules self.now.looser) self.now.depth)
-            head.line head.condition
-            cursor.old.rest.now) result cursor.new.rest.now }
+        ensures { Runs result stopped_at cursor.new.rest.now
+            (line_if_from (rules self.now.looser) self.now.depth (spec.blocks_inside (rules self.now.looser)
+            self.now.depth) head.line head.condition cursor.old.rest.now) }
     {
         line_if_from(self.alloc, cursor, self.looser, self.depth - 1, head)
     }

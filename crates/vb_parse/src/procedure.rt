@@ -1,9 +1,11 @@
 //! Reading procedures and properties, where `depth` more constructs may open.
 ghost use Rattle.std.specs.Prelude.{◌≡◌};
 ghost use Rattle.vb_parse.specs.ReadUnits as spec;
-ghost use Rattle.vb_parse.specs.Runs.{Runs, rules};
+ghost use Rattle.vb_value.specs.Outcome.{Runs};
+ghost use Rattle.vb_parse.specs.Reader.{stopped_at};
+ghost use Rattle.vb_parse.specs.Depths.{rules};
 
-use crate::cursor::{Cursor, Stop};
+use crate::cursor::{Cursor, ReadStop};
 use crate::declaration::{begun, parameters};
 use crate::looser::Looser;
 use crate::statement::block;
@@ -30,12 +32,12 @@ fn procedure_of(
     depth: u32,
     kind: ProcedureKind,
     before: Option<(u32, Access)>,
-) -> Result<Procedure, Stop>
-    ensures { Runs (spec.procedure_of (rules looser) kind depth before cursor.old.rest.now) result
-        cursor.new.rest.now }
+) -> Result<Procedure, ReadStop>
+    ensures { Runs result stopped_at cursor.new.rest.now
+        (spec.procedure_of (rules looser) kind depth before cursor.old.rest.now) }
 {
     if depth == 0 {
-        return Err(Stop::Fault);
+        return Err(ReadStop::Fault);
     }
     let word = procedure_word(kind);
     let line = cursor.keyword(word)?;
@@ -63,8 +65,9 @@ pub fn procedure(
     looser: Looser,
     depth: u32,
     before: Option<(u32, Access)>,
-) -> Result<Procedure, Stop>
-    ensures { Runs (spec.procedure (rules looser) depth before cursor.old.rest.now) result cursor.new.rest.now }
+) -> Result<Procedure, ReadStop>
+    ensures { Runs result stopped_at cursor.new.rest.now
+        (spec.procedure (rules looser) depth before cursor.old.rest.now) }
 {
     let kind = if cursor.sees_keyword(Keyword::Sub) {
         ProcedureKind::Sub
@@ -74,8 +77,8 @@ pub fn procedure(
     procedure_of(alloc, cursor, looser, depth, kind, before)
 }
 
-fn kind_of_property(cursor: &mut Cursor<'_>) -> Result<PropertyKind, Stop>
-    ensures { Runs (spec.kind_of_property cursor.old.rest.now) result cursor.new.rest.now }
+fn kind_of_property(cursor: &mut Cursor<'_>) -> Result<PropertyKind, ReadStop>
+    ensures { Runs result stopped_at cursor.new.rest.now (spec.kind_of_property cursor.old.rest.now) }
 {
     if cursor.sees_keyword(Keyword::Get) {
         cursor.keyword(Keyword::Get)?;
@@ -97,11 +100,12 @@ pub fn property_from(
     looser: Looser,
     depth: u32,
     first: (u32, Option<Access>),
-) -> Result<Property, Stop>
-    ensures { Runs (spec.property_from (rules looser) depth first cursor.old.rest.now) result cursor.new.rest.now }
+) -> Result<Property, ReadStop>
+    ensures { Runs result stopped_at cursor.new.rest.now
+        (spec.property_from (rules looser) depth first cursor.old.rest.now) }
 {
     if depth == 0 {
-        return Err(Stop::Fault);
+        return Err(ReadStop::Fault);
     }
     let kind = kind_of_property(cursor)?;
     let name = cursor.name()?;
@@ -127,11 +131,12 @@ pub fn property_alone(
     cursor: &mut Cursor<'_>,
     looser: Looser,
     depth: u32,
-) -> Result<Property, Stop>
-    ensures { Runs (spec.property_alone (rules looser) depth cursor.old.rest.now) result cursor.new.rest.now }
+) -> Result<Property, ReadStop>
+    ensures { Runs result stopped_at cursor.new.rest.now
+        (spec.property_alone (rules looser) depth cursor.old.rest.now) }
 {
     if depth == 0 {
-        return Err(Stop::Fault);
+        return Err(ReadStop::Fault);
     }
     let line = cursor.quoted(b"property")?;
     property_from(alloc, cursor, looser, depth, (line, None))

@@ -2,24 +2,27 @@
 ghost use Rattle.std.specs.Prelude.{◌≡◌, ◌<◌};
 ghost use Rattle.vb_parse.specs.ReadStatements as spec;
 ghost use Rattle.vb_parse.specs.Nests.{Nests};
-ghost use Rattle.vb_parse.specs.Runs.{Runs, inside, rules};
+ghost use Rattle.vb_value.specs.Outcome.{Runs};
+ghost use Rattle.vb_parse.specs.Reader.{stopped_at};
+ghost use Rattle.vb_parse.specs.Depths.{inside, rules};
 
 use crate::condition::{condition, loop_condition};
-use crate::cursor::{Cursor, Stop};
+use crate::cursor::{Cursor, ReadStop};
+use crate::ends::with_keyword;
 use crate::looser::Looser;
 use crate::place::Place;
 use std::alloc::Global;
 use vb_syntax::{Condition, Expression, Repetition, Statement, StatementKind};
 use vb_value::{Keyword, List, Symbol};
 
-impl<F: Fn(Global, &mut Cursor<'_>, Looser, u32) -> Result<List<Statement>, Stop>> Place<F> {
+impl<F: Fn(Global, &mut Cursor<'_>, Looser, u32) -> Result<List<Statement>, ReadStop>> Place<F> {
     /// The expression behind `Step`, or none.
-    fn step_part(&self, cursor: &mut Cursor<'_>) -> Result<Option<Expression>, Stop>
+    fn step_part(&self, cursor: &mut Cursor<'_>) -> Result<Option<Expression>, ReadStop>
         requires nests { Nests self.now.looser self.now.depth (F.pre self.now.block) (F.post self.now.block) }
         requires opens { 0 < self.now.depth }
-        ensures { Runs (spec.step_part (rules self.now.looser) self.now.depth
-            (spec.blocks_inside (rules self.now.looser) self.now.depth)
-            cursor.old.rest.now) result cursor.new.rest.now }
+        ensures { Runs result stopped_at cursor.new.rest.now
+            (spec.step_part (rules self.now.looser) self.now.depth (spec.blocks_inside (rules self.now.looser)
+            self.now.depth) cursor.old.rest.now) }
     {
         if cursor.sees_quoted(b"step") {
             cursor.quoted(b"step")?;
@@ -30,12 +33,12 @@ impl<F: Fn(Global, &mut Cursor<'_>, Looser, u32) -> Result<List<Statement>, Stop
     }
 
     /// A For over numbers behind that word.
-    fn for_from(&self, cursor: &mut Cursor<'_>, line: u32) -> Result<Statement, Stop>
+    fn for_from(&self, cursor: &mut Cursor<'_>, line: u32) -> Result<Statement, ReadStop>
         requires nests { Nests self.now.looser self.now.depth (F.pre self.now.block) (F.post self.now.block) }
         requires opens { 0 < self.now.depth }
-        ensures { Runs (spec.for_from (rules self.now.looser) self.now.depth
-            (spec.blocks_inside (rules self.now.looser) self.now.depth) line
-            cursor.old.rest.now) result cursor.new.rest.now }
+        ensures { Runs result stopped_at cursor.new.rest.now
+            (spec.for_from (rules self.now.looser) self.now.depth (spec.blocks_inside (rules self.now.looser)
+            self.now.depth) line cursor.old.rest.now) }
     {
         let variable = cursor.name()?;
         cursor.symbol(Symbol::Equal)?;
@@ -45,7 +48,6 @@ impl<F: Fn(Global, &mut Cursor<'_>, Looser, u32) -> Result<List<Statement>, Stop
         let step = self.step_part(cursor)?;
         cursor.end()?;
         let body = self.inner_block(cursor)?;
-        cursor.keyword(Keyword::Next)?;
         let kind = StatementKind::For {
             variable,
             from,
@@ -53,16 +55,16 @@ impl<F: Fn(Global, &mut Cursor<'_>, Looser, u32) -> Result<List<Statement>, Stop
             step,
             body,
         };
-        Ok(Statement { line, kind })
+        with_keyword(cursor, Statement { line, kind }, Keyword::Next)
     }
 
     /// A For Each behind the word `For`.
-    fn for_each_from(&self, cursor: &mut Cursor<'_>, line: u32) -> Result<Statement, Stop>
+    fn for_each_from(&self, cursor: &mut Cursor<'_>, line: u32) -> Result<Statement, ReadStop>
         requires nests { Nests self.now.looser self.now.depth (F.pre self.now.block) (F.post self.now.block) }
         requires opens { 0 < self.now.depth }
-        ensures { Runs (spec.for_each_from (rules self.now.looser) self.now.depth
-            (spec.blocks_inside (rules self.now.looser) self.now.depth) line
-            cursor.old.rest.now) result cursor.new.rest.now }
+        ensures { Runs result stopped_at cursor.new.rest.now
+            (spec.for_each_from (rules self.now.looser) self.now.depth (spec.blocks_inside (rules self.now.looser)
+            self.now.depth) line cursor.old.rest.now) }
     {
         cursor.keyword(Keyword::Each)?;
         let variable = cursor.name()?;
@@ -70,24 +72,23 @@ impl<F: Fn(Global, &mut Cursor<'_>, Looser, u32) -> Result<List<Statement>, Stop
         let group = self.expression(cursor)?;
         cursor.end()?;
         let body = self.inner_block(cursor)?;
-        cursor.keyword(Keyword::Next)?;
         let kind = StatementKind::ForEach {
             variable,
             group,
             body,
         };
-        Ok(Statement { line, kind })
+        with_keyword(cursor, Statement { line, kind }, Keyword::Next)
     }
 
     /// A `For` or a `For Each`, from its first word to its last.
-    pub fn for_loop(&self, cursor: &mut Cursor<'_>) -> Result<Statement, Stop>
+    pub fn for_loop(&self, cursor: &mut Cursor<'_>) -> Result<Statement, ReadStop>
         requires { Nests self.now.looser self.now.depth (F.pre self.now.block) (F.post self.now.block) }
-        ensures { Runs (spec.for (rules self.now.looser) self.now.depth
-            (spec.blocks_inside (rules self.now.looser) self.now.depth)
-            cursor.old.rest.now) result cursor.new.rest.now }
+        ensures { Runs result stopped_at cursor.new.rest.now
+            (spec.for (rules self.now.looser) self.now.depth (spec.blocks_inside (rules self.now.looser)
+            self.now.depth) cursor.old.rest.now) }
     {
         if self.depth == 0 {
-            return Err(Stop::Fault);
+            return Err(ReadStop::Fault);
         }
         let line = cursor.keyword(Keyword::For)?;
         if cursor.sees_keyword(Keyword::Each) {
@@ -97,39 +98,38 @@ impl<F: Fn(Global, &mut Cursor<'_>, Looser, u32) -> Result<List<Statement>, Stop
         }
     }
 
-    fn inner_condition(&self, cursor: &mut Cursor<'_>) -> Result<(u32, Condition), Stop>
+    fn inner_condition(&self, cursor: &mut Cursor<'_>) -> Result<(u32, Condition), ReadStop>
         requires nests { Nests self.now.looser self.now.depth (F.pre self.now.block) (F.post self.now.block) }
         requires opens { 0 < self.now.depth }
-        ensures { Runs (spec.condition (inside self.now.depth).expression
-            cursor.old.rest.now) result cursor.new.rest.now }
+        ensures { Runs result stopped_at cursor.new.rest.now
+            (spec.condition (inside self.now.depth).expression cursor.old.rest.now) }
     {
         condition(self.alloc, cursor, self.depth - 1)
     }
 
     /// A Do with a condition behind that word.
-    fn do_before(&self, cursor: &mut Cursor<'_>, line: u32) -> Result<Statement, Stop>
+    fn do_before(&self, cursor: &mut Cursor<'_>, line: u32) -> Result<Statement, ReadStop>
         requires nests { Nests self.now.looser self.now.depth (F.pre self.now.block) (F.post self.now.block) }
         requires opens { 0 < self.now.depth }
-        ensures { Runs (spec.do_before_from (rules self.now.looser) self.now.depth
-            (spec.blocks_inside (rules self.now.looser) self.now.depth) line
-            cursor.old.rest.now) result cursor.new.rest.now }
+        ensures { Runs result stopped_at cursor.new.rest.now
+            (spec.do_before_from (rules self.now.looser) self.now.depth (spec.blocks_inside (rules self.now.looser)
+            self.now.depth) line cursor.old.rest.now) }
     {
         let (_, condition) = self.inner_condition(cursor)?;
         cursor.end()?;
         let body = self.inner_block(cursor)?;
-        cursor.keyword(Keyword::Loop)?;
         let repetition = Repetition::Before(condition);
         let kind = StatementKind::Do { repetition, body };
-        Ok(Statement { line, kind })
+        with_keyword(cursor, Statement { line, kind }, Keyword::Loop)
     }
 
     /// A Do without a condition behind that word.
-    fn do_after(&self, cursor: &mut Cursor<'_>, line: u32) -> Result<Statement, Stop>
+    fn do_after(&self, cursor: &mut Cursor<'_>, line: u32) -> Result<Statement, ReadStop>
         requires nests { Nests self.now.looser self.now.depth (F.pre self.now.block) (F.post self.now.block) }
         requires opens { 0 < self.now.depth }
-        ensures { Runs (spec.do_after_from (rules self.now.looser) self.now.depth
-            (spec.blocks_inside (rules self.now.looser) self.now.depth) line
-            cursor.old.rest.now) result cursor.new.rest.now }
+        ensures { Runs result stopped_at cursor.new.rest.now
+            (spec.do_after_from (rules self.now.looser) self.now.depth (spec.blocks_inside (rules self.now.looser)
+            self.now.depth) line cursor.old.rest.now) }
     {
         cursor.end()?;
         let body = self.inner_block(cursor)?;
@@ -140,14 +140,14 @@ impl<F: Fn(Global, &mut Cursor<'_>, Looser, u32) -> Result<List<Statement>, Stop
     }
 
     /// A `Do`, from its first word to its last, or to the condition behind `Loop`.
-    pub fn do_loop(&self, cursor: &mut Cursor<'_>) -> Result<Statement, Stop>
+    pub fn do_loop(&self, cursor: &mut Cursor<'_>) -> Result<Statement, ReadStop>
         requires { Nests self.now.looser self.now.depth (F.pre self.now.block) (F.post self.now.block) }
-        ensures { Runs (spec.do_loop (rules self.now.looser) self.now.depth
-            (spec.blocks_inside (rules self.now.looser) self.now.depth)
-            cursor.old.rest.now) result cursor.new.rest.now }
+        ensures { Runs result stopped_at cursor.new.rest.now
+            (spec.do_loop (rules self.now.looser) self.now.depth (spec.blocks_inside (rules self.now.looser)
+            self.now.depth) cursor.old.rest.now) }
     {
         if self.depth == 0 {
-            return Err(Stop::Fault);
+            return Err(ReadStop::Fault);
         }
         let line = cursor.keyword(Keyword::Do)?;
         if cursor.sees_loop_word() {
@@ -158,21 +158,20 @@ impl<F: Fn(Global, &mut Cursor<'_>, Looser, u32) -> Result<List<Statement>, Stop
     }
 
     /// A `While`, from its first word to its last.
-    pub fn while_loop(&self, cursor: &mut Cursor<'_>) -> Result<Statement, Stop>
+    pub fn while_loop(&self, cursor: &mut Cursor<'_>) -> Result<Statement, ReadStop>
         requires { Nests self.now.looser self.now.depth (F.pre self.now.block) (F.post self.now.block) }
-        ensures { Runs (spec.while (rules self.now.looser) self.now.depth
-            (spec.blocks_inside (rules self.now.looser) self.now.depth)
-            cursor.old.rest.now) result cursor.new.rest.now }
+        ensures { Runs result stopped_at cursor.new.rest.now
+            (spec.while (rules self.now.looser) self.now.depth (spec.blocks_inside (rules self.now.looser)
+            self.now.depth) cursor.old.rest.now) }
     {
         if self.depth == 0 {
-            return Err(Stop::Fault);
+            return Err(ReadStop::Fault);
         }
         let line = cursor.keyword(Keyword::While)?;
         let condition = self.expression(cursor)?;
         cursor.end()?;
         let body = self.inner_block(cursor)?;
-        cursor.keyword(Keyword::Wend)?;
         let kind = StatementKind::While { condition, body };
-        Ok(Statement { line, kind })
+        with_keyword(cursor, Statement { line, kind }, Keyword::Wend)
     }
 }

@@ -6,10 +6,12 @@ ghost use Rattle.vb_parse.specs.Reader as reader;
 ghost use Rattle.vb_parse.specs.ReadExpressions.{list_of};
 ghost use Rattle.vb_parse.specs.ReadCalls as calls;
 ghost use Rattle.vb_parse.specs.ReadSimpleStatements as spec;
-ghost use Rattle.vb_parse.specs.Runs.{Runs, rules};
+ghost use Rattle.vb_value.specs.Outcome.{Runs};
+ghost use Rattle.vb_parse.specs.Reader.{stopped_at};
+ghost use Rattle.vb_parse.specs.Depths.{rules};
 
 use crate::call::{from_path, path_at, value_behind};
-use crate::cursor::{Cursor, Stop};
+use crate::cursor::{Cursor, ReadStop};
 use crate::declaration::{access_word, begun, constants, variables};
 use crate::expression::{expression, list};
 use crate::looser::Looser;
@@ -22,8 +24,8 @@ pub fn const_from(
     alloc: Global,
     cursor: &mut Cursor<'_>,
     before: Option<(u32, Access)>,
-) -> Result<Statement, Stop>
-    ensures { Runs (spec.const_from before cursor.old.rest.now) result cursor.new.rest.now }
+) -> Result<Statement, ReadStop>
+    ensures { Runs result stopped_at cursor.new.rest.now (spec.const_from before cursor.old.rest.now) }
 {
     let line = cursor.keyword(Keyword::Const)?;
     let constants = constants(alloc, cursor)?;
@@ -33,8 +35,8 @@ pub fn const_from(
 }
 
 /// Constants, and the word before them.
-pub fn const_statement(alloc: Global, cursor: &mut Cursor<'_>) -> Result<Statement, Stop>
-    ensures { Runs (spec.const cursor.old.rest.now) result cursor.new.rest.now }
+pub fn const_statement(alloc: Global, cursor: &mut Cursor<'_>) -> Result<Statement, ReadStop>
+    ensures { Runs result stopped_at cursor.new.rest.now (spec.const cursor.old.rest.now) }
 {
     if cursor.sees_access() {
         let before = access_word(cursor)?;
@@ -44,8 +46,8 @@ pub fn const_statement(alloc: Global, cursor: &mut Cursor<'_>) -> Result<Stateme
     }
 }
 
-fn exit_kind(cursor: &mut Cursor<'_>) -> Result<ExitKind, Stop>
-    ensures { Runs (spec.exit_kind cursor.old.rest.now) result cursor.new.rest.now }
+fn exit_kind(cursor: &mut Cursor<'_>) -> Result<ExitKind, ReadStop>
+    ensures { Runs result stopped_at cursor.new.rest.now (spec.exit_kind cursor.old.rest.now) }
 {
     if cursor.sees_keyword(Keyword::Do) {
         cursor.keyword(Keyword::Do)?;
@@ -65,8 +67,8 @@ fn exit_kind(cursor: &mut Cursor<'_>) -> Result<ExitKind, Stop>
     }
 }
 
-fn exit_statement(cursor: &mut Cursor<'_>) -> Result<Statement, Stop>
-    ensures { Runs (spec.exit_statement cursor.old.rest.now) result cursor.new.rest.now }
+fn exit_statement(cursor: &mut Cursor<'_>) -> Result<Statement, ReadStop>
+    ensures { Runs result stopped_at cursor.new.rest.now (spec.exit_statement cursor.old.rest.now) }
 {
     let line = cursor.keyword(Keyword::Exit)?;
     let kind = exit_kind(cursor)?;
@@ -74,8 +76,8 @@ fn exit_statement(cursor: &mut Cursor<'_>) -> Result<Statement, Stop>
     Ok(Statement { line, kind })
 }
 
-fn on_error(cursor: &mut Cursor<'_>) -> Result<Statement, Stop>
-    ensures { Runs (spec.on_error cursor.old.rest.now) result cursor.new.rest.now }
+fn on_error(cursor: &mut Cursor<'_>) -> Result<Statement, ReadStop>
+    ensures { Runs result stopped_at cursor.new.rest.now (spec.on_error cursor.old.rest.now) }
 {
     let line = cursor.keyword(Keyword::On)?;
     cursor.quoted(b"error")?;
@@ -92,8 +94,8 @@ fn on_error(cursor: &mut Cursor<'_>) -> Result<Statement, Stop>
     }
 }
 
-fn names(alloc: Global, cursor: &mut Cursor<'_>) -> Result<List<Text>, Stop>
-    ensures { Runs (list_of (reader.one name_of) cursor.old.rest.now) result cursor.new.rest.now }
+fn names(alloc: Global, cursor: &mut Cursor<'_>) -> Result<List<Text>, ReadStop>
+    ensures { Runs result stopped_at cursor.new.rest.now (list_of (reader.one name_of) cursor.old.rest.now) }
 {
     let mut found = List::new(alloc);
     found.push(cursor.name()?)?;
@@ -104,8 +106,8 @@ fn names(alloc: Global, cursor: &mut Cursor<'_>) -> Result<List<Text>, Stop>
     Ok(found)
 }
 
-fn erase(alloc: Global, cursor: &mut Cursor<'_>) -> Result<Statement, Stop>
-    ensures { Runs (spec.erase cursor.old.rest.now) result cursor.new.rest.now }
+fn erase(alloc: Global, cursor: &mut Cursor<'_>) -> Result<Statement, ReadStop>
+    ensures { Runs result stopped_at cursor.new.rest.now (spec.erase cursor.old.rest.now) }
 {
     let line = cursor.keyword(Keyword::Erase)?;
     let names = names(alloc, cursor)?;
@@ -113,16 +115,16 @@ fn erase(alloc: Global, cursor: &mut Cursor<'_>) -> Result<Statement, Stop>
     Ok(Statement { line, kind })
 }
 
-fn page_text(cursor: &mut Cursor<'_>) -> Result<Statement, Stop>
-    ensures { Runs (spec.page_text cursor.old.rest.now) result cursor.new.rest.now }
+fn page_text(cursor: &mut Cursor<'_>) -> Result<Statement, ReadStop>
+    ensures { Runs result stopped_at cursor.new.rest.now (spec.page_text cursor.old.rest.now) }
 {
     let (line, text) = cursor.page_text()?;
     let kind = StatementKind::PageText { text };
     Ok(Statement { line, kind })
 }
 
-fn dim(alloc: Global, cursor: &mut Cursor<'_>, depth: u32) -> Result<Statement, Stop>
-    ensures { Runs (spec.dim depth cursor.old.rest.now) result cursor.new.rest.now }
+fn dim(alloc: Global, cursor: &mut Cursor<'_>, depth: u32) -> Result<Statement, ReadStop>
+    ensures { Runs result stopped_at cursor.new.rest.now (spec.dim depth cursor.old.rest.now) }
 {
     let line = cursor.keyword(Keyword::Dim)?;
     let variables = variables(alloc, cursor, depth)?;
@@ -135,11 +137,11 @@ fn resized_bounds(
     alloc: Global,
     cursor: &mut Cursor<'_>,
     depth: u32,
-) -> Result<List<Expression>, Stop>
-    ensures { Runs (spec.resized_bounds depth cursor.old.rest.now) result cursor.new.rest.now }
+) -> Result<List<Expression>, ReadStop>
+    ensures { Runs result stopped_at cursor.new.rest.now (spec.resized_bounds depth cursor.old.rest.now) }
 {
     if depth == 0 {
-        return Err(Stop::Fault);
+        return Err(ReadStop::Fault);
     }
     cursor.symbol(Symbol::Open)?;
     let found = list(alloc, cursor, depth - 1)?;
@@ -147,16 +149,16 @@ fn resized_bounds(
     Ok(found)
 }
 
-fn resized(alloc: Global, cursor: &mut Cursor<'_>, depth: u32) -> Result<Resized, Stop>
-    ensures { Runs (spec.resized depth cursor.old.rest.now) result cursor.new.rest.now }
+fn resized(alloc: Global, cursor: &mut Cursor<'_>, depth: u32) -> Result<Resized, ReadStop>
+    ensures { Runs result stopped_at cursor.new.rest.now (spec.resized depth cursor.old.rest.now) }
 {
     let name = cursor.name()?;
     let bounds = resized_bounds(alloc, cursor, depth)?;
     Ok(Resized { name, bounds })
 }
 
-fn arrays(alloc: Global, cursor: &mut Cursor<'_>, depth: u32) -> Result<List<Resized>, Stop>
-    ensures { Runs (list_of (spec.resized depth) cursor.old.rest.now) result cursor.new.rest.now }
+fn arrays(alloc: Global, cursor: &mut Cursor<'_>, depth: u32) -> Result<List<Resized>, ReadStop>
+    ensures { Runs result stopped_at cursor.new.rest.now (list_of (spec.resized depth) cursor.old.rest.now) }
 {
     let mut found = List::new(alloc);
     found.push(resized(alloc, cursor, depth)?)?;
@@ -167,8 +169,8 @@ fn arrays(alloc: Global, cursor: &mut Cursor<'_>, depth: u32) -> Result<List<Res
     Ok(found)
 }
 
-fn preserve(cursor: &mut Cursor<'_>) -> Result<bool, Stop>
-    ensures { Runs (spec.preserve 0 cursor.old.rest.now) result cursor.new.rest.now }
+fn preserve(cursor: &mut Cursor<'_>) -> Result<bool, ReadStop>
+    ensures { Runs result stopped_at cursor.new.rest.now (spec.preserve 0 cursor.old.rest.now) }
 {
     if cursor.sees_keyword(Keyword::Preserve) {
         cursor.keyword(Keyword::Preserve)?;
@@ -178,11 +180,11 @@ fn preserve(cursor: &mut Cursor<'_>) -> Result<bool, Stop>
     }
 }
 
-fn redim(alloc: Global, cursor: &mut Cursor<'_>, depth: u32) -> Result<Statement, Stop>
-    ensures { Runs (spec.redim depth cursor.old.rest.now) result cursor.new.rest.now }
+fn redim(alloc: Global, cursor: &mut Cursor<'_>, depth: u32) -> Result<Statement, ReadStop>
+    ensures { Runs result stopped_at cursor.new.rest.now (spec.redim depth cursor.old.rest.now) }
 {
     if depth == 0 {
-        return Err(Stop::Fault);
+        return Err(ReadStop::Fault);
     }
     let line = cursor.keyword(Keyword::ReDim)?;
     let preserve = preserve(cursor)?;
@@ -191,8 +193,8 @@ fn redim(alloc: Global, cursor: &mut Cursor<'_>, depth: u32) -> Result<Statement
     Ok(Statement { line, kind })
 }
 
-fn set(alloc: Global, cursor: &mut Cursor<'_>, depth: u32) -> Result<Statement, Stop>
-    ensures { Runs (spec.set depth cursor.old.rest.now) result cursor.new.rest.now }
+fn set(alloc: Global, cursor: &mut Cursor<'_>, depth: u32) -> Result<Statement, ReadStop>
+    ensures { Runs result stopped_at cursor.new.rest.now (spec.set depth cursor.old.rest.now) }
 {
     let line = cursor.keyword(Keyword::Set)?;
     let (_, head, steps) = path_at(alloc, cursor, depth)?;
@@ -202,8 +204,8 @@ fn set(alloc: Global, cursor: &mut Cursor<'_>, depth: u32) -> Result<Statement, 
     Ok(Statement { line, kind })
 }
 
-fn call_path(alloc: Global, cursor: &mut Cursor<'_>, depth: u32) -> Result<Statement, Stop>
-    ensures { Runs (spec.call_path depth cursor.old.rest.now) result cursor.new.rest.now }
+fn call_path(alloc: Global, cursor: &mut Cursor<'_>, depth: u32) -> Result<Statement, ReadStop>
+    ensures { Runs result stopped_at cursor.new.rest.now (spec.call_path depth cursor.old.rest.now) }
 {
     let line = cursor.keyword(Keyword::Call)?;
     let (_, head, steps) = path_at(alloc, cursor, depth)?;
@@ -212,8 +214,8 @@ fn call_path(alloc: Global, cursor: &mut Cursor<'_>, depth: u32) -> Result<State
     Ok(Statement { line, kind })
 }
 
-fn page_write(alloc: Global, cursor: &mut Cursor<'_>, depth: u32) -> Result<Statement, Stop>
-    ensures { Runs (spec.page_write depth cursor.old.rest.now) result cursor.new.rest.now }
+fn page_write(alloc: Global, cursor: &mut Cursor<'_>, depth: u32) -> Result<Statement, ReadStop>
+    ensures { Runs result stopped_at cursor.new.rest.now (spec.page_write depth cursor.old.rest.now) }
 {
     let line = cursor.word(&TokenKind::PageWrite)?;
     let value = expression(alloc, cursor, depth)?;
@@ -227,10 +229,10 @@ fn page_or_path(
     cursor: &mut Cursor<'_>,
     looser: Looser,
     depth: u32,
-) -> Result<Statement, Stop>
-    ensures { Runs (reader.case (reader.sees (TokenKind.PageText [])) spec.page_text
-        (reader.case (reader.sees TokenKind.PageWrite) (spec.page_write depth)
-        (calls.from_path (rules looser) depth)) cursor.old.rest.now) result cursor.new.rest.now }
+) -> Result<Statement, ReadStop>
+    ensures { Runs result stopped_at cursor.new.rest.now
+        (reader.case (reader.sees (TokenKind.PageText [])) spec.page_text (reader.case (reader.sees
+        TokenKind.PageWrite) (spec.page_write depth) (calls.from_path (rules looser) depth)) cursor.old.rest.now) }
 {
     if cursor.sees_page_text() {
         page_text(cursor)
@@ -247,8 +249,8 @@ pub fn simple(
     cursor: &mut Cursor<'_>,
     looser: Looser,
     depth: u32,
-) -> Result<Statement, Stop>
-    ensures { Runs (spec.simple (rules looser) depth cursor.old.rest.now) result cursor.new.rest.now }
+) -> Result<Statement, ReadStop>
+    ensures { Runs result stopped_at cursor.new.rest.now (spec.simple (rules looser) depth cursor.old.rest.now) }
 {
     if cursor.sees_keyword(Keyword::Dim) {
         dim(alloc, cursor, depth)

@@ -4,10 +4,12 @@ ghost use Rattle.vb_parse.specs.Reader as reader;
 ghost use Rattle.vb_parse.specs.ReadLines.{«end»};
 ghost use Rattle.vb_parse.specs.ReadStatements as spec;
 ghost use Rattle.vb_parse.specs.Nests.{Nests};
-ghost use Rattle.vb_parse.specs.Runs.{Runs, rules};
+ghost use Rattle.vb_value.specs.Outcome.{Runs};
+ghost use Rattle.vb_parse.specs.Reader.{stopped_at};
+ghost use Rattle.vb_parse.specs.Depths.{rules};
 
-use crate::cursor::{Cursor, Stop};
-use crate::ends::with_end;
+use crate::cursor::{Cursor, ReadStop};
+use crate::ends::{with_end, with_last};
 use crate::looser::Looser;
 use crate::place::Place;
 use crate::simple::{const_statement, simple};
@@ -15,32 +17,30 @@ use std::alloc::Global;
 use vb_syntax::{Statement, StatementKind};
 use vb_value::{Keyword, List};
 
-impl<F: Fn(Global, &mut Cursor<'_>, Looser, u32) -> Result<List<Statement>, Stop>> Place<F> {
-    fn with_block(&self, cursor: &mut Cursor<'_>) -> Result<Statement, Stop>
+impl<F: Fn(Global, &mut Cursor<'_>, Looser, u32) -> Result<List<Statement>, ReadStop>> Place<F> {
+    fn with_block(&self, cursor: &mut Cursor<'_>) -> Result<Statement, ReadStop>
         requires { Nests self.now.looser self.now.depth (F.pre self.now.block) (F.post self.now.block) }
-        ensures { Runs (spec.with_block (rules self.now.looser) self.now.depth
-            (spec.blocks_inside (rules self.now.looser) self.now.depth)
-            cursor.old.rest.now) result cursor.new.rest.now }
+        ensures { Runs result stopped_at cursor.new.rest.now
+            (spec.with_block (rules self.now.looser) self.now.depth (spec.blocks_inside (rules self.now.looser)
+            self.now.depth) cursor.old.rest.now) }
     {
         if self.depth == 0 {
-            return Err(Stop::Fault);
+            return Err(ReadStop::Fault);
         }
         let line = cursor.keyword(Keyword::With)?;
         let subject = self.expression(cursor)?;
         cursor.end()?;
         let body = self.inner_block(cursor)?;
-        cursor.keyword(Keyword::End)?;
-        cursor.keyword(Keyword::With)?;
         let kind = StatementKind::With { subject, body };
-        Ok(Statement { line, kind })
+        with_last(cursor, Statement { line, kind }, Keyword::With)
     }
 
     /// A statement other than If, or a constant.
-    fn other(&self, cursor: &mut Cursor<'_>) -> Result<Statement, Stop>
+    fn other(&self, cursor: &mut Cursor<'_>) -> Result<Statement, ReadStop>
         requires { Nests self.now.looser self.now.depth (F.pre self.now.block) (F.post self.now.block) }
-        ensures { Runs (spec.other (rules self.now.looser) self.now.depth
-            (spec.blocks_inside (rules self.now.looser) self.now.depth)
-            cursor.old.rest.now) result cursor.new.rest.now }
+        ensures { Runs result stopped_at cursor.new.rest.now
+            (spec.other (rules self.now.looser) self.now.depth (spec.blocks_inside (rules self.now.looser)
+            self.now.depth) cursor.old.rest.now) }
     {
         if cursor.sees_const() {
             const_statement(self.alloc, cursor)
@@ -60,23 +60,22 @@ impl<F: Fn(Global, &mut Cursor<'_>, Looser, u32) -> Result<List<Statement>, Stop
     }
 
     /// A statement other than If, or a constant, and what ends it.
-    fn ended(&self, cursor: &mut Cursor<'_>) -> Result<Statement, Stop>
+    fn ended(&self, cursor: &mut Cursor<'_>) -> Result<Statement, ReadStop>
         requires { Nests self.now.looser self.now.depth (F.pre self.now.block) (F.post self.now.block) }
-        ensures { Runs ((reader.◌>>=◌ (spec.other (rules self.now.looser) self.now.depth
-            (spec.blocks_inside (rules self.now.looser) self.now.depth))
-            (λ found. reader.◌>>◌ «end» (reader.pure found)))
-            cursor.old.rest.now) result cursor.new.rest.now }
+        ensures { Runs result stopped_at cursor.new.rest.now
+            ((reader.◌>>=◌ (spec.other (rules self.now.looser) self.now.depth (spec.blocks_inside (rules
+            self.now.looser) self.now.depth)) (λ found. reader.◌>>◌ «end» (reader.pure found))) cursor.old.rest.now) }
     {
         let found = self.other(cursor)?;
         with_end(cursor, found)
     }
 
     /// A statement or a constant, and what ends it.
-    fn sentence(&self, cursor: &mut Cursor<'_>) -> Result<Statement, Stop>
+    fn sentence(&self, cursor: &mut Cursor<'_>) -> Result<Statement, ReadStop>
         requires { Nests self.now.looser self.now.depth (F.pre self.now.block) (F.post self.now.block) }
-        ensures { Runs (spec.sentence (rules self.now.looser) self.now.depth
-            (spec.blocks_inside (rules self.now.looser) self.now.depth)
-            cursor.old.rest.now) result cursor.new.rest.now }
+        ensures { Runs result stopped_at cursor.new.rest.now
+            (spec.sentence (rules self.now.looser) self.now.depth (spec.blocks_inside (rules self.now.looser)
+            self.now.depth) cursor.old.rest.now) }
     {
         if cursor.sees_keyword(Keyword::If) {
             self.if_sentence(cursor)
@@ -92,9 +91,9 @@ pub fn sentence(
     cursor: &mut Cursor<'_>,
     looser: Looser,
     depth: u32,
-) -> Result<Statement, Stop>
-    ensures { Runs (spec.sentence (rules looser) depth (spec.blocks_inside (rules looser) depth)
-        cursor.old.rest.now) result cursor.new.rest.now }
+) -> Result<Statement, ReadStop>
+    ensures { Runs result stopped_at cursor.new.rest.now
+        (spec.sentence (rules looser) depth (spec.blocks_inside (rules looser) depth) cursor.old.rest.now) }
 {
     Place {
         alloc,
@@ -111,8 +110,9 @@ pub fn block(
     cursor: &mut Cursor<'_>,
     looser: Looser,
     depth: u32,
-) -> Result<List<Statement>, Stop>
-    ensures { Runs ((spec.blocks (rules looser) depth).block cursor.old.rest.now) result cursor.new.rest.now }
+) -> Result<List<Statement>, ReadStop>
+    ensures { Runs result stopped_at cursor.new.rest.now
+        ((spec.blocks (rules looser) depth).block cursor.old.rest.now) }
 {
     let place = Place {
         alloc,

@@ -1,12 +1,15 @@
 //! Reading procedures, classes and whole scripts. Each function reads what the rule of its name spells, where
 //! `depth` more constructs may open. What a word before it may begin is read from behind that word.
-ghost use Rattle.std.specs.Prelude.{◌≡◌};
+ghost use Rattle.std.specs.Prelude.{◌≡◌, ◌++◌};
 ghost use Rattle.vb_syntax.specs.grammar.Units.{strict};
+ghost use Rattle.vb_parse.specs.Reader as reader;
 ghost use Rattle.vb_parse.specs.ReadUnits as spec;
-ghost use Rattle.vb_parse.specs.Runs.{Runs, rules};
+ghost use Rattle.vb_value.specs.Outcome.{Runs};
+ghost use Rattle.vb_parse.specs.Reader.{stopped_at};
+ghost use Rattle.vb_parse.specs.Depths.{rules};
 
 use crate::class::class;
-use crate::cursor::{Cursor, Stop};
+use crate::cursor::{Cursor, ReadStop};
 use crate::declaration::{access_word, variables};
 use crate::ends::with_end;
 use crate::looser::Looser;
@@ -14,7 +17,7 @@ use crate::procedure::procedure;
 use crate::simple::const_from;
 use crate::statement::sentence;
 use std::alloc::Global;
-use vb_syntax::{Access, Item, Unit};
+use vb_syntax::{Access, Item, Statement, StatementKind, Unit};
 use vb_value::{Keyword, List};
 
 /// What stands behind `Public` or `Private` at the top.
@@ -24,8 +27,9 @@ fn item_behind(
     looser: Looser,
     depth: u32,
     before: (u32, Access),
-) -> Result<Item, Stop>
-    ensures { Runs (spec.item_behind (rules looser) depth before cursor.old.rest.now) result cursor.new.rest.now }
+) -> Result<Item, ReadStop>
+    ensures { Runs result stopped_at cursor.new.rest.now
+        (spec.item_behind (rules looser) depth before cursor.old.rest.now) }
 {
     if cursor.sees_keyword(Keyword::Const) {
         Ok(Item::Statement(const_from(alloc, cursor, Some(before))?))
@@ -48,8 +52,8 @@ fn other_item(
     cursor: &mut Cursor<'_>,
     looser: Looser,
     depth: u32,
-) -> Result<Item, Stop>
-    ensures { Runs (spec.other_item (rules looser) depth cursor.old.rest.now) result cursor.new.rest.now }
+) -> Result<Item, ReadStop>
+    ensures { Runs result stopped_at cursor.new.rest.now (spec.other_item (rules looser) depth cursor.old.rest.now) }
 {
     if cursor.sees_access() {
         let before = access_word(cursor)?;
@@ -67,8 +71,8 @@ fn item_line(
     cursor: &mut Cursor<'_>,
     looser: Looser,
     depth: u32,
-) -> Result<Item, Stop>
-    ensures { Runs (spec.item_line (rules looser) depth cursor.old.rest.now) result cursor.new.rest.now }
+) -> Result<Item, ReadStop>
+    ensures { Runs result stopped_at cursor.new.rest.now (spec.item_line (rules looser) depth cursor.old.rest.now) }
 {
     if !cursor.sees_other_item() {
         return Ok(Item::Statement(sentence(alloc, cursor, looser, depth)?));
@@ -77,15 +81,17 @@ fn item_line(
     with_end(cursor, found)
 }
 
+/// The items that come next, behind those that were found.
 fn items(
     alloc: Global,
     cursor: &mut Cursor<'_>,
     looser: Looser,
     depth: u32,
-) -> Result<List<Item>, Stop>
-    ensures { Runs (spec.items (rules looser) depth cursor.old.rest.now) result cursor.new.rest.now }
+    mut found: List<Item>,
+) -> Result<List<Item>, ReadStop>
+    ensures { Runs result stopped_at cursor.new.rest.now
+        ((reader.◌>>=◌ (spec.items (rules looser) depth) (λ more. reader.pure (found ++ more))) cursor.old.rest.now) }
 {
-    let mut found = List::new(alloc);
     while cursor.begins_item() {
         found.push(item_line(alloc, cursor, looser, depth)?)?;
     }
@@ -93,8 +99,8 @@ fn items(
 }
 
 /// Takes what ends nothing at the beginning of a script.
-fn first_end(cursor: &mut Cursor<'_>) -> Result<(), Stop>
-    ensures { Runs (spec.first_end strict cursor.old.rest.now) result cursor.new.rest.now }
+fn first_end(cursor: &mut Cursor<'_>) -> Result<(), ReadStop>
+    ensures { Runs result stopped_at cursor.new.rest.now (spec.first_end strict cursor.old.rest.now) }
 {
     if cursor.sees_break() {
         cursor.end()
@@ -104,8 +110,8 @@ fn first_end(cursor: &mut Cursor<'_>) -> Result<(), Stop>
 }
 
 /// Takes `Option Explicit`, and answers whether it stands there.
-fn option_explicit(cursor: &mut Cursor<'_>) -> Result<bool, Stop>
-    ensures { Runs (spec.option_explicit strict cursor.old.rest.now) result cursor.new.rest.now }
+fn option_explicit(cursor: &mut Cursor<'_>) -> Result<bool, ReadStop>
+    ensures { Runs result stopped_at cursor.new.rest.now (spec.option_explicit strict cursor.old.rest.now) }
 {
     if cursor.sees_keyword(Keyword::Option) {
         cursor.keyword(Keyword::Option)?;
@@ -117,18 +123,51 @@ fn option_explicit(cursor: &mut Cursor<'_>) -> Result<bool, Stop>
     }
 }
 
+/// A blank text as an item, and what ends it.
+fn blank_item(cursor: &mut Cursor<'_>) -> Result<Item, ReadStop>
+    ensures { Runs result stopped_at cursor.new.rest.now (spec.blank_item cursor.old.rest.now) }
+{
+    let (line, text) = cursor.blank_text()?;
+    let kind = StatementKind::PageText { text };
+    with_end(cursor, Item::Statement(Statement { line, kind }))
+}
+
+/// The blank texts that a script begins with.
+fn blank_items(alloc: Global, cursor: &mut Cursor<'_>) -> Result<List<Item>, ReadStop>
+    ensures { Runs result stopped_at cursor.new.rest.now (spec.blank_items cursor.old.rest.now) }
+{
+    let mut found = List::new(alloc);
+    while cursor.sees_blank_text() {
+        found.push(blank_item(cursor)?)?;
+    }
+    Ok(found)
+}
+
+/// The blank texts of which the script keeps those with no `Option Explicit` behind them.
+fn kept(alloc: Global, option_explicit: bool, first: List<Item>) -> List<Item>
+    ensures { result ≡ spec.kept option_explicit first }
+{
+    if option_explicit {
+        List::new(alloc)
+    } else {
+        first
+    }
+}
+
 /// A script.
 pub fn unit(
     alloc: Global,
     cursor: &mut Cursor<'_>,
     looser: Looser,
     depth: u32,
-) -> Result<Unit, Stop>
-    ensures { Runs (spec.unit (rules looser) depth cursor.old.rest.now) result cursor.new.rest.now }
+) -> Result<Unit, ReadStop>
+    ensures { Runs result stopped_at cursor.new.rest.now (spec.unit (rules looser) depth cursor.old.rest.now) }
 {
     first_end(cursor)?;
+    let first = blank_items(alloc, cursor)?;
     let option_explicit = option_explicit(cursor)?;
-    let items = items(alloc, cursor, looser, depth)?;
+    let found = kept(alloc, option_explicit, first);
+    let items = items(alloc, cursor, looser, depth, found)?;
     Ok(Unit {
         option_explicit,
         items,

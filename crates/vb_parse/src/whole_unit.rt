@@ -1,21 +1,25 @@
 //! The parser of scripts: a whole list of words, read to its end.
-ghost use Rattle.std.specs.Prelude.{◌≡◌, IfOk};
+ghost use Rattle.std.specs.Prelude.{◌≡◌, ℕ, IfOk};
 ghost use Rattle.vb_syntax.specs.declared.unit.Unit.{Unit as Script};
+ghost use Rattle.vb_syntax.specs.grammar.Faults.{fault_line, last_line};
 ghost use Rattle.vb_syntax.specs.grammar.Units.{Derives};
-ghost use Rattle.vb_parse.specs.Outcome.{Finds, HasFault, IsUnitKind, Leaves, OnFault};
+ghost use Rattle.vb_value.specs.Outcome.{Answers, OnFault, Runs};
+ghost use Rattle.vb_parse.specs.Outcome.{HasFault, Leaves};
 ghost use Rattle.vb_parse.specs.Outcome as spec;
+ghost use Rattle.vb_parse.specs.Reader.{stopped_at};
 ghost use Rattle.vb_parse.specs.ReadUnits.{whole_unit};
-ghost use Rattle.vb_parse.specs.Runs.{Runs, rules};
+ghost use Rattle.vb_parse.specs.Depths.{rules};
 
-use crate::cursor::{Cursor, Stop};
+use crate::cursor::{Cursor, ReadStop};
 use crate::fault::{ParseFault, ParseStop};
 use crate::looser::Looser;
 use crate::unit::unit;
-use crate::whole_expression::{DEPTH, fault_line};
 use std::alloc::Global;
 use vb_syntax::Unit;
-use vb_value::{Memory, Token};
+use vb_value::{Memory, Stop, Token};
 
+/// How many constructs may be open at one place.
+const DEPTH: u32 = 200;
 /// The grammar as it is.
 const STRICT: Looser = Looser {
     several: false,
@@ -26,7 +30,7 @@ const SEVERAL: Looser = Looser {
     several: true,
     texts: false,
 };
-/// The grammar with text inside Class and in the head of Select.
+/// The grammar with any text inside Class and in the head of Select.
 const TEXTS: Looser = Looser {
     several: false,
     texts: true,
@@ -34,12 +38,39 @@ const TEXTS: Looser = Looser {
 
 /// Reads a whole list of words as a script, or leaves the words from the faulty one on.
 #[tactic(auto, unfolding(crate::specs::ReadUnits::whole_unit))]
-fn read(alloc: Global, cursor: &mut Cursor<'_>, looser: Looser, depth: u32) -> Result<Unit, Stop>
-    ensures { Runs (whole_unit (rules looser) depth cursor.old.rest.now) result cursor.new.rest.now }
+fn read(
+    alloc: Global,
+    cursor: &mut Cursor<'_>,
+    looser: Looser,
+    depth: u32,
+) -> Result<Unit, ReadStop>
+    ensures { Runs result stopped_at cursor.new.rest.now (whole_unit (rules looser) depth cursor.old.rest.now) }
 {
     let found = unit(alloc, cursor, looser, depth)?;
     cursor.at_end()?;
     Ok(found)
+}
+
+/// The line of the last of some words.
+fn last_line(mut tokens: &[Token]) -> u32
+    ensures { result ≡ last_line 1 tokens.now }
+{
+    let mut line = 1;
+    while let [token, rest @ ..] = tokens {
+        line = token.line;
+        tokens = rest;
+    }
+    line
+}
+
+/// The line of the first of the words that are left, or of the last of all.
+fn fault_line(tokens: &[Token], left: &[Token]) -> u32
+    ensures { result ≡ fault_line tokens.now left.now }
+{
+    match left {
+        [token, ..] => token.line,
+        [] => last_line(tokens),
+    }
 }
 
 /// How many words are left where this is allowed.
@@ -49,8 +80,8 @@ fn left_by(alloc: Global, tokens: &[Token], looser: Looser, depth: u32) -> Resul
     let mut cursor = Cursor { rest: tokens };
     match read(alloc, &mut cursor, looser, depth) {
         Ok(_) => Ok(0),
-        Err(Stop::Fault) => Ok(cursor.rest.len()),
-        Err(Stop::Memory) => Err(Memory),
+        Err(ReadStop::Fault) => Ok(cursor.rest.len()),
+        Err(ReadStop::Memory) => Err(Memory),
     }
 }
 
@@ -69,28 +100,41 @@ fn kind_by(left: usize, deeper: usize, several: usize, texts: usize) -> ParseFau
     }
 }
 
-/// Reads the words of a script, of which at most 200 constructs may be open at one place: blocks, bodies of procedures
-/// and classes, one-line Ifs, parentheses, `Not` and the leading minus (VBScript 5.6 language reference,
-/// "Statements"). At a fault it reads up to three times more, to tell the fault's kind.
+/// Reads the words of a script, or finds the first with which no script goes on.
 #[tactic(auto, using(crate::proofs::ParseScript::script_sound, crate::proofs::ParseScript::script_fault))]
-pub fn parse(alloc: Global, tokens: &[Token]) -> Result<Unit, ParseStop>
+fn script(alloc: Global, tokens: &[Token]) -> Result<Unit, ParseStop>
     ensures unit { IfOk result (λ unit. Derives tokens.now unit) }
-    ensures only { (unit : Script) → Derives tokens.now unit → Finds result unit }
-    ensures fault { OnFault result (λ kind line. HasFault Derives IsUnitKind tokens.now kind line) }
+    ensures fault { OnFault result (HasFault tokens.now) }
 {
     let mut cursor = Cursor { rest: tokens };
     match read(alloc, &mut cursor, STRICT, DEPTH) {
         Ok(found) => Ok(found),
-        Err(Stop::Memory) => Err(ParseStop::Memory),
-        Err(Stop::Fault) => {
+        Err(ReadStop::Memory) => Err(Stop::Memory),
+        Err(ReadStop::Fault) => {
             let left = cursor.rest;
             let deeper = left_by(alloc, tokens, STRICT, DEPTH + 1)?;
             let several = left_by(alloc, tokens, SEVERAL, DEPTH)?;
             let texts = left_by(alloc, tokens, TEXTS, DEPTH)?;
-            Err(ParseStop::Fault {
+            Err(Stop::Fault {
                 kind: kind_by(left.len(), deeper, several, texts),
                 line: fault_line(tokens, left),
             })
         }
     }
+}
+
+/// Reads the words of a script, of which at most 200 constructs may be open at one place: blocks, bodies of procedures
+/// and classes, one-line Ifs, parentheses, `Not` and the leading minus (VBScript 5.6 language reference,
+/// "Statements"). At a fault it reads three times more, to tell the fault's kind.
+#[tactic(auto, using(crate::proofs::ParseScript::only_unit, crate::proofs::ParseScript::only_fault))]
+pub fn parse(alloc: Global, tokens: &[Token]) -> Result<Unit, ParseStop>
+    ensures unit { IfOk result (λ unit. Derives tokens.now unit) }
+    ensures only { (unit : Script) → Derives tokens.now unit → Answers result Stop.Memory (Ok unit) }
+
+    // The first fault, where there is one.
+    ensures fault { OnFault result (HasFault tokens.now) }
+    ensures fault_only { (kind : ParseFault) (line : ℕ) → HasFault tokens.now kind line
+        → Answers result Stop.Memory (Err (Stop.Fault kind line)) }
+{
+    script(alloc, tokens)
 }

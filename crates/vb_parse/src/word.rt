@@ -1,31 +1,18 @@
 //! Words that statements ask for: quoted names, numbers, texts of the page.
+ghost use Rattle.std.specs.List.{list_all};
 ghost use Rattle.std.specs.Prelude.{◌≡◌, [], IfOk};
-ghost use Rattle.std.specs.Str.{str_eq_ignore_ascii_case};
 ghost use Rattle.vb_syntax.specs.grammar.Declarations.{number_of, number_of_kind, negative_of, negative_of_kind};
 ghost use Rattle.vb_syntax.specs.grammar.SimpleStatements.{named_at, quoted_at, text_at};
+ghost use Rattle.vb_syntax.specs.grammar.Statements.{passed, passed_kind, says_nothing};
 ghost use Rattle.vb_parse.specs.Reader as reader;
 ghost use Rattle.vb_parse.specs.ReadSimpleStatements as spec;
-ghost use Rattle.vb_parse.specs.ReadUnits.{quoted_name};
-ghost use Rattle.vb_parse.specs.Runs.{Runs};
+ghost use Rattle.vb_parse.specs.ReadUnits.{blank_at, quoted_name};
+ghost use Rattle.vb_value.specs.Outcome.{Runs};
+ghost use Rattle.vb_parse.specs.Reader.{stopped_at};
 
-use crate::cursor::{Cursor, Stop};
+use crate::cursor::{Cursor, ReadStop};
 use vb_syntax::{ConstantValue, PathHead};
-use vb_value::{Copied, Text, Token, TokenKind};
-
-/// Whether a name is the word, in any ASCII case.
-fn is_word(word: &[u8], name: &[char]) -> bool
-    ensures { result ≡ str_eq_ignore_ascii_case word.now name.now }
-{
-    if word.len() != name.len() {
-        return false;
-    }
-    for i in 0..word.len() {
-        if word[i].to_ascii_lowercase() as u32 != name[i].to_ascii_lowercase() as u32 {
-            return false;
-        }
-    }
-    true
-}
+use vb_value::{Copied, Text, Token, TokenKind, is_blank, is_word};
 
 /// Whether a token is the word, without brackets.
 fn is_quoted(token: &Token, word: &[u8]) -> bool
@@ -62,6 +49,31 @@ fn negative(kind: &TokenKind) -> Option<ConstantValue>
     }
 }
 
+/// Whether a character is a blank or part of a line end.
+fn says_nothing(character: char) -> bool
+    ensures { result ≡ says_nothing character }
+{
+    is_blank(character) || character == '\n' || character == '\r'
+}
+
+/// Whether a text is blanks and line ends alone.
+fn is_blank_text(text: &[char]) -> bool
+    ensures { result ≡ list_all says_nothing text.now }
+{
+    text.iter().all(|c| says_nothing(*c))
+}
+
+/// Whether a word is a text of blanks and line ends alone, or any text where that is allowed.
+#[tactic(auto, using(crate::proofs::BlankTexts::passed_where))]
+fn is_passed(any: bool, kind: &TokenKind) -> bool
+    ensures { result ≡ reader.is_some (passed_kind any kind.now) }
+{
+    match kind {
+        TokenKind::PageText(text) => any || is_blank_text(text.as_slice()),
+        _ => false,
+    }
+}
+
 impl<'a> Cursor<'a> {
     /// Whether this word comes next, which is a name elsewhere.
     pub fn sees_quoted(&self, word: &[u8]) -> bool
@@ -74,31 +86,31 @@ impl<'a> Cursor<'a> {
     }
 
     /// Takes this word, which is a name elsewhere, and answers its line.
-    pub fn quoted(&mut self, word: &[u8]) -> Result<u32, Stop>
-        ensures { Runs (spec.quoted word.now self.old.rest.now) result self.new.rest.now }
+    pub fn quoted(&mut self, word: &[u8]) -> Result<u32, ReadStop>
+        ensures { Runs result stopped_at self.new.rest.now (spec.quoted word.now self.old.rest.now) }
     {
         match self.rest {
             [token, rest @ ..] if is_quoted(token, word) => {
                 self.rest = rest;
                 Ok(token.line)
             }
-            _ => Err(Stop::Fault),
+            _ => Err(ReadStop::Fault),
         }
     }
 
     /// Takes this word, and answers it as the name that it is elsewhere.
-    pub fn quoted_name(&mut self, word: &[u8]) -> Result<Text, Stop>
-        ensures { Runs (reader.one (quoted_name word.now) self.old.rest.now) result self.new.rest.now }
+    pub fn quoted_name(&mut self, word: &[u8]) -> Result<Text, ReadStop>
+        ensures { Runs result stopped_at self.new.rest.now (reader.one (quoted_name word.now) self.old.rest.now) }
     {
         match self.rest {
             [token, ..] if is_quoted(token, word) => self.name(),
-            _ => Err(Stop::Fault),
+            _ => Err(ReadStop::Fault),
         }
     }
 
     /// Takes a name at which a path begins, and answers its line too.
-    pub fn named(&mut self) -> Result<(u32, PathHead), Stop>
-        ensures { Runs (reader.one named_at self.old.rest.now) result self.new.rest.now }
+    pub fn named(&mut self) -> Result<(u32, PathHead), ReadStop>
+        ensures { Runs result stopped_at self.new.rest.now (reader.one named_at self.old.rest.now) }
     {
         match self.rest {
             [token, ..] => {
@@ -106,13 +118,13 @@ impl<'a> Cursor<'a> {
                 let name = self.name()?;
                 Ok((line, PathHead::Name(name)))
             }
-            [] => Err(Stop::Fault),
+            [] => Err(ReadStop::Fault),
         }
     }
 
     /// Takes a number.
-    pub fn number(&mut self) -> Result<i32, Stop>
-        ensures { Runs (reader.one number_of self.old.rest.now) result self.new.rest.now }
+    pub fn number(&mut self) -> Result<i32, ReadStop>
+        ensures { Runs result stopped_at self.new.rest.now (reader.one number_of self.old.rest.now) }
     {
         match self.rest {
             [token, rest @ ..] => match number(&token.kind) {
@@ -120,28 +132,28 @@ impl<'a> Cursor<'a> {
                     self.rest = rest;
                     Ok(found)
                 }
-                None => Err(Stop::Fault),
+                None => Err(ReadStop::Fault),
             },
-            [] => Err(Stop::Fault),
+            [] => Err(ReadStop::Fault),
         }
     }
 
     /// Takes a number of the value 0.
-    pub fn zero(&mut self) -> Result<(), Stop>
-        ensures { Runs (reader.one spec.zero_of self.old.rest.now) result self.new.rest.now }
+    pub fn zero(&mut self) -> Result<(), ReadStop>
+        ensures { Runs result stopped_at self.new.rest.now (reader.one spec.zero_of self.old.rest.now) }
     {
         match self.rest {
             [token, rest @ ..] if number(&token.kind) == Some(0) => {
                 self.rest = rest;
                 Ok(())
             }
-            _ => Err(Stop::Fault),
+            _ => Err(ReadStop::Fault),
         }
     }
 
     /// Takes a number behind a minus sign.
-    pub fn negative(&mut self) -> Result<ConstantValue, Stop>
-        ensures { Runs (reader.one negative_of self.old.rest.now) result self.new.rest.now }
+    pub fn negative(&mut self) -> Result<ConstantValue, ReadStop>
+        ensures { Runs result stopped_at self.new.rest.now (reader.one negative_of self.old.rest.now) }
     {
         match self.rest {
             [token, rest @ ..] => match negative(&token.kind) {
@@ -149,9 +161,9 @@ impl<'a> Cursor<'a> {
                     self.rest = rest;
                     Ok(found)
                 }
-                None => Err(Stop::Fault),
+                None => Err(ReadStop::Fault),
             },
-            [] => Err(Stop::Fault),
+            [] => Err(ReadStop::Fault),
         }
     }
 
@@ -165,22 +177,50 @@ impl<'a> Cursor<'a> {
         }
     }
 
-    /// Takes a text of the page, and answers its line alone.
-    pub fn take_page_text(&mut self) -> Result<u32, Stop>
-        ensures { Runs (reader.word (TokenKind.PageText []) self.old.rest.now) result self.new.rest.now }
+    /// Whether a text of the page comes next that is passed over: a blank one, or any.
+    pub fn sees_passed(&self, any: bool) -> bool
+        ensures { result ≡ reader.passes (passed any) (reader.next self.now.rest.now) }
     {
         match self.rest {
-            [token, rest @ ..] if matches!(token.kind, TokenKind::PageText(_)) => {
+            [] => false,
+            [token, ..] => is_passed(any, &token.kind),
+        }
+    }
+
+    /// Passes over a text of the page.
+    pub fn pass(&mut self, any: bool) -> Result<(), ReadStop>
+        ensures { Runs result stopped_at self.new.rest.now (reader.one (passed any) self.old.rest.now) }
+    {
+        match self.rest {
+            [token, rest @ ..] if is_passed(any, &token.kind) => {
                 self.rest = rest;
-                Ok(token.line)
+                Ok(())
             }
-            _ => Err(Stop::Fault),
+            _ => Err(ReadStop::Fault),
+        }
+    }
+
+    /// Whether a blank text of the page comes next.
+    pub fn sees_blank_text(&self) -> bool
+        ensures { result ≡ reader.passes blank_at (reader.next self.now.rest.now) }
+    {
+        self.sees_passed(false)
+    }
+
+    /// Takes a blank text of the page, and answers its line too.
+    pub fn blank_text(&mut self) -> Result<(u32, Text), ReadStop>
+        ensures { Runs result stopped_at self.new.rest.now (reader.one blank_at self.old.rest.now) }
+    {
+        if self.sees_passed(false) {
+            self.page_text()
+        } else {
+            Err(ReadStop::Fault)
         }
     }
 
     /// Takes a text of the page, and answers its line too.
-    pub fn page_text(&mut self) -> Result<(u32, Text), Stop>
-        ensures { Runs (reader.one text_at self.old.rest.now) result self.new.rest.now }
+    pub fn page_text(&mut self) -> Result<(u32, Text), ReadStop>
+        ensures { Runs result stopped_at self.new.rest.now (reader.one text_at self.old.rest.now) }
     {
         match self.rest {
             [token, rest @ ..] => match &token.kind {
@@ -189,9 +229,9 @@ impl<'a> Cursor<'a> {
                     self.rest = rest;
                     Ok((token.line, found))
                 }
-                _ => Err(Stop::Fault),
+                _ => Err(ReadStop::Fault),
             },
-            [] => Err(Stop::Fault),
+            [] => Err(ReadStop::Fault),
         }
     }
 }

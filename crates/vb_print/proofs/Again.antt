@@ -3,7 +3,7 @@ use Rattle.std.proofs.Common.{◌≡◌, ℕ, zero, suc, Bool, true, List, [], �
 use Rattle.std.proofs.Common.{Some, None, inl, inr, refl, sym, ap, ◌∙◌, append-nil, subst}
 use Rattle.std.proofs.lemmas.Bool.{eq-eqb}
 use Rattle.std.specs.List.{flat_map}
-use Rattle.std.specs.Str.{str_eq_ignore_ascii_case}
+use Rattle.vb_value.specs.Folding.{same_name}
 use Rattle.vb_value.specs.declared.token.Keyword.{Keyword}
 use Rattle.vb_value.specs.declared.token.Symbol.{Symbol}
 use Rattle.vb_value.specs.declared.token.Symbol.TheVariants as s
@@ -237,7 +237,7 @@ pub again_symbol : {B : Type 0} {s : Rule B} {before : Tokens → Tokens} {whole
 again_symbol found line next = behind (symbol line found ∷ []) line (word_shown (kind.Symbol found) line) next
 
 -- a word that is a name elsewhere is one of those that are read so
-pub quoted_shown : (text shown : List ℕ) → str_eq_ignore_ascii_case text shown ≡ true → (line : ℕ)
+pub quoted_shown : (text shown : List ℕ) → same_name text shown ≡ true → (line : ℕ)
     → statements.quoted text (quoted line shown ∷ []) line
 quoted_shown text shown same line = record {
   token = quoted line shown;

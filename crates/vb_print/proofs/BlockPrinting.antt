@@ -17,6 +17,7 @@ use Rattle.vb_syntax.specs.grammar.Expressions.{expressions}
 use Rattle.vb_syntax.specs.grammar.SimpleStatements.{quoted}
 use Rattle.vb_syntax.specs.grammar.Statements as statements
 use Rattle.vb_syntax.specs.grammar.Statements.{Blocks, Line, «end», no_blocks, blocks, blocks_here, blocks_inside}
+use Rattle.vb_syntax.specs.grammar.Statements.{passed_texts}
 use Rattle.vb_syntax.specs.grammar.Units.{strict}
 use Rattle.vb_print.specs.Words.{printed, keyword, symbol, name, joined, listed}
 use Rattle.vb_print.specs.Words as words_of
@@ -33,6 +34,17 @@ use Rattle.vb_print.proofs.SimplePrinting.{again_name, again_expression}
 use Rattle.vb_print.proofs.SimpleStatementPrinting.{again_const, again_simple}
 
 -- ---- ends
+
+-- no text is passed over
+pub no_texts : (any : Bool) → passed_texts any [] tt
+no_texts any = record {
+  front = [];
+  back = [];
+  thing = [];
+  split = refl;
+  first_spells = refl;
+  next_spells = (refl, refl);
+}
 
 -- the end of a line is one
 pub end_shown : (line : ℕ) → «end» (line_end line ∷ []) tt
@@ -162,7 +174,7 @@ module _ (depth : ℕ) (inner : Blocks) (within : BlocksAgain inner) where
   again_select : Again (statements.select strict depth inner) statement_words
   again_select = again (again_bind (again_word (kind.Keyword k.Select)) (λ line. again_keyword k.Case line
       (again_bind (again_inside line) (λ subject. behind (line_end line ∷ []) tt (end_shown line)
-      (behind [] tt (inl (refl, refl)) (again_bind (again_many case_words (λ x. x) again_case)
+      (behind [] tt (no_texts false) (again_bind (again_many case_words (λ x. x) again_case)
       (λ cases. again_bind (again_case_else line) (λ otherwise. again_keyword k.End line (again_keyword k.Select line
       (again_pure (shown.words-select line subject cases otherwise ∙ simp append_assoc refl)))))))))))
 

@@ -27,7 +27,7 @@ use Rattle.vb_print.proofs.Again.{again_opened, again_many, again_word, behind, 
 use Rattle.vb_print.proofs.Again.{again_symbol}
 use Rattle.vb_print.proofs.Again.{quoted_shown, again_listed, again_some}
 use Rattle.vb_print.proofs.SimplePrinting.{again_name, again_access, again_declared}
-use Rattle.vb_print.proofs.BlockPrinting.{end_shown, again_sentence, blocks_again, blocks_inside_again}
+use Rattle.vb_print.proofs.BlockPrinting.{no_texts, end_shown, again_sentence, blocks_again, blocks_inside_again}
 
 -- ---- procedures
 
@@ -123,7 +123,7 @@ again_member depth = again (again_or (self again_fields)
 again_class : (depth : ℕ) → Again (units.class strict depth) class_words
 again_class depth = again (again_opened depth (λ within. again_bind (again_word (kind.Keyword k.Class)) (λ line.
     again_bind (again_name line) (λ name. behind (line_end line ∷ []) tt (end_shown line)
-    (behind [] tt (inl (refl, refl)) (again_bind
+    (behind [] tt (no_texts false) (again_bind
     (again_many member_words (λ x. x ++ line_end line ∷ []) (again_member_line line within))
     (λ members. again_keyword k.End line (again_keyword k.Class line
     (again_pure refl)))))))))
@@ -131,7 +131,7 @@ again_class depth = again (again_opened depth (λ within. again_bind (again_word
     again_member_line : (line within : ℕ) → Again (units.member_line strict within) (λ found. member_words found
         ++ line_end line ∷ [])
     again_member_line line within = again (again_bind (again_member within) (λ found.
-        behind (line_end line ∷ []) tt (end_shown line) (behind [] tt (inl (refl, refl)) (again_pure refl))))
+        behind (line_end line ∷ []) tt (end_shown line) (behind [] tt (no_texts false) (again_pure refl))))
 
 -- ---- units
 
@@ -159,9 +159,9 @@ again_unit depth = again (behind [] tt (inr (refl, refl)) (again_bind again_opti
   where
     again_option : Again (units.option_explicit strict) option_words
     again_option = again (again_or
-        (again_keyword k.Option 1 (behind (words_of.quoted 1 (codes "Explicit") ∷ []) 1
+        (behind [] tt (no_texts false) (again_keyword k.Option 1 (behind (words_of.quoted 1 (codes "Explicit") ∷ []) 1
         (quoted_shown (codes "explicit") (codes "Explicit") refl 1)
-        (behind (line_end 1 ∷ []) tt (end_shown 1) (again_pure refl))))
+        (behind (line_end 1 ∷ []) tt (end_shown 1) (again_pure refl)))))
         (again_pure refl))
 
 pub printed_again : (tokens : Tokens) (unit : Script) → Derives tokens unit → Derives (print_of unit) unit

@@ -15,7 +15,7 @@ use Rattle.vb_syntax.specs.scope.Trees.{StepPair, shapes, resolved_path, head_of
 use Rattle.vb_syntax.specs.scope.Trees.{expression_layer, step_layer, operation_layer, path_layer}
 use Rattle.vb_syntax.specs.scope.Trees.{expression_of, step_of, operation_of, path_of}
 use Rattle.vb_syntax.specs.scope.Scopes.{Scopes}
-use Rattle.vb_notes.specs.Shapes.{shape_of, layer_shape}
+use Rattle.vb_syntax.specs.scope.Shapes.{shape_of, layer_shape, used_steps}
 
 module _ (names : List Name) (scopes : Scopes) where
   shape-step : (step : Step) → (step_of names scopes step).0 ≡ shape_of step
@@ -39,11 +39,11 @@ module _ (names : List Name) (scopes : Scopes) where
       ∙ ap (λ l. shape_of step ∷ l) (shapes-steps steps)
 
   pub path-is : (path : Path) (used : PathUse) → path_of names scopes path used
-      ≡ resolved_path (head_of names scopes used path.head (map shape_of path.steps))
+      ≡ resolved_path (head_of names scopes used path.head (used_steps used (map shape_of path.steps)))
       (map (step_of names scopes) path.steps)
   path-is path used = ap (λ (of : PathUse → ResolvedPath). of used)
       (fold_out-Path Resolved StepPair ResolvedOperation (PathUse → ResolvedPath)
       (expression_layer names scopes) (step_layer names scopes) (operation_layer names scopes) (path_layer names scopes)
       path)
-      ∙ ap (λ l. resolved_path (head_of names scopes used path.head l) (map (step_of names scopes) path.steps))
+      ∙ ap (λ l. resolved_path (head_of names scopes used path.head (used_steps used l)) (map (step_of names scopes) path.steps))
       (shapes-steps path.steps)

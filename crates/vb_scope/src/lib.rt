@@ -2,9 +2,11 @@
 #![tactic(auto)]
 
 mod laws;
+mod listing;
 mod resolving;
+mod scopes;
 mod trees;
+mod unit_checks;
 
 pub use laws::{one_program, program_faultless, program_or_first_fault};
 pub use resolving::resolve;
-pub use vb_names::ScopeStop;

@@ -2,6 +2,7 @@
 
 mod expressions;
 mod heads;
+mod members;
 mod simple;
 mod statements;
 mod units;

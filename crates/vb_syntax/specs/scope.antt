@@ -1,5 +1,6 @@
 pub mod Names
 pub mod Members
+pub mod Shapes
 pub mod Notes
 pub mod Units
 pub mod Scopes

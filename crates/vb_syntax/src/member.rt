@@ -1,7 +1,18 @@
 //! The members of the objects that a page is given (ASP 3.0 object reference).
 
-/// A member of an object that a page is given. Where a member may be assigned to, the assigned value is the
-/// last argument.
+/// What a member takes. A call or a reading has from `fewest` to `most` arguments; a writing has them and the value
+/// behind them, so that the two differ in what they give wherever both are right.
+#[derive(Clone, Copy, Debug, PartialEq, Eq)]
+pub struct Takes {
+    /// The fewest arguments.
+    pub fewest: u32,
+    /// The most arguments.
+    pub most: u32,
+    /// It may be assigned to.
+    pub is_written: bool,
+}
+
+/// A member of an object that a page is given.
 #[derive(Clone, Copy, Debug, PartialEq, Eq)]
 pub enum Member {
     /// `Request(..)`: the first of the four collections that has the name.

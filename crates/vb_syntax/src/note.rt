@@ -3,7 +3,8 @@
 use crate::declaration::{Constant, Declared};
 use crate::statement::ExitKind;
 use crate::unit::PropertyKind;
-use vb_value::{List, Text};
+use std::fmt;
+use vb_value::{List, Stop, Text};
 
 /// Why a script is no program.
 #[derive(Clone, Copy, Debug, PartialEq, Eq)]
@@ -19,6 +20,16 @@ pub enum ScopeFault {
     /// More than 60 dimensions, 255 parameters or arguments, or 65,535 names.
     TooMany,
 }
+
+impl fmt::Display for ScopeFault {
+    fn fmt<W: fmt::Write>(&self, f: &mut fmt::Formatter<W>) -> fmt::Result {
+        write!(f, "{self:?}")
+    }
+}
+
+/// Why a script was not resolved: its first fault of scope, in the line of the statement or declaration, or because
+/// memory ran out.
+pub type ScopeStop = Stop<ScopeFault>;
 
 /// What one place of a script says of names, and the line of the statement or declaration that it stands in.
 #[derive(Debug, Drop)]
@@ -38,13 +49,19 @@ pub enum NoteKind {
     Variable(Declared),
     /// A constant is declared.
     Constant(Constant),
-    /// A procedure, a class, a member of a class or the result of a procedure is declared.
-    Procedure {
+    /// A procedure of the page is declared.
+    Procedure(Text),
+    /// A class is declared.
+    Class(Text),
+    /// A method or a property of a class is declared.
+    Member {
         /// Its name, as written.
         name: Text,
         /// Which accessor of a property it is. Those of one name stand together.
         accessor: Option<PropertyKind>,
     },
+    /// The result of a procedure is declared, under the procedure's name.
+    Result(Text),
     /// A name stands at the head of a path.
     Use {
         /// The name, as written.
@@ -58,8 +75,8 @@ pub enum NoteKind {
     Write(Text),
     /// A name is given bounds by ReDim.
     Resize(Text),
-    /// A name of a member of an object, or of a class behind `New`.
-    Mention(Text),
+    /// A name that is looked for nowhere: of a member of an object, or of a class behind `New`.
+    Part(Text),
 }
 
 /// What stands behind the head of a path, without the expressions in it.
@@ -86,6 +103,17 @@ pub struct Around {
     pub in_with: bool,
 }
 
+/// What declares names.
+#[derive(Clone, Copy, Debug, PartialEq, Eq)]
+pub enum Level {
+    /// The page.
+    Page,
+    /// A class.
+    Class,
+    /// The body of a procedure.
+    Body,
+}
+
 /// How a path is used.
 #[derive(Clone, Copy, Debug, PartialEq, Eq)]
 pub enum PathUse {
@@ -93,8 +121,10 @@ pub enum PathUse {
     Value,
     /// It is assigned to.
     Target,
-    /// A statement calls it.
+    /// A statement calls it as it stands.
     Callee,
+    /// A statement calls it with the arguments that stand behind it.
+    CalleeWithArguments,
     /// A For Each goes over it.
     Group,
 }

@@ -8,9 +8,9 @@ mod statement;
 mod unit;
 
 pub use expression::{Expression, Head, Operation, Path, Step};
-pub use name::{ErrMember, Named};
+pub use name::{DictionaryMember, ErrMember, Named, Slot};
 pub use statement::{Case, Condition, ElseIf, Repetition, Resized, Statement, StatementKind};
-pub use unit::{Class, Field, Procedure, ProcedureKind, Unit};
+pub use unit::{Class, Constant, DeclaredArray, Field, Procedure, ProcedureKind, Unit};
 use vb_value::{List, Text};
 
 /// A program. It is what some script resolves to.

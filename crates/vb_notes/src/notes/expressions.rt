@@ -4,14 +4,26 @@ ghost use Rattle.std.specs.List.{flat_map};
 ghost use Rattle.vb_syntax.specs.scope.Notes as spec;
 ghost use Rattle.vb_syntax.specs.declared.expression.Step.{Step};
 ghost use Rattle.vb_syntax.specs.scope.Notes.{Notes};
-ghost use Rattle.vb_notes.specs.Outcome.{Adds};
-ghost use Rattle.vb_notes.specs.Shapes.{shape_of};
+ghost use Rattle.vb_value.specs.Outcome.{Adds, Gives};
+ghost use Rattle.vb_syntax.specs.scope.Shapes.{shape_of, used_steps};
 
-use crate::notes::words::{at_most, note, note_mention, note_write, shapes, unless};
+use crate::notes::words::{at_most, note, note_part, note_write, shapes, unless};
+use std::alloc::Global;
 use vb_syntax::{
-    Around, Expression, Note, NoteKind, Operation, Path, PathHead, PathUse, ScopeFault, Step,
+    Around, Expression, Note, NoteKind, Operation, Path, PathHead, PathUse, ScopeFault, Shape, Step,
 };
 use vb_value::{Copied, List, Memory, Text};
+
+/// What the steps look like of a path that is used so, with the parenthesis that a call statement puts behind them.
+pub fn steps_used(alloc: Global, used: PathUse, steps: &[Step]) -> Result<List<Shape>, Memory>
+    ensures { Gives result (used_steps used (map shape_of steps.now)) }
+{
+    let mut all = shapes(alloc, steps)?;
+    if used == PathUse::CalleeWithArguments {
+        all.push(Shape::Group)?;
+    }
+    Ok(all)
+}
 
 /// Adds a name at the head of a path.
 fn note_named(
@@ -22,12 +34,12 @@ fn note_named(
     steps: &[Step],
 ) -> Result<(), Memory>
     ensures { Adds result notes.old notes.new
-        (spec.named_notes line used name.now (map shape_of steps.now)) }
+        (spec.named_notes line used name.now (used_steps used (map shape_of steps.now))) }
 {
     if used == PathUse::Target && steps.is_empty() {
         return note_write(notes, line, name);
     }
-    let steps = shapes(*notes.allocator(), steps)?;
+    let steps = steps_used(*notes.allocator(), used, steps)?;
     let kind = NoteKind::Use {
         name: name.copy()?,
         steps,
@@ -45,14 +57,14 @@ fn note_head(
     path: &Path,
 ) -> Result<(), Memory>
     ensures { Adds result notes.old notes.new
-        (spec.head_notes line around used path.now.head (map shape_of path.now.steps)) }
+        (spec.head_notes line around used path.now.head (used_steps used (map shape_of path.now.steps))) }
 {
     match &path.head {
         PathHead::Name(name) => note_named(notes, line, used, name, path.steps.as_slice()),
         PathHead::Me => unless(notes, around.in_class, ScopeFault::BadMember, line),
         PathHead::With(name) => {
             unless(notes, around.in_with, ScopeFault::BadMember, line)?;
-            note_mention(notes, line, name)
+            note_part(notes, line, name)
         }
     }
 }
@@ -70,7 +82,7 @@ pub fn note_expression(
     match expression {
         Expression::Literal(_) => Ok(()),
         Expression::Nothing => Ok(()),
-        Expression::New { class } => note_mention(notes, line, class),
+        Expression::New { class } => note_part(notes, line, class),
         Expression::Path(path) => note_path(notes, line, around, path, PathUse::Value),
         Expression::Parenthesis(inner) => note_expression(notes, line, around, inner.get()),
         Expression::Negative(operand) => note_expression(notes, line, around, operand.get()),
@@ -137,7 +149,7 @@ fn note_step(notes: &mut List<Note>, line: u32, around: Around, step: &Step) -> 
     ensures { Adds result notes.old notes.new (spec.step_notes line around step.now).1 }
 {
     match step {
-        Step::Member(name) => note_mention(notes, line, name),
+        Step::Member(name) => note_part(notes, line, name),
         Step::Group(given) => {
             at_most(notes, 255, given.len(), line)?;
             note_expressions(notes, line, around, given.as_slice())

@@ -1,13 +1,13 @@
 //! What statements that hold no other say of names.
-ghost use Rattle.std.specs.Prelude.{◌≡◌, ◌++◌, None, length};
+ghost use Rattle.std.specs.Prelude.{◌≡◌, ◌++◌, None, length, map};
+ghost use Rattle.vb_syntax.specs.scope.Shapes.{shape_of, call_use};
 ghost use Rattle.std.specs.List.{flat_map};
 ghost use Rattle.vb_syntax.specs.scope.Notes as spec;
 ghost use Rattle.vb_syntax.specs.scope.Notes.{expression_notes, path_notes};
-ghost use Rattle.vb_notes.specs.Outcome.{Adds};
+ghost use Rattle.vb_value.specs.Outcome.{Adds};
 
-use crate::copies::{copy_constant, copy_declared};
 use crate::notes::expressions::{note_expression, note_expressions, note_path};
-use crate::notes::words::{at_most, note, note_write, unless};
+use crate::notes::words::{at_most, call_use, note, note_write, unless};
 use vb_syntax::{
     Around, Constant, Declared, ExitKind, Expression, Note, NoteKind, Path, PathUse, Repetition,
     Resized, ScopeFault,
@@ -23,7 +23,7 @@ pub fn note_constants(
     ensures { Adds result notes.old notes.new (flat_map (spec.constant_notes line) constants.now) }
 {
     for constant in constants {
-        let constant = copy_constant(constant)?;
+        let constant = constant.copy()?;
         note(notes, line, NoteKind::Constant(constant))?;
     }
     Ok(())
@@ -33,7 +33,7 @@ pub fn note_constants(
 fn note_variable(notes: &mut List<Note>, line: u32, variable: &Declared) -> Result<(), Memory>
     ensures { Adds result notes.old notes.new (spec.variable_notes line variable.now) }
 {
-    let kind = NoteKind::Variable(copy_declared(variable)?);
+    let kind = NoteKind::Variable(variable.copy()?);
     note(notes, line, kind)?;
     match &variable.bounds {
         None => Ok(()),
@@ -107,10 +107,12 @@ pub fn note_call(
     callee: &Path,
     given: &List<Expression>,
 ) -> Result<(), Memory>
-    ensures { Adds result notes.old notes.new (path_notes line around callee.now PathUse.Callee
+    ensures { Adds result notes.old notes.new
+        (path_notes line around callee.now (call_use given.now (map shape_of callee.now.steps))
         ++ spec.arguments (length given.now) line ++ spec.expressions_notes line around given.now) }
 {
-    note_path(notes, line, around, callee, PathUse::Callee)?;
+    let used = call_use(given.as_slice(), callee.steps.as_slice());
+    note_path(notes, line, around, callee, used)?;
     at_most(notes, 255, given.len(), line)?;
     note_expressions(notes, line, around, given.as_slice())
 }

@@ -4,7 +4,7 @@ ghost use Rattle.std.specs.Option.{option_map};
 ghost use Rattle.vb_syntax.specs.scope.Notes as spec;
 ghost use Rattle.vb_syntax.specs.scope.Notes.{expression_notes, statement_notes};
 ghost use Rattle.vb_syntax.specs.declared.statement.StatementKind.TheOpen as layer;
-ghost use Rattle.vb_notes.specs.Outcome.{Adds};
+ghost use Rattle.vb_value.specs.Outcome.{Adds};
 
 use crate::notes::expressions::{note_expression, note_expressions, note_path};
 use crate::notes::simple::{

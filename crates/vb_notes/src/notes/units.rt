@@ -4,7 +4,7 @@ ghost use Rattle.std.specs.List.{flat_map};
 ghost use Rattle.std.specs.Option.{option_copied};
 ghost use Rattle.vb_syntax.specs.scope.Notes.{note};
 ghost use Rattle.vb_syntax.specs.scope.Units as spec;
-ghost use Rattle.vb_notes.specs.Outcome.{Adds};
+ghost use Rattle.vb_value.specs.Outcome.{Adds};
 ghost use Rattle.vb_notes.specs.Bodies.{body_seen};
 
 use crate::body::{Body, around_in};
@@ -23,17 +23,17 @@ const ON_PAGE: Around = Around {
     in_with: false,
 };
 
-/// Adds a declared procedure, class or member.
-fn note_procedure(
+/// Adds a declared method or property.
+fn note_member_name(
     notes: &mut List<Note>,
     line: u32,
     name: &Text,
     accessor: Option<PropertyKind>,
 ) -> Result<(), Memory>
-    ensures { Adds result notes.old notes.new (note line (NoteKind.Procedure name.now accessor)) }
+    ensures { Adds result notes.old notes.new (note line (NoteKind.Member name.now accessor)) }
 {
     let name = name.copy()?;
-    add(notes, line, NoteKind::Procedure { name, accessor })
+    add(notes, line, NoteKind::Member { name, accessor })
 }
 
 /// Adds parameters.
@@ -60,7 +60,7 @@ fn note_result(notes: &mut List<Note>, line: u32, given: Option<&Text>) -> Resul
 {
     match given {
         None => Ok(()),
-        Some(name) => note_procedure(notes, line, name, None),
+        Some(name) => add(notes, line, NoteKind::Result(name.copy()?)),
     }
 }
 
@@ -86,8 +86,8 @@ pub fn note_item(notes: &mut List<Note>, item: &Item) -> Result<(), Memory>
             access: _,
             variables,
         } => note_variables(notes, *line, variables.as_slice()),
-        Item::Procedure(found) => note_procedure(notes, found.line, &found.name, None),
-        Item::Class(found) => note_procedure(notes, found.line, &found.name, None),
+        Item::Procedure(found) => add(notes, found.line, NoteKind::Procedure(found.name.copy()?)),
+        Item::Class(found) => add(notes, found.line, NoteKind::Class(found.name.copy()?)),
     }
 }
 
@@ -111,8 +111,8 @@ pub fn note_member(notes: &mut List<Note>, member: &ClassMember) -> Result<(), M
             access: _,
             fields,
         } => note_variables(notes, *line, fields.as_slice()),
-        ClassMember::Method(found) => note_procedure(notes, found.line, &found.name, None),
-        ClassMember::Property(found) => note_procedure(
+        ClassMember::Method(found) => note_member_name(notes, found.line, &found.name, None),
+        ClassMember::Property(found) => note_member_name(
             notes,
             found.line,
             &found.name,

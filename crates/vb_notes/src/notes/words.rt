@@ -1,12 +1,11 @@
 //! Single notes.
 ghost use Rattle.std.specs.Prelude.{◌≡◌, map};
-ghost use Rattle.vb_value.specs.Outcome.{Gives};
+ghost use Rattle.vb_value.specs.Outcome.{Adds, Gives};
 ghost use Rattle.vb_syntax.specs.scope.Notes as spec;
-ghost use Rattle.vb_notes.specs.Outcome.{Adds};
-ghost use Rattle.vb_notes.specs.Shapes.{shape_of};
+ghost use Rattle.vb_syntax.specs.scope.Shapes.{shape_of, call_use, ends_in_group};
 
 use std::alloc::Global;
-use vb_syntax::{Note, NoteKind, ScopeFault, Shape, Step};
+use vb_syntax::{Expression, Note, NoteKind, PathUse, ScopeFault, Shape, Step};
 use vb_value::{Copied, List, Memory, Text};
 
 /// Adds one thing that is said in a line.
@@ -46,10 +45,31 @@ pub fn note_write(notes: &mut List<Note>, line: u32, name: &Text) -> Result<(), 
 }
 
 /// Adds a name of a member or of a class.
-pub fn note_mention(notes: &mut List<Note>, line: u32, name: &Text) -> Result<(), Memory>
-    ensures { Adds result notes.old notes.new (spec.note line (NoteKind.Mention name.now)) }
+pub fn note_part(notes: &mut List<Note>, line: u32, name: &Text) -> Result<(), Memory>
+    ensures { Adds result notes.old notes.new (spec.note line (NoteKind.Part name.now)) }
 {
-    note(notes, line, NoteKind::Mention(name.copy()?))
+    note(notes, line, NoteKind::Part(name.copy()?))
+}
+
+/// How a call statement uses its callee.
+pub fn call_use(given: &[Expression], steps: &[Step]) -> PathUse
+    ensures { result ≡ call_use given.now (map shape_of steps.now) }
+{
+    if given.is_empty() && !ends_in_group(steps) {
+        return PathUse::Callee;
+    }
+    PathUse::CalleeWithArguments
+}
+
+/// Whether the last step is a parenthesis.
+fn ends_in_group(steps: &[Step]) -> bool
+    ensures { result ≡ ends_in_group (map shape_of steps.now) }
+{
+    let mut ended = false;
+    for step in steps {
+        ended = matches!(step, Step::Group(_));
+    }
+    ended
 }
 
 /// What the steps of a path look like.

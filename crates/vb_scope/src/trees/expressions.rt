@@ -1,30 +1,30 @@
 //! Expressions.
 ghost use Rattle.std.specs.Prelude.{◌≡◌, map};
-ghost use Rattle.vb_value.specs.Outcome.{Gives};
+ghost use Rattle.vb_value.specs.Outcome.{Adds, Gives};
 ghost use Rattle.vb_syntax.specs.scope.Trees as spec;
-ghost use Rattle.vb_notes.specs.Outcome.{Adds};
-ghost use Rattle.vb_names.specs.Tables.{scopes_seen};
+ghost use Rattle.vb_names.specs.Declarations.{scopes_seen};
 
-use crate::trees::heads::{Place, class_number, head, number};
-use vb_notes::{copy_literal, shapes};
+use crate::trees::heads::{Place, head, number};
+use vb_names::class_number;
+use vb_notes::steps_used;
 use vb_syntax::program::{
     Expression as Resolved, Operation as ResolvedOperation, Path as ResolvedPath,
     Step as ResolvedStep,
 };
 use vb_syntax::{Expression, Operation, Path, PathUse, Step};
-use vb_value::{Boxed, List, Memory};
+use vb_value::{Boxed, Copied, List, Memory};
 
 /// An expression. It recurses once for each expression inside another.
 #[cycle(trees)]
 pub fn expression(place: Place<'_>, found: &Expression) -> Result<Resolved, Memory>
     ensures { Gives result
-        (spec.expression_of place.entry.names.now (scopes_seen place.entry.tables) found.now) }
+        (spec.expression_of place.entry.names.now (scopes_seen place.entry.scopes) found.now) }
 {
     match found {
-        Expression::Literal(literal) => Ok(Resolved::Literal(copy_literal(literal)?)),
+        Expression::Literal(literal) => Ok(Resolved::Literal(literal.copy()?)),
         Expression::Nothing => Ok(Resolved::Nothing),
         Expression::New { class } => Ok(Resolved::New {
-            class: class_number(place, class)?,
+            class: class_number(place.scopes.page, class)?,
         }),
         Expression::Path(found) => Ok(Resolved::Path(path(place, found, PathUse::Value)?)),
         Expression::Parenthesis(inner) => {
@@ -52,7 +52,7 @@ pub fn expression(place: Place<'_>, found: &Expression) -> Result<Resolved, Memo
 #[cycle(trees)]
 fn operations(place: Place<'_>, found: &[Operation]) -> Result<List<ResolvedOperation>, Memory>
     ensures { Gives result
-        (map (spec.operation_of place.entry.names.now (scopes_seen place.entry.tables)) found.now) }
+        (map (spec.operation_of place.entry.names.now (scopes_seen place.entry.scopes)) found.now) }
 {
     let mut all = List::with_capacity(place.alloc, found.len())?;
     for operation in found {
@@ -69,9 +69,9 @@ fn operations(place: Place<'_>, found: &[Operation]) -> Result<List<ResolvedOper
 #[cycle(trees)]
 pub fn path(place: Place<'_>, found: &Path, used: PathUse) -> Result<ResolvedPath, Memory>
     ensures { Gives result
-        (spec.path_of place.entry.names.now (scopes_seen place.entry.tables) found.now used) }
+        (spec.path_of place.entry.names.now (scopes_seen place.entry.scopes) found.now used) }
 {
-    let shapes = shapes(place.alloc, found.steps.as_slice())?;
+    let shapes = steps_used(place.alloc, used, found.steps.as_slice())?;
     let (head, count) = head(place, used, &found.head, shapes.as_slice())?;
     let steps = kept(place, found.steps.as_slice(), count)?;
     Ok(ResolvedPath { head, steps })
@@ -81,7 +81,7 @@ pub fn path(place: Place<'_>, found: &Path, used: PathUse) -> Result<ResolvedPat
 #[cycle(trees)]
 fn kept(place: Place<'_>, steps: &[Step], mut count: usize) -> Result<List<ResolvedStep>, Memory>
     ensures { Gives result (spec.kept count
-        (map (spec.step_of place.entry.names.now (scopes_seen place.entry.tables)) steps.now)) }
+        (map (spec.step_of place.entry.names.now (scopes_seen place.entry.scopes)) steps.now)) }
 {
     let mut all = List::with_capacity(place.alloc, steps.len())?;
     for found in steps {
@@ -100,7 +100,7 @@ fn push_kept(
     says_member: bool,
 ) -> Result<(), Memory>
     ensures { Adds result all.old all.new (spec.kept_step says_member
-        (spec.step_of place.entry.names.now (scopes_seen place.entry.tables) found.now)) }
+        (spec.step_of place.entry.names.now (scopes_seen place.entry.scopes) found.now)) }
 {
     match found {
         Step::Member(name) => {
@@ -120,7 +120,7 @@ fn push_kept(
 #[cycle(trees)]
 pub fn expressions(place: Place<'_>, found: &[Expression]) -> Result<List<Resolved>, Memory>
     ensures { Gives result
-        (map (spec.expression_of place.entry.names.now (scopes_seen place.entry.tables)) found.now) }
+        (map (spec.expression_of place.entry.names.now (scopes_seen place.entry.scopes)) found.now) }
 {
     let mut all = List::with_capacity(place.alloc, found.len())?;
     for one in found {

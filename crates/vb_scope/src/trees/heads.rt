@@ -2,14 +2,13 @@
 ghost use Rattle.std.specs.Prelude.{◌≡◌, map, false, true};
 ghost use Rattle.vb_value.specs.Outcome.{Gives};
 ghost use Rattle.vb_syntax.specs.scope.Trees as spec;
-ghost use Rattle.vb_syntax.specs.scope.Scopes.{name_number};
 ghost use Rattle.vb_syntax.specs.scope.Members.{member_meant};
-ghost use Rattle.vb_syntax.specs.scope.Names.{number_in};
+ghost use Rattle.vb_syntax.specs.scope.Names.{name_number};
 ghost use Rattle.vb_syntax.specs.scope.Notes.{is_group};
-ghost use Rattle.vb_names.specs.Tables.{scopes_seen};
+ghost use Rattle.vb_names.specs.Declarations.{scopes_seen};
 
 use std::alloc::Global;
-use vb_names::{Names, Tables, err_meant, member_meant};
+use vb_names::{Names, Scopes, err_meant, groups_behind, length_of, member_meant};
 use vb_syntax::program::{Head, Named};
 use vb_syntax::{PageObject, PathHead, PathUse, Shape};
 use vb_value::{Memory, Text, fold};
@@ -19,7 +18,7 @@ use vb_value::{Memory, Text, fold};
 pub struct Place<'a> {
     pub alloc: Global,
     pub names: &'a Names,
-    pub tables: Tables<'a>,
+    pub scopes: Scopes<'a>,
 }
 
 /// The number of a name among all names.
@@ -37,12 +36,17 @@ pub fn number(place: Place<'_>, name: &Text) -> Result<u32, Memory>
     name_number(place.alloc, place.names, name)
 }
 
-/// The number of a class.
-pub fn class_number(place: Place<'_>, class: &Text) -> Result<Option<u32>, Memory>
-    ensures { Gives result (number_in (scopes_seen place.entry.tables).page.classes class.now) }
+/// Whether all steps are parentheses.
+fn only_groups(mut steps: &[Shape]) -> bool
+    ensures { result ≡ spec.only_groups steps.entry.now }
 {
-    let key = fold(place.alloc, class)?;
-    Ok(place.tables.page.classes.number(&key))
+    while let [step, rest @ ..] = steps {
+        if let Shape::Member(_) = step {
+            return false;
+        }
+        steps = rest;
+    }
+    true
 }
 
 /// Whether a path calls its head.
@@ -51,7 +55,7 @@ fn is_called(used: PathUse, steps: &[Shape]) -> bool
 {
     match steps {
         [] => used == PathUse::Callee,
-        [Shape::Group, ..] => true,
+        [Shape::Group, more @ ..] => used != PathUse::Target || !only_groups(more),
         [Shape::Member(_), ..] => false,
     }
 }
@@ -62,7 +66,7 @@ fn is_group(used: PathUse) -> bool
 {
     match used {
         PathUse::Group => true,
-        PathUse::Value | PathUse::Target | PathUse::Callee => false,
+        PathUse::Value | PathUse::Target | PathUse::Callee | PathUse::CalleeWithArguments => false,
     }
 }
 
@@ -80,19 +84,19 @@ fn named_head(named: Named, steps: &[Shape]) -> (Head, usize)
 }
 
 /// A path that begins with a member of an object of the page.
-fn member_head(
-    place: Place<'_>,
-    used: PathUse,
-    name: &Text,
-    steps: &[Shape],
-    object: PageObject,
-) -> Result<(Head, usize), Memory>
-    ensures { Gives result (spec.member_head place.entry.names.now (scopes_seen place.entry.tables) name.now
-        (member_meant object (is_group used) steps.now)) }
+fn member_head(used: PathUse, steps: &[Shape], object: PageObject) -> (Head, usize)
+    ensures { result ≡ spec.member_head steps.now (member_meant object (is_group used) steps.now) }
 {
     match member_meant(object, is_group(used), steps) {
-        Some((member, count)) => Ok((Head::Member(member), count)),
-        None => Ok((Head::Named(Named::Unknown(number(place, name)?)), 0)),
+        Some(row) => {
+            let head = Head::Member {
+                member: row.member,
+                groups: groups_behind(&row, steps),
+                takes: row.takes,
+            };
+            (head, length_of(&row))
+        }
+        None => (Head::Named(Named::Unknown), 0),
     }
 }
 
@@ -103,14 +107,14 @@ fn name_head(
     name: &Text,
     steps: &[Shape],
 ) -> Result<(Head, usize), Memory>
-    ensures { Gives result (spec.name_head place.entry.names.now (scopes_seen place.entry.tables) used name.now
+    ensures { Gives result (spec.name_head place.entry.names.now (scopes_seen place.entry.scopes) used name.now
         steps.now) }
 {
-    match place.tables.object(place.alloc, name)? {
-        Some(object) => member_head(place, used, name, steps, object),
+    match place.scopes.object(place.alloc, name)? {
+        Some(object) => Ok(member_head(used, steps, object)),
         None => {
             let called = is_called(used, steps);
-            let named = place.tables.named(place.alloc, place.names, called, name)?;
+            let named = place.scopes.named(place.alloc, called, name)?;
             Ok(named_head(named, steps))
         }
     }
@@ -123,7 +127,7 @@ pub fn head(
     head: &PathHead,
     steps: &[Shape],
 ) -> Result<(Head, usize), Memory>
-    ensures { Gives result (spec.head_of place.entry.names.now (scopes_seen place.entry.tables) used head.now
+    ensures { Gives result (spec.head_of place.entry.names.now (scopes_seen place.entry.scopes) used head.now
         steps.now) }
 {
     match head {

@@ -3,28 +3,30 @@ ghost use Rattle.std.specs.Prelude.{◌≡◌, map, false};
 ghost use Rattle.vb_value.specs.Outcome.{Gives};
 ghost use Rattle.vb_syntax.specs.scope.Trees as spec;
 ghost use Rattle.vb_syntax.specs.declared.statement.StatementKind.TheOpen as layer;
-ghost use Rattle.vb_names.specs.Tables.{scopes_seen};
+ghost use Rattle.vb_names.specs.Declarations.{scopes_seen};
 
 use crate::trees::expressions::{expression, expressions, path};
 use crate::trees::heads::Place;
+use vb_notes::call_use;
 use vb_syntax::program::{
     Condition as ResolvedCondition, Expression as Resolved, Named,
     Repetition as ResolvedRepetition, Resized as ResolvedResized, StatementKind as ResolvedKind,
+    Step as ResolvedStep,
 };
 use vb_syntax::{Condition, Expression, Path, PathUse, Repetition, Resized, StatementKind as Kind};
 use vb_value::{List, Memory, Text};
 
 /// What a name stands for that is written alone.
 pub fn target(place: Place<'_>, name: &Text) -> Result<Named, Memory>
-    ensures { Gives result (spec.target_of place.entry.names.now (scopes_seen place.entry.tables) name.now) }
+    ensures { Gives result (spec.target_of place.entry.names.now (scopes_seen place.entry.scopes) name.now) }
 {
-    place.tables.named(place.alloc, place.names, false, name)
+    place.scopes.named(place.alloc, false, name)
 }
 
 /// What names stand for that are written alone.
 pub fn targets(place: Place<'_>, names: &[Text]) -> Result<List<Named>, Memory>
     ensures { Gives result
-        (map (spec.target_of place.entry.names.now (scopes_seen place.entry.tables)) names.now) }
+        (map (spec.target_of place.entry.names.now (scopes_seen place.entry.scopes)) names.now) }
 {
     let mut all = List::with_capacity(place.alloc, names.len())?;
     for name in names {
@@ -35,7 +37,7 @@ pub fn targets(place: Place<'_>, names: &[Text]) -> Result<List<Named>, Memory>
 
 /// An array that gets new bounds.
 fn resized(place: Place<'_>, found: &Resized) -> Result<ResolvedResized, Memory>
-    ensures { Gives result (spec.resized_of place.entry.names.now (scopes_seen place.entry.tables) found.now) }
+    ensures { Gives result (spec.resized_of place.entry.names.now (scopes_seen place.entry.scopes) found.now) }
 {
     Ok(ResolvedResized {
         name: target(place, &found.name)?,
@@ -46,7 +48,7 @@ fn resized(place: Place<'_>, found: &Resized) -> Result<ResolvedResized, Memory>
 /// Arrays that get new bounds.
 pub fn arrays(place: Place<'_>, found: &[Resized]) -> Result<List<ResolvedResized>, Memory>
     ensures { Gives result
-        (map (spec.resized_of place.entry.names.now (scopes_seen place.entry.tables)) found.now) }
+        (map (spec.resized_of place.entry.names.now (scopes_seen place.entry.scopes)) found.now) }
 {
     let mut all = List::with_capacity(place.alloc, found.len())?;
     for array in found {
@@ -57,7 +59,7 @@ pub fn arrays(place: Place<'_>, found: &[Resized]) -> Result<List<ResolvedResize
 
 /// An expression, where there is one.
 pub fn optional(place: Place<'_>, found: &Option<Expression>) -> Result<Option<Resolved>, Memory>
-    ensures { Gives result (spec.optional_of place.entry.names.now (scopes_seen place.entry.tables) found.now) }
+    ensures { Gives result (spec.optional_of place.entry.names.now (scopes_seen place.entry.scopes) found.now) }
 {
     match found {
         None => Ok(None),
@@ -67,7 +69,7 @@ pub fn optional(place: Place<'_>, found: &Option<Expression>) -> Result<Option<R
 
 /// The expression that a For Each goes over.
 pub fn group(place: Place<'_>, found: &Expression) -> Result<Resolved, Memory>
-    ensures { Gives result (spec.group_of place.entry.names.now (scopes_seen place.entry.tables) found.now) }
+    ensures { Gives result (spec.group_of place.entry.names.now (scopes_seen place.entry.scopes) found.now) }
 {
     match found {
         Expression::Path(found) => Ok(Resolved::Path(path(place, found, PathUse::Group)?)),
@@ -77,7 +79,7 @@ pub fn group(place: Place<'_>, found: &Expression) -> Result<Resolved, Memory>
 
 /// The condition of a `Do`.
 fn condition(place: Place<'_>, found: &Condition) -> Result<ResolvedCondition, Memory>
-    ensures { Gives result (spec.condition_of place.entry.names.now (scopes_seen place.entry.tables) found.now) }
+    ensures { Gives result (spec.condition_of place.entry.names.now (scopes_seen place.entry.scopes) found.now) }
 {
     Ok(ResolvedCondition {
         is_until: found.is_until,
@@ -87,7 +89,7 @@ fn condition(place: Place<'_>, found: &Condition) -> Result<ResolvedCondition, M
 
 /// Which condition a `Do` has.
 pub fn repetition(place: Place<'_>, found: &Repetition) -> Result<ResolvedRepetition, Memory>
-    ensures { Gives result (spec.repetition_of place.entry.names.now (scopes_seen place.entry.tables) found.now) }
+    ensures { Gives result (spec.repetition_of place.entry.names.now (scopes_seen place.entry.scopes) found.now) }
 {
     match found {
         Repetition::Endless => Ok(ResolvedRepetition::Endless),
@@ -108,7 +110,7 @@ pub fn redim(
     preserve: bool,
     found: &List<Resized>,
 ) -> Result<ResolvedKind, Memory>
-    ensures { Gives result (spec.kind_layer place.entry.names.now (scopes_seen place.entry.tables)
+    ensures { Gives result (spec.kind_layer place.entry.names.now (scopes_seen place.entry.scopes)
         (layer.ReDim preserve found.now)) }
 {
     Ok(ResolvedKind::ReDim {
@@ -119,7 +121,7 @@ pub fn redim(
 
 /// A `Set`.
 pub fn set(place: Place<'_>, target: &Path, value: &Expression) -> Result<ResolvedKind, Memory>
-    ensures { Gives result (spec.kind_layer place.entry.names.now (scopes_seen place.entry.tables)
+    ensures { Gives result (spec.kind_layer place.entry.names.now (scopes_seen place.entry.scopes)
         (layer.Set target.now value.now)) }
 {
     Ok(ResolvedKind::Set {
@@ -134,7 +136,7 @@ pub fn assignment(
     target: &Path,
     value: &Expression,
 ) -> Result<ResolvedKind, Memory>
-    ensures { Gives result (spec.kind_layer place.entry.names.now (scopes_seen place.entry.tables)
+    ensures { Gives result (spec.kind_layer place.entry.names.now (scopes_seen place.entry.scopes)
         (layer.Assign target.now value.now)) }
 {
     Ok(ResolvedKind::Assign {
@@ -149,28 +151,31 @@ pub fn call(
     callee: &Path,
     given: &List<Expression>,
 ) -> Result<ResolvedKind, Memory>
-    ensures { Gives result (spec.kind_layer place.entry.names.now (scopes_seen place.entry.tables)
+    ensures { Gives result (spec.kind_layer place.entry.names.now (scopes_seen place.entry.scopes)
         (layer.Call callee.now given.now)) }
 {
-    Ok(ResolvedKind::Call {
-        callee: path(place, callee, PathUse::Callee)?,
-        arguments: expressions(place, given.as_slice())?,
-    })
+    let used = call_use(given.as_slice(), callee.steps.as_slice());
+    let mut path = path(place, callee, used)?;
+    if used == PathUse::CalleeWithArguments {
+        let given = expressions(place, given.as_slice())?;
+        path.steps.push(ResolvedStep::Group(given))?;
+    }
+    Ok(ResolvedKind::Call { callee: path })
 }
 
 /// A call of a path alone.
 pub fn call_path(place: Place<'_>, callee: &Path) -> Result<ResolvedKind, Memory>
-    ensures { Gives result (spec.kind_layer place.entry.names.now (scopes_seen place.entry.tables)
+    ensures { Gives result (spec.kind_layer place.entry.names.now (scopes_seen place.entry.scopes)
         (layer.CallPath callee.now)) }
 {
-    Ok(ResolvedKind::CallPath {
+    Ok(ResolvedKind::Call {
         callee: path(place, callee, PathUse::Callee)?,
     })
 }
 
 /// An `Erase`.
 pub fn erase(place: Place<'_>, names: &List<Text>) -> Result<ResolvedKind, Memory>
-    ensures { Gives result (spec.kind_layer place.entry.names.now (scopes_seen place.entry.tables)
+    ensures { Gives result (spec.kind_layer place.entry.names.now (scopes_seen place.entry.scopes)
         (layer.Erase names.now)) }
 {
     Ok(ResolvedKind::Erase {
@@ -180,7 +185,7 @@ pub fn erase(place: Place<'_>, names: &List<Text>) -> Result<ResolvedKind, Memor
 
 /// The value of an expression, written to the page.
 pub fn page_write(place: Place<'_>, value: &Expression) -> Result<ResolvedKind, Memory>
-    ensures { Gives result (spec.kind_layer place.entry.names.now (scopes_seen place.entry.tables)
+    ensures { Gives result (spec.kind_layer place.entry.names.now (scopes_seen place.entry.scopes)
         (layer.PageWrite value.now)) }
 {
     Ok(ResolvedKind::PageWrite {

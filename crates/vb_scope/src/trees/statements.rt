@@ -4,7 +4,7 @@ ghost use Rattle.std.specs.Option.{option_map};
 ghost use Rattle.vb_value.specs.Outcome.{Gives};
 ghost use Rattle.vb_syntax.specs.scope.Trees as spec;
 ghost use Rattle.vb_syntax.specs.declared.statement.StatementKind.TheOpen as layer;
-ghost use Rattle.vb_names.specs.Tables.{scopes_seen};
+ghost use Rattle.vb_names.specs.Declarations.{scopes_seen};
 
 use crate::trees::expressions::{expression, expressions};
 use crate::trees::heads::Place;
@@ -22,7 +22,7 @@ use vb_value::{Copied, List, Memory, Text};
 #[cycle(blocks)]
 pub fn statement(place: Place<'_>, found: &Statement) -> Result<ResolvedStatement, Memory>
     ensures { Gives result
-        (spec.statement_of place.entry.names.now (scopes_seen place.entry.tables) found.now) }
+        (spec.statement_of place.entry.names.now (scopes_seen place.entry.scopes) found.now) }
 {
     Ok(ResolvedStatement {
         line: found.line,
@@ -33,7 +33,7 @@ pub fn statement(place: Place<'_>, found: &Statement) -> Result<ResolvedStatemen
 /// What a statement says.
 #[cycle(blocks)]
 fn kind(place: Place<'_>, found: &Kind) -> Result<Resolved, Memory>
-    ensures { Gives result (spec.kind_of place.entry.names.now (scopes_seen place.entry.tables) found.now) }
+    ensures { Gives result (spec.kind_of place.entry.names.now (scopes_seen place.entry.scopes) found.now) }
 {
     match found {
         Kind::Const {
@@ -95,7 +95,7 @@ fn if_block(
     last: &Option<List<Statement>>,
     condition: &Expression,
 ) -> Result<Resolved, Memory>
-    ensures { let names = place.entry.names.now in let scopes = scopes_seen place.entry.tables in
+    ensures { let names = place.entry.names.now in let scopes = scopes_seen place.entry.scopes in
         Gives result (spec.kind_layer names scopes (layer.If condition.now
         (map (spec.statement_of names scopes) then.now) (map (spec.else_if_of names scopes) others.now)
         (option_map (map (spec.statement_of names scopes)) last.now))) }
@@ -116,14 +116,15 @@ fn line_if(
     last: &Option<List<Statement>>,
     condition: &Expression,
 ) -> Result<Resolved, Memory>
-    ensures { let names = place.entry.names.now in let scopes = scopes_seen place.entry.tables in
+    ensures { let names = place.entry.names.now in let scopes = scopes_seen place.entry.scopes in
         Gives result (spec.kind_layer names scopes (layer.LineIf condition.now
         (map (spec.statement_of names scopes) then.now)
         (option_map (map (spec.statement_of names scopes)) last.now))) }
 {
-    Ok(Resolved::LineIf {
+    Ok(Resolved::If {
         condition: expression(place, condition)?,
         then: block(place, then)?,
+        others: List::new(place.alloc),
         otherwise: otherwise(place, last)?,
     })
 }
@@ -136,7 +137,7 @@ fn select(
     last: &Option<List<Statement>>,
     subject: &Expression,
 ) -> Result<Resolved, Memory>
-    ensures { let names = place.entry.names.now in let scopes = scopes_seen place.entry.tables in
+    ensures { let names = place.entry.names.now in let scopes = scopes_seen place.entry.scopes in
         Gives result (spec.kind_layer names scopes (layer.Select subject.now
         (map (spec.case_of names scopes) found.now)
         (option_map (map (spec.statement_of names scopes)) last.now))) }
@@ -158,7 +159,7 @@ fn for_loop(
     to: &Expression,
     step: &Option<Expression>,
 ) -> Result<Resolved, Memory>
-    ensures { let names = place.entry.names.now in let scopes = scopes_seen place.entry.tables in
+    ensures { let names = place.entry.names.now in let scopes = scopes_seen place.entry.scopes in
         Gives result (spec.kind_layer names scopes (layer.For variable.now from.now to.now step.now
         (map (spec.statement_of names scopes) body.now))) }
 {
@@ -179,7 +180,7 @@ fn for_each_loop(
     variable: &Text,
     found: &Expression,
 ) -> Result<Resolved, Memory>
-    ensures { let names = place.entry.names.now in let scopes = scopes_seen place.entry.tables in
+    ensures { let names = place.entry.names.now in let scopes = scopes_seen place.entry.scopes in
         Gives result (spec.kind_layer names scopes (layer.ForEach variable.now found.now
         (map (spec.statement_of names scopes) body.now))) }
 {
@@ -193,7 +194,7 @@ fn for_each_loop(
 /// A `Do`.
 #[cycle(blocks)]
 fn do_loop(place: Place<'_>, body: &List<Statement>, found: &Repetition) -> Result<Resolved, Memory>
-    ensures { let names = place.entry.names.now in let scopes = scopes_seen place.entry.tables in
+    ensures { let names = place.entry.names.now in let scopes = scopes_seen place.entry.scopes in
         Gives result (spec.kind_layer names scopes (layer.Do found.now
         (map (spec.statement_of names scopes) body.now))) }
 {
@@ -210,7 +211,7 @@ fn while_loop(
     body: &List<Statement>,
     condition: &Expression,
 ) -> Result<Resolved, Memory>
-    ensures { let names = place.entry.names.now in let scopes = scopes_seen place.entry.tables in
+    ensures { let names = place.entry.names.now in let scopes = scopes_seen place.entry.scopes in
         Gives result (spec.kind_layer names scopes (layer.While condition.now
         (map (spec.statement_of names scopes) body.now))) }
 {
@@ -227,7 +228,7 @@ fn with_block(
     body: &List<Statement>,
     subject: &Expression,
 ) -> Result<Resolved, Memory>
-    ensures { let names = place.entry.names.now in let scopes = scopes_seen place.entry.tables in
+    ensures { let names = place.entry.names.now in let scopes = scopes_seen place.entry.scopes in
         Gives result (spec.kind_layer names scopes (layer.With subject.now
         (map (spec.statement_of names scopes) body.now))) }
 {
@@ -244,7 +245,7 @@ fn otherwise(
     found: &Option<List<Statement>>,
 ) -> Result<Option<List<ResolvedStatement>>, Memory>
     ensures { Gives result
-        (option_map (map (spec.statement_of place.entry.names.now (scopes_seen place.entry.tables))) found.now) }
+        (option_map (map (spec.statement_of place.entry.names.now (scopes_seen place.entry.scopes))) found.now) }
 {
     match found {
         None => Ok(None),
@@ -256,7 +257,7 @@ fn otherwise(
 #[cycle(blocks)]
 pub fn block(place: Place<'_>, found: &List<Statement>) -> Result<List<ResolvedStatement>, Memory>
     ensures { Gives result
-        (map (spec.statement_of place.entry.names.now (scopes_seen place.entry.tables)) found.now) }
+        (map (spec.statement_of place.entry.names.now (scopes_seen place.entry.scopes)) found.now) }
 {
     let mut all = List::with_capacity(place.alloc, found.len())?;
     for one in found.as_slice() {
@@ -269,7 +270,7 @@ pub fn block(place: Place<'_>, found: &List<Statement>) -> Result<List<ResolvedS
 #[cycle(blocks)]
 fn else_ifs(place: Place<'_>, found: &List<ElseIf>) -> Result<List<ResolvedElseIf>, Memory>
     ensures { Gives result
-        (map (spec.else_if_of place.entry.names.now (scopes_seen place.entry.tables)) found.now) }
+        (map (spec.else_if_of place.entry.names.now (scopes_seen place.entry.scopes)) found.now) }
 {
     let mut all = List::with_capacity(place.alloc, found.len())?;
     for one in found.as_slice() {
@@ -288,7 +289,7 @@ fn else_ifs(place: Place<'_>, found: &List<ElseIf>) -> Result<List<ResolvedElseI
 #[cycle(blocks)]
 fn cases(place: Place<'_>, found: &List<Case>) -> Result<List<ResolvedCase>, Memory>
     ensures { Gives result
-        (map (spec.case_of place.entry.names.now (scopes_seen place.entry.tables)) found.now) }
+        (map (spec.case_of place.entry.names.now (scopes_seen place.entry.scopes)) found.now) }
 {
     let mut all = List::with_capacity(place.alloc, found.len())?;
     for one in found.as_slice() {

@@ -1,30 +1,29 @@
 //! Procedures and classes.
 ghost use Rattle.std.specs.Prelude.{◌≡◌, ◌++◌, ◌∷◌, [], map, false, true};
 ghost use Rattle.std.specs.List.{flat_map};
-ghost use Rattle.vb_value.specs.Outcome.{Gives};
+ghost use Rattle.vb_value.specs.Outcome.{Adds, Gives};
 ghost use Rattle.vb_syntax.specs.declared.declaration.Parameter.{Parameter};
 ghost use Rattle.vb_syntax.specs.scope.Programs as spec;
 ghost use Rattle.vb_syntax.specs.scope.Trees.{statement_of};
 ghost use Rattle.vb_syntax.specs.scope.Units as units;
 ghost use Rattle.vb_syntax.specs.scope.Scopes.{on_page_in};
 ghost use Rattle.vb_notes.specs.Bodies.{body_seen};
-ghost use Rattle.vb_notes.specs.Outcome.{Adds};
-ghost use Rattle.vb_names.specs.Tables.{page_seen, class_seen};
+ghost use Rattle.vb_names.specs.Declarations.{declarations_seen};
 
+use crate::scopes::{body_notes, class_scope};
 use crate::trees::heads::{Place, name_number};
+use crate::trees::members::{fields, sub_number};
 use crate::trees::statements::{block, statement};
 use std::alloc::Global;
-use vb_names::{
-    BodyParts, BodyTable, ClassTable, Names, PageTable, Tables, body_notes, body_parts, class_table,
-};
-use vb_notes::{Body, body_of, body_of_property, copy_bounds};
+use vb_names::{Declarations, Names, Scopes, body_scope};
+use vb_notes::{Body, body_of, body_of_property};
 use vb_syntax::program::{
-    Class as ResolvedClass, Field, Procedure as ResolvedProcedure, ProcedureKind as ResolvedKind,
+    Class as ResolvedClass, Procedure as ResolvedProcedure, ProcedureKind as ResolvedKind,
     Statement as ResolvedStatement, StatementKind as ResolvedStatementKind,
 };
 use vb_syntax::{
-    Access, Class, ClassMember, Declared, FieldAccess, Item, Parameter, Procedure, ProcedureKind,
-    Property, PropertyKind, Statement,
+    Access, Class, ClassMember, Item, Parameter, Procedure, ProcedureKind, Property, PropertyKind,
+    Statement,
 };
 use vb_value::{List, Memory, Text};
 
@@ -33,7 +32,7 @@ use vb_value::{List, Memory, Text};
 pub struct Script<'a> {
     pub alloc: Global,
     pub explicit: bool,
-    pub page: &'a PageTable,
+    pub page: &'a Declarations,
     pub names: &'a Names,
 }
 
@@ -51,15 +50,6 @@ fn is_private(access: Option<Access>) -> bool
     match access {
         Some(Access::Private) => true,
         Some(Access::Public) | None => false,
-    }
-}
-
-fn is_private_field(access: FieldAccess) -> bool
-    ensures { result ≡ spec.is_private_field access }
-{
-    match access {
-        FieldAccess::Private => true,
-        FieldAccess::Public | FieldAccess::Dim => false,
     }
 }
 
@@ -96,44 +86,44 @@ fn by_value(alloc: Global, parameters: &[Parameter]) -> Result<List<bool>, Memor
 /// A procedure that stands in a class or in none.
 fn procedure(
     script: Script<'_>,
-    class: &ClassTable,
+    class: &Declarations,
     heading: Heading<'_>,
     body: Body<'_>,
 ) -> Result<ResolvedProcedure, Memory>
-    ensures { Gives result (spec.procedure_in script.entry.explicit (page_seen script.entry.page.now)
-        script.entry.names.now (class_seen class.now) heading.entry.access heading.entry.kind
+    ensures { Gives result (spec.procedure_in script.entry.explicit (declarations_seen script.entry.page.now)
+        script.entry.names.now (declarations_seen class.now) heading.entry.access heading.entry.kind
         heading.entry.name.now (body_seen body.entry)) }
 {
     let notes = body_notes(script.alloc, body)?;
-    let BodyParts {
-        table,
-        variables,
-        constants,
-    } = body_parts(
+    let found = body_scope(
         script.alloc,
         script.explicit,
         script.page,
         class,
-        body,
         notes.as_slice(),
     )?;
     let place = Place {
         alloc: script.alloc,
         names: script.names,
-        tables: Tables {
+        scopes: Scopes {
             page: script.page,
             class,
-            body: &table,
+            body: &found,
         },
     };
     let statements = block(place, body.statements)?;
+    let Declarations {
+        arrays,
+        constants,
+        ..
+    } = found;
     Ok(ResolvedProcedure {
         line: body.line,
         is_private: is_private(heading.access),
         kind: heading.kind,
         name: name_number(script.alloc, script.names, heading.name)?,
         by_value: by_value(script.alloc, body.parameters.as_slice())?,
-        variables,
+        variables: arrays,
         constants,
         body: statements,
     })
@@ -141,26 +131,26 @@ fn procedure(
 
 /// A procedure of the page.
 pub fn procedure_of(script: Script<'_>, found: &Procedure) -> Result<ResolvedProcedure, Memory>
-    ensures { Gives result (spec.procedure_of script.entry.explicit (page_seen script.entry.page.now)
+    ensures { Gives result (spec.procedure_of script.entry.explicit (declarations_seen script.entry.page.now)
         script.entry.names.now found.now) }
 {
-    let class = ClassTable::new(script.alloc);
+    let nothing = Declarations::new(script.alloc);
     let heading = Heading {
         access: found.access,
         kind: kind_of(found.kind),
         name: &found.name,
     };
-    procedure(script, &class, heading, body_of(false, found))
+    procedure(script, &nothing, heading, body_of(false, found))
 }
 
 /// A method.
 fn method_of(
     script: Script<'_>,
-    class: &ClassTable,
+    class: &Declarations,
     found: &Procedure,
 ) -> Result<ResolvedProcedure, Memory>
-    ensures { Gives result (spec.method_of script.entry.explicit (page_seen script.entry.page.now)
-        script.entry.names.now (class_seen class.now) found.now) }
+    ensures { Gives result (spec.method_of script.entry.explicit (declarations_seen script.entry.page.now)
+        script.entry.names.now (declarations_seen class.now) found.now) }
 {
     let heading = Heading {
         access: found.access,
@@ -173,11 +163,11 @@ fn method_of(
 /// An accessor of a property.
 fn property_of(
     script: Script<'_>,
-    class: &ClassTable,
+    class: &Declarations,
     found: &Property,
 ) -> Result<ResolvedProcedure, Memory>
-    ensures { Gives result (spec.property_of script.entry.explicit (page_seen script.entry.page.now)
-        script.entry.names.now (class_seen class.now) found.now) }
+    ensures { Gives result (spec.property_of script.entry.explicit (declarations_seen script.entry.page.now)
+        script.entry.names.now (declarations_seen class.now) found.now) }
 {
     let heading = Heading {
         access: found.access,
@@ -191,11 +181,11 @@ fn property_of(
 fn push_procedure(
     all: &mut List<ResolvedProcedure>,
     script: Script<'_>,
-    class: &ClassTable,
+    class: &Declarations,
     member: &ClassMember,
 ) -> Result<(), Memory>
     ensures { Adds result all.old all.new (spec.procedure_member script.entry.explicit
-        (page_seen script.entry.page.now) script.entry.names.now (class_seen class.now) member.now) }
+        (declarations_seen script.entry.page.now) script.entry.names.now (declarations_seen class.now) member.now) }
 {
     match member {
         ClassMember::Fields { .. } => Ok(()),
@@ -204,65 +194,14 @@ fn push_procedure(
     }
 }
 
-/// Adds fields.
-fn push_declared_fields(
-    all: &mut List<Field>,
-    script: Script<'_>,
-    access: FieldAccess,
-    fields: &[Declared],
-) -> Result<(), Memory>
-    ensures { Adds result all.old all.new (map (spec.field_of script.entry.explicit
-        (page_seen script.entry.page.now) script.entry.names.now access) fields.now) }
-{
-    for field in fields {
-        all.push(Field {
-            name: name_number(script.alloc, script.names, &field.name)?,
-            is_private: is_private_field(access),
-            bounds: copy_bounds(&field.bounds)?,
-        })?;
-    }
-    Ok(())
-}
-
-/// Adds the fields that a member declares.
-fn push_fields(
-    all: &mut List<Field>,
-    script: Script<'_>,
-    member: &ClassMember,
-) -> Result<(), Memory>
-    ensures { Adds result all.old all.new (spec.fields_of script.entry.explicit
-        (page_seen script.entry.page.now) script.entry.names.now member.now) }
-{
-    match member {
-        ClassMember::Fields {
-            line: _,
-            access,
-            fields,
-        } => { push_declared_fields(all, script, *access, fields.as_slice()) }
-        ClassMember::Method(_) | ClassMember::Property(_) => Ok(()),
-    }
-}
-
-/// The fields of members.
-fn fields(script: Script<'_>, members: &[ClassMember]) -> Result<List<Field>, Memory>
-    ensures { Gives result (flat_map (spec.fields_of script.entry.explicit
-        (page_seen script.entry.page.now) script.entry.names.now) members.now) }
-{
-    let mut all = List::new(script.alloc);
-    for member in members {
-        push_fields(&mut all, script, member)?;
-    }
-    Ok(all)
-}
-
 /// The methods and properties of members.
 fn procedures(
     script: Script<'_>,
-    class: &ClassTable,
+    class: &Declarations,
     members: &[ClassMember],
 ) -> Result<List<ResolvedProcedure>, Memory>
     ensures { Gives result (flat_map (spec.procedure_member script.entry.explicit
-        (page_seen script.entry.page.now) script.entry.names.now (class_seen class.now)) members.now) }
+        (declarations_seen script.entry.page.now) script.entry.names.now (declarations_seen class.now)) members.now) }
 {
     let mut all = List::new(script.alloc);
     for member in members {
@@ -273,31 +212,33 @@ fn procedures(
 
 /// A class.
 pub fn class_of(script: Script<'_>, found: &Class) -> Result<ResolvedClass, Memory>
-    ensures { Gives result (spec.class_of script.entry.explicit (page_seen script.entry.page.now)
+    ensures { Gives result (spec.class_of script.entry.explicit (declarations_seen script.entry.page.now)
         script.entry.names.now found.now) }
 {
-    let table = class_table(script.alloc, found)?;
+    let scope = class_scope(script.alloc, found)?;
+    let members = found.members.as_slice();
     Ok(ResolvedClass {
         line: found.line,
-        fields: fields(script, found.members.as_slice())?,
-        procedures: procedures(script, &table, found.members.as_slice())?,
+        fields: fields(script, members)?,
+        procedures: procedures(script, &scope, members)?,
+        initialize: sub_number(b"class_initialize", members)?,
+        terminate: sub_number(b"class_terminate", members)?,
     })
 }
 
 /// A statement of the page's own body.
 fn own_statement(script: Script<'_>, found: &Statement) -> Result<ResolvedStatement, Memory>
-    ensures { Gives result (statement_of script.entry.names.now (on_page_in (page_seen script.entry.page.now))
-        found.now) }
+    ensures { Gives result (statement_of script.entry.names.now
+        (on_page_in (declarations_seen script.entry.page.now)) found.now) }
 {
-    let class = ClassTable::new(script.alloc);
-    let body = BodyTable::new(script.alloc);
+    let nothing = Declarations::new(script.alloc);
     let place = Place {
         alloc: script.alloc,
         names: script.names,
-        tables: Tables {
+        scopes: Scopes {
             page: script.page,
-            class: &class,
-            body: &body,
+            class: &nothing,
+            body: &nothing,
         },
     };
     statement(place, found)
@@ -309,8 +250,8 @@ fn push_own(
     script: Script<'_>,
     item: &Item,
 ) -> Result<(), Memory>
-    ensures { Adds result all.old all.new (spec.own_statement script.entry.explicit
-        (page_seen script.entry.page.now) script.entry.names.now item.now) }
+    ensures { Adds result all.old all.new (spec.own_statement (declarations_seen script.entry.page.now)
+        script.entry.names.now item.now) }
 {
     match item {
         Item::Statement(found) => all.push(own_statement(script, found)?),
@@ -324,8 +265,8 @@ fn push_own(
 
 /// The statements of the page's own body.
 pub fn own_statements(script: Script<'_>, items: &[Item]) -> Result<List<ResolvedStatement>, Memory>
-    ensures { Gives result (flat_map (spec.own_statement script.entry.explicit
-        (page_seen script.entry.page.now) script.entry.names.now) items.now) }
+    ensures { Gives result (flat_map (spec.own_statement (declarations_seen script.entry.page.now)
+        script.entry.names.now) items.now) }
 {
     let mut all = List::new(script.alloc);
     for item in items {
@@ -341,7 +282,7 @@ fn push_item_procedure(
     item: &Item,
 ) -> Result<(), Memory>
     ensures { Adds result all.old all.new (map (spec.procedure_of script.entry.explicit
-        (page_seen script.entry.page.now) script.entry.names.now) (units.procedure_in_item item.now)) }
+        (declarations_seen script.entry.page.now) script.entry.names.now) (units.procedure_in_item item.now)) }
 {
     match item {
         Item::Procedure(found) => all.push(procedure_of(script, found)?),
@@ -355,7 +296,7 @@ pub fn page_procedures(
     items: &[Item],
 ) -> Result<List<ResolvedProcedure>, Memory>
     ensures { Gives result (map (spec.procedure_of script.entry.explicit
-        (page_seen script.entry.page.now) script.entry.names.now) (units.procedures_of items.now)) }
+        (declarations_seen script.entry.page.now) script.entry.names.now) (units.procedures_of items.now)) }
 {
     let mut all = List::new(script.alloc);
     for item in items {
@@ -371,7 +312,7 @@ fn push_item_class(
     item: &Item,
 ) -> Result<(), Memory>
     ensures { Adds result all.old all.new (map (spec.class_of script.entry.explicit
-        (page_seen script.entry.page.now) script.entry.names.now) (units.class_in_item item.now)) }
+        (declarations_seen script.entry.page.now) script.entry.names.now) (units.class_in_item item.now)) }
 {
     match item {
         Item::Class(found) => all.push(class_of(script, found)?),
@@ -382,7 +323,7 @@ fn push_item_class(
 /// The classes of the page.
 pub fn page_classes(script: Script<'_>, items: &[Item]) -> Result<List<ResolvedClass>, Memory>
     ensures { Gives result (map (spec.class_of script.entry.explicit
-        (page_seen script.entry.page.now) script.entry.names.now) (units.classes_of items.now)) }
+        (declarations_seen script.entry.page.now) script.entry.names.now) (units.classes_of items.now)) }
 {
     let mut all = List::new(script.alloc);
     for item in items {

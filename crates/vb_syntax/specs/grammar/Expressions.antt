@@ -195,7 +195,3 @@ closed = record { primary = none; negated = none; expression = none }
 abbrev pub expressions : ℕ → Inside
 expressions zero = rules_here false closed
 expressions (suc depth) = rules_here true (expressions depth)
-
--- The tokens spell the expression, where this many constructs may be open at one place.
-unfoldable pub SpellsExpression : ℕ → Rule Expression
-SpellsExpression depth = (expressions depth).expression

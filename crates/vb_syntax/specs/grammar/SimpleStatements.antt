@@ -1,7 +1,7 @@
 -- Statements that hold no other: which token lists spell which of them.
 use Rattle.std.specs.Prelude.{◌≡◌, ℕ, zero, suc, Bool, true, false, IsTrue, List, [], ◌∷◌, ◌++◌, Option, Some}
 use Rattle.std.specs.Prelude.{None, pos, if◌then◌else◌, codes}
-use Rattle.std.specs.Str.{str_eq_ignore_ascii_case}
+use Rattle.vb_value.specs.Folding.{same_name}
 use Rattle.vb_value.specs.declared.token.Keyword.TheVariants as k
 use Rattle.vb_value.specs.declared.token.Symbol.TheVariants as s
 use Rattle.vb_value.specs.declared.token.Token.{Token}
@@ -29,7 +29,7 @@ use Rattle.vb_syntax.specs.grammar.Expressions.{Inside, expressions, path, path_
 -- the line of a name without brackets that is this word, in any ASCII case
 abbrev pub line_of_quoted : List ℕ → TokenKind → ℕ → Option ℕ
 line_of_quoted text (kind.Name name false) line =
-    if str_eq_ignore_ascii_case text name then Some line else None
+    if same_name text name then Some line else None
 line_of_quoted text _ line = None
 
 abbrev pub quoted_at : List ℕ → Token → Option ℕ

@@ -1,9 +1,12 @@
 -- Statements that hold others, lines and blocks: which token lists spell which of them.
 use Rattle.std.specs.Prelude.{ℕ, zero, suc, Bool, true, false, not, ◌||◌, List, [], ◌∷◌, ◌++◌, Option, Some, None}
 use Rattle.std.specs.Prelude.{if◌then◌else◌, ◌==◌, codes}
+use Rattle.std.specs.List.{list_all}
+use Rattle.vb_value.specs.Characters.{carriage_return, is_blank, line_feed}
 use Rattle.vb_value.specs.declared.token.Keyword.TheVariants as k
 use Rattle.vb_value.specs.declared.token.Symbol.TheVariants as s
 use Rattle.vb_value.specs.declared.token.Token.{Token}
+use Rattle.vb_value.specs.declared.token.TokenKind.{TokenKind}
 use Rattle.vb_value.specs.declared.token.TokenKind.TheVariants as kind
 use Rattle.vb_syntax.specs.declared.expression.Expression.{Expression}
 use Rattle.vb_syntax.specs.declared.statement.Case.{Case, roll-Case}
@@ -45,13 +48,27 @@ pub record Blocks : Type 1 where
   pub block : Rule (List Statement)
   pub line : Rule Line
 
--- a text that says nothing, and its end
-abbrev pub loose_text : Rule (Unit {0})
-loose_text = do word (kind.PageText []); «end»
+-- ---- texts of the page between words that no statement may part
 
--- texts and their ends, where they are allowed
-abbrev pub loose_texts : Looser → Rule (Unit {0})
-loose_texts looser = pure tt or where_true looser.texts (do many loose_text; pure tt)
+-- a blank, or a character of a line end
+abbrev pub says_nothing : ℕ → Bool
+says_nothing character = is_blank character || (character == line_feed || character == carriage_return)
+
+-- whether a kind of word is a text of blanks and line ends alone, or any text where that is allowed
+abbrev pub passed_kind : Bool → TokenKind → Option (Unit {0})
+passed_kind any (kind.PageText text) = if any || list_all says_nothing text then Some tt else None
+passed_kind any _ = None
+
+abbrev pub passed : Bool → Token → Option (Unit {0})
+passed any token = passed_kind any token.kind
+
+-- a text that leaves nothing in the tree, and its end
+abbrev pub passed_text : Bool → Rule (Unit {0})
+passed_text any = do one (passed any); «end»
+
+-- any number of them
+abbrev pub passed_texts : Bool → Rule (Unit {0})
+passed_texts any = do many (passed_text any); pure tt
 
 -- ---- rules
 
@@ -122,14 +139,15 @@ module _ (looser : Looser) (depth : ℕ) (inner : Blocks) where
   abbrev pub case_else : Rule (Option (List Statement))
   case_else = (do keyword k.Case; keyword k.Else; «end»; body ← inner.block; pure (Some body)) or pure None
 
-  -- "Select" "Case" expr end { "Case" exprs end block } [ "Case" "Else" end block ] "End" "Select"
+  -- "Select" "Case" expr end { "Case" exprs end block } [ "Case" "Else" end block ] "End" "Select", with blank texts
+  -- before the first "Case"
   abbrev pub select : Rule Statement
   select = do
     line ← keyword k.Select
     keyword k.Case
     subject ← inside
     «end»
-    loose_texts looser
+    passed_texts looser.texts
     cases ← many case
     otherwise ← case_else
     keyword k.End

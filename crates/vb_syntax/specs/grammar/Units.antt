@@ -19,7 +19,7 @@ use Rattle.vb_syntax.specs.grammar.Rules.{Tokens, Rule, pure, ◌>>=◌, ◌>>�
 use Rattle.vb_syntax.specs.grammar.Words.{keyword, list_of, name_of}
 use Rattle.vb_syntax.specs.grammar.Declarations.{opened, access_word, with_access, declared, parameters}
 use Rattle.vb_syntax.specs.grammar.SimpleStatements.{Looser, quoted}
-use Rattle.vb_syntax.specs.grammar.Statements.{«end», blocks, blocks_inside, loose_texts, sentence}
+use Rattle.vb_syntax.specs.grammar.Statements.{«end», blocks, blocks_inside, passed_texts, sentence}
 use Rattle.vb_syntax.specs.grammar.Faults.{WouldGoOn}
 
 module _ (looser : Looser) where
@@ -114,17 +114,17 @@ module _ (looser : Looser) where
       or (do found ← procedure depth; pure (member.Method found))
       or (do found ← property depth; pure (member.Property found))
 
-  -- a member and its end, before texts where they are allowed
+  -- a member and its end, before texts that are passed over
   abbrev pub member_line : ℕ → Rule ClassMember
-  member_line depth = do found ← class_member depth; «end»; loose_texts looser; pure found
+  member_line depth = do found ← class_member depth; «end»; passed_texts looser.texts; pure found
 
-  -- class = "Class" name end { member end } "End" "Class"
+  -- class = "Class" name end { member end } "End" "Class", with blank texts before and between the members
   abbrev pub class : ℕ → Rule Class
   class depth = opened depth (λ within. do
     line ← keyword k.Class
     name ← one name_of
     «end»
-    loose_texts looser
+    passed_texts looser.texts
     members ← many (member_line within)
     keyword k.End
     keyword k.Class
@@ -144,9 +144,10 @@ module _ (looser : Looser) where
       or (do found ← procedure depth; «end»; pure (item.Procedure found))
       or (do found ← class depth; «end»; pure (item.Class found))
 
-  -- [ "Option" "Explicit" end ], and whether it stands there
+  -- [ "Option" "Explicit" end ], and whether it stands there. Blank texts before it are passed over.
   abbrev pub option_explicit : Rule Bool
-  option_explicit = (do keyword k.Option; quoted (codes "explicit"); «end»; pure true) or pure false
+  option_explicit = (do passed_texts false; keyword k.Option; quoted (codes "explicit"); «end»; pure true)
+      or pure false
 
   -- unit = [ end ] [ "Option" "Explicit" end ] { item end }
   abbrev pub unit : ℕ → Rule Script

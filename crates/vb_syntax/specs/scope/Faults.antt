@@ -20,7 +20,8 @@ use Rattle.vb_syntax.specs.declared.unit.Unit.{Unit as Script}
 use Rattle.vb_syntax.specs.scope.Members.{member_meant}
 use Rattle.vb_syntax.specs.scope.Names.{Name, has_name, add_name}
 use Rattle.vb_syntax.specs.scope.Notes.{Notes}
-use Rattle.vb_syntax.specs.scope.Scopes.{Scopes, PageScope, ClassScope, page_scope, class_scope, on_page_in, no_class, no_body}
+use Rattle.vb_syntax.specs.scope.Scopes.{Scopes, Declarations, page_scope, class_scope, on_page_in, scopes_of}
+use Rattle.vb_syntax.specs.scope.Scopes.{nothing_declared}
 use Rattle.vb_syntax.specs.scope.Scopes.{body_scopes, named_in, object_in}
 use Rattle.vb_syntax.specs.scope.Units.{Body, in_body, item_notes, member_notes, member_body, body_of}
 
@@ -63,11 +64,14 @@ abbrev pub after_kind : SoFar → NoteKind → SoFar
 after_kind before (say.Fault found) = before
 after_kind before (say.Variable found) = behind_declaration before found.name None
 after_kind before (say.Constant found) = behind_declaration before found.name None
-after_kind before (say.Procedure name accessor) = behind_declaration before name accessor
+after_kind before (say.Procedure name) = behind_declaration before name None
+after_kind before (say.Class name) = behind_declaration before name None
+after_kind before (say.Member name accessor) = behind_declaration before name accessor
+after_kind before (say.Result name) = behind_declaration before name None
 after_kind before (say.Use name steps is_group) = behind_name before name
 after_kind before (say.Write name) = behind_name before name
 after_kind before (say.Resize name) = behind_name before name
-after_kind before (say.Mention name) = behind_name before name
+after_kind before (say.Part name) = behind_name before name
 
 -- behind some places
 abbrev pub after_notes : SoFar → Notes → SoFar
@@ -112,7 +116,7 @@ is_object (Some object) = true
 
 -- ConstTarget: a constant is not written. Nor is an object of the page alone, which is BadMember.
 abbrev pub write_faults : Scopes → List Name → Name → List ScopeFault
-write_faults scopes before name = where_true (is_constant (named_in [] scopes false name)) fault.ConstTarget
+write_faults scopes before name = where_true (is_constant (named_in scopes false name)) fault.ConstTarget
     ++ where_true (is_object (object_in scopes name)) fault.BadMember
     ++ name_faults before name
 
@@ -135,11 +139,14 @@ abbrev pub kind_faults : Scopes → SoFar → NoteKind → List ScopeFault
 kind_faults scopes before (say.Fault found) = found ∷ []
 kind_faults scopes before (say.Variable found) = declaration_faults before found.name None
 kind_faults scopes before (say.Constant found) = declaration_faults before found.name None
-kind_faults scopes before (say.Procedure name accessor) = declaration_faults before name accessor
+kind_faults scopes before (say.Procedure name) = declaration_faults before name None
+kind_faults scopes before (say.Class name) = declaration_faults before name None
+kind_faults scopes before (say.Member name accessor) = declaration_faults before name accessor
+kind_faults scopes before (say.Result name) = declaration_faults before name None
 kind_faults scopes before (say.Use name steps is_group) = use_faults scopes before.names name steps is_group
 kind_faults scopes before (say.Write name) = write_faults scopes before.names name
 kind_faults scopes before (say.Resize name) = write_faults scopes before.names name
-kind_faults scopes before (say.Mention name) = name_faults before.names name
+kind_faults scopes before (say.Part name) = name_faults before.names name
 
 -- ---- the faults of a unit, each with its line
 
@@ -197,25 +204,25 @@ after_items before (item ∷ items) = after_items (after_item before item) items
 unfoldable pub names_of : Script → List Name
 names_of unit = (after_items (fresh []) unit.items).names
 
-module _ (explicit : Bool) (page : PageScope) where
+module _ (explicit : Bool) (page : Declarations) where
   -- the faults in the body of a procedure
-  abbrev pub body_faults : ClassScope → List Name → Body → Faults
+  abbrev pub body_faults : Declarations → List Name → Body → Faults
   body_faults class names body = notes_faults (body_scopes explicit page class body) (fresh names) (in_body body)
 
   -- the faults in the bodies of a member: there is one at most
-  abbrev pub bodies_faults : ClassScope → List Name → List Body → Faults
+  abbrev pub bodies_faults : Declarations → List Name → List Body → Faults
   bodies_faults class names [] = []
   bodies_faults class names (body ∷ bodies) =
       body_faults class names body ++ bodies_faults class (after_body names body) bodies
 
   -- the faults of a member of a class, and then those in its body
-  abbrev pub member_faults : ClassScope → SoFar → ClassMember → Faults
+  abbrev pub member_faults : Declarations → SoFar → ClassMember → Faults
   member_faults class before member =
-      notes_faults (record { page = page; class = class; body = no_body }) before (member_notes member)
+      notes_faults (scopes_of page class nothing_declared) before (member_notes member)
       ++ bodies_faults class (after_notes before (member_notes member)).names (member_body member)
 
   -- the faults of the members of a class
-  abbrev pub members_faults : ClassScope → SoFar → List ClassMember → Faults
+  abbrev pub members_faults : Declarations → SoFar → List ClassMember → Faults
   members_faults class before [] = []
   members_faults class before (member ∷ members) =
       member_faults class before member ++ members_faults class (after_member before member) members
@@ -226,7 +233,7 @@ module _ (explicit : Bool) (page : PageScope) where
 
   -- the faults inside an item
   abbrev pub inside_faults : List Name → Item → Faults
-  inside_faults names (item.Procedure found) = body_faults no_class names (body_of false found)
+  inside_faults names (item.Procedure found) = body_faults nothing_declared names (body_of false found)
   inside_faults names (item.Class found) = class_faults names found
   inside_faults names _ = []
 

@@ -1,10 +1,10 @@
 -- Names of a script, which are equal but for ASCII case, and the names that the language has (VBScript 5.6 language
 -- reference, "Functions" and "Constants") and that a page is given (ASP 3.0 object reference).
 use Rattle.std.specs.Prelude.{ℕ, ℤ, Bool, if◌then◌else◌, pos, negsuc, List, [], ◌∷◌, ◌++◌, fold, codes, nat_eq}
-use Rattle.std.specs.Prelude.{Option, Some, None, is_some}
+use Rattle.std.specs.Prelude.{Option, Some, None, is_some, unwrap_or}
 use Rattle.std.specs.List.{position_from}
 use Rattle.std.specs.Cmp.Lexicographic.{pointwise}
-use Rattle.vb_value.specs.Folding.{folded}
+use Rattle.vb_value.specs.Folding.{folded, same_name, beside}
 use Rattle.vb_value.specs.declared.function.PlainFn.{PlainFn}
 use Rattle.vb_value.specs.declared.function.PlainFn.TheVariants as plain
 use Rattle.vb_value.specs.declared.function.StrFn.{StrFn}
@@ -12,16 +12,14 @@ use Rattle.vb_value.specs.declared.function.StrFn.TheVariants as string
 use Rattle.vb_syntax.specs.declared.expression.Literal.TheVariants as literal
 use Rattle.vb_syntax.specs.declared.note.PageObject.{PageObject}
 use Rattle.vb_syntax.specs.declared.note.PageObject.TheVariants as object
+use Rattle.vb_syntax.specs.declared.program.name.DictionaryMember.{DictionaryMember}
+use Rattle.vb_syntax.specs.declared.program.name.DictionaryMember.TheVariants as dictionary
 use Rattle.vb_syntax.specs.declared.program.name.Named.{Named}
 use Rattle.vb_syntax.specs.declared.program.name.Named.TheVariants as named
 
 -- a name
 abbrev pub Name : Type 0
 Name = List ℕ
-
--- whether two names are the same
-abbrev pub same_name : Name → Name → Bool
-same_name one other = pointwise nat_eq (folded one) (folded other)
 
 -- the number of the first of some names that has a key, which is the name with its letters made small
 abbrev pub number_of_key : List Name → Name → Option ℕ
@@ -39,10 +37,9 @@ has_name names name = is_some (number_in names name)
 abbrev pub add_name : List Name → Name → List Name
 add_name names name = if has_name names name then names else names ++ name ∷ []
 
--- what stands beside a name in a table
-abbrev pub beside : {A : Type 0} → List (Name × A) → Name → Option A
-beside [] name = None
-beside (entry ∷ entries) name = if same_name entry.0 name then Some entry.1 else beside entries name
+-- the number of a name among all names of the script
+abbrev pub name_number : List Name → Name → ℕ
+name_number names name = unwrap_or (number_in names name) 0
 
 -- ---- names of the language
 
@@ -174,3 +171,23 @@ page_objects =
 -- the object of a page that a name stands for
 unfoldable pub object_named : Name → Option PageObject
 object_named = beside page_objects
+
+-- ---- members of a Dictionary
+
+-- the members of a Dictionary (Microsoft Scripting Runtime, "Dictionary Object")
+abbrev pub dictionary_members : List (Name × DictionaryMember)
+dictionary_members =
+    (codes "add", dictionary.Add)
+    ∷ (codes "item", dictionary.Item)
+    ∷ (codes "exists", dictionary.Exists)
+    ∷ (codes "remove", dictionary.Remove)
+    ∷ (codes "removeall", dictionary.RemoveAll)
+    ∷ (codes "keys", dictionary.Keys)
+    ∷ (codes "items", dictionary.Items)
+    ∷ (codes "count", dictionary.Count)
+    ∷ (codes "comparemode", dictionary.CompareMode)
+    ∷ []
+
+-- the member of a Dictionary that a name says
+unfoldable pub dictionary_member : Name → Option DictionaryMember
+dictionary_member = beside dictionary_members

@@ -37,6 +37,7 @@ use Rattle.vb_syntax.specs.declared.statement.StatementKind.TheOpen.{StatementKi
 use Rattle.vb_syntax.specs.declared.statement.StatementKind.TheFolds.{fold-Statement, fold-StatementKind}
 use Rattle.vb_syntax.specs.declared.statement.StatementKind.TheFolds.{fold-Case, fold-ElseIf}
 use Rattle.vb_syntax.specs.scope.Names.{Name}
+use Rattle.vb_syntax.specs.scope.Shapes.{shape_of, stands_alone, call_use, used_steps}
 
 -- what a part of a script says
 abbrev pub Notes : Type 0
@@ -65,11 +66,6 @@ arguments = at_most 255
 
 -- ---- expressions
 
--- whether nothing stands behind a name
-abbrev pub stands_alone : List Shape → Bool
-stands_alone [] = true
-stands_alone (first ∷ more) = false
-
 -- whether a path is used as a target
 abbrev pub is_target : PathUse → Bool
 is_target as_a.Target = true
@@ -93,17 +89,17 @@ module _ (line : ℕ) (around : Around) where
   head_notes used (head.Name name) steps = named_notes line used name steps
   head_notes used head.Me steps = unless around.in_class fault.BadMember line
   head_notes used (head.With name) steps =
-      unless around.in_with fault.BadMember line ++ note line (say.Mention name)
+      unless around.in_with fault.BadMember line ++ note line (say.Part name)
 
   -- a step of a path, what it looks like and what it says
   abbrev pub step_layer : Step-F Notes (Shape × Notes) Notes (PathUse → Notes) → Shape × Notes
-  step_layer (Step-F.Member name) = (shape.Member name, note line (say.Mention name))
+  step_layer (Step-F.Member name) = (shape.Member name, note line (say.Part name))
   step_layer (Step-F.Group given) =
       (shape.Group, arguments (length given) line ++ flat_map (λ (x : Notes). x) given)
 
   -- a path that is used so
   abbrev pub path_layer : Path-F Notes (Shape × Notes) Notes (PathUse → Notes) → PathUse → Notes
-  path_layer path used = head_notes used path.head (map (λ (step : Shape × Notes). step.0) path.steps)
+  path_layer path used = head_notes used path.head (used_steps used (map (λ (step : Shape × Notes). step.0) path.steps))
       ++ flat_map (λ (step : Shape × Notes). step.1) path.steps
 
   -- an operator with its operand
@@ -114,7 +110,7 @@ module _ (line : ℕ) (around : Around) where
   abbrev pub expression_layer : Expression-F Notes (Shape × Notes) Notes (PathUse → Notes) → Notes
   expression_layer (Expression-F.Literal found) = []
   expression_layer Expression-F.Nothing = []
-  expression_layer (Expression-F.New class) = note line (say.Mention class)
+  expression_layer (Expression-F.New class) = note line (say.Part class)
   expression_layer (Expression-F.Path path) = path as_a.Value
   expression_layer (Expression-F.Parenthesis inner) = inner
   expression_layer (Expression-F.Negative operand) = operand
@@ -237,7 +233,8 @@ kind_layer (StatementKind-F.Set target value) line around =
     path_notes line around target as_a.Target ++ expression_notes line around value
 kind_layer (StatementKind-F.Assign target value) line around =
     path_notes line around target as_a.Target ++ expression_notes line around value
-kind_layer (StatementKind-F.Call callee given) line around = path_notes line around callee as_a.Callee
+kind_layer (StatementKind-F.Call callee given) line around =
+    path_notes line around callee (call_use given (map shape_of callee.steps))
     ++ arguments (length given) line ++ expressions_notes line around given
 kind_layer (StatementKind-F.CallPath callee) line around = path_notes line around callee as_a.Callee
 kind_layer (StatementKind-F.If condition body others otherwise) line around =

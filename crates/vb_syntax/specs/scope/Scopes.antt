@@ -1,282 +1,208 @@
 -- Scopes: which names a page, a class and a procedure declare, where the names live that nothing declares, and what a
--- name stands for. A name is looked for from the inside out: in the procedure, its class, the page and the language.
-use Rattle.std.specs.Prelude.{ℕ, Bool, true, false, not, ◌&&◌, ◌||◌, if◌then◌else◌, is_some, List, [], ◌∷◌, ◌++◌}
-use Rattle.std.specs.Prelude.{map, fold, Option, Some, None, unwrap_or, nat_eq}
-use Rattle.std.specs.Cmp.Lexicographic.{pointwise}
-use Rattle.std.specs.List.{flat_map}
-use Rattle.vb_syntax.specs.declared.declaration.Constant.{Constant}
-use Rattle.vb_syntax.specs.declared.declaration.ConstantValue.{ConstantValue}
+-- name stands for. A scope is one list of names and what they stand for, of which the first of a name counts. A name is
+-- looked for from the inside out: in the procedure, its class, the page and the language.
+use Rattle.std.specs.Prelude.{ℕ, ℤ, ◌+◌, Bool, true, false, not, ◌&&◌, if◌then◌else◌, is_some, List, [], ◌∷◌, ◌++◌, length}
+use Rattle.std.specs.Prelude.{fold, Option, Some, None, unwrap_or, slice_get}
 use Rattle.vb_syntax.specs.declared.declaration.Declared.{Declared}
+use Rattle.vb_syntax.specs.declared.note.Level.{Level}
+use Rattle.vb_syntax.specs.declared.note.Level.TheVariants as level
 use Rattle.vb_syntax.specs.declared.note.Note.{Note}
 use Rattle.vb_syntax.specs.declared.note.NoteKind.{NoteKind}
 use Rattle.vb_syntax.specs.declared.note.NoteKind.TheVariants as say
 use Rattle.vb_syntax.specs.declared.note.PageObject.{PageObject}
 use Rattle.vb_syntax.specs.declared.program.name.Named.{Named}
 use Rattle.vb_syntax.specs.declared.program.name.Named.TheVariants as named
+use Rattle.vb_syntax.specs.declared.program.name.Slot.{Slot}
+use Rattle.vb_syntax.specs.declared.program.name.Slot.TheVariants as slot
+use Rattle.vb_syntax.specs.declared.program.unit.Constant.{Constant}
+use Rattle.vb_syntax.specs.declared.program.unit.DeclaredArray.{DeclaredArray}
 use Rattle.vb_syntax.specs.declared.unit.Class.{Class}
-use Rattle.vb_syntax.specs.declared.unit.Item.{Item}
-use Rattle.vb_syntax.specs.declared.unit.Item.TheVariants as item
-use Rattle.vb_syntax.specs.declared.unit.Procedure.{Procedure}
 use Rattle.vb_syntax.specs.declared.unit.Unit.{Unit as Script}
 use Rattle.vb_value.specs.Folding.{folded}
-use Rattle.vb_syntax.specs.scope.Names.{Name, has_name, add_name, number_of_key, stands_for, first_of}
-use Rattle.vb_syntax.specs.scope.Names.{of_language, object_named}
+use Rattle.vb_syntax.specs.scope.Names.{Name, number_of_key, first_of, of_language, object_named}
 use Rattle.vb_syntax.specs.scope.Notes.{Notes}
-use Rattle.vb_syntax.specs.scope.Units.{Body, in_body, on_page_of, procedures_of, classes_of, in_class_of, body_of}
-use Rattle.vb_syntax.specs.scope.Units.{bodies_in}
+use Rattle.vb_syntax.specs.scope.Units.{Body, in_body, on_page_of, in_class_of}
 
--- ---- what notes declare
+-- ---- declarations
 
--- the variable, parameter or field that is declared
-abbrev pub variable_said : NoteKind → List Declared
-variable_said (say.Variable found) = found ∷ []
-variable_said _ = []
+-- What a page, a class or a procedure declares: its names, and beside each what it stands for; its variables, parameters
+-- or fields as the arrays that they are; its constants; and how many procedures, classes and members of a class.
+pub record Declarations : Type 0 where
+  pub names : List Name
+  pub meanings : List Named
+  pub arrays : List (Option DeclaredArray)
+  pub constants : List Constant
+  pub procedures : ℕ
+  pub classes : ℕ
+  pub members : ℕ
 
--- the variables, parameters or fields that are declared, in the order in which they stand
-abbrev pub variables_in : Notes → List Declared
-variables_in = flat_map (λ (note : Note). variable_said note.kind)
-
--- the constant that is declared
-abbrev pub constant_said : NoteKind → List Constant
-constant_said (say.Constant found) = found ∷ []
-constant_said _ = []
-
--- the constants that are declared, in the order in which they stand
-abbrev pub constants_in : Notes → List Constant
-constants_in = flat_map (λ (note : Note). constant_said note.kind)
-
--- the procedure, method or property that is declared
-abbrev pub procedure_said : NoteKind → List Name
-procedure_said (say.Procedure name accessor) = name ∷ []
-procedure_said _ = []
-
--- the procedures, methods or properties that are declared
-abbrev pub procedures_in : Notes → List Name
-procedures_in = flat_map (λ (note : Note). procedure_said note.kind)
-
--- ---- scopes
-
--- the names that a page declares
-pub record PageScope : Type 0 where
-  pub variables : List Name
-  pub constants : List Name
-  pub procedures : List Name
-  pub classes : List Name
-
--- the names that a class declares
-pub record ClassScope : Type 0 where
-  pub fields : List Name
-  pub procedures : List Name
-
--- the names that a procedure declares, and the name of its result
-pub record BodyScope : Type 0 where
-  pub result : Option Name
-  pub variables : List Name
-  pub constants : List Name
-
--- the scopes in which a place of a script stands, from the outside in
-pub record Scopes : Type 0 where
-  pub page : PageScope
-  pub class : ClassScope
-  pub body : BodyScope
-
--- the names of variables
-abbrev pub variable_names : List Declared → List Name
-variable_names = map (λ (found : Declared). found.name)
-
--- the names of constants
-abbrev pub constant_names : List Constant → List Name
-constant_names = map (λ (found : Constant). found.name)
-
--- what constants stand for
-abbrev pub constant_values : List Constant → List ConstantValue
-constant_values = map (λ (found : Constant). found.value)
-
--- outside of a class
-abbrev pub no_class : ClassScope
-no_class = record { fields = []; procedures = [] }
-
--- outside of a procedure
-abbrev pub no_body : BodyScope
-no_body = record { result = None; variables = []; constants = [] }
-
--- what a page declares itself
-abbrev pub declared_page : Script → PageScope
-declared_page unit = record {
-  variables = variable_names (variables_in (on_page_of unit));
-  constants = constant_names (constants_in (on_page_of unit));
-  procedures = map (λ (found : Procedure). found.name) (procedures_of unit.items);
-  classes = map (λ (found : Class). found.name) (classes_of unit.items);
+-- nothing
+abbrev pub nothing_declared : Declarations
+nothing_declared = record {
+  names = [];
+  meanings = [];
+  arrays = [];
+  constants = [];
+  procedures = 0;
+  classes = 0;
+  members = 0;
 }
+
+-- one name more, and what it stands for
+abbrev pub with_name : Name → Named → Declarations → Declarations
+with_name name meaning before =
+    record before { names = before.names ++ name ∷ []; meanings = before.meanings ++ meaning ∷ [] }
+
+-- the place of a variable, a parameter or a field, by its number
+abbrev pub place_at : Level → ℕ → Slot
+place_at level.Page number = slot.Page number
+place_at level.Class number = slot.Field number
+place_at level.Body number = slot.Local number
+
+-- a constant, by its number
+abbrev pub constant_at : Level → ℕ → Named
+constant_at level.Body number = named.LocalConstant number
+constant_at _ number = named.PageConstant number
+
+-- the array that a variable is declared as
+abbrev pub array_of : ℕ → Option (List ℤ) → Option DeclaredArray
+array_of line None = None
+array_of line (Some bounds) = Some (record { line = line; bounds = bounds })
+
+-- one variable more
+abbrev pub with_variable : Level → Name → Option DeclaredArray → Declarations → Declarations
+with_variable level name array before = with_name name (named.Place (place_at level (length before.arrays)))
+    (record before { arrays = before.arrays ++ array ∷ [] })
+
+-- behind one more place of a script
+abbrev pub declare : Level → ℕ → Declarations → NoteKind → Declarations
+declare level line before (say.Variable found) = with_variable level found.name (array_of line found.bounds) before
+declare level line before (say.Constant found) = with_name found.name (constant_at level (length before.constants))
+    (record before { constants = before.constants ++ record { line = line; value = found.value } ∷ [] })
+declare level line before (say.Procedure name) = with_name name (named.Procedure before.procedures)
+    (record before { procedures = before.procedures + 1 })
+declare level line before (say.Class name) = with_name name (named.Class before.classes)
+    (record before { classes = before.classes + 1 })
+declare level line before (say.Member name accessor) = with_name name (named.Own before.members)
+    (record before { members = before.members + 1 })
+declare level line before (say.Result name) = with_name name (named.Place slot.Result) before
+declare level line before _ = before
+
+-- what is declared at one more place
+abbrev pub declare_note : Level → Declarations → Note → Declarations
+declare_note level before note = declare level note.line before note.kind
+
+-- what notes declare
+abbrev pub declared : Level → Notes → Declarations
+declared level = fold (declare_note level) nothing_declared
 
 -- what a class declares
-abbrev pub class_scope : Class → ClassScope
-class_scope class = record {
-  fields = variable_names (variables_in (in_class_of class));
-  procedures = procedures_in (in_class_of class);
-}
-
--- what a procedure declares itself
-abbrev pub declared_body : Body → BodyScope
-declared_body body = record {
-  result = body.result;
-  variables = variable_names (variables_in (in_body body));
-  constants = constant_names (constants_in (in_body body));
-}
-
--- on the page, outside of procedures
-abbrev pub on_page_in : PageScope → Scopes
-on_page_in page = record { page = page; class = no_class; body = no_body }
+abbrev pub class_scope : Class → Declarations
+class_scope class = declared level.Class (in_class_of class)
 
 -- ---- what a name stands for
 
--- whether a key is that of the result
-abbrev pub is_result : Option Name → Name → Bool
-is_result None key = false
-is_result (Some result) key = pointwise nat_eq key (folded result)
+-- the scopes in which a place of a script stands, from the outside in
+pub record Scopes : Type 0 where
+  pub page : Declarations
+  pub class : Declarations
+  pub body : Declarations
 
--- this, where the fact holds
-abbrev pub where_true : Bool → Named → Option Named
-where_true true found = Some found
-where_true false found = None
+-- on the page, outside of procedures and classes
+abbrev pub on_page_in : Declarations → Scopes
+on_page_in page = record { page = page; class = nothing_declared; body = nothing_declared }
 
--- the number of a name among all names of the script, by its key
-abbrev pub key_number : List Name → Name → ℕ
-key_number names key = unwrap_or (number_of_key names key) 0
+-- what stands at this number
+abbrev pub standing_at : List Named → Option ℕ → Option Named
+standing_at meanings None = None
+standing_at meanings (Some number) = slice_get meanings number
 
--- the number of a name among all names of the script
-abbrev pub name_number : List Name → Name → ℕ
-name_number names name = key_number names (folded name)
+-- what a name stands for, by its key, in one scope: the first of the name counts
+abbrev pub standing_in : Declarations → Name → Option Named
+standing_in found key = standing_at found.meanings (number_of_key found.names key)
 
--- What a name stands for, by its key, in a procedure that declares it. Where it is called, the name of a Function or of
--- a Property Get stands in it for the procedure, and else for the value that it is to give.
-unfoldable pub in_scope_of_body : BodyScope → Bool → Name → Option Named
-in_scope_of_body body is_called key = first_of
-    (where_true (not is_called && is_result body.result key) named.Result
-    ∷ stands_for named.Local (number_of_key body.variables key)
-    ∷ stands_for named.LocalConstant (number_of_key body.constants key)
+-- Where it is called, the name of a Function or of a Property Get stands in it for the procedure, and else for the
+-- value that it is to give.
+abbrev pub where_called : Bool → Option Named → Option Named
+where_called true (Some (named.Place slot.Result)) = None
+where_called is_called found = found
+
+-- what a name stands for, by its key, where a scope declares it
+unfoldable pub declared_in : Scopes → Bool → Name → Option Named
+declared_in scopes is_called key = first_of
+    (where_called is_called (standing_in scopes.body key)
+    ∷ standing_in scopes.class key
+    ∷ standing_in scopes.page key
     ∷ [])
 
--- what a name stands for, by its key, in a class that declares it, among all names of the script
-unfoldable pub in_scope_of_class : List Name → ClassScope → Name → Option Named
-in_scope_of_class names class key = first_of
-    (stands_for named.Field (number_of_key class.fields key)
-    ∷ where_true (is_some (number_of_key class.procedures key)) (named.Own (key_number names key))
-    ∷ [])
+-- what a name stands for
+unfoldable pub named_in : Scopes → Bool → Name → Named
+named_in scopes is_called name =
+    unwrap_or (first_of (declared_in scopes is_called (folded name) ∷ of_language name ∷ [])) named.Unknown
 
--- what a name stands for, by its key, on a page that declares it
-unfoldable pub in_scope_of_page : PageScope → Name → Option Named
-in_scope_of_page page key = first_of
-    (stands_for named.Page (number_of_key page.variables key)
-    ∷ stands_for named.PageConstant (number_of_key page.constants key)
-    ∷ stands_for named.Procedure (number_of_key page.procedures key)
-    ∷ stands_for named.Class (number_of_key page.classes key)
-    ∷ [])
-
--- what a name stands for, among all names of the script
-unfoldable pub named_in : List Name → Scopes → Bool → Name → Named
-named_in names scopes is_called name = unwrap_or
-    (first_of (in_scope_of_body scopes.body is_called (folded name)
-    ∷ in_scope_of_class names scopes.class (folded name)
-    ∷ in_scope_of_page scopes.page (folded name)
-    ∷ of_language name
-    ∷ []))
-    (named.Unknown (name_number names name))
-
--- whether nothing declares a name and the language has none
+-- whether no scope declares a name and the language has none
 abbrev pub is_unknown : Named → Bool
-is_unknown (named.Unknown number) = true
+is_unknown named.Unknown = true
 is_unknown _ = false
 
--- the object of the page that a name stands for: nothing declares the name
+-- the object of the page that a name stands for: no scope declares the name
 unfoldable pub object_in : Scopes → Name → Option PageObject
-object_in scopes name = if is_unknown (named_in [] scopes false name) then object_named name else None
+object_in scopes name = if is_unknown (named_in scopes false name) then object_named name else None
 
 -- ---- names that nothing declares
 
--- a use of a name, and whether ReDim uses it
-abbrev pub Use : Type 0
-Use = Name × Bool
+-- A name that is mentioned: without Option Explicit it is a variable where it stands for nothing else.
+abbrev pub mentioned : Bool → Scopes → Name → Option Name
+mentioned true scopes name = None
+mentioned false scopes name =
+    if is_unknown (named_in scopes false name) && not (is_some (object_named name)) then Some name else None
 
--- a use of a name that nothing declares, that the language has none of and that is no object of the page
-abbrev pub if_undeclared : Scopes → Use → List Use
-if_undeclared scopes found =
-    if is_unknown (named_in [] scopes false found.0) && not (is_some (object_named found.0)) then found ∷ [] else []
+-- A name that ReDim gives bounds: it is a variable where no scope declares it.
+abbrev pub resized : Scopes → Name → Option Name
+resized scopes name = if is_some (declared_in scopes false (folded name)) then None else Some name
 
--- the use of such a name at one place
-abbrev pub undeclared_said : Scopes → NoteKind → List Use
-undeclared_said scopes (say.Use name steps is_group) = if_undeclared scopes (name, false)
-undeclared_said scopes (say.Write name) = if_undeclared scopes (name, false)
-undeclared_said scopes (say.Resize name) = if_undeclared scopes (name, true)
-undeclared_said scopes _ = []
+-- the name that one place makes a variable
+abbrev pub made_by : Bool → Scopes → NoteKind → Option Name
+made_by explicit scopes (say.Use name steps is_group) = mentioned explicit scopes name
+made_by explicit scopes (say.Write name) = mentioned explicit scopes name
+made_by explicit scopes (say.Resize name) = resized scopes name
+made_by explicit scopes _ = None
 
--- the uses of such names, in the order in which they stand
-abbrev pub undeclared : Scopes → Notes → List Use
-undeclared scopes = flat_map (λ (note : Note). undeclared_said scopes note.kind)
+-- the name as a variable more, which is no array yet
+abbrev pub with_made : Level → Declarations → Option Name → Declarations
+with_made level before None = before
+with_made level before (Some name) = with_variable level name None before
 
--- the names among some uses that ReDim uses
-abbrev pub resized : List Use → List Name
-resized = flat_map (λ (found : Use). if found.1 then found.0 ∷ [] else [])
+-- behind one more place of the page
+abbrev pub make_on_page : Bool → Declarations → Note → Declarations
+make_on_page explicit page note = with_made level.Page page (made_by explicit (on_page_in page) note.kind)
 
--- the names of made variables, behind one use more
-abbrev pub made_behind : Bool → List Name → List Name → Use → List Name
-made_behind explicit redim names found =
-    if explicit && not (has_name redim found.0) then names else add_name names found.0
-
--- The names of the variables that some uses make. Under Option Explicit only those are made that ReDim uses.
-abbrev pub made_names : Bool → List Name → List Use → List Name
-made_names explicit redim = fold (made_behind explicit redim) []
-
--- a variable that is made, which is no array yet
-abbrev pub made_variable : Name → Declared
-made_variable name = record { name = name; bounds = None }
-
--- the variables that some uses make
-abbrev pub made_by : Bool → List Name → List Use → List Declared
-made_by explicit redim uses = map made_variable (made_names explicit redim uses)
-
--- the scopes of a procedure with what it declares
-abbrev pub in_declared_body : PageScope → ClassScope → Body → Scopes
-in_declared_body page class body = record { page = page; class = class; body = declared_body body }
-
--- the undeclared names that the body of a procedure uses
-abbrev pub undeclared_in_body : PageScope → ClassScope → Body → List Use
-undeclared_in_body page class body = undeclared (in_declared_body page class body) (in_body body)
-
--- the undeclared names that an item uses inside a procedure or a class
-abbrev pub undeclared_inside : PageScope → Item → List Use
-undeclared_inside page (item.Procedure found) = undeclared_in_body page no_class (body_of false found)
-undeclared_inside page (item.Class found) = flat_map (undeclared_in_body page (class_scope found)) (bodies_in found)
-undeclared_inside page _ = []
-
--- the uses of names on a page that it does not declare
-abbrev pub undeclared_on_page : Script → List Use
-undeclared_on_page unit = undeclared (on_page_in (declared_page unit)) (on_page_of unit)
-
--- the names that ReDim uses anywhere in the script, and that nothing declares
-abbrev pub resized_in : Script → List Name
-resized_in unit =
-    resized (undeclared_on_page unit ++ flat_map (undeclared_inside (declared_page unit)) unit.items)
-
--- A page's variables: those that it declares, and then the undeclared names that its body mentions.
-unfoldable pub page_variables : Script → List Declared
-page_variables unit =
-    variables_in (on_page_of unit) ++ made_by unit.option_explicit (resized_in unit) (undeclared_on_page unit)
+-- a page's scope, by what the page says: what it declares, and the variables that undeclared names make
+unfoldable pub page_scope_of : Bool → Notes → Declarations
+page_scope_of explicit notes = fold (make_on_page explicit) (declared level.Page notes) notes
 
 -- a page's scope
-unfoldable pub page_scope : Script → PageScope
-page_scope unit = record (declared_page unit) { variables = variable_names (page_variables unit) }
+abbrev pub page_scope : Script → Declarations
+page_scope unit = page_scope_of unit.option_explicit (on_page_of unit)
 
--- A procedure's variables: its parameters and those that it declares, and then the undeclared names that it mentions
--- and the page's body does not.
-unfoldable pub body_variables : Bool → PageScope → ClassScope → Body → List Declared
-body_variables explicit page class body = variables_in (in_body body)
-    ++ made_by explicit (resized (undeclared_in_body page class body)) (undeclared_in_body page class body)
+-- the scopes of a procedure of a page and a class
+abbrev pub scopes_of : Declarations → Declarations → Declarations → Scopes
+scopes_of page class body = record { page = page; class = class; body = body }
+
+-- behind one more place of a procedure
+abbrev pub make_in_body : Bool → Declarations → Declarations → Declarations → Note → Declarations
+make_in_body explicit page class body note =
+    with_made level.Body body (made_by explicit (scopes_of page class body) note.kind)
+
+-- a procedure's scope, by what it says: its result, its parameters and what it declares, and the variables that
+-- undeclared names make
+unfoldable pub body_scope_of : Bool → Declarations → Declarations → Notes → Declarations
+body_scope_of explicit page class notes = fold (make_in_body explicit page class) (declared level.Body notes) notes
+
+-- a procedure's scope
+abbrev pub body_scope : Bool → Declarations → Declarations → Body → Declarations
+body_scope explicit page class body = body_scope_of explicit page class (in_body body)
 
 -- a procedure's scopes
-unfoldable pub body_scopes : Bool → PageScope → ClassScope → Body → Scopes
-body_scopes explicit page class body = record {
-  page = page;
-  class = class;
-  body = record (declared_body body) { variables = variable_names (body_variables explicit page class body) };
-}
+abbrev pub body_scopes : Bool → Declarations → Declarations → Body → Scopes
+body_scopes explicit page class body = scopes_of page class (body_scope explicit page class body)

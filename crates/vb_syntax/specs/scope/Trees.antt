@@ -9,7 +9,7 @@ use Rattle.vb_syntax.specs.declared.expression.Path.{Path}
 use Rattle.vb_syntax.specs.declared.expression.PathHead.{PathHead}
 use Rattle.vb_syntax.specs.declared.expression.PathHead.TheVariants as head
 use Rattle.vb_syntax.specs.declared.expression.Step.{Step}
-use Rattle.vb_syntax.specs.declared.member.Member.{Member}
+use Rattle.vb_syntax.specs.declared.member_table.MemberRow.{MemberRow}
 use Rattle.vb_syntax.specs.declared.note.PageObject.{PageObject}
 use Rattle.vb_syntax.specs.declared.note.PathUse.{PathUse}
 use Rattle.vb_syntax.specs.declared.note.PathUse.TheVariants as as_a
@@ -46,21 +46,18 @@ use Rattle.vb_syntax.specs.declared.statement.StatementKind.{StatementKind}
 use Rattle.vb_syntax.specs.declared.statement.StatementKind.TheOpen.{StatementKind-F, Statement-F, ElseIf-F, Case-F}
 use Rattle.vb_syntax.specs.declared.statement.StatementKind.TheFolds.{fold-Statement, fold-StatementKind}
 use Rattle.vb_syntax.specs.declared.statement.StatementKind.TheFolds.{fold-Case, fold-ElseIf}
-use Rattle.vb_syntax.specs.scope.Members.{Meant, member_meant, err_meant}
-use Rattle.vb_syntax.specs.scope.Names.{Name, number_in}
+use Rattle.vb_syntax.specs.scope.Members.{member_meant, length_of, groups_behind, steps_of, err_meant}
+use Rattle.vb_syntax.specs.scope.Names.{Name, name_number}
 use Rattle.vb_syntax.specs.scope.Notes.{is_group}
-use Rattle.vb_syntax.specs.scope.Scopes.{Scopes, named_in, object_in, name_number}
+use Rattle.vb_syntax.specs.scope.Scopes.{Scopes, named_in, object_in, standing_in}
+use Rattle.vb_syntax.specs.scope.Shapes.{shape_of, is_parenthesis, call_use, has_arguments, used_steps}
+use Rattle.vb_value.specs.Folding.{folded}
 
 -- ---- paths
 
 -- a step as it looks, and as it is in a program
 abbrev pub StepPair : Type 0
 StepPair = Shape × ResolvedStep
-
--- whether a step is a parenthesis
-abbrev pub is_parenthesis : Shape → Bool
-is_parenthesis shape.Group = true
-is_parenthesis (shape.Member name) = false
 
 -- what stays of a step: of those that say which member is meant, the parentheses alone
 abbrev pub kept_step : Bool → StepPair → List ResolvedStep
@@ -75,11 +72,24 @@ kept count (step ∷ steps) = kept_step (nat_lt 0 count) step ++ kept (count - 1
 abbrev pub shapes : List StepPair → List Shape
 shapes = map (λ (step : StepPair). step.0)
 
--- Whether a path calls its head: a parenthesis stands behind it, or nothing where a statement calls the path.
+-- whether all steps are parentheses
+abbrev pub only_groups : List Shape → Bool
+only_groups [] = true
+only_groups (shape.Group ∷ more) = only_groups more
+only_groups (shape.Member name ∷ more) = false
+
+-- whether a statement calls a path as it stands
+abbrev pub is_callee : PathUse → Bool
+is_callee as_a.Callee = true
+is_callee _ = false
+
+-- Whether a path calls its head: a parenthesis stands behind it, or nothing where a statement calls the path. An
+-- element that is assigned to is no call.
 abbrev pub is_called : PathUse → List Shape → Bool
-is_called as_a.Callee [] = true
+is_called used [] = is_callee used
+is_called as_a.Target (shape.Group ∷ more) = not (only_groups more)
 is_called used (shape.Group ∷ more) = true
-is_called used _ = false
+is_called used (shape.Member name ∷ more) = false
 
 -- where a path begins in a program, and how many steps of the path say so
 abbrev pub Beginning : Type 0
@@ -94,17 +104,28 @@ abbrev pub named_head : Named → List Shape → Beginning
 named_head named.Err steps = (begins.Err (err_meant steps).0, (err_meant steps).1)
 named_head found steps = (begins.Named found, 0)
 
+-- a path that begins with a member of an object of the page
+abbrev pub member_head : List Shape → Option MemberRow → Beginning
+member_head steps None = (begins.Named named.Unknown, 0)
+member_head steps (Some row) =
+    (begins.Member row.member (groups_behind false (steps_of row) steps) row.takes, length_of (steps_of row))
+
+-- the number of a class
+abbrev pub class_number : Option Named → Option ℕ
+class_number (Some (named.Class number)) = Some number
+class_number _ = None
+
+-- a path with the arguments of a call statement behind it
+abbrev pub with_arguments : PathUse → List Resolved → ResolvedPath → ResolvedPath
+with_arguments used given path = if has_arguments used
+    then roll-Path (record { head = path.head; steps = path.steps ++ behind.Group given ∷ [] }) else path
+
 -- `names` are all names of the script, and `scopes` those in which the place stands.
 module _ (names : List Name) (scopes : Scopes) where
-  -- a path that begins with a member of an object of the page
-  abbrev pub member_head : Name → Meant → Beginning
-  member_head name None = (begins.Named (named.Unknown (name_number names name)), 0)
-  member_head name (Some found) = (begins.Member found.0, found.1)
-
   -- a path that begins with an object of the page, or with another name
   abbrev pub object_head : PathUse → Name → List Shape → Option PageObject → Beginning
-  object_head used name steps None = named_head (named_in names scopes (is_called used steps) name) steps
-  object_head used name steps (Some object) = member_head name (member_meant object (is_group used) steps)
+  object_head used name steps None = named_head (named_in scopes (is_called used steps) name) steps
+  object_head used name steps (Some object) = member_head steps (member_meant object (is_group used) steps)
 
   -- a path that begins with a name
   abbrev pub name_head : PathUse → Name → List Shape → Beginning
@@ -125,7 +146,7 @@ module _ (names : List Name) (scopes : Scopes) where
 
   -- a path, by how it is used
   abbrev pub path_layer : Path-F Resolved StepPair ResolvedOperation (PathUse → ResolvedPath) → PathUse → ResolvedPath
-  path_layer path used = resolved_path (head_of used path.head (shapes path.steps)) path.steps
+  path_layer path used = resolved_path (head_of used path.head (used_steps used (shapes path.steps))) path.steps
 
   -- an operator with its operand
   abbrev pub operation_layer
@@ -136,7 +157,7 @@ module _ (names : List Name) (scopes : Scopes) where
   abbrev pub expression_layer : Expression-F Resolved StepPair ResolvedOperation (PathUse → ResolvedPath) → Resolved
   expression_layer (Expression-F.Literal found) = e.Literal found
   expression_layer Expression-F.Nothing = e.Nothing
-  expression_layer (Expression-F.New class) = e.New (number_in scopes.page.classes class)
+  expression_layer (Expression-F.New class) = e.New (class_number (standing_in scopes.page (folded class)))
   expression_layer (Expression-F.Path path) = e.Path (path as_a.Value)
   expression_layer (Expression-F.Parenthesis inner) = e.Parenthesis inner
   expression_layer (Expression-F.Negative operand) = e.Negative operand
@@ -180,7 +201,7 @@ module _ (names : List Name) (scopes : Scopes) where
 
   -- what a name stands for that is written alone
   abbrev pub target_of : Name → Named
-  target_of = named_in names scopes false
+  target_of = named_in scopes false
 
   -- an array that gets new bounds
   abbrev pub resized_of : Resized → ResolvedResized
@@ -196,6 +217,10 @@ module _ (names : List Name) (scopes : Scopes) where
   repetition_of (repetition.Before found) = repeats.Before (condition_of found)
   repetition_of (repetition.After line found) = repeats.After line (condition_of found)
 
+  -- a call with arguments, where the callee is used so
+  abbrev pub call_of : PathUse → Path → List Expression → ResolvedKind
+  call_of used callee given = st.Call (with_arguments used (map expression_of given) (path_of callee used))
+
   -- ---- statements
 
   -- what a statement says, with its parts as they are in a program
@@ -205,12 +230,11 @@ module _ (names : List Name) (scopes : Scopes) where
   kind_layer (StatementKind-F.ReDim preserve arrays) = st.ReDim preserve (map resized_of arrays)
   kind_layer (StatementKind-F.Set target value) = st.Set (path_of target as_a.Target) (expression_of value)
   kind_layer (StatementKind-F.Assign target value) = st.Assign (path_of target as_a.Target) (expression_of value)
-  kind_layer (StatementKind-F.Call callee given) =
-      st.Call (path_of callee as_a.Callee) (map expression_of given)
-  kind_layer (StatementKind-F.CallPath callee) = st.CallPath (path_of callee as_a.Callee)
+  kind_layer (StatementKind-F.Call callee given) = call_of (call_use given (map shape_of callee.steps)) callee given
+  kind_layer (StatementKind-F.CallPath callee) = st.Call (path_of callee as_a.Callee)
   kind_layer (StatementKind-F.If condition body others otherwise) =
       st.If (expression_of condition) body others otherwise
-  kind_layer (StatementKind-F.LineIf condition body otherwise) = st.LineIf (expression_of condition) body otherwise
+  kind_layer (StatementKind-F.LineIf condition body otherwise) = st.If (expression_of condition) body [] otherwise
   kind_layer (StatementKind-F.Select subject cases otherwise) = st.Select (expression_of subject) cases otherwise
   kind_layer (StatementKind-F.For variable from to by body) =
       st.For (target_of variable) (expression_of from) (expression_of to) (optional_of by) body

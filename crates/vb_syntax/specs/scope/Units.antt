@@ -95,7 +95,7 @@ parameter_notes line found = note line (say.Variable (parameter_variable found))
 -- the name of the result, where there is one
 abbrev pub result_notes : ℕ → Option Name → Notes
 result_notes line None = []
-result_notes line (Some name) = note line (say.Procedure name None)
+result_notes line (Some name) = note line (say.Result name)
 
 -- what a procedure says: the name of its result, its parameters, of which there are 255 at most, and its statements
 abbrev pub in_body : Body → Notes
@@ -114,8 +114,8 @@ on_page = record { in_class = false; procedure = None; in_do = false; in_for = f
 abbrev pub item_notes : Item → Notes
 item_notes (item.Statement found) = statement_notes found on_page
 item_notes (item.Variables line access variables) = flat_map (variable_notes line) variables
-item_notes (item.Procedure found) = note found.line (say.Procedure found.name None)
-item_notes (item.Class found) = note found.line (say.Procedure found.name None)
+item_notes (item.Procedure found) = note found.line (say.Procedure found.name)
+item_notes (item.Class found) = note found.line (say.Class found.name)
 
 -- what a page says itself
 abbrev pub on_page_of : Script → Notes
@@ -144,8 +144,8 @@ classes_of = flat_map class_in_item
 -- what a member says as a part of its class: a field, a method or a property is declared
 abbrev pub member_notes : ClassMember → Notes
 member_notes (member.Fields line access fields) = flat_map (variable_notes line) fields
-member_notes (member.Method found) = note found.line (say.Procedure found.name None)
-member_notes (member.Property found) = note found.line (say.Procedure found.name (Some found.kind))
+member_notes (member.Method found) = note found.line (say.Member found.name None)
+member_notes (member.Property found) = note found.line (say.Member found.name (Some found.kind))
 
 -- the body of a member, if it has one
 abbrev pub member_body : ClassMember → List Body

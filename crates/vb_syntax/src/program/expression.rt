@@ -1,7 +1,7 @@
 //! Expressions of a program (VBScript 5.6 language reference, "Operators").
 
 use crate::expression::Literal;
-use crate::member::Member;
+use crate::member::{Member, Takes};
 use crate::program::name::{ErrMember, Named};
 use vb_value::{Boxed, List, Op2};
 
@@ -68,7 +68,14 @@ pub enum Head {
     /// `Err` or a member of it.
     Err(ErrMember),
     /// A member of an object that the page is given.
-    Member(Member),
+    Member {
+        /// The member.
+        member: Member,
+        /// How many of the first parentheses behind it hold its arguments.
+        groups: u32,
+        /// What it takes.
+        takes: Takes,
+    },
 }
 
 /// What stands behind the head of a path.

@@ -1,11 +1,11 @@
 //! What names stand for (VBScript 5.6 language reference, "Variables", "Functions" and "Constants").
 
 use crate::expression::Literal;
-use vb_value::{PlainFn, StrFn};
+use vb_value::{Copied, Memory, PlainFn, StrFn};
 
-/// What a name stands for. Numbers are counted from 0.
-#[derive(Debug, Drop, PartialEq, Eq)]
-pub enum Named {
+/// A place that holds a value. Numbers are counted from 0.
+#[derive(Clone, Copy, Debug, PartialEq, Eq)]
+pub enum Slot {
     /// A variable of the page, by its number among them.
     Page(u32),
     /// A parameter or a variable of the procedure, by its number among them, the parameters first.
@@ -14,7 +14,14 @@ pub enum Named {
     Field(u32),
     /// The value that the procedure around is to give.
     Result,
-    /// A method or a property of the class around, by the number of its name.
+}
+
+/// What a name stands for. Numbers are counted from 0.
+#[derive(Debug, Drop, PartialEq, Eq)]
+pub enum Named {
+    /// A place that holds a value.
+    Place(Slot),
+    /// A method or a property of the class around, by the number of the first of its name among the class's procedures.
     Own(u32),
     /// A constant of the page, by its number among them.
     PageConstant(u32),
@@ -36,8 +43,51 @@ pub enum Named {
     CreateObject,
     /// `Err`
     Err,
-    /// A name that stands for nothing until it runs, by its number among all names.
-    Unknown(u32),
+    /// A name that stands for nothing until it runs.
+    Unknown,
+}
+
+impl Copied for Named {
+    fn copy(&self) -> Result<Named, Memory> {
+        Ok(match self {
+            Named::Place(slot) => Named::Place(*slot),
+            Named::Own(number) => Named::Own(*number),
+            Named::PageConstant(number) => Named::PageConstant(*number),
+            Named::LocalConstant(number) => Named::LocalConstant(*number),
+            Named::Value(literal) => Named::Value(literal.copy()?),
+            Named::Procedure(number) => Named::Procedure(*number),
+            Named::Class(number) => Named::Class(*number),
+            Named::StringFunction(function) => Named::StringFunction(*function),
+            Named::PlainFunction(function) => Named::PlainFunction(*function),
+            Named::TypeName => Named::TypeName,
+            Named::CreateObject => Named::CreateObject,
+            Named::Err => Named::Err,
+            Named::Unknown => Named::Unknown,
+        })
+    }
+}
+
+/// A member of a Dictionary (Microsoft Scripting Runtime, "Dictionary Object").
+#[derive(Clone, Copy, Debug, PartialEq, Eq)]
+pub enum DictionaryMember {
+    /// `Add`
+    Add,
+    /// `Item`
+    Item,
+    /// `Exists`
+    Exists,
+    /// `Remove`
+    Remove,
+    /// `RemoveAll`
+    RemoveAll,
+    /// `Keys`
+    Keys,
+    /// `Items`
+    Items,
+    /// `Count`
+    Count,
+    /// `CompareMode`
+    CompareMode,
 }
 
 /// A member of `Err`.

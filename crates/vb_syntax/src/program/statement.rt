@@ -42,19 +42,12 @@ pub enum StatementKind {
         /// What is written.
         value: Expression,
     },
-    /// `callee arguments`. One argument in parentheses is passed as a value.
+    /// `callee arguments`, or `Call callee`. One argument in parentheses of its own is passed as a value.
     Call {
-        /// What is called. A parenthesis at its end stood before another one.
-        callee: Path,
-        /// The arguments, without parentheses around them.
-        arguments: List<Expression>,
-    },
-    /// `Call callee`
-    CallPath {
-        /// What is called, with its arguments in the last parenthesis.
+        /// What is called. A parenthesis at its end holds the arguments, and without one there are none.
         callee: Path,
     },
-    /// `If condition Then`, a block, and `End If`.
+    /// `If condition Then`, a block, and `End If`, or an If on one line, which has no `ElseIf`.
     If {
         /// The condition.
         condition: Expression,
@@ -63,15 +56,6 @@ pub enum StatementKind {
         /// The `ElseIf` parts, in their order.
         others: List<ElseIf>,
         /// The `Else` part.
-        otherwise: Option<List<Statement>>,
-    },
-    /// `If condition Then then Else otherwise` on one line.
-    LineIf {
-        /// The condition.
-        condition: Expression,
-        /// What is done where it holds, at least one statement.
-        then: List<Statement>,
-        /// What is done else, at least one statement.
         otherwise: Option<List<Statement>>,
     },
     /// `Select Case subject` .. `End Select`

@@ -1,6 +1,7 @@
 //! Procedures, classes and whole programs (VBScript 5.6 language reference, "Procedures" and "Class Object").
 
-use crate::declaration::{ConstantValue, Declared};
+use crate::declaration::ConstantValue;
+use crate::program::name::DictionaryMember;
 use crate::program::statement::Statement;
 use vb_value::{List, Text};
 
@@ -9,16 +10,37 @@ use vb_value::{List, Text};
 pub struct Unit {
     /// Its own statements, in the order in which they stand. A declaration of its variables is one of them.
     pub body: List<Statement>,
-    /// Its variables, by their numbers: those that are declared, and then those that its body only mentions.
-    pub variables: List<Declared>,
+    /// Its variables, by their numbers: those that are declared, and then those that its body only mentions. `None` is no
+    /// array.
+    pub variables: List<Option<DeclaredArray>>,
     /// Its constants, by their numbers.
-    pub constants: List<ConstantValue>,
+    pub constants: List<Constant>,
     /// Its procedures, by their numbers.
     pub procedures: List<Procedure>,
     /// Its classes, by their numbers.
     pub classes: List<Class>,
     /// All names of the script, each once but for ASCII case, by their numbers and as they stand where they first do.
     pub names: List<Text>,
+    /// Of each of these names, which member of a Dictionary it says.
+    pub dictionary: List<Option<DictionaryMember>>,
+}
+
+/// An array that is declared.
+#[derive(Debug, Drop)]
+pub struct DeclaredArray {
+    /// The line of the declaration, which an error in the bounds is told with.
+    pub line: u32,
+    /// The last index of each dimension. No dimension is an array to be sized later.
+    pub bounds: List<i32>,
+}
+
+/// A constant that is declared.
+#[derive(Debug, Drop)]
+pub struct Constant {
+    /// The line of the declaration, which an error in the value is told with.
+    pub line: u32,
+    /// What it stands for.
+    pub value: ConstantValue,
 }
 
 /// A procedure of a page or of a class.
@@ -34,10 +56,11 @@ pub struct Procedure {
     pub name: u32,
     /// Of each parameter, whether it has a place of its own: `ByVal`. Else it is the caller's place.
     pub by_value: List<bool>,
-    /// Its variables, by their numbers: the parameters, those that are declared, and those that it only mentions.
-    pub variables: List<Declared>,
+    /// Its variables, by their numbers: the parameters, those that are declared, and those that it only mentions. `None`
+    /// is no array.
+    pub variables: List<Option<DeclaredArray>>,
     /// Its constants, by their numbers.
-    pub constants: List<ConstantValue>,
+    pub constants: List<Constant>,
     /// What it does.
     pub body: List<Statement>,
 }
@@ -66,6 +89,10 @@ pub struct Class {
     pub fields: List<Field>,
     /// Its methods and properties, in the order in which they stand.
     pub procedures: List<Procedure>,
+    /// The number of the Sub `Class_Initialize` among them.
+    pub initialize: Option<u32>,
+    /// The number of the Sub `Class_Terminate` among them.
+    pub terminate: Option<u32>,
 }
 
 /// A field of a class.
@@ -75,6 +102,6 @@ pub struct Field {
     pub name: u32,
     /// `Private`: it is not seen through an object.
     pub is_private: bool,
-    /// The last index of each dimension. `None` is no array, and no dimension is an array to be sized later.
-    pub bounds: Option<List<i32>>,
+    /// The array that it is declared as.
+    pub array: Option<DeclaredArray>,
 }

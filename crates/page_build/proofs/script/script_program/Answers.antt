@@ -36,7 +36,7 @@ returns-in_err-resolve-clause-fault c = steps.scope_fault _ c.in_err-resolve.fie
     c.in_err-resolve.ensures.fault
 
 pub returns-clause-only : goal.returns-clause-only
-returns-clause-only c program of = c.in_ok-resolve.ensures.only program
+returns-clause-only c program of = steps.same_program _ program (c.in_ok-resolve.ensures.only program
     (steps.resolves_too program c.as_slice.result.now c.in_ok-unit.unit of.unit c.in_ok-unit.ensures.only
     (steps.spelled_too c.args.text.now program c.in_ok-tokens.tokens c.as_slice.result.now
-    c.in_ok-tokens.ensures.ok_only c.as_slice.ensures of) of.resolves)
+    c.in_ok-tokens.ensures.ok_only c.as_slice.ensures of) of.resolves))

@@ -1,7 +1,7 @@
 use Rattle.std.proofs.Common.{ℕ, ◌+◌, ap, ◌∙◌}
 use Rattle.std.proofs.lemmas.List.{take_rest}
 use Rattle.vb_lex.specs.declared.place.Place.{Place}
-use Rattle.vb_lex.proofs.LineLemmas.{line_moves}
+use Rattle.vb_value.proofs.LineEnds.{line_moves}
 use Rattle.vb_lex.proofs.place.moved.Goals as goal
 
 pub returns : goal.returns

@@ -1,5 +1,5 @@
 use Rattle.std.proofs.Common.{arith, rules}
-use Rattle.vb_parse.specs.Runs.{opens, inside}
+use Rattle.vb_parse.specs.Depths.{opens, inside}
 use Rattle.vb_parse.proofs.CallTurns.{level_stop}
 use Rattle.vb_parse.proofs.call.expression_from.Goals as goal
 

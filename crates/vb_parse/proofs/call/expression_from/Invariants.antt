@@ -1,6 +1,6 @@
 use Rattle.std.proofs.Common.{◌≡◌, Ok}
 use Rattle.vb_parse.specs.ReadCalls as spec
-use Rattle.vb_parse.specs.Runs.{opens, inside}
+use Rattle.vb_parse.specs.Depths.{opens, inside}
 use Rattle.vb_parse.proofs.call.expression_from.Given as goal
 
 abbrev pub invariant-loop-level : goal.invariant-loop-level

@@ -1,6 +1,6 @@
 use Rattle.std.proofs.Common.{refl, sym, ◌∙◌}
 use Rattle.vb_parse.specs.ReadUnits as spec
-use Rattle.vb_parse.specs.Runs.{rules}
+use Rattle.vb_parse.specs.Depths.{rules}
 use Rattle.vb_parse.proofs.Turns.{found_turn}
 use Rattle.vb_parse.proofs.UnitReading.{moves_member_line}
 use Rattle.vb_parse.proofs.class.members.Goals as goal

@@ -1,7 +1,7 @@
 use Rattle.std.proofs.Common.{◌≡◌, ◌++◌, length}
 use Rattle.vb_parse.specs.Reader as reader
 use Rattle.vb_parse.specs.ReadUnits as spec
-use Rattle.vb_parse.specs.Runs.{rules}
+use Rattle.vb_parse.specs.Depths.{rules}
 use Rattle.vb_parse.proofs.class.members.Given as goal
 
 abbrev pub invariant-loop-alloc : goal.invariant-loop-alloc

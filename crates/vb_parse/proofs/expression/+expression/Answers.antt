@@ -3,7 +3,7 @@ use Rattle.vb_syntax.specs.grammar.Expressions.{operator_at}
 use Rattle.vb_parse.specs.Reader as reader
 use Rattle.vb_parse.specs.Reader.{and_then}
 use Rattle.vb_parse.specs.ReadExpressions as spec
-use Rattle.vb_parse.specs.Runs.{opens, inside}
+use Rattle.vb_parse.specs.Depths.{opens, inside}
 use Rattle.vb_parse.proofs.Turns.{found_turn, step_moves, turn_moves, expressions_at, operators_chained}
 use Rattle.vb_parse.proofs.Commas.{comma_less, comma_turn}
 use Rattle.vb_parse.proofs.ExpressionReading.{expressions_read}

@@ -1,7 +1,7 @@
 use Rattle.std.proofs.Common.{◌≡◌, ◌+◌, ◌*◌, length, ◌∷◌, ◌++◌}
 use Rattle.vb_parse.specs.Reader as reader
 use Rattle.vb_parse.specs.ReadExpressions as spec
-use Rattle.vb_parse.specs.Runs.{opens, inside}
+use Rattle.vb_parse.specs.Depths.{opens, inside}
 use Rattle.vb_parse.proofs.expression.+expression.Given as goal
 
 abbrev pub decreases-list : goal.decreases-list

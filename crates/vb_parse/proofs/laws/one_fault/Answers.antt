@@ -1,5 +1,5 @@
-use Rattle.vb_parse.proofs.ParseExpression.{one_fault}
+use Rattle.vb_parse.proofs.ParseScript.{fault_one}
 use Rattle.vb_parse.proofs.laws.one_fault.Goals as goal
 
 pub returns : goal.returns
-returns c = one_fault
+returns c = fault_one

@@ -1,6 +1,6 @@
 use Rattle.std.proofs.Common.{sym, ap, ◌∙◌}
 use Rattle.vb_parse.specs.ReadLines as spec
-use Rattle.vb_parse.specs.Runs.{rules}
+use Rattle.vb_parse.specs.Depths.{rules}
 use Rattle.vb_parse.proofs.Depths.{blocks_at}
 use Rattle.vb_parse.proofs.Lines.{line_less, line_more}
 use Rattle.vb_parse.proofs.line.+line.Goals as goal

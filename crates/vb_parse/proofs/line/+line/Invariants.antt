@@ -2,7 +2,7 @@ use Rattle.std.proofs.Common.{◌≡◌, ◌+◌, ◌*◌, ◌++◌, length}
 use Rattle.vb_parse.specs.Reader as reader
 use Rattle.vb_parse.specs.ReadLines as spec
 use Rattle.vb_parse.specs.ReadStatements.{blocks, blocks_inside}
-use Rattle.vb_parse.specs.Runs.{rules}
+use Rattle.vb_parse.specs.Depths.{rules}
 use Rattle.vb_parse.proofs.Lines.{line_value}
 use Rattle.vb_parse.proofs.line.+line.Given as goal
 

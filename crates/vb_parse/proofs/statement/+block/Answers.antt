@@ -1,7 +1,7 @@
 use Rattle.std.proofs.Common.{refl, sym, ap, ◌∙◌}
 use Rattle.vb_parse.specs.ReadLines.{Blocks}
 use Rattle.vb_parse.specs.ReadStatements as spec
-use Rattle.vb_parse.specs.Runs.{rules}
+use Rattle.vb_parse.specs.Depths.{rules}
 use Rattle.vb_parse.proofs.Depths.{blocks_at}
 use Rattle.vb_parse.proofs.Turns.{found_turn, and_nothing}
 use Rattle.vb_parse.proofs.Cases.{moves_sentence}

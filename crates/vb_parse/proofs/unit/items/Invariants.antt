@@ -1,11 +1,12 @@
 use Rattle.std.proofs.Common.{◌≡◌, ◌++◌, length}
 use Rattle.vb_parse.specs.Reader as reader
 use Rattle.vb_parse.specs.ReadUnits as spec
-use Rattle.vb_parse.specs.Runs.{rules}
+use Rattle.vb_parse.specs.Depths.{rules}
 use Rattle.vb_parse.proofs.unit.items.Given as goal
 
 abbrev pub invariant-loop-alloc : goal.invariant-loop-alloc
-invariant-loop-alloc l = spec.items (rules l.fn.looser) l.fn.depth l.fn.cursor.rest.now
+invariant-loop-alloc l = reader.and_then (spec.items (rules l.fn.looser) l.fn.depth l.fn.cursor.rest.now)
+    (λ more. reader.pure (l.fn.found ++ more))
     ≡ reader.and_then (spec.items (rules l.fn.looser) l.fn.depth l.cursor.rest.now)
     (λ more. reader.pure (l.found ++ more))
 

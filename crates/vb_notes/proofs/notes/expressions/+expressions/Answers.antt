@@ -3,7 +3,7 @@ use Rattle.std.specs.List.{flat_map}
 use Rattle.vb_syntax.specs.declared.expression.Step.{Step}
 use Rattle.vb_syntax.specs.scope.Notes as spec
 use Rattle.vb_syntax.specs.scope.Notes.{Notes}
-use Rattle.vb_notes.specs.Shapes.{shape_of}
+use Rattle.vb_syntax.specs.scope.Shapes.{shape_of, used_steps}
 use Rattle.vb_notes.proofs.Adding.{adds_more}
 use Rattle.vb_notes.proofs.ExpressionNotes.{notes-chain, notes-path}
 use Rattle.vb_notes.proofs.notes.expressions.+expressions.Goals as goal
@@ -21,6 +21,7 @@ note_expression-returns-in_ok-note_expression-in-Chain t c =
 
 pub note_path-returns : goal.note_path-returns
 note_path-returns t c = adds_more _ _ _ _
-    (spec.head_notes c.args.line c.args.around c.args.used c.args.path.now.head (map shape_of c.args.path.now.steps))
+    (spec.head_notes c.args.line c.args.around c.args.used c.args.path.now.head
+    (used_steps c.args.used (map shape_of c.args.path.now.steps)))
     (flat_map (λ (step : Step). (spec.step_notes c.args.line c.args.around step).1) c.args.path.now.steps)
     _ c.in_ok-note_head.ensures (notes-path c.args.line c.args.around c.args.path.now c.args.used) (search rules)

@@ -1,5 +1,5 @@
 use Rattle.std.proofs.Common.{◌≡◌, map, take}
-use Rattle.vb_notes.specs.Shapes.{shape_of}
+use Rattle.vb_syntax.specs.scope.Shapes.{shape_of}
 use Rattle.vb_notes.proofs.notes.words.shapes.Given as goal
 
 abbrev pub invariant-loop-step : goal.invariant-loop-step

@@ -1,5 +1,5 @@
 use Rattle.std.proofs.Common.{sym, ◌∙◌}
-use Rattle.vb_parse.specs.Runs.{rules}
+use Rattle.vb_parse.specs.Depths.{rules}
 use Rattle.vb_parse.proofs.Cases.{opens_some, cases_more, cases_less}
 use Rattle.vb_parse.proofs.place.Place.cases.Goals as goal
 

@@ -1,7 +1,7 @@
 use Rattle.std.proofs.Common.{◌≡◌, ◌++◌, length}
 use Rattle.vb_parse.specs.Reader as reader
 use Rattle.vb_parse.specs.ReadStatements as spec
-use Rattle.vb_parse.specs.Runs.{rules}
+use Rattle.vb_parse.specs.Depths.{rules}
 use Rattle.vb_parse.proofs.Cases.{cases_value}
 use Rattle.vb_parse.proofs.place.Place.cases.Given as goal
 

@@ -3,7 +3,7 @@ use Rattle.vb_value.specs.declared.token.Keyword.TheVariants as k
 use Rattle.vb_value.specs.declared.token.TokenKind.TheVariants as kind
 use Rattle.vb_parse.specs.Reader as reader
 use Rattle.vb_parse.specs.ReadStatements as spec
-use Rattle.vb_parse.specs.Runs.{rules}
+use Rattle.vb_parse.specs.Depths.{rules}
 use Rattle.vb_parse.proofs.Turns.{found_turn}
 use Rattle.vb_parse.proofs.Cases.{opens_some, moves_else_if}
 use Rattle.vb_parse.proofs.place.Place.else_ifs.Goals as goal

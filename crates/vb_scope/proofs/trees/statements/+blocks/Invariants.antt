@@ -2,20 +2,20 @@ use Rattle.std.proofs.Common.{◌≡◌, map, take, ◌*◌, ◌+◌, ◌-◌}
 use Rattle.vb_syntax.specs.declared.statement.StatementKind.{size-StatementKind}
 use Rattle.vb_syntax.specs.declared.statement.StatementKind.TheVariants as st
 use Rattle.vb_syntax.specs.scope.Trees as spec
-use Rattle.vb_names.specs.Tables.{scopes_seen}
+use Rattle.vb_names.specs.Declarations.{scopes_seen}
 use Rattle.vb_scope.proofs.trees.statements.+blocks.Given as goal
 
 abbrev pub invariant-block-loop-one : goal.invariant-block-loop-one
 invariant-block-loop-one l =
-    l.all ≡ map (spec.statement_of l.place.names.now (scopes_seen l.place.tables)) (take l.one-index l.one-items)
+    l.all ≡ map (spec.statement_of l.place.names.now (scopes_seen l.place.scopes)) (take l.one-index l.one-items)
 
 abbrev pub invariant-else_ifs-loop-one : goal.invariant-else_ifs-loop-one
 invariant-else_ifs-loop-one l =
-    l.all ≡ map (spec.else_if_of l.place.names.now (scopes_seen l.place.tables)) (take l.one-index l.one-items)
+    l.all ≡ map (spec.else_if_of l.place.names.now (scopes_seen l.place.scopes)) (take l.one-index l.one-items)
 
 abbrev pub invariant-cases-loop-one : goal.invariant-cases-loop-one
 invariant-cases-loop-one l =
-    l.all ≡ map (spec.case_of l.place.names.now (scopes_seen l.place.tables)) (take l.one-index l.one-items)
+    l.all ≡ map (spec.case_of l.place.names.now (scopes_seen l.place.scopes)) (take l.one-index l.one-items)
 
 -- The measures go by depth, a caller above what it calls with the same tree. Those of a whole statement that holds
 -- others stand right below that of the kind, which has the same depth.

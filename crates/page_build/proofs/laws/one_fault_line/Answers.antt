@@ -1,6 +1,0 @@
-use Rattle.page_build.proofs.OneAnswer.{one_fault_line_lem}
-use Rattle.page_build.proofs.laws.one_fault_line.Goals as goal
-
-pub returns : goal.returns
-returns c = one_fault_line_lem c.one_token_list.ensures c.one_fault.ensures c.tokens_or_fault.ensures c.one_unit.ensures
-    c.one_unit_fault.ensures c.unit_faultless.ensures

@@ -1,5 +1,0 @@
-//! Texts and their words, by the rules of the language.
-
-mod answers;
-mod hostile;
-mod spans;
