@@ -4,7 +4,9 @@
 mod file;
 mod stop;
 mod text;
+mod trial;
 
 pub use file::{Subject, try_file};
 pub use stop::CaseStop;
 pub use text::read_text;
+pub use trial::Trial;

@@ -3,10 +3,12 @@
 use crate::sites::read_site;
 use asp_host::{Command, Status, WordStop, read_words, run_host, status_code, status_text};
 use asp_io::{MemClock, MemFolder, MemSink, SureSource, SureWire};
-use case_files::{CaseStop, Subject};
+use case_files::{CaseStop, Subject, Trial};
 use std::alloc::Global;
+use std::rt::Files;
 use std::sync::Wait;
 use std::thread::Threads;
+use std::{fs, io};
 use vb_value::{Bytes, List, Memory, Text};
 
 /// How many bytes an output may have.
@@ -14,13 +16,6 @@ const ROOM: usize = 100_000;
 
 /// The words of a command line, each with the command that they say.
 pub struct CommandWords;
-
-/// The words of a command line and the files of a site, each with the exit status, what is said of the end, and the
-/// output.
-#[derive(Drop)]
-pub struct Commands<'a, R> {
-    pub rt: &'a R,
-}
 
 impl Subject for CommandWords {
     fn answer(&self, alloc: Global, case: &str) -> Result<String, CaseStop> {
@@ -37,15 +32,31 @@ impl Subject for CommandWords {
     }
 }
 
-impl<R: Threads + Wait + Sync> Subject for Commands<'_, R> {
-    fn answer(&self, alloc: Global, case: &str) -> Result<String, CaseStop> {
-        let (words, _) = case.split_once(" ## ").unwrap_or((case, ""));
-        let words = words_of(alloc, words)?;
-        let mut folder = read_site(alloc, case)?;
-        let mut sink = MemSink::new(alloc, ROOM, List::new(alloc))?;
-        let status = run(self.rt, alloc, words.as_slice(), &mut folder, &mut sink);
-        ended_text(alloc, &status, sink.held())
+/// Tries the cases of a file, each the words of a command line and the files of a site, with the exit status, what is
+/// said of the end, and the output. Whether all passed.
+pub fn try_commands<R: Files + AllocGlobal + Print + Threads + Wait + Sync>(
+    rt: &R,
+    name: &str,
+) -> io::Result<bool> {
+    let text = fs::read_to_string(rt, name)?;
+    let mut trial = Trial::new(rt.alloc(), name)?;
+    for line in text.as_str().lines() {
+        if let Some((case, wanted)) = trial.case(rt, line)? {
+            let answer = ended(rt, rt.alloc(), case);
+            trial.answer(rt, line, wanted, answer)?;
+        }
     }
+    trial.end(rt)
+}
+
+/// How a command ends over a site.
+fn ended<R: Threads + Wait + Sync>(rt: &R, alloc: Global, case: &str) -> Result<String, CaseStop> {
+    let (words, _) = case.split_once(" ## ").unwrap_or((case, ""));
+    let words = words_of(alloc, words)?;
+    let mut folder = read_site(alloc, case)?;
+    let mut sink = MemSink::new(alloc, ROOM, List::new(alloc))?;
+    let status = run(rt, alloc, words.as_slice(), &mut folder, &mut sink);
+    ended_text(alloc, &status, sink.held())
 }
 
 fn run<R: Threads + Wait + Sync>(

@@ -8,7 +8,7 @@ mod sites;
 mod web;
 
 use case_files::try_file;
-use commands::{CommandWords, Commands};
+use commands::{CommandWords, try_commands};
 use pages::{PageBytes, Pages, Sums};
 use std::io;
 use std::io::ErrorKind;
@@ -19,7 +19,7 @@ fn main(rt: HostRuntime) -> io::Result<()> {
     let bytes = try_file(&rt, "bytes.txt", &PageBytes)?;
     let sums = try_file(&rt, "sums.txt", &Sums)?;
     let words = try_file(&rt, "words.txt", &CommandWords)?;
-    let sites = try_file(&rt, "sites.txt", &Commands { rt: &rt })?;
+    let sites = try_commands(&rt, "sites.txt")?;
     let web = try_file(&rt, "web.txt", &Web)?;
     if pages && bytes && sums && words && sites && web {
         Ok(())

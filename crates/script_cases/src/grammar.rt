@@ -1,12 +1,11 @@
 //! What the grammar makes of scripts.
 
-use crate::expressions::{Notation, write_expression};
 use crate::stopped::Stopped;
 use crate::units::unit_text;
 use crate::words::{bare_words, script_words, text_words};
 use crate::writing::{counts_text, lined_text, places_text, words_text};
 use std::alloc::Global;
-use vb_parse::{parse, parse_expression};
+use vb_parse::parse;
 use vb_print::print;
 
 /// The words of a script between its two edges.
@@ -38,14 +37,6 @@ pub fn tree(alloc: Global, script: &str) -> Result<String, Stopped> {
 pub fn bare_tree(alloc: Global, script: &str) -> Result<String, Stopped> {
     let unit = parse(alloc, bare_words(alloc, script)?.as_slice())?;
     Ok(unit_text(alloc, &unit)?)
-}
-
-/// The tree of an expression.
-pub fn expression(alloc: Global, script: &str) -> Result<String, Stopped> {
-    let tree = parse_expression(alloc, bare_words(alloc, script)?.as_slice())?;
-    let mut out = Notation::new(alloc);
-    write_expression(&mut out, &tree)?;
-    Ok(out.text())
 }
 
 /// That the grammar has the script.

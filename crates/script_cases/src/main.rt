@@ -18,13 +18,12 @@ use std::io::ErrorKind;
 use subject::Scripts;
 
 /// The files of cases, and what each is tried on.
-const FILES: [(&str, Scripts); 12] = [
+const FILES: [(&str, Scripts); 11] = [
     ("words.txt", Scripts::Words),
     ("places.txt", Scripts::Places),
     ("counts.txt", Scripts::Counts),
     ("grammar.txt", Scripts::Trees),
     ("without_edges.txt", Scripts::BareTrees),
-    ("expressions.txt", Scripts::Expressions),
     ("depths.txt", Scripts::Verdicts),
     ("printed.txt", Scripts::Printed),
     ("scripts.txt", Scripts::Programs),

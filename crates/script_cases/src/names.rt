@@ -5,9 +5,7 @@ use crate::stopped::Stopped;
 use case_files::CaseStop;
 use std::alloc::Global;
 use vb_syntax::Program;
-use vb_syntax::program::{
-    Expression, Head, Named, Path, Procedure, Statement, StatementKind,
-};
+use vb_syntax::program::{Expression, Head, Named, Path, Procedure, Statement, StatementKind};
 use vb_value::Memory;
 
 /// What the names stand for in a statement of a script. The case names it: `page:` and the script for the last of the
@@ -53,11 +51,17 @@ fn last(body: &[Statement]) -> Option<&Statement> {
     }
 }
 
+fn named_text(alloc: Global, name: &Named) -> Result<String, Memory> {
+    match name {
+        Named::Place(slot) => Ok(format!(in alloc; "{slot:?}")?),
+        _ => Ok(format!(in alloc; "{name:?}")?),
+    }
+}
+
 fn head_text(alloc: Global, head: &Head) -> Result<String, Memory> {
     match head {
-        Head::Named(Named::Unknown(_)) => Ok(String::from_str(alloc, "Unknown")?),
-        Head::Named(name) => Ok(format!(in alloc; "{name:?}")?),
-        Head::Member(member) => Ok(format!(in alloc; "{member:?}")?),
+        Head::Named(name) => named_text(alloc, name),
+        Head::Member { member, .. } => Ok(format!(in alloc; "{member:?}")?),
         _ => Ok(format!(in alloc; "{head:?}")?),
     }
 }
@@ -81,13 +85,14 @@ fn statement_text(alloc: Global, statement: &Statement) -> Result<String, Memory
             let (target, value) = (path_text(alloc, target)?, value_text(alloc, value)?);
             Ok(format!(in alloc; "{target} = {value}")?)
         }
-        StatementKind::Call { callee, .. } => path_text(alloc, callee),
-        StatementKind::CallPath { callee } => path_text(alloc, callee),
+        StatementKind::Call { callee } => path_text(alloc, callee),
         StatementKind::ForEach {
-            variable, group, ..
+            variable,
+            group,
+            ..
         } => {
-            let group = value_text(alloc, group)?;
-            Ok(format!(in alloc; "{variable:?} in {group}")?)
+            let (variable, group) = (named_text(alloc, variable)?, value_text(alloc, group)?);
+            Ok(format!(in alloc; "{variable} in {group}")?)
         }
         _ => Ok(String::from_str(alloc, "other")?),
     }

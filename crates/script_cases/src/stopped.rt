@@ -5,7 +5,7 @@ use page_build::{ScriptFault, ScriptStop};
 use std::alloc::{AllocError, AllocFailed, Global};
 use vb_lex::LexStop;
 use vb_parse::ParseStop;
-use vb_scope::ScopeStop;
+use vb_syntax::ScopeStop;
 use vb_value::Memory;
 
 /// Why a script gives no answer of its own.
@@ -87,10 +87,7 @@ impl From<ScriptStop> for Stopped {
 }
 
 /// What a script gives: its answer, or the kind of its first fault and the line.
-pub fn answer_or_fault(
-    alloc: Global,
-    answer: Result<String, Stopped>,
-) -> Result<String, CaseStop> {
+pub fn answer_or_fault(alloc: Global, answer: Result<String, Stopped>) -> Result<String, CaseStop> {
     let (kind, line) = match answer {
         Ok(answer) => return Ok(answer),
         Err(Stopped::Case(stop)) => return Err(stop),

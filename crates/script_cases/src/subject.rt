@@ -1,8 +1,6 @@
 //! What each file of cases is tried on.
 
-use crate::grammar::{
-    bare_tree, counts, expression, inner_words, places, printed, tree, verdict,
-};
+use crate::grammar::{bare_tree, counts, inner_words, places, printed, tree, verdict};
 use crate::names::names;
 use crate::programs::{accepted, page_parts, script_parts};
 use crate::stopped::{Stopped, answer_or_fault};
@@ -17,7 +15,6 @@ pub enum Scripts {
     Counts,
     Trees,
     BareTrees,
-    Expressions,
     Verdicts,
     Printed,
     Programs,
@@ -34,7 +31,6 @@ impl Scripts {
             Scripts::Counts => counts(alloc, case),
             Scripts::Trees => tree(alloc, case),
             Scripts::BareTrees => bare_tree(alloc, case),
-            Scripts::Expressions => expression(alloc, case),
             Scripts::Verdicts => verdict(alloc, case),
             Scripts::Printed => printed(alloc, case),
             Scripts::Programs => accepted(alloc, case),

@@ -2,9 +2,7 @@
 //! procedure is `(form Access name(parameters) { body })`, a class `(class name members)`.
 
 use crate::expressions::Notation;
-use crate::statements::{
-    write_access, write_block, write_statement, write_variables,
-};
+use crate::statements::{write_access, write_block, write_statement, write_variables};
 use std::alloc::Global;
 use vb_syntax::{
     Access, Class, ClassMember, FieldAccess, Item, Parameter, Procedure, ProcedureKind, Property,
