@@ -9,7 +9,6 @@ use Rattle.vb_lex.specs.Tokens.{Tokenizes}
 use Rattle.vb_lex.specs.declared.fault.LexFault.{LexFault}
 use Rattle.vb_parse.specs.declared.fault.ParseFault.{ParseFault}
 use Rattle.vb_syntax.specs.declared.note.ScopeFault.{ScopeFault}
-use Rattle.vb_value.specs.declared.stop.Stop.TheVariants as scope
 use Rattle.vb_scope.specs.Answers.{answered}
 use Rattle.vb_syntax.specs.scope.Resolving.{IsFirstFault, Resolves}
 use Rattle.vb_syntax.specs.scope.Programs.{Parts}
@@ -36,8 +35,8 @@ memory_builds (Err Memory) program stop memory is = tt
 -- a fault of the names of a text
 on_scope : (stop : Stop ScopeFault) (text : List ℕ) (unit : Script) → IsScript text unit
     → OnScopeFault {T = Program} (Err stop) (IsFirstFault unit) → OnFault (Err (of_scope stop)) (HasFault text)
-on_scope (scope.Fault kind line) text unit script first = (unit, script, first)
-on_scope scope.Memory text unit script first = tt
+on_scope (stops.Fault kind line) text unit script first = (unit, script, first)
+on_scope stops.Memory text unit script first = tt
 
 pub scope_fault : (result : Result Program ScriptStop) (stop : Stop ScopeFault) (text : List ℕ) (unit : Script)
     → IsErrAnd result (λ (given : ScriptStop). given ≡ of_scope stop) → IsScript text unit
@@ -70,7 +69,8 @@ words_memory text program stops.Memory only of = refl
 
 -- its tokens spell its unit
 pub spelled_too : (text : List ℕ) (program : Parts) (given tokens : List Token)
-    → ((others : List Token) → Tokenizes text others → Answers (Ok given) stops.Memory (Ok others))
+    → ((others : List Token) → Tokenizes text others
+    → Answers {E = Stop LexFault} (Ok given) stops.Memory (Ok others))
     → tokens ≡ given → (of : IsProgramOf text program) → Derives tokens of.unit
 spelled_too text program given tokens only is of = subst (λ (t : List Token). Derives t of.unit)
     (ap tokens_in (only of.script.tokens of.script.words) ∙ sym is) of.script.spelled
@@ -95,12 +95,13 @@ grammar_memory tokens unit stops.Memory only spelled = refl
 
 -- the unit that is found resolves to its program
 pub resolves_too : (program : Parts) (tokens : List Token) (found unit : Script)
-    → ((other : Script) → Derives tokens other → Answers (Ok found) stops.Memory (Ok other)) → Derives tokens unit
+    → ((other : Script) → Derives tokens other
+    → Answers {E = Stop ParseFault} (Ok found) stops.Memory (Ok other)) → Derives tokens unit
     → Resolves unit program → Resolves found program
 resolves_too program tokens found unit only spelled resolves =
     subst (λ (u : Script). Resolves u program) (ap (unit_in unit) (only unit spelled)) resolves
 
-scope_no_memory : (kind : ScopeFault) (line : ℕ) → ◌≡◌ {A = Stop ScopeFault} (scope.Fault kind line) scope.Memory → ⊥
+scope_no_memory : (kind : ScopeFault) (line : ℕ) → ◌≡◌ {A = Stop ScopeFault} (stops.Fault kind line) stops.Memory → ⊥
 scope_no_memory kind line is = cc
 
 no_program : (program : Parts) (stop : Stop ScopeFault)
@@ -109,11 +110,11 @@ no_program program stop is = cc
 
 -- its names have no fault
 pub scope_memory : (program : Parts) (unit : Script) (stop : Stop ScopeFault)
-    → ((other : Parts) → Resolves unit other → Answers (answered (Err stop)) scope.Memory (Ok other))
+    → ((other : Parts) → Resolves unit other → Answers (answered (Err stop)) stops.Memory (Ok other))
     → Resolves unit program → of_scope stop ≡ Memory
-scope_memory program unit (scope.Fault kind line) only resolves =
-    absurd (no_program program (scope.Fault kind line) (only program resolves (λ is. scope_no_memory kind line is)))
-scope_memory program unit scope.Memory only resolves = refl
+scope_memory program unit (stops.Fault kind line) only resolves =
+    absurd (no_program program (stops.Fault kind line) (only program resolves (λ is. scope_no_memory kind line is)))
+scope_memory program unit stops.Memory only resolves = refl
 
 -- a text that has this program has no other
 pub same_program : (one other : Parts) → ◌≡◌ {A = Result Parts (Stop ScopeFault)} (Ok other) (Ok one) → one ≡ other

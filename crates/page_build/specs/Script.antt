@@ -13,7 +13,6 @@ use Rattle.vb_syntax.specs.declared.unit.Unit.{Unit as Script}
 use Rattle.vb_parse.specs.Outcome.{HasFault as HasGrammarFault}
 use Rattle.vb_parse.specs.declared.fault.ParseFault.{ParseFault}
 use Rattle.vb_syntax.specs.declared.note.ScopeFault.{ScopeFault}
-use Rattle.vb_value.specs.declared.stop.Stop.TheVariants as scope
 use Rattle.vb_scope.specs.Answers.{parts_of}
 use Rattle.page_build.specs.declared.fault.ScriptFault.{ScriptFault}
 use Rattle.page_build.specs.declared.fault.ScriptFault.TheVariants.{Words, Grammar, Scope}
@@ -67,5 +66,5 @@ of_grammar stops.Memory = Memory
 
 -- the names
 abbrev pub of_scope : Stop ScopeFault → ScriptStop
-of_scope (scope.Fault kind line) = Fault (Scope kind) line
-of_scope scope.Memory = Memory
+of_scope (stops.Fault kind line) = Fault (Scope kind) line
+of_scope stops.Memory = Memory
