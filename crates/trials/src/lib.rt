@@ -13,4 +13,6 @@ mod longest;
 #[cfg(test)]
 mod memory;
 #[cfg(test)]
+mod names;
+#[cfg(test)]
 mod streams;
