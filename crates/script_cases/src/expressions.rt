@@ -13,6 +13,7 @@ pub struct Notation {
 }
 
 impl Notation {
+    /// The empty text.
     pub fn new(alloc: Global) -> Notation {
         Notation {
             alloc,
@@ -20,19 +21,23 @@ impl Notation {
         }
     }
 
+    /// What was written.
     pub fn text(self) -> String {
         self.text
     }
 
+    /// Adds a word as it stands.
     pub fn put(&mut self, word: &str) -> Result<(), Memory> {
         self.text.push_str(word)?;
         Ok(())
     }
 
+    /// Adds a name as it stands.
     pub fn name(&mut self, text: &Text) -> Result<(), Memory> {
         self.put(text.to_string(self.alloc)?.as_str())
     }
 
+    /// Adds a number in decimal.
     pub fn number(&mut self, number: i32) -> Result<(), Memory> {
         self.put(format!(in self.alloc; "{number}")?.as_str())
     }
@@ -76,6 +81,7 @@ fn operator_word(operator: Op2) -> &'static str {
     }
 }
 
+/// Adds a literal.
 pub fn write_literal(out: &mut Notation, value: &Literal) -> Result<(), Memory> {
     match value {
         Literal::Empty => out.put("#Empty"),
@@ -95,6 +101,7 @@ pub fn write_literal(out: &mut Notation, value: &Literal) -> Result<(), Memory> 
     }
 }
 
+/// Adds the tree of an expression.
 #[cycle(expressions)]
 pub fn write_expression(out: &mut Notation, tree: &Expression) -> Result<(), Memory> {
     match tree {
@@ -139,6 +146,7 @@ fn write_operations(out: &mut Notation, operations: &[Operation]) -> Result<(), 
     Ok(())
 }
 
+/// Adds a path.
 #[cycle(expressions)]
 pub fn write_path(out: &mut Notation, path: &Path) -> Result<(), Memory> {
     match &path.head {
@@ -170,6 +178,7 @@ fn write_step(out: &mut Notation, step: &Step) -> Result<(), Memory> {
     }
 }
 
+/// Adds the trees of expressions, with blanks between them.
 #[cycle(expressions)]
 pub fn write_expressions(out: &mut Notation, trees: &[Expression]) -> Result<(), Memory> {
     let [first, more @ ..] = trees else {

@@ -182,6 +182,7 @@ fn write_condition(out: &mut Notation, condition: &Condition) -> Result<(), Memo
     write_part(out, &condition.test)
 }
 
+/// Adds a block in braces, with a blank before it.
 #[cycle(statements)]
 pub fn write_block(out: &mut Notation, block: &[Statement]) -> Result<(), Memory> {
     out.put(" {")?;
@@ -340,6 +341,7 @@ fn write_compound(out: &mut Notation, line: u32, kind: &StatementKind) -> Result
     }
 }
 
+/// Adds the tree of a statement.
 #[cycle(statements)]
 pub fn write_statement(out: &mut Notation, tree: &Statement) -> Result<(), Memory> {
     write_compound(out, tree.line, &tree.kind)?;
