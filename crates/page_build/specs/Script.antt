@@ -1,5 +1,5 @@
 -- The program of a script's text: its words, the unit that they spell, and what that resolves to.
-use Rattle.std.specs.Prelude.{◌≡◌, ℕ, List, Result, Ok, Err}
+use Rattle.std.specs.Prelude.{ℕ, List, Result, Ok, Err}
 use Rattle.vb_value.specs.declared.stop.Stop.{Stop}
 use Rattle.vb_value.specs.declared.stop.Stop.TheVariants as stops
 use Rattle.vb_value.specs.declared.token.Token.{Token}
@@ -16,8 +16,6 @@ use Rattle.vb_syntax.specs.declared.note.ScopeFault.{ScopeFault}
 use Rattle.vb_scope.specs.Answers.{parts_of}
 use Rattle.page_build.specs.declared.fault.ScriptFault.{ScriptFault}
 use Rattle.page_build.specs.declared.fault.ScriptFault.TheVariants.{Words, Grammar, Scope}
-use Rattle.page_build.specs.declared.fault.ScriptStop.{ScriptStop}
-use Rattle.page_build.specs.declared.fault.ScriptStop.TheVariants.{Fault, Memory}
 
 -- The text is a script of this unit.
 pub record IsScript (text : List ℕ) (unit : Script) : Type 0 where
@@ -40,31 +38,24 @@ HasFault text (Scope kind) line = (unit : Script) × IsScript text unit × IsFir
 
 -- ---- what the call answers
 
--- The answer is this program, or memory ran out.
-abbrev pub Builds : Result Program ScriptStop → Parts → Type 0
-Builds (Ok given) program = parts_of given ≡ program
-Builds (Err (Fault kind line)) program = ⊥
-Builds (Err Memory) program = Unit {0}
-
--- The answer is no fault, or one of which the fact holds.
-abbrev pub OnFault : Result Program ScriptStop → (ScriptFault → ℕ → Type 0) → Type 0
-OnFault (Ok given) fact = Unit {0}
-OnFault (Err (Fault kind line)) fact = fact kind line
-OnFault (Err Memory) fact = Unit {0}
+-- the answer, with the parts of its program
+abbrev pub answered : Result Program (Stop ScriptFault) → Result Parts (Stop ScriptFault)
+answered (Ok program) = Ok (parts_of program)
+answered (Err stop) = Err stop
 
 -- ---- why it stops, by the stop of each of its steps
 
 -- the words
-abbrev pub of_words : Stop LexFault → ScriptStop
-of_words (stops.Fault kind line) = Fault (Words kind) line
-of_words stops.Memory = Memory
+abbrev pub of_words : Stop LexFault → Stop ScriptFault
+of_words (stops.Fault kind line) = stops.Fault (Words kind) line
+of_words stops.Memory = stops.Memory
 
 -- the grammar
-abbrev pub of_grammar : Stop ParseFault → ScriptStop
-of_grammar (stops.Fault kind line) = Fault (Grammar kind) line
-of_grammar stops.Memory = Memory
+abbrev pub of_grammar : Stop ParseFault → Stop ScriptFault
+of_grammar (stops.Fault kind line) = stops.Fault (Grammar kind) line
+of_grammar stops.Memory = stops.Memory
 
 -- the names
-abbrev pub of_scope : Stop ScopeFault → ScriptStop
-of_scope (stops.Fault kind line) = Fault (Scope kind) line
-of_scope stops.Memory = Memory
+abbrev pub of_scope : Stop ScopeFault → Stop ScriptFault
+of_scope (stops.Fault kind line) = stops.Fault (Scope kind) line
+of_scope stops.Memory = stops.Memory

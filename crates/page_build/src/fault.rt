@@ -1,5 +1,6 @@
 //! Why a script is no program.
 ghost use Rattle.std.specs.Prelude.{◌≡◌};
+ghost use Rattle.page_build.specs.Script.{of_words, of_grammar, of_scope};
 
 use std::fmt;
 use vb_lex::{LexFault, LexStop};
@@ -28,64 +29,26 @@ impl fmt::Display for ScriptFault {
     }
 }
 
-/// Why a script has no program.
-#[derive(Clone, Copy, Debug, PartialEq, Eq)]
-pub enum ScriptStop {
-    /// The first fault of the script.
-    Fault {
-        /// What is wrong.
-        kind: ScriptFault,
-        /// The line, counted from 1.
-        line: u32,
-    },
-    /// Memory ran out.
-    Memory,
+/// Why a script has no program: its first fault, or want of memory.
+pub type ScriptStop = Stop<ScriptFault>;
+
+/// The stop at the words of a script, as one of the script.
+pub fn stop_of_words(stop: LexStop) -> ScriptStop
+    ensures { result ≡ of_words stop }
+{
+    stop.map(|kind| ScriptFault::Words(kind))
 }
 
-impl From<LexStop> for ScriptStop {
-    ghost use Rattle.page_build.specs.Script.{of_words};
-
-    ghost from_gives = { λ cause stop. stop ≡ of_words cause };
-
-    fn from(cause: LexStop) -> ScriptStop {
-        match cause {
-            Stop::Fault { kind, line } => ScriptStop::Fault {
-                kind: ScriptFault::Words(kind),
-                line,
-            },
-            Stop::Memory => ScriptStop::Memory,
-        }
-    }
+/// The stop at the grammar of a script, as one of the script.
+pub fn stop_of_grammar(stop: ParseStop) -> ScriptStop
+    ensures { result ≡ of_grammar stop }
+{
+    stop.map(|kind| ScriptFault::Grammar(kind))
 }
 
-impl From<ParseStop> for ScriptStop {
-    ghost use Rattle.page_build.specs.Script.{of_grammar};
-
-    ghost from_gives = { λ cause stop. stop ≡ of_grammar cause };
-
-    fn from(cause: ParseStop) -> ScriptStop {
-        match cause {
-            Stop::Fault { kind, line } => ScriptStop::Fault {
-                kind: ScriptFault::Grammar(kind),
-                line,
-            },
-            Stop::Memory => ScriptStop::Memory,
-        }
-    }
-}
-
-impl From<ScopeStop> for ScriptStop {
-    ghost use Rattle.page_build.specs.Script.{of_scope};
-
-    ghost from_gives = { λ cause stop. stop ≡ of_scope cause };
-
-    fn from(cause: ScopeStop) -> ScriptStop {
-        match cause {
-            ScopeStop::Fault { kind, line } => ScriptStop::Fault {
-                kind: ScriptFault::Scope(kind),
-                line,
-            },
-            ScopeStop::Memory => ScriptStop::Memory,
-        }
-    }
+/// The stop at the names of a script, as one of the script.
+pub fn stop_of_scope(stop: ScopeStop) -> ScriptStop
+    ensures { result ≡ of_scope stop }
+{
+    stop.map(|kind| ScriptFault::Scope(kind))
 }
