@@ -4,7 +4,7 @@ use Rattle.vb_value.specs.declared.memory.Memory.{Memory}
 use Rattle.vb_syntax.specs.declared.expression.Step.{Step}
 use Rattle.vb_syntax.specs.grammar.Rules.{Tokens}
 use Rattle.vb_syntax.specs.grammar.SimpleStatements.{is_group, ends_in_group}
-use Rattle.vb_print.specs.Outcome.{Adds}
+use Rattle.vb_value.specs.Outcome.{Adds}
 
 -- what is added last, behind what was added before
 pub adds_more : {T : Type 0} (result : Result T Memory) (old middle new first more whole : Tokens)

@@ -2,4 +2,3 @@ pub mod Words
 pub mod Expressions
 pub mod Statements
 pub mod Units
-pub mod Outcome

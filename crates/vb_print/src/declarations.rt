@@ -3,7 +3,7 @@ ghost use Rattle.std.specs.Prelude.{◌≡◌, ◌∷◌, ◌++◌, [], map};
 ghost use Rattle.vb_print.specs.Words.{listed, keyword, symbol};
 ghost use Rattle.vb_print.specs.Statements as spec;
 ghost use Rattle.vb_print.specs.Units as units;
-ghost use Rattle.vb_print.specs.Outcome.{Adds};
+ghost use Rattle.vb_value.specs.Outcome.{Adds};
 
 use crate::words::{literal_word, print_keyword, print_name, print_symbol, print_word};
 use vb_syntax::{Access, Constant, ConstantValue, Declared, Parameter};

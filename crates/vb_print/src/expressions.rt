@@ -4,7 +4,7 @@ ghost use Rattle.std.specs.List.{flat_map};
 ghost use Rattle.vb_syntax.specs.grammar.Rules.{Tokens};
 ghost use Rattle.vb_print.specs.Words.{listed};
 ghost use Rattle.vb_print.specs.Expressions as spec;
-ghost use Rattle.vb_print.specs.Outcome.{Adds};
+ghost use Rattle.vb_value.specs.Outcome.{Adds};
 
 use crate::words::{
     literal_word, operator_word, print_keyword, print_name, print_symbol, print_word,

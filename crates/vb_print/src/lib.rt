@@ -10,5 +10,5 @@ mod statements;
 mod units;
 mod words;
 
-pub use laws::printed_again;
+pub use laws::{print_and_parse, printed_again};
 pub use units::print;

@@ -3,7 +3,7 @@ ghost use Rattle.std.specs.Prelude.{◌≡◌, ◌∷◌, ◌++◌, [], map};
 ghost use Rattle.vb_print.specs.Words.{keyword, symbol, name, listed};
 ghost use Rattle.vb_print.specs.Expressions.{expression_words};
 ghost use Rattle.vb_print.specs.Statements as spec;
-ghost use Rattle.vb_print.specs.Outcome.{Adds};
+ghost use Rattle.vb_value.specs.Outcome.{Adds};
 ghost use Rattle.vb_value.specs.declared.token.Keyword.TheVariants as k;
 ghost use Rattle.vb_value.specs.declared.token.Symbol.TheVariants as s;
 

@@ -5,7 +5,7 @@ ghost use Rattle.vb_print.specs.Expressions.{expression_words, path_words};
 ghost use Rattle.vb_print.specs.Statements as spec;
 ghost use Rattle.vb_syntax.specs.grammar.SimpleStatements as grammar;
 ghost use Rattle.vb_syntax.specs.declared.statement.StatementKind.TheOpen as layer;
-ghost use Rattle.vb_print.specs.Outcome.{Adds};
+ghost use Rattle.vb_value.specs.Outcome.{Adds};
 
 use crate::declarations::{print_access, print_constants, print_variables};
 use crate::expressions::{print_expression, print_expressions, print_path};

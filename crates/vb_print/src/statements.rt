@@ -9,7 +9,7 @@ ghost use Rattle.vb_print.specs.Expressions.{expression_words};
 ghost use Rattle.vb_print.specs.Statements as spec;
 ghost use Rattle.vb_print.specs.Statements.{statement_words};
 ghost use Rattle.vb_syntax.specs.declared.statement.StatementKind.TheOpen as layer;
-ghost use Rattle.vb_print.specs.Outcome.{Adds};
+ghost use Rattle.vb_value.specs.Outcome.{Adds};
 
 use crate::parts::{
     print_after, print_before, print_case_head, print_end, print_for_each_head, print_for_head,

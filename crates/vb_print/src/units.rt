@@ -1,11 +1,10 @@
 //! Procedures, classes and whole scripts as words.
 ghost use Rattle.std.specs.Prelude.{◌≡◌, ◌∷◌, ◌++◌, [], map, codes};
-ghost use Rattle.vb_value.specs.Outcome.{Gives};
+ghost use Rattle.vb_value.specs.Outcome.{Adds, Gives};
 ghost use Rattle.vb_print.specs.Words.{keyword, listed, quoted, name as name_word};
 ghost use Rattle.vb_print.specs.Statements.{access_words, block_words, declared_words, line_end};
 ghost use Rattle.vb_print.specs.Units as spec;
 ghost use Rattle.vb_print.specs.Units.{print_of};
-ghost use Rattle.vb_print.specs.Outcome.{Adds};
 
 use crate::declarations::{print_access, print_parameters, print_variables};
 use crate::parts::{print_end, print_line_end};

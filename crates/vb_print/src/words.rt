@@ -1,9 +1,8 @@
 //! Single words.
 ghost use Rattle.std.specs.Prelude.{◌≡◌, ◌∷◌, [], codes};
 ghost use Rattle.std.specs.Str.{chars};
-ghost use Rattle.vb_value.specs.Outcome.{Gives};
+ghost use Rattle.vb_value.specs.Outcome.{Adds, Gives};
 ghost use Rattle.vb_print.specs.Words as spec;
-ghost use Rattle.vb_print.specs.Outcome.{Adds};
 
 use vb_syntax::Literal;
 use vb_value::{Copied, Keyword, List, Memory, Op2, Symbol, Text, Token, TokenKind};

@@ -1,6 +1,6 @@
 use Rattle.std.proofs.Common.{List, ℕ, [], ◌∷◌, subst}
 use Rattle.vb_print.specs.Words.{quoted}
-use Rattle.vb_print.specs.Outcome.{Adds}
+use Rattle.vb_value.specs.Outcome.{Adds}
 use Rattle.vb_print.proofs.Literals.{property_characters}
 use Rattle.vb_print.proofs.words.print_property_word.Goals as goal
 
