@@ -13,6 +13,4 @@ mod longest;
 #[cfg(test)]
 mod memory;
 #[cfg(test)]
-mod names;
-#[cfg(test)]
 mod streams;
