@@ -49,7 +49,7 @@ where
     ensures usage { (result ≡ Status.Usage) ↔ SaysNoCommand (map string_bytes words.now) }
     ensures unsaid { result ≡ Status.Usage → K.held sink.new ≡ K.held sink.old }
 
-    // A fault has a cause. Want of memory alone has none.
+    // A fault has a cause. Out of memory alone has none.
     ensures read_fault { result ≡ Status.ReadFault → HasRisen (F.faults folder.old) (F.faults folder.new) }
     ensures write_fault { result ≡ Status.WriteFault → HasRisen (K.faults sink.old) (K.faults sink.new) }
 

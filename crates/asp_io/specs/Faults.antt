@@ -24,7 +24,7 @@ pub record HasCause {T E : Type 0} (fault : E) (old new : ℕ) (result : Result 
 abbrev pub failure : Failed
 failure = record {}
 
--- what an error of std is to a call of the outside: want of memory, by its kind, and else a fault
+-- what an error of std is to a call of the outside: out of memory, by its kind, and else a fault
 abbrev pub stop_of : ErrorKind → IoStop
 stop_of OutOfMemory = Memory
 stop_of _ = Fault

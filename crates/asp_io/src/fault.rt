@@ -58,7 +58,7 @@ impl<T: Drop> From<AllocFailed<T>> for IoStop {
     }
 }
 
-/// An error of std is want of memory by its kind, and else a fault.
+/// An error of std is out of memory by its kind, and else a fault.
 impl From<io::Error> for IoStop {
     ghost from_gives = { λ error stop. stop ≡ stop_of (error_kind error) };
 

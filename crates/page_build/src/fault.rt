@@ -29,7 +29,7 @@ impl fmt::Display for ScriptFault {
     }
 }
 
-/// Why a script has no program: its first fault, or want of memory.
+/// Why a script has no program: its first fault, or out of memory.
 pub type ScriptStop = Stop<ScriptFault>;
 
 /// The stop at the words of a script, as one of the script.

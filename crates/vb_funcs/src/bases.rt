@@ -2,7 +2,7 @@
 ghost use Rattle.std.specs.Prelude.{◌≡◌, ◌<◌, ◌≤◌, map};
 ghost use Rattle.std.specs.Int.Digits.{digits_of};
 ghost use Rattle.vb_value.specs.Arguments.{of_one, null_or};
-ghost use Rattle.vb_value.specs.Errors.{told};
+ghost use Rattle.vb_value.specs.Errors.{reported};
 ghost use Rattle.vb_value.specs.Outcome.{Answers, Gives};
 ghost use Rattle.vb_funcs.specs.Bases as spec;
 
@@ -11,14 +11,14 @@ use vb_value::{Memory, Text, Value, VbError, VbFault, is_null, limited, the_argu
 
 /// `Hex`.
 pub fn hex(alloc: Global, args: &[Value]) -> Result<Value, VbFault>
-    ensures { Answers result VbFault.Memory (told (spec.hex_of args.now)) }
+    ensures { Answers result VbFault.Memory (reported (spec.hex_of args.now)) }
 {
     bits_text(alloc, 16, args)
 }
 
 /// `Oct`.
 pub fn oct(alloc: Global, args: &[Value]) -> Result<Value, VbFault>
-    ensures { Answers result VbFault.Memory (told (spec.oct_of args.now)) }
+    ensures { Answers result VbFault.Memory (reported (spec.oct_of args.now)) }
 {
     bits_text(alloc, 8, args)
 }
@@ -27,7 +27,7 @@ pub fn oct(alloc: Global, args: &[Value]) -> Result<Value, VbFault>
 fn bits_text(alloc: Global, base: u32, args: &[Value]) -> Result<Value, VbFault>
     requires least { 2 ≤ base }
     requires most { base ≤ 16 }
-    ensures { Answers result VbFault.Memory (told (of_one (null_or (spec.bits_text base)) args.now)) }
+    ensures { Answers result VbFault.Memory (reported (of_one (null_or (spec.bits_text base)) args.now)) }
 {
     let x = the_argument(args)?;
     if is_null(x) {

@@ -1,6 +1,6 @@
 //! Values made another kind.
 ghost use Rattle.std.specs.Prelude.{◌≡◌};
-ghost use Rattle.vb_value.specs.Errors.{told};
+ghost use Rattle.vb_value.specs.Errors.{reported};
 ghost use Rattle.vb_value.specs.Outcome.{Answers};
 ghost use Rattle.vb_funcs.specs.Converting as spec;
 
@@ -43,7 +43,7 @@ pub fn clng(args: &[Value]) -> Result<Value, VbError>
 
 /// `CStr`. Error 14 for a text of more than 1,048,576 characters.
 pub fn cstr(alloc: Global, args: &[Value]) -> Result<Value, VbFault>
-    ensures { Answers result VbFault.Memory (told (spec.cstr_of args.now)) }
+    ensures { Answers result VbFault.Memory (reported (spec.cstr_of args.now)) }
 {
     let x = the_argument(args)?;
     Ok(limited(to_str(alloc, x)?)?)

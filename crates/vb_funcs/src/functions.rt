@@ -1,6 +1,6 @@
 //! The functions by their names.
 ghost use Rattle.std.specs.Prelude.{◌≡◌, ◌≤◌, length};
-ghost use Rattle.vb_value.specs.Errors.{told};
+ghost use Rattle.vb_value.specs.Errors.{reported};
 ghost use Rattle.vb_value.specs.Outcome.{Answers};
 ghost use Rattle.vb_funcs.specs.Functions as spec;
 
@@ -18,7 +18,7 @@ use vb_value::{PlainFn, Value, VbFault, is_empty, is_null, the_argument};
 /// characters, 6 out of range.
 pub fn call_func(alloc: Global, f: PlainFn, args: &[Value]) -> Result<Value, VbFault>
     requires few { length args.now ≤ 255 }
-    ensures { Answers result VbFault.Memory (told (spec.call_func_of f args.now)) }
+    ensures { Answers result VbFault.Memory (reported (spec.call_func_of f args.now)) }
 {
     match f {
         PlainFn::Abs => Ok(abs(args)?),

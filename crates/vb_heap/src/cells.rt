@@ -1,6 +1,6 @@
 //! Cells, and the places in them.
 ghost use Rattle.std.specs.Prelude.{◌≡◌};
-ghost use Rattle.vb_value.specs.Errors.{told};
+ghost use Rattle.vb_value.specs.Errors.{reported};
 ghost use Rattle.vb_value.specs.Outcome.{Answers, Changes};
 ghost use Rattle.vb_heap.specs.Cells.{new_cell_of, with_new_cell, without_cell, read_of, store_of, with_stored};
 
@@ -45,7 +45,7 @@ impl Heap {
     /// A copy of the value at a place. Error 91 where the cell is gone, 9 where an index is out of range, and 13 where
     /// an index is asked of no array.
     pub fn read(&self, alloc: Global, place: &Place) -> Result<Value, VbFault>
-        ensures { Answers result VbFault.Memory (told (read_of place.now self.now)) }
+        ensures { Answers result VbFault.Memory (reported (read_of place.now self.now)) }
     {
         let Some(value) = self.cells.get(&place.cell.0) else {
             return Err(VbError::OBJECT_NOT_SET)?;

@@ -1,6 +1,6 @@
 //! Texts that are joined.
 ghost use Rattle.std.specs.Prelude.{◌≡◌, ◌++◌};
-ghost use Rattle.vb_value.specs.Errors.{told};
+ghost use Rattle.vb_value.specs.Errors.{reported};
 ghost use Rattle.vb_value.specs.Outcome.{Answers};
 ghost use Rattle.vb_value.specs.TextLimit.{limited};
 ghost use Rattle.vb_ops.specs.Joining as spec;
@@ -12,7 +12,7 @@ use vb_value::{
 
 /// Two values joined as texts, Null as an empty one. Error 14 for more than 1,048,576 characters.
 pub fn joined_values(alloc: Global, a: &Value, b: &Value) -> Result<Value, VbFault>
-    ensures { Answers result VbFault.Memory (told (spec.joined_values a.now b.now)) }
+    ensures { Answers result VbFault.Memory (reported (spec.joined_values a.now b.now)) }
 {
     let first = text_of(alloc, a)?;
     let second = text_of(alloc, b)?;
@@ -22,7 +22,7 @@ pub fn joined_values(alloc: Global, a: &Value, b: &Value) -> Result<Value, VbFau
 /// Two texts as one. Memory for it is taken only where it is not too long.
 #[tactic(auto, using(crate::proofs::Limits::too_long_together))]
 fn joined(first: Text, second: Text) -> Result<Value, VbFault>
-    ensures { Answers result VbFault.Memory (told (limited (first ++ second))) }
+    ensures { Answers result VbFault.Memory (reported (limited (first ++ second))) }
 {
     if MOST_CHARACTERS < first.len() + second.len() {
         return Err(VbError::OUT_OF_STRING_SPACE)?;
@@ -34,7 +34,7 @@ fn joined(first: Text, second: Text) -> Result<Value, VbFault>
 
 /// The text of a value, an empty one for Null.
 fn text_of(alloc: Global, value: &Value) -> Result<Text, VbFault>
-    ensures { Answers result VbFault.Memory (told (spec.text_of value.now)) }
+    ensures { Answers result VbFault.Memory (reported (spec.text_of value.now)) }
 {
     if is_null(value) {
         Ok(Text::new(alloc))

@@ -1,6 +1,6 @@
 //! The operators on values.
 ghost use Rattle.std.specs.Prelude.{◌≡◌};
-ghost use Rattle.vb_value.specs.Errors.{told};
+ghost use Rattle.vb_value.specs.Errors.{reported};
 ghost use Rattle.vb_value.specs.Outcome.{Answers};
 ghost use Rattle.vb_ops.specs.Operators as spec;
 ghost use Rattle.vb_ops.specs.Arithmetic.{on_numbers, sum_of, difference_of, product_of, quotient_of, remainder_of};
@@ -19,7 +19,7 @@ use vb_value::{
 /// What an operator gives of a value. It takes no memory. Errors: 13, 438 and 91 for an array, an object and
 /// Nothing, 13 for a text that is no number, 6 out of range.
 pub fn apply1(op: Op1, value: &Value) -> Result<Value, VbFault>
-    ensures { result ≡ told (spec.apply1_of op value.now) }
+    ensures { result ≡ reported (spec.apply1_of op value.now) }
 {
     match op {
         Op1::Minus => Ok(minus(value)?),
@@ -61,7 +61,7 @@ pub fn truth(value: &Value) -> Result<bool, VbError>
 /// side's first, 424 for `Is`, 13 for a text that is no number, 11 for a divisor of 0, 14 for a text of more than
 /// 1,048,576 characters, 6 out of range.
 pub fn apply2(alloc: Global, op: Op2, a: &Value, b: &Value) -> Result<Value, VbFault>
-    ensures { Answers result VbFault.Memory (told (spec.apply2_of op a.now b.now)) }
+    ensures { Answers result VbFault.Memory (reported (spec.apply2_of op a.now b.now)) }
 {
     if tests_objects(op) {
         return Ok(is(a, b)?);
@@ -83,7 +83,7 @@ fn tests_objects(op: Op2) -> bool
 
 /// What an operator but `Is` gives of two values that are no arrays, objects or Nothing.
 fn apply_scalars(alloc: Global, op: Op2, a: &Value, b: &Value) -> Result<Value, VbFault>
-    ensures { Answers result VbFault.Memory (told (spec.scalars_of op a.now b.now)) }
+    ensures { Answers result VbFault.Memory (reported (spec.scalars_of op a.now b.now)) }
 {
     match op {
         Op2::Multiply => Ok(multiply(a, b)?),
@@ -104,7 +104,7 @@ fn apply_scalars(alloc: Global, op: Op2, a: &Value, b: &Value) -> Result<Value, 
 
 /// `+`.
 fn add(alloc: Global, a: &Value, b: &Value) -> Result<Value, VbFault>
-    ensures { Answers result VbFault.Memory (told (add_of a.now b.now)) }
+    ensures { Answers result VbFault.Memory (reported (add_of a.now b.now)) }
 {
     if joins(a, b) {
         return joined_values(alloc, a, b);
@@ -117,7 +117,7 @@ fn add(alloc: Global, a: &Value, b: &Value) -> Result<Value, VbFault>
 
 /// `&`.
 fn join(alloc: Global, a: &Value, b: &Value) -> Result<Value, VbFault>
-    ensures { Answers result VbFault.Memory (told (join_of a.now b.now)) }
+    ensures { Answers result VbFault.Memory (reported (join_of a.now b.now)) }
 {
     if is_null(a) && is_null(b) {
         Ok(Value::Null)

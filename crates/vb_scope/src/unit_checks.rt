@@ -189,7 +189,7 @@ fn check_item(
     check_inside(names, alloc, explicit, page, item)
 }
 
-/// Checks items, each with what stands inside it, up to the first fault. After a fault or want of memory `names` and
+/// Checks items, each with what stands inside it, up to the first fault. After a fault, or out of memory, `names` and
 /// `declared` have some of the names.
 pub fn check_items(
     names: &mut Names,

@@ -7,7 +7,7 @@ use Rattle.std.proofs.lemmas.Bool.{le-leb}
 use Rattle.vb_value.specs.declared.fault.VbError.{VbError}
 use Rattle.vb_value.specs.declared.value.Value.{Value, Str}
 use Rattle.vb_value.specs.declared.value.Value.TheViews.{Arr, outs-Arr}
-use Rattle.vb_value.specs.Errors.{and_then, told, out_of_string_space}
+use Rattle.vb_value.specs.Errors.{and_then, reported, out_of_string_space}
 use Rattle.vb_value.specs.Numbers.{as_long}
 use Rattle.vb_value.specs.TextLimit.{most_characters, limited}
 use Rattle.vb_strings.specs.Results.{bounded, is_short, items_short}
@@ -83,13 +83,13 @@ array_same texts short =
 
 -- one of texts of which one is too long
 pub array_refused : (texts : List (List ℕ)) (array : Value) → are_short texts ≡ false
-    → told (array_of texts) ≡ Ok array → told (bounded (array_of texts)) ≡ told (Err out_of_string_space)
+    → reported (array_of texts) ≡ Ok array → reported (bounded (array_of texts)) ≡ reported (Err out_of_string_space)
 array_refused texts array long is =
     let split : (bound : Result ℤ VbError)
-    → told (and_then bound (λ given. Ok (texts_array given texts))) ≡ Ok array
-    → told (bounded (and_then bound (λ given. Ok (texts_array given texts)))) ≡ told (Err out_of_string_space) =
+    → reported (and_then bound (λ given. Ok (texts_array given texts))) ≡ Ok array
+    → reported (bounded (and_then bound (λ given. Ok (texts_array given texts)))) ≡ reported (Err out_of_string_space) =
     elim [
-      | Ok given ↦ λ made. ap told (array_long given texts long)
+      | Ok given ↦ λ made. ap reported (array_long given texts long)
       | Err refused ↦ λ made. absurd (cc)
     ] in
     split (as_long (pos (length texts) -ℤ pos 1)) is

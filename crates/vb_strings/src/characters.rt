@@ -1,6 +1,6 @@
 //! Characters and their numbers.
 ghost use Rattle.std.specs.Prelude.{◌≡◌};
-ghost use Rattle.vb_value.specs.Errors.{told};
+ghost use Rattle.vb_value.specs.Errors.{reported};
 ghost use Rattle.vb_value.specs.Outcome.{Answers};
 ghost use Rattle.vb_strings.specs.Characters as spec;
 
@@ -11,7 +11,7 @@ use vb_value::{Text, Value, VbError, VbFault, the_argument, to_long};
 
 /// `Asc` and `AscW`.
 pub fn asc(alloc: Global, args: &[Value]) -> Result<Value, VbFault>
-    ensures { Answers result VbFault.Memory (told (spec.asc_of args.now)) }
+    ensures { Answers result VbFault.Memory (reported (spec.asc_of args.now)) }
 {
     let s = the_argument(args)?;
     let text = as_text(alloc, s)?;
@@ -34,7 +34,7 @@ fn number(character: char) -> Value
 
 /// `Chr` and `ChrW`.
 pub fn chr(alloc: Global, args: &[Value]) -> Result<Value, VbFault>
-    ensures { Answers result VbFault.Memory (told (spec.chr_of args.now)) }
+    ensures { Answers result VbFault.Memory (reported (spec.chr_of args.now)) }
 {
     let n = the_argument(args)?;
     let character = character(code(to_long(n)?)?)?;

@@ -1,6 +1,6 @@
 //! How characters and texts are compared.
 ghost use Rattle.std.specs.Prelude.{◌≡◌};
-ghost use Rattle.vb_value.specs.Errors.{told};
+ghost use Rattle.vb_value.specs.Errors.{reported};
 ghost use Rattle.vb_value.specs.Outcome.{Answers, Gives};
 ghost use Rattle.vb_strings.specs.Comparing as spec;
 
@@ -48,7 +48,7 @@ pub fn same(comparison: Comparison, a: char, b: char) -> bool
 
 /// `StrComp`.
 pub fn str_comp(alloc: Global, args: &[Value]) -> Result<Value, VbFault>
-    ensures { Answers result VbFault.Memory (told (spec.str_comp_of args.now)) }
+    ensures { Answers result VbFault.Memory (reported (spec.str_comp_of args.now)) }
 {
     match args {
         [a, b] => compared(alloc, a, b, Ok(Comparison::Exact)),
@@ -64,7 +64,7 @@ fn compared(
     b: &Value,
     comparison: Result<Comparison, VbError>,
 ) -> Result<Value, VbFault>
-    ensures { Answers result VbFault.Memory (told (spec.compared a.now b.now comparison)) }
+    ensures { Answers result VbFault.Memory (reported (spec.compared a.now b.now comparison)) }
 {
     if is_null(a) || is_null(b) {
         return Ok(Value::Null);

@@ -1,6 +1,6 @@
 //! The functions by their names.
 ghost use Rattle.std.specs.Prelude.{◌≡◌, ◌≤◌, length};
-ghost use Rattle.vb_value.specs.Errors.{told};
+ghost use Rattle.vb_value.specs.Errors.{reported};
 ghost use Rattle.vb_value.specs.Outcome.{Answers};
 ghost use Rattle.vb_strings.specs.Functions as spec;
 
@@ -23,7 +23,7 @@ use vb_value::{StrFn, Value, VbFault};
 #[tactic(auto, using(crate::proofs::Bounds::same_answers))]
 pub fn call_string(alloc: Global, f: StrFn, args: &[Value]) -> Result<Value, VbFault>
     requires few { length args.now ≤ 255 }
-    ensures { Answers result VbFault.Memory (told (spec.call_string_of f args.now)) }
+    ensures { Answers result VbFault.Memory (reported (spec.call_string_of f args.now)) }
 {
     match f {
         StrFn::Len => len(alloc, args),

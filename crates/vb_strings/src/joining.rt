@@ -1,6 +1,6 @@
 //! Texts one behind another.
 ghost use Rattle.std.specs.Prelude.{◌≡◌, ◌-◌, ◌^◌, ◌++◌, min, length};
-ghost use Rattle.vb_value.specs.Errors.{told};
+ghost use Rattle.vb_value.specs.Errors.{reported};
 ghost use Rattle.vb_value.specs.Outcome.{Answers, Gives};
 ghost use Rattle.vb_strings.specs.Joining as spec;
 ghost use Rattle.vb_strings.specs.Results.{bounded};
@@ -15,7 +15,7 @@ use vb_value::{
 
 /// `Join`.
 pub fn join(alloc: Global, args: &[Value]) -> Result<Value, VbFault>
-    ensures { Answers result VbFault.Memory (told (bounded (spec.join_of args.now))) }
+    ensures { Answers result VbFault.Memory (reported (bounded (spec.join_of args.now))) }
 {
     match args {
         [a] => join_value(alloc, a, &one_space(alloc)?),
@@ -27,7 +27,7 @@ pub fn join(alloc: Global, args: &[Value]) -> Result<Value, VbFault>
 /// `Join` with its two arguments. Error 94 for Null, then that of the separator, then 13 for no array and 5 for
 /// another number of dimensions than one.
 fn join_value(alloc: Global, a: &Value, d: &Value) -> Result<Value, VbFault>
-    ensures { Answers result VbFault.Memory (told (bounded (spec.join_value a.now d.now))) }
+    ensures { Answers result VbFault.Memory (reported (bounded (spec.join_value a.now d.now))) }
 {
     if is_null(a) {
         return Err(VbError::INVALID_USE_OF_NULL)?;
@@ -41,7 +41,7 @@ fn join_value(alloc: Global, a: &Value, d: &Value) -> Result<Value, VbFault>
 
 /// The items of an array of one dimension as one text.
 fn join_array(alloc: Global, array: &Array, separator: &[char]) -> Result<Value, VbFault>
-    ensures { Answers result VbFault.Memory (told (bounded (spec.join_items array.now.bounds array.now.items separator.now))) }
+    ensures { Answers result VbFault.Memory (reported (bounded (spec.join_items array.now.bounds array.now.items separator.now))) }
 {
     if array.bounds.len() != 1 {
         return Err(VbError::INVALID_CALL)?;
@@ -53,7 +53,7 @@ fn join_array(alloc: Global, array: &Array, separator: &[char]) -> Result<Value,
 /// Values as texts.
 #[tactic(auto, using(crate::proofs::Items::texts_more, crate::proofs::Items::texts_stop))]
 fn texts(alloc: Global, values: &[Value]) -> Result<List<Text>, VbFault>
-    ensures { Answers result VbFault.Memory (told (spec.texts_of values.now)) }
+    ensures { Answers result VbFault.Memory (reported (spec.texts_of values.now)) }
 {
     let mut texts = List::with_capacity(alloc, values.len())?;
     for value in values {
@@ -64,7 +64,7 @@ fn texts(alloc: Global, values: &[Value]) -> Result<List<Text>, VbFault>
 
 /// Texts one behind another with a separator between each two. Error 14 for more characters than a text may have.
 pub fn joined(alloc: Global, separator: &[char], texts: &[Text]) -> Result<Value, VbFault>
-    ensures { Answers result VbFault.Memory (told (limited (spec.joined separator.now texts.now))) }
+    ensures { Answers result VbFault.Memory (reported (limited (spec.joined separator.now texts.now))) }
 {
     match texts {
         [] => Ok(Value::Str(Text::new(alloc))),

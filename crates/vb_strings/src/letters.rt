@@ -1,6 +1,6 @@
 //! Letters made small or capital, and characters from the last to the first.
 ghost use Rattle.std.specs.Prelude.{◌≡◌, reverse};
-ghost use Rattle.vb_value.specs.Errors.{told};
+ghost use Rattle.vb_value.specs.Errors.{reported};
 ghost use Rattle.vb_value.specs.Outcome.{Answers, Gives};
 ghost use Rattle.vb_strings.specs.Letters as spec;
 ghost use Rattle.vb_strings.specs.Results.{bounded};
@@ -11,7 +11,7 @@ use vb_value::{Copied, List, Memory, Text, Value, VbFault, fold, is_null, limite
 
 /// `LCase`.
 pub fn lcase(alloc: Global, args: &[Value]) -> Result<Value, VbFault>
-    ensures { Answers result VbFault.Memory (told (bounded (spec.lcase_of args.now))) }
+    ensures { Answers result VbFault.Memory (reported (bounded (spec.lcase_of args.now))) }
 {
     let s = the_argument(args)?;
     if is_null(s) {
@@ -23,7 +23,7 @@ pub fn lcase(alloc: Global, args: &[Value]) -> Result<Value, VbFault>
 
 /// `UCase`.
 pub fn ucase(alloc: Global, args: &[Value]) -> Result<Value, VbFault>
-    ensures { Answers result VbFault.Memory (told (bounded (spec.ucase_of args.now))) }
+    ensures { Answers result VbFault.Memory (reported (bounded (spec.ucase_of args.now))) }
 {
     let s = the_argument(args)?;
     if is_null(s) {
@@ -43,7 +43,7 @@ fn raised(alloc: Global, text: &Text) -> Result<Text, Memory>
 
 /// `StrReverse`.
 pub fn str_reverse(alloc: Global, args: &[Value]) -> Result<Value, VbFault>
-    ensures { Answers result VbFault.Memory (told (bounded (spec.str_reverse_of args.now))) }
+    ensures { Answers result VbFault.Memory (reported (bounded (spec.str_reverse_of args.now))) }
 {
     let s = the_argument(args)?;
     let text = as_text(alloc, s)?;

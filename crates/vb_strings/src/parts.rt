@@ -1,6 +1,6 @@
 //! Lengths and parts of texts.
 ghost use Rattle.std.specs.Prelude.{◌≡◌, ◌∷◌, [], take, drop};
-ghost use Rattle.vb_value.specs.Errors.{told};
+ghost use Rattle.vb_value.specs.Errors.{reported};
 ghost use Rattle.vb_value.specs.NumericText.{without_first, without_last};
 ghost use Rattle.vb_value.specs.Outcome.{Answers};
 ghost use Rattle.vb_strings.specs.Parts as spec;
@@ -13,7 +13,7 @@ use vb_value::{Value, VbError, VbFault, is_null, the_argument, to_long};
 
 /// `Len`.
 pub fn len(alloc: Global, args: &[Value]) -> Result<Value, VbFault>
-    ensures { Answers result VbFault.Memory (told (spec.len_of args.now)) }
+    ensures { Answers result VbFault.Memory (reported (spec.len_of args.now)) }
 {
     let s = the_argument(args)?;
     if is_null(s) {
@@ -25,7 +25,7 @@ pub fn len(alloc: Global, args: &[Value]) -> Result<Value, VbFault>
 
 /// `Left`.
 pub fn left(alloc: Global, args: &[Value]) -> Result<Value, VbFault>
-    ensures { Answers result VbFault.Memory (told (bounded (spec.left_of args.now))) }
+    ensures { Answers result VbFault.Memory (reported (bounded (spec.left_of args.now))) }
 {
     match args {
         [s, n] => front(alloc, s, n),
@@ -35,7 +35,7 @@ pub fn left(alloc: Global, args: &[Value]) -> Result<Value, VbFault>
 
 /// At most so many characters from the front.
 fn front(alloc: Global, s: &Value, n: &Value) -> Result<Value, VbFault>
-    ensures { Answers result VbFault.Memory (told (bounded (spec.left_of (s.now ∷ n.now ∷ [])))) }
+    ensures { Answers result VbFault.Memory (reported (bounded (spec.left_of (s.now ∷ n.now ∷ [])))) }
 {
     if is_null(s) {
         return Ok(Value::Null);
@@ -47,7 +47,7 @@ fn front(alloc: Global, s: &Value, n: &Value) -> Result<Value, VbFault>
 
 /// `Right`.
 pub fn right(alloc: Global, args: &[Value]) -> Result<Value, VbFault>
-    ensures { Answers result VbFault.Memory (told (bounded (spec.right_of args.now))) }
+    ensures { Answers result VbFault.Memory (reported (bounded (spec.right_of args.now))) }
 {
     match args {
         [s, n] => back(alloc, s, n),
@@ -57,7 +57,7 @@ pub fn right(alloc: Global, args: &[Value]) -> Result<Value, VbFault>
 
 /// At most so many characters from the end.
 fn back(alloc: Global, s: &Value, n: &Value) -> Result<Value, VbFault>
-    ensures { Answers result VbFault.Memory (told (bounded (spec.right_of (s.now ∷ n.now ∷ [])))) }
+    ensures { Answers result VbFault.Memory (reported (bounded (spec.right_of (s.now ∷ n.now ∷ [])))) }
 {
     if is_null(s) {
         return Ok(Value::Null);
@@ -70,7 +70,7 @@ fn back(alloc: Global, s: &Value, n: &Value) -> Result<Value, VbFault>
 
 /// `Mid`.
 pub fn mid(alloc: Global, args: &[Value]) -> Result<Value, VbFault>
-    ensures { Answers result VbFault.Memory (told (bounded (spec.mid_of args.now))) }
+    ensures { Answers result VbFault.Memory (reported (bounded (spec.mid_of args.now))) }
 {
     match args {
         [s, i] => rest(alloc, s, i),
@@ -81,7 +81,7 @@ pub fn mid(alloc: Global, args: &[Value]) -> Result<Value, VbFault>
 
 /// A text from a place on.
 fn rest(alloc: Global, s: &Value, i: &Value) -> Result<Value, VbFault>
-    ensures { Answers result VbFault.Memory (told (bounded (spec.mid_of (s.now ∷ i.now ∷ [])))) }
+    ensures { Answers result VbFault.Memory (reported (bounded (spec.mid_of (s.now ∷ i.now ∷ [])))) }
 {
     if is_null(s) {
         return Ok(Value::Null);
@@ -93,7 +93,7 @@ fn rest(alloc: Global, s: &Value, i: &Value) -> Result<Value, VbFault>
 
 /// At most so many characters from a place on.
 fn middle(alloc: Global, s: &Value, i: &Value, n: &Value) -> Result<Value, VbFault>
-    ensures { Answers result VbFault.Memory (told (bounded (spec.mid_of (s.now ∷ i.now ∷ n.now ∷ [])))) }
+    ensures { Answers result VbFault.Memory (reported (bounded (spec.mid_of (s.now ∷ i.now ∷ n.now ∷ [])))) }
 {
     if is_null(s) {
         return Ok(Value::Null);
@@ -130,7 +130,7 @@ pub fn at_most(text: &[char], count: usize) -> &[char]
 
 /// `LTrim`.
 pub fn ltrim(alloc: Global, args: &[Value]) -> Result<Value, VbFault>
-    ensures { Answers result VbFault.Memory (told (bounded (spec.ltrim_of args.now))) }
+    ensures { Answers result VbFault.Memory (reported (bounded (spec.ltrim_of args.now))) }
 {
     let s = the_argument(args)?;
     if is_null(s) {
@@ -142,7 +142,7 @@ pub fn ltrim(alloc: Global, args: &[Value]) -> Result<Value, VbFault>
 
 /// `RTrim`.
 pub fn rtrim(alloc: Global, args: &[Value]) -> Result<Value, VbFault>
-    ensures { Answers result VbFault.Memory (told (bounded (spec.rtrim_of args.now))) }
+    ensures { Answers result VbFault.Memory (reported (bounded (spec.rtrim_of args.now))) }
 {
     let s = the_argument(args)?;
     if is_null(s) {
@@ -154,7 +154,7 @@ pub fn rtrim(alloc: Global, args: &[Value]) -> Result<Value, VbFault>
 
 /// `Trim`.
 pub fn trim(alloc: Global, args: &[Value]) -> Result<Value, VbFault>
-    ensures { Answers result VbFault.Memory (told (bounded (spec.trim_of args.now))) }
+    ensures { Answers result VbFault.Memory (reported (bounded (spec.trim_of args.now))) }
 {
     let s = the_argument(args)?;
     if is_null(s) {

@@ -1,6 +1,6 @@
 //! Texts of one character many times.
 ghost use Rattle.std.specs.Prelude.{◌≡◌, replicate};
-ghost use Rattle.vb_value.specs.Errors.{told};
+ghost use Rattle.vb_value.specs.Errors.{reported};
 ghost use Rattle.vb_value.specs.Outcome.{Answers, Gives};
 ghost use Rattle.vb_strings.specs.Repeating as spec;
 ghost use Rattle.vb_strings.specs.Results.{bounded};
@@ -13,7 +13,7 @@ use vb_value::{
 
 /// `Space`.
 pub fn space(alloc: Global, args: &[Value]) -> Result<Value, VbFault>
-    ensures { Answers result VbFault.Memory (told (bounded (spec.space_of args.now))) }
+    ensures { Answers result VbFault.Memory (reported (bounded (spec.space_of args.now))) }
 {
     let n = the_argument(args)?;
     repeated(alloc, to_long(n)?, ' ')
@@ -21,7 +21,7 @@ pub fn space(alloc: Global, args: &[Value]) -> Result<Value, VbFault>
 
 /// `String`.
 pub fn string(alloc: Global, args: &[Value]) -> Result<Value, VbFault>
-    ensures { Answers result VbFault.Memory (told (bounded (spec.string_of args.now))) }
+    ensures { Answers result VbFault.Memory (reported (bounded (spec.string_of args.now))) }
 {
     match args {
         [n, c] if is_null(n) || is_null(c) => Ok(Value::Null),
@@ -32,7 +32,7 @@ pub fn string(alloc: Global, args: &[Value]) -> Result<Value, VbFault>
 
 /// `String` where neither argument is Null.
 fn filled(alloc: Global, n: &Value, c: &Value) -> Result<Value, VbFault>
-    ensures { Answers result VbFault.Memory (told (bounded (spec.filled n.now c.now))) }
+    ensures { Answers result VbFault.Memory (reported (bounded (spec.filled n.now c.now))) }
 {
     let number = to_long(n)?;
     let character = filling(c)?;
@@ -41,7 +41,7 @@ fn filled(alloc: Global, n: &Value, c: &Value) -> Result<Value, VbFault>
 
 /// A character so many times; error 5 below 0, and 14 for more than a text may have.
 fn repeated(alloc: Global, number: i32, character: char) -> Result<Value, VbFault>
-    ensures { Answers result VbFault.Memory (told (bounded (spec.repeated number character))) }
+    ensures { Answers result VbFault.Memory (reported (bounded (spec.repeated number character))) }
 {
     let count = count(number)?;
     if MOST_CHARACTERS < count {

@@ -1,6 +1,6 @@
 //! Parts of texts replaced.
 ghost use Rattle.std.specs.Prelude.{◌≡◌};
-ghost use Rattle.vb_value.specs.Errors.{told};
+ghost use Rattle.vb_value.specs.Errors.{reported};
 ghost use Rattle.vb_value.specs.Outcome.{Answers, Gives};
 ghost use Rattle.vb_strings.specs.Replacing as spec;
 ghost use Rattle.vb_strings.specs.Results.{bounded};
@@ -24,7 +24,7 @@ struct Choices {
 
 /// `Replace`.
 pub fn replace(alloc: Global, args: &[Value]) -> Result<Value, VbFault>
-    ensures { Answers result VbFault.Memory (told (bounded (spec.replace_of args.now))) }
+    ensures { Answers result VbFault.Memory (reported (bounded (spec.replace_of args.now))) }
 {
     match args {
         [s, a, b] => replace_value(
@@ -76,7 +76,7 @@ fn replace_value(
     choices: Choices,
 ) -> Result<Value, VbFault>
     ensures { let answer = spec.replace_value s.now a.now b.now choices.place choices.number choices.comparison in
-        Answers result VbFault.Memory (told (bounded answer)) }
+        Answers result VbFault.Memory (reported (bounded answer)) }
 {
     let text = as_text(alloc, s)?;
     let pattern = as_text(alloc, a)?;

@@ -1,6 +1,6 @@
 //! What numbers among the arguments count, and what answers hold.
 ghost use Rattle.std.specs.Prelude.{◌≡◌};
-ghost use Rattle.vb_value.specs.Errors.{told};
+ghost use Rattle.vb_value.specs.Errors.{reported};
 ghost use Rattle.vb_value.specs.Outcome.{Answers};
 ghost use Rattle.vb_value.specs.TextLimit as limit;
 ghost use Rattle.vb_strings.specs.Results as spec;
@@ -52,7 +52,7 @@ pub fn long(n: usize) -> Result<Value, VbError>
 
 /// Characters as the answer of a function; error 14 for more than a text may have.
 pub fn text_of(alloc: Global, characters: &[char]) -> Result<Value, VbFault>
-    ensures { Answers result VbFault.Memory (told (limit.limited characters.now)) }
+    ensures { Answers result VbFault.Memory (reported (limit.limited characters.now)) }
 {
     Ok(limited(Text::from_slice(alloc, characters)?)?)
 }

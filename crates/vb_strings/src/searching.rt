@@ -1,7 +1,7 @@
 //! Places of one text in another.
 ghost use Rattle.std.specs.Prelude.{◌≡◌};
 ghost use Rattle.vb_strings.specs.Borders.{AreBorders};
-ghost use Rattle.vb_value.specs.Errors.{told};
+ghost use Rattle.vb_value.specs.Errors.{reported};
 ghost use Rattle.vb_value.specs.Outcome.{Answers};
 ghost use Rattle.vb_strings.specs.Searching as spec;
 
@@ -16,7 +16,7 @@ use vb_value::{Value, VbError, VbFault, is_null, to_long};
 
 /// `InStr`.
 pub fn in_str(alloc: Global, args: &[Value]) -> Result<Value, VbFault>
-    ensures { Answers result VbFault.Memory (told (spec.in_str_of args.now)) }
+    ensures { Answers result VbFault.Memory (reported (spec.in_str_of args.now)) }
 {
     match args {
         [a, b] => first_place(alloc, Ok(1), a, b, Ok(Comparison::Exact)),
@@ -34,7 +34,7 @@ fn first_place(
     b: &Value,
     comparison: Result<Comparison, VbError>,
 ) -> Result<Value, VbFault>
-    ensures { Answers result VbFault.Memory (told (spec.in_str from a.now b.now comparison)) }
+    ensures { Answers result VbFault.Memory (reported (spec.in_str from a.now b.now comparison)) }
 {
     if is_null(a) || is_null(b) {
         return Ok(Value::Null);
@@ -55,7 +55,7 @@ fn search_from(
     pattern: &[char],
     place: i32,
 ) -> Result<Value, VbFault>
-    ensures { Answers result VbFault.Memory (told (spec.search_from comparison text.now pattern.now place)) }
+    ensures { Answers result VbFault.Memory (reported (spec.search_from comparison text.now pattern.now place)) }
 {
     let skipped = before_place(place)?;
     let borders = borders(alloc, comparison, pattern)?;
@@ -82,7 +82,7 @@ fn place_behind(
 
 /// `InStrRev`.
 pub fn in_str_rev(alloc: Global, args: &[Value]) -> Result<Value, VbFault>
-    ensures { Answers result VbFault.Memory (told (spec.in_str_rev_of args.now)) }
+    ensures { Answers result VbFault.Memory (reported (spec.in_str_rev_of args.now)) }
 {
     match args {
         [a, b] => last_place(alloc, a, b, Ok(-1), Ok(Comparison::Exact)),
@@ -100,7 +100,7 @@ fn last_place(
     from: Result<i32, VbError>,
     comparison: Result<Comparison, VbError>,
 ) -> Result<Value, VbFault>
-    ensures { Answers result VbFault.Memory (told (spec.in_str_rev a.now b.now from comparison)) }
+    ensures { Answers result VbFault.Memory (reported (spec.in_str_rev a.now b.now from comparison)) }
 {
     if is_null(a) || is_null(b) {
         return Ok(Value::Null);
@@ -121,7 +121,7 @@ fn search_up_to(
     pattern: &[char],
     place: i32,
 ) -> Result<Value, VbFault>
-    ensures { Answers result VbFault.Memory (told (spec.search_up_to comparison text.now pattern.now place)) }
+    ensures { Answers result VbFault.Memory (reported (spec.search_up_to comparison text.now pattern.now place)) }
 {
     let last = end(text, place)?;
     let borders = borders(alloc, comparison, pattern)?;

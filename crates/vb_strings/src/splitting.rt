@@ -1,7 +1,7 @@
 //! Texts cut at separators.
 ghost use Rattle.std.specs.Prelude.{◌≡◌, ◌∷◌, [], map};
 ghost use Rattle.vb_value.specs.declared.value.Value.{Str};
-ghost use Rattle.vb_value.specs.Errors.{told};
+ghost use Rattle.vb_value.specs.Errors.{reported};
 ghost use Rattle.vb_value.specs.Outcome.{Answers, Gives};
 ghost use Rattle.vb_strings.specs.Results.{bounded};
 ghost use Rattle.vb_strings.specs.Splitting as spec;
@@ -19,7 +19,7 @@ use vb_value::{
 
 /// `Split`.
 pub fn split(alloc: Global, args: &[Value]) -> Result<Value, VbFault>
-    ensures { Answers result VbFault.Memory (told (bounded (spec.split_of args.now))) }
+    ensures { Answers result VbFault.Memory (reported (bounded (spec.split_of args.now))) }
 {
     match args {
         [s] => split_at_spaces(alloc, s),
@@ -32,7 +32,7 @@ pub fn split(alloc: Global, args: &[Value]) -> Result<Value, VbFault>
 
 /// `Split` where no separator is given.
 fn split_at_spaces(alloc: Global, s: &Value) -> Result<Value, VbFault>
-    ensures { Answers result VbFault.Memory (told (bounded (spec.split_of (s.now ∷ [])))) }
+    ensures { Answers result VbFault.Memory (reported (bounded (spec.split_of (s.now ∷ [])))) }
 {
     let space = one_space(alloc)?;
     split_value(alloc, s, &space, Ok(-1), Ok(Comparison::Exact))
@@ -53,7 +53,7 @@ fn split_value(
     n: Result<i32, VbError>,
     comparison: Result<Comparison, VbError>,
 ) -> Result<Value, VbFault>
-    ensures { Answers result VbFault.Memory (told (bounded (spec.split_value s.now d.now n comparison))) }
+    ensures { Answers result VbFault.Memory (reported (bounded (spec.split_value s.now d.now n comparison))) }
 {
     let text = as_text(alloc, s)?;
     let separator = as_text(alloc, d)?;
@@ -70,7 +70,7 @@ fn split_array(
     separator: &Text,
     number: i32,
 ) -> Result<Value, VbFault>
-    ensures { Answers result VbFault.Memory (told (bounded (spec.split_array comparison text.now separator.now number))) }
+    ensures { Answers result VbFault.Memory (reported (bounded (spec.split_array comparison text.now separator.now number))) }
 {
     let texts = split_text(alloc, comparison, text, separator, number)?;
     short_array(alloc, texts)
@@ -85,7 +85,7 @@ fn split_text(
     separator: &Text,
     number: i32,
 ) -> Result<List<Text>, VbFault>
-    ensures { Answers result VbFault.Memory (told (spec.split comparison text.now separator.now number)) }
+    ensures { Answers result VbFault.Memory (reported (spec.split comparison text.now separator.now number)) }
 {
     if text.is_empty() {
         return Ok(List::new(alloc));
@@ -144,7 +144,7 @@ pub fn parts(
 /// Texts as an array; error 14 where one is too long for an answer.
 #[tactic(auto, using(crate::proofs::Bounds::array_same, crate::proofs::Bounds::array_refused))]
 fn short_array(alloc: Global, texts: List<Text>) -> Result<Value, VbFault>
-    ensures { Answers result VbFault.Memory (told (bounded (spec.array_of texts))) }
+    ensures { Answers result VbFault.Memory (reported (bounded (spec.array_of texts))) }
 {
     let short = are_short(texts.as_slice());
     let array = array(alloc, texts)?;
@@ -156,7 +156,7 @@ fn short_array(alloc: Global, texts: List<Text>) -> Result<Value, VbFault>
 
 /// Texts as an array.
 fn array(alloc: Global, texts: List<Text>) -> Result<Value, VbFault>
-    ensures { Answers result VbFault.Memory (told (spec.array_of texts)) }
+    ensures { Answers result VbFault.Memory (reported (spec.array_of texts)) }
 {
     let bound = as_long(texts.len() as i128 - 1)?;
     let bounds = List::from_slice(alloc, &[bound])?;

@@ -1,7 +1,7 @@
 //! Values as texts, without a copy where they hold one.
 ghost use Rattle.std.specs.Prelude.{◌≡◌, ◌≢◌, IfOk, IfErr, Ok, Err};
 ghost use Rattle.vb_value.specs.Conversions.{to_str_of};
-ghost use Rattle.vb_value.specs.Errors.{told};
+ghost use Rattle.vb_value.specs.Errors.{reported};
 ghost use Rattle.vb_strings.specs.Texts as spec;
 
 use std::alloc::Global;
@@ -37,8 +37,8 @@ impl<'a> AsText<'a> {
 
 /// A value as a text. The errors are those of `to_str`.
 pub fn as_text(alloc: Global, value: &Value) -> Result<AsText<'_>, VbFault>
-    ensures given { IfOk result (λ text. told (to_str_of value.now) ≡ Ok (spec.characters_of text)) }
-    ensures refused { IfErr result (λ stop. stop ≢ VbFault.Memory → told (to_str_of value.now) ≡ Err stop) }
+    ensures given { IfOk result (λ text. reported (to_str_of value.now) ≡ Ok (spec.characters_of text)) }
+    ensures refused { IfErr result (λ stop. stop ≢ VbFault.Memory → reported (to_str_of value.now) ≡ Err stop) }
 {
     match value {
         Value::Str(text) => Ok(AsText::Held(text)),

@@ -92,10 +92,10 @@ header_error = error 1156
 abbrev pub element_not_found : VbError
 element_not_found = error 32811
 
--- an answer of the language, as a call gives it that may also want memory
-abbrev pub told : {T : Type 0} → Result T VbError → Result T VbFault
-told (Ok given) = Ok given
-told (Err refused) = Err (Error refused.number)
+-- an answer of the language, as a call reports it that may also run out of memory
+abbrev pub reported : {T : Type 0} → Result T VbError → Result T VbFault
+reported (Ok given) = Ok given
+reported (Err refused) = Err (Error refused.number)
 
 -- what is made of the value that an answer has; an error stays
 abbrev pub and_then : {T U : Type 0} → Result T VbError → (T → Result U VbError) → Result U VbError

@@ -1,4 +1,4 @@
-//! What a page asks of the Application object, and what it is told.
+//! What a page asks of the Application object, and what it answers.
 
 use crate::list::List;
 use crate::text::Text;

@@ -2,7 +2,7 @@
 ghost use Rattle.std.specs.Prelude.{◌≡◌};
 ghost use Rattle.vb_value.specs.Conversions.{to_number_of, to_int_of, to_long_of, to_cur_of, to_bool_of};
 ghost use Rattle.vb_value.specs.Conversions.{number_text, number_value, to_str_of, named_truth};
-ghost use Rattle.vb_value.specs.Errors.{told};
+ghost use Rattle.vb_value.specs.Errors.{reported};
 ghost use Rattle.vb_value.specs.Outcome.{Answers, Gives};
 
 use crate::copied::Copied;
@@ -108,7 +108,7 @@ fn number_text(alloc: Global, number: Number) -> Result<Text, Memory>
 
 /// A value as a text, of any length. Error 94 for Null, 13 for an array, 438 for an object, 91 for Nothing.
 pub fn to_str(alloc: Global, value: &Value) -> Result<Text, VbFault>
-    ensures { Answers result VbFault.Memory (told (to_str_of value.now)) }
+    ensures { Answers result VbFault.Memory (reported (to_str_of value.now)) }
 {
     match value {
         Value::Empty => Ok(Text::new(alloc)),

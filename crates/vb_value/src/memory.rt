@@ -1,4 +1,4 @@
-//! Want of memory, where a call has no other fault.
+//! Out of memory, where a call has no other fault.
 
 use std::alloc::{AllocError, AllocFailed};
 use std::error::Error;
