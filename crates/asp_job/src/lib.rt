@@ -1,6 +1,16 @@
-//! What a host is asked for, and what it answers: the data that the crates on requests share.
+//! What a host is asked for, what it answers, and what runs its pages: the data that the crates on requests share.
 #![tactic(auto)]
 
+mod answer;
+mod copying;
+mod job;
 mod request;
+mod runner;
+mod session;
 
+pub use answer::{Answer, Fail, Finished};
+pub use copying::copy_session;
+pub use job::{Asked, Job, Work};
 pub use request::{Header, Request, Verb};
+pub use runner::{Runner, Step};
+pub use session::{Named, SessionState};

@@ -1,0 +1,5 @@
+pub mod Calls
+pub mod Running
+pub mod Session
+pub mod Size
+pub mod Told
