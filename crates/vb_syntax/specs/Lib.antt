@@ -1,2 +1,3 @@
 pub mod grammar
 pub mod scope
+pub mod Asking

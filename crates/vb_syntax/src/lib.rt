@@ -1,6 +1,7 @@
 //! The syntax of the language as trees, with the grammar that says which words spell which tree.
 #![tactic(auto)]
 
+mod act;
 mod copies;
 mod declaration;
 mod expression;
@@ -12,6 +13,7 @@ pub mod program;
 mod statement;
 mod unit;
 
+pub use act::{Act, ActDone, ActEnd, AskStop, Given, Intrinsics};
 pub use copies::copy_bounds;
 pub use declaration::{Access, Constant, ConstantValue, Declared, Parameter};
 pub use expression::{Expression, Literal, Operation, Path, PathHead, Step};
