@@ -1,7 +1,8 @@
 //! The members of the objects that a page is given (ASP 3.0 object reference).
 
-/// What a member takes. A call or a reading has from `fewest` to `most` arguments; a writing has them and the value
-/// behind them, so that the two differ in what they give wherever both are right.
+/// What a member takes. A call or a reading has from `fewest` to `most` arguments. A member that may be written has one
+/// number of them, and a writing gives the value behind them: so a reading and a writing that are both right differ in
+/// how much they give.
 #[derive(Clone, Copy, Debug, PartialEq, Eq)]
 pub struct Takes {
     /// The fewest arguments.
@@ -49,8 +50,10 @@ pub enum Member {
     ResponseAddHeader,
     /// `Response.CacheControl`
     ResponseCacheControl,
-    /// `Response.Cookies(name)`, or with a second argument a pair in the cookie.
+    /// `Response.Cookies(name)`
     ResponseCookies,
+    /// `Response.Cookies(name)(key)`: a pair in the cookie.
+    ResponseCookiePair,
     /// `Response.Cookies(name).Path`
     ResponseCookiePath,
     /// `Response.Cookies(name).Domain`

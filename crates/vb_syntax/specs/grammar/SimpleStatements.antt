@@ -22,7 +22,7 @@ use Rattle.vb_syntax.specs.grammar.Rules.{Tokens, Rule, pure, ◌>>=◌, ◌>>�
 use Rattle.vb_syntax.specs.grammar.Words.{word, keyword, symbol, list_of, name_of}
 use Rattle.vb_syntax.specs.grammar.Declarations.{opened, with_access, declared, constant, number_of}
 use Rattle.vb_syntax.specs.grammar.Expressions as x
-use Rattle.vb_syntax.specs.grammar.Expressions.{Inside, expressions, path, path_of, step}
+use Rattle.vb_syntax.specs.grammar.Expressions.{expressions, path_of, step}
 
 -- ---- words
 

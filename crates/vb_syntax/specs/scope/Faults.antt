@@ -1,7 +1,6 @@
 -- The faults of scope that a unit has, in the order of their places.
 use Rattle.std.specs.Prelude.{ℕ, Bool, true, false, not, ◌&&◌, ◌||◌, nat_lt, List, [], ◌∷◌, ◌++◌, length, map, fold}
 use Rattle.std.specs.Prelude.{Option, Some, None, is_none}
-use Rattle.vb_syntax.specs.declared.note.Note.{Note}
 use Rattle.vb_syntax.specs.declared.note.NoteKind.{NoteKind}
 use Rattle.vb_syntax.specs.declared.note.NoteKind.TheVariants as say
 use Rattle.vb_syntax.specs.declared.note.PageObject.{PageObject}

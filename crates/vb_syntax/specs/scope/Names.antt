@@ -1,6 +1,6 @@
 -- Names of a script, which are equal but for ASCII case, and the names that the language has (VBScript 5.6 language
 -- reference, "Functions" and "Constants") and that a page is given (ASP 3.0 object reference).
-use Rattle.std.specs.Prelude.{ℕ, ℤ, Bool, if◌then◌else◌, pos, negsuc, List, [], ◌∷◌, ◌++◌, fold, codes, nat_eq}
+use Rattle.std.specs.Prelude.{ℕ, ℤ, Bool, if◌then◌else◌, pos, negsuc, List, [], ◌∷◌, ◌++◌, codes, nat_eq}
 use Rattle.std.specs.Prelude.{Option, Some, None, is_some, unwrap_or}
 use Rattle.std.specs.List.{position_from}
 use Rattle.std.specs.Cmp.Lexicographic.{pointwise}

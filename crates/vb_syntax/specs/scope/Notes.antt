@@ -24,7 +24,6 @@ use Rattle.vb_syntax.specs.declared.note.ScopeFault.TheVariants as fault
 use Rattle.vb_syntax.specs.declared.note.Shape.{Shape}
 use Rattle.vb_syntax.specs.declared.note.Shape.TheVariants as shape
 use Rattle.vb_syntax.specs.declared.statement.Case.{Case}
-use Rattle.vb_syntax.specs.declared.statement.Condition.{Condition}
 use Rattle.vb_syntax.specs.declared.statement.ElseIf.{ElseIf}
 use Rattle.vb_syntax.specs.declared.statement.ExitKind.{ExitKind}
 use Rattle.vb_syntax.specs.declared.statement.ExitKind.TheVariants as exit

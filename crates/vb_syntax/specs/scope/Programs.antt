@@ -35,7 +35,7 @@ use Rattle.vb_value.specs.Folding.{same_name}
 use Rattle.vb_syntax.specs.declared.program.name.Named.{Named}
 use Rattle.vb_syntax.specs.declared.program.name.Named.TheVariants as named
 use Rattle.vb_syntax.specs.scope.Trees.{statement_of}
-use Rattle.vb_syntax.specs.scope.Units.{Body, in_body, on_page_of, body_of, body_of_property, procedures_of, classes_of}
+use Rattle.vb_syntax.specs.scope.Units.{Body, body_of, body_of_property, procedures_of, classes_of}
 
 -- whether Private stands before a procedure
 abbrev pub is_private : Option Access → Bool

@@ -3,7 +3,6 @@
 -- looked for from the inside out: in the procedure, its class, the page and the language.
 use Rattle.std.specs.Prelude.{ℕ, ℤ, ◌+◌, Bool, true, false, not, ◌&&◌, if◌then◌else◌, is_some, List, [], ◌∷◌, ◌++◌, length}
 use Rattle.std.specs.Prelude.{fold, Option, Some, None, unwrap_or, slice_get}
-use Rattle.vb_syntax.specs.declared.declaration.Declared.{Declared}
 use Rattle.vb_syntax.specs.declared.note.Level.{Level}
 use Rattle.vb_syntax.specs.declared.note.Level.TheVariants as level
 use Rattle.vb_syntax.specs.declared.note.Note.{Note}

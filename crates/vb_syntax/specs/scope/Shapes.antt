@@ -1,5 +1,5 @@
 -- What the steps of a path look like, and what a call statement puts behind them.
-use Rattle.std.specs.Prelude.{Bool, true, false, not, ◌&&◌, if◌then◌else◌, List, [], ◌∷◌, ◌++◌, fold, map}
+use Rattle.std.specs.Prelude.{Bool, true, false, if◌then◌else◌, List, [], ◌∷◌, ◌++◌, fold}
 use Rattle.vb_syntax.specs.declared.expression.Expression.{Expression}
 use Rattle.vb_syntax.specs.declared.expression.Expression.TheOpen.{Step-F}
 use Rattle.vb_syntax.specs.declared.expression.Operation.{Operation}

@@ -23,7 +23,6 @@ use Rattle.vb_syntax.specs.declared.program.expression.Operation.{Operation as R
 use Rattle.vb_syntax.specs.declared.program.expression.Path.{Path as ResolvedPath, roll-Path}
 use Rattle.vb_syntax.specs.declared.program.expression.Step.{Step as ResolvedStep}
 use Rattle.vb_syntax.specs.declared.program.expression.Step.TheVariants as behind
-use Rattle.vb_syntax.specs.declared.program.name.ErrMember.{ErrMember}
 use Rattle.vb_syntax.specs.declared.program.name.Named.{Named}
 use Rattle.vb_syntax.specs.declared.program.name.Named.TheVariants as named
 use Rattle.vb_syntax.specs.declared.program.statement.Case.{Case as ResolvedCase, roll-Case}
