@@ -8,7 +8,7 @@ use vb_value::{List, Text};
 #[cycle(statement)]
 #[derive(Debug, Drop)]
 pub struct Statement {
-    /// The line that an error in it is told with.
+    /// The line that an error in it is reported with.
     pub line: u32,
     /// What it says.
     pub kind: StatementKind,
@@ -174,7 +174,7 @@ pub struct Resized {
 #[cycle(statement)]
 #[derive(Debug, Drop)]
 pub struct ElseIf {
-    /// The line that an error in the condition is told with.
+    /// The line that an error in the condition is reported with.
     pub line: u32,
     /// The condition.
     pub condition: Expression,
@@ -186,7 +186,7 @@ pub struct ElseIf {
 #[cycle(statement)]
 #[derive(Debug, Drop)]
 pub struct Case {
-    /// The line that an error in the values is told with.
+    /// The line that an error in the values is reported with.
     pub line: u32,
     /// What the subject is compared with, at least one.
     pub values: List<Expression>,
@@ -203,7 +203,7 @@ pub enum Repetition {
     Before(Condition),
     /// Behind `Loop`: it is asked after each time.
     After {
-        /// The line that an error in the condition is told with.
+        /// The line that an error in the condition is reported with.
         line: u32,
         /// The condition.
         condition: Condition,

@@ -40,7 +40,7 @@ fn kind(place: Place<'_>, found: &Kind) -> Result<Resolved, Memory>
             access: _,
             constants: _,
         } => Ok(Resolved::Declaration),
-        Kind::Dim { variables: _ } => Ok(Resolved::Declaration),
+        Kind::Dim { variables: _ } => Ok(Resolved::Dim),
         Kind::ReDim { preserve, arrays } => redim(place, *preserve, arrays),
         Kind::Set { target, value } => set(place, target, value),
         Kind::Assign { target, value } => assignment(place, target, value),

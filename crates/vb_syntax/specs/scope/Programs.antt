@@ -139,7 +139,7 @@ module _ (explicit : Bool) (page : Declarations) (names : List Name) where
     terminate = sub_number (codes "class_terminate") found.members;
   }
 
--- a statement of the page's own body; declared variables are one too
+-- a statement of the page's own body; declared variables stand there too
 abbrev pub own_statement : Declarations → List Name → Item → List ResolvedStatement
 own_statement page names (item.Statement found) = statement_of names (on_page_in page) found ∷ []
 own_statement page names (item.Variables line access variables) = declaration_at line ∷ []

@@ -225,7 +225,7 @@ module _ (names : List Name) (scopes : Scopes) where
   -- what a statement says, with its parts as they are in a program
   abbrev pub kind_layer : StatementKind-F ResolvedKind ResolvedCase ResolvedElseIf ResolvedStatement → ResolvedKind
   kind_layer (StatementKind-F.Const access constants) = st.Declaration
-  kind_layer (StatementKind-F.Dim variables) = st.Declaration
+  kind_layer (StatementKind-F.Dim variables) = st.Dim
   kind_layer (StatementKind-F.ReDim preserve arrays) = st.ReDim preserve (map resized_of arrays)
   kind_layer (StatementKind-F.Set target value) = st.Set (path_of target as_a.Target) (expression_of value)
   kind_layer (StatementKind-F.Assign target value) = st.Assign (path_of target as_a.Target) (expression_of value)

@@ -9,7 +9,7 @@ use vb_value::{List, Text};
 #[cycle(program_statement)]
 #[derive(Debug, Drop)]
 pub struct Statement {
-    /// The line that an error in it is told with.
+    /// The line that an error in it is reported with.
     pub line: u32,
     /// What it says.
     pub kind: StatementKind,
@@ -19,8 +19,11 @@ pub struct Statement {
 #[cycle(program_statement)]
 #[derive(Debug, Drop)]
 pub enum StatementKind {
-    /// A declaration, which has said at the start of its scope what it says.
+    /// `Const`, `Public` or `Private`, which has said at the start of its scope what it says. It is no statement: it
+    /// costs no tick.
     Declaration,
+    /// `Dim`, which has said it there too and is a statement.
+    Dim,
     /// `ReDim name(bounds), ..`
     ReDim {
         /// `Preserve`: what the arrays hold stays.
@@ -149,7 +152,7 @@ pub struct Resized {
 #[cycle(program_statement)]
 #[derive(Debug, Drop)]
 pub struct ElseIf {
-    /// The line that an error in the condition is told with.
+    /// The line that an error in the condition is reported with.
     pub line: u32,
     /// The condition.
     pub condition: Expression,
@@ -161,7 +164,7 @@ pub struct ElseIf {
 #[cycle(program_statement)]
 #[derive(Debug, Drop)]
 pub struct Case {
-    /// The line that an error in the values is told with.
+    /// The line that an error in the values is reported with.
     pub line: u32,
     /// What the subject is compared with, at least one.
     pub values: List<Expression>,
@@ -178,7 +181,7 @@ pub enum Repetition {
     Before(Condition),
     /// Behind `Loop`: it is asked after each time.
     After {
-        /// The line that an error in the condition is told with.
+        /// The line that an error in the condition is reported with.
         line: u32,
         /// The condition.
         condition: Condition,

@@ -28,7 +28,7 @@ pub struct Unit {
 /// An array that is declared.
 #[derive(Debug, Drop)]
 pub struct DeclaredArray {
-    /// The line of the declaration, which an error in the bounds is told with.
+    /// The line of the declaration, which an error in the bounds is reported with.
     pub line: u32,
     /// The last index of each dimension. No dimension is an array to be sized later.
     pub bounds: List<i32>,
@@ -37,7 +37,7 @@ pub struct DeclaredArray {
 /// A constant that is declared.
 #[derive(Debug, Drop)]
 pub struct Constant {
-    /// The line of the declaration, which an error in the value is told with.
+    /// The line of the declaration, which an error in the value is reported with.
     pub line: u32,
     /// What it stands for.
     pub value: ConstantValue,
