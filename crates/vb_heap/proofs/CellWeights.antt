@@ -1,5 +1,6 @@
 -- The weight of cells.
-use Rattle.std.proofs.Common.{◌≡◌, ℕ, ◌+◌, ◌≤◌, ◌-◌, ◌^◌, min, List, sum_by, Some, None, arith, Option, sym, ap, refl, ℤ, Result, Ok, Err}
+use Rattle.std.proofs.Common.{◌≡◌, ℕ, ◌+◌, ◌≤◌, ◌-◌, ◌^◌, min, List, sum_by, Some, None, arith, Option, sym, ap, refl}
+use Rattle.std.proofs.Common.{ℤ, Result, Ok, Err}
 use Rattle.std.proofs.lemmas.Map.Entries.{sum_by-remove_entry, sum_by-set_value}
 use Rattle.std.specs.Map.{values_of}
 use Rattle.std.specs.Option.{option_map_or}
@@ -66,7 +67,8 @@ in_cell cells number steps new None is weight told = absurd (cc)
 pub weight_put : (cells : List (ℕ × Value)) (number : ℕ) (steps : List (List ℤ)) (new : Value) (weight : ℕ)
     → weight_told (and_then (value_there (numbered number cells)) (value_in steps)) ≡ Ok weight
     → sum_by weight_of
-    (values_of (option_map_or (λ value. replaced number (with_value steps new value) cells) (numbered number cells) cells))
+    (values_of
+    (option_map_or (λ value. replaced number (with_value steps new value) cells) (numbered number cells) cells))
     + weight ≡ sum_by weight_of (values_of cells) + weight_of new
 weight_put cells number steps new weight told =
     in_cell cells number steps new (numbered number cells) refl weight told

@@ -1,6 +1,8 @@
 -- Entries under what their keys say.
-use Rattle.std.proofs.Common.{◌≡◌, ℕ, ◌+◌, false, not, cond, nat_lt, List, [], ◌∷◌, ◌++◌, length, Option, Some, None}
-use Rattle.std.proofs.Common.{refl, sym, ap, ◌∙◌, arith, ℤ, position, is_some, zero, suc, remove, slice_set, slice_get, get_or, inl, inr, ◌≤◌}
+use Rattle.std.proofs.Common.{◌≡◌, ℕ, ◌+◌, ◌*◌, false, not, cond, nat_lt, List, [], ◌∷◌, ◌++◌, length, Option, Some}
+use Rattle.std.proofs.Common.{None}
+use Rattle.std.proofs.Common.{refl, sym, ap, ◌∙◌, arith, ℤ, position, is_some, zero, suc, remove, slice_set}
+use Rattle.std.proofs.Common.{slice_get, get_or, inl, inr, ◌≤◌}
 use Rattle.std.proofs.lemmas.Map.Entries.{length-keys_of, length-values_of}
 use Rattle.std.specs.List.{prefix_len}
 use Rattle.std.specs.Map.{keys_of, values_of}
@@ -20,6 +22,7 @@ use Rattle.vb_heap.specs.Entries.{with_item}
 use Rattle.vb_heap.specs.Indexed.{SayTheirKeys}
 use Rattle.vb_heap.specs.Keys.{key_of, same, says}
 use Rattle.vb_heap.specs.PairWeight.{entries_weight, pair_weight}
+use Rattle.vb_heap.proofs.ValueWeights.{least_weight}
 
 -- the code compares what keys say
 pub compares : (key other : Key) → ghosts.eq key other ≡ same key other
@@ -137,21 +140,37 @@ weight_less entries at key pair there =
       | inr past ↦ absurd (cc)
     ])
 
--- what the pairs weigh with another item in one
+-- what pairs weigh with another item in one
+pub weight_set : (pairs : List Pair) (at : ℕ) (pair : Pair) (item : Value) → Some pair ≡ slice_get pairs at
+    → entries_weight (slice_set pairs at (with_item item pair)) + weight_of pair.item
+    ≡ entries_weight pairs + weight_of item
+weight_set pairs at pair item there = elim ((slice_get_cases pairs at).1) [
+  | inl here ↦
+      let is : get_or pairs at pair ≡ pair = get_or_from_slice_get pairs at pair pair (sym there) in
+      let other = sum_by-set pair_weight pairs at (with_item item pair) pair here.1 in
+      let swapped = rw is at other in
+      omega arith
+  | inr past ↦ absurd (cc)
+]
+
+-- the same of entries
 pub weight_other : (entries : List (Key × Pair)) (at : ℕ) (pair : Pair) (item : Value)
     → Some pair ≡ slice_get (values_of entries) at
     → entries_weight (values_of (set_value_at entries at (with_item item pair))) + weight_of pair.item
     ≡ entries_weight (values_of entries) + weight_of item
 weight_other entries at pair item there =
-    rw (pairs_other entries at (with_item item pair)) (elim ((slice_get_cases (values_of entries) at).1) [
-      | inl here ↦
-          let is : get_or (values_of entries) at pair ≡ pair =
-          get_or_from_slice_get (values_of entries) at pair pair (sym there) in
-          let other = sum_by-set pair_weight (values_of entries) at (with_item item pair) pair here.1 in
-          let swapped = rw is at other in
-          omega arith
-      | inr past ↦ absurd (cc)
-    ])
+    rw (pairs_other entries at (with_item item pair)) (weight_set (values_of entries) at pair item there)
+
+-- each pair weighs 64 or more
+pub least_pairs : (pairs : List Pair) → 64 * length pairs ≤ entries_weight pairs
+least_pairs [] = omega arith
+least_pairs (pair ∷ pairs) =
+    let rest = least_pairs pairs in
+    let key = least_weight pair.key in
+    let item = least_weight pair.item in
+    let whole : entries_weight (pair ∷ pairs) ≡ entries_weight (pair ∷ []) + entries_weight pairs =
+    sum_by-append pair_weight (pair ∷ []) pairs in
+    omega arith
 
 -- a pair weighs no more than all
 pub pair_within : (pairs : List Pair) (at : ℕ) (pair : Pair) → Some pair ≡ slice_get pairs at

@@ -8,7 +8,8 @@ use Rattle.vb_heap.proofs.Numbered.{below_more, below_less, below_other, values_
 
 -- the weight with a cell more
 pub weight_more : (cells : List (ℕ × Value)) (number : ℕ) (value : Value)
-    → sum_by weight_of (values_of (cells ++ (number, value) ∷ [])) ≡ sum_by weight_of (values_of cells) + weight_of value
+    → sum_by weight_of (values_of (cells ++ (number, value) ∷ []))
+    ≡ sum_by weight_of (values_of cells) + weight_of value
 weight_more cells number value =
     ap (sum_by weight_of) (values_both cells ((number, value) ∷ []))
     ∙ (sum_by-append weight_of (values_of cells) (value ∷ []) ∙ omega arith)

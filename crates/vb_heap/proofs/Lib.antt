@@ -12,3 +12,6 @@ pub mod Making
 pub mod Indexes
 pub mod ObjectWeights
 pub mod Ending
+pub mod TableWeights
+pub mod Changing
+pub mod Differing

@@ -1,6 +1,7 @@
 -- What objects that are made weigh, and whether there is room for them.
 use Rattle.std.proofs.Common.{◌≡◌, ℕ, zero, suc, ◌+◌, ◌*◌, ◌≤◌, ◌<◌, ◌++◌, ◌∷◌, [], List, length, sum_by}
-use Rattle.std.proofs.Common.{true, false, refl, sym, ap, ◌∙◌, arith, add-one, length-append, append_assoc, append-nil, add-zero, subst}
+use Rattle.std.proofs.Common.{true, false, refl, sym, ap, ◌∙◌, arith, add-one, length-append, append_assoc}
+use Rattle.std.proofs.Common.{append-nil, add-zero, subst}
 use Rattle.std.proofs.lemmas.List.Sums.{sum_by-append}
 use Rattle.std.specs.Map.{values_of}
 use Rattle.vb_value.specs.declared.value.Value.{Value, Empty}
@@ -80,7 +81,8 @@ pub weight_made : (class fields : ℕ) (store : Store)
     → weight_of_page (with_new_object class fields store) ≡ weight_of_page store + (32 + 32 * fields)
 weight_made class fields store =
     let cells = cells_more store.cells store.cells_made fields in
-    let objects = object_more store.objects store.objects_made (live (Fields class (cells_from store.cells_made fields))) in
+    let objects = object_more store.objects store.objects_made
+    (live (Fields class (cells_from store.cells_made fields))) in
     omega arith
 
 module _ (heap : Inside) (kept : IsKept heap) (fields : ℕ) where

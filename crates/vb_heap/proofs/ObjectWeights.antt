@@ -27,7 +27,8 @@ object_within objects number object is =
     omega arith
 
 -- what all objects weigh with another one in the place of one
-pub object_other : (objects : List (ℕ × Object)) (number : ℕ) (object new : Object) → Some object ≡ numbered number objects
+pub object_other : (objects : List (ℕ × Object)) (number : ℕ) (object new : Object)
+    → Some object ≡ numbered number objects
     → sum_by object_weight (values_of (replaced number new objects)) + object_weight object
     ≡ sum_by object_weight (values_of objects) + object_weight new
 object_other objects number object new is =

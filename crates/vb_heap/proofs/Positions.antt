@@ -1,5 +1,6 @@
 -- Places among the items of an array.
-use Rattle.std.proofs.Common.{ℕ, ◌+◌, ◌*◌, ◌^◌, ◌-◌, ◌≡◌, ◌≤◌, ◌<◌, min, nat_lt, Bool, true, false, if◌then◌else◌, refl, ap}
+use Rattle.std.proofs.Common.{ℕ, ◌+◌, ◌*◌, ◌^◌, ◌-◌, ◌≡◌, ◌≤◌, ◌<◌, min, nat_lt, Bool, true, false, if◌then◌else◌}
+use Rattle.std.proofs.Common.{refl, ap}
 use Rattle.std.proofs.Common.{ℤ, pos, negsuc, Option, Some, None, ◌∙◌, inl, inr, arith, List, length, slice_get, get_or}
 use Rattle.std.proofs.lemmas.Bool.{cases_lt}
 use Rattle.std.proofs.lemmas.Bool.Decides.{nat_tests}

@@ -14,8 +14,7 @@ use Rattle.vb_heap.specs.declared.fault.HeapStop.{HeapStop}
 use Rattle.vb_heap.specs.declared.key.Key.{Key}
 use Rattle.vb_heap.specs.Answers.{and_then, refused}
 use Rattle.vb_heap.specs.Dictionary.{Dictionary, entry_of}
-use Rattle.vb_heap.specs.Entries.{dictionary_of, find_entry_of, entry_at, with_dictionary, with_entry, with_entry_set}
-use Rattle.vb_heap.specs.Entries.{without_entry}
+use Rattle.vb_heap.specs.Entries.{dictionary_of, find_entry_of, entry_at, with_entry, with_entry_set, without_entry}
 use Rattle.vb_heap.specs.Keys.{key_of}
 use Rattle.vb_heap.specs.Limits.{if_fits, if_fits_at}
 use Rattle.vb_heap.specs.Store.{Store}
@@ -34,7 +33,7 @@ place_of key dictionary =
 abbrev pub place_in : ObjNo → Value → Store → Result (Option ℕ) VbError
 place_in object key store = value.and_then (dictionary_of object store) (place_of key)
 
--- ---- one entry
+-- ---- one entry: Add(key, item) is `add_entry_of`, and leaves the data of `with_entry`
 
 -- what `put` leaves: another item in the key's entry, or an entry more
 abbrev pub put_at : ObjNo → Value → Value → Option ℕ → Store → Store
@@ -64,15 +63,14 @@ abbrev pub item_in : Option Pair → Value
 item_in (Some pair) = pair.item
 item_in None = Empty
 
--- the item at a place of a dictionary, or the new item Empty
-abbrev pub item_at : ObjNo → Option ℕ → Store → Value
-item_at object (Some at) store = item_in (entry_at at (dictionary_of object store))
-item_at object None store = Empty
+-- the item at a place of a dictionary; where the key has no entry, Empty if an entry more fits
+abbrev pub item_at : ObjNo → Value → Option ℕ → Store → Result Value HeapStop
+item_at object key (Some at) store = Ok (item_in (entry_at at (dictionary_of object store)))
+item_at object key None store = if_fits (with_entry object key Empty store) Empty
 
 -- what it answers: the item
 abbrev pub get_of : ObjNo → Value → Store → Result Value HeapStop
-get_of object key store = and_then (place_in object key store) (λ at.
-    if_fits (with_got object key store) (item_at object at store))
+get_of object key store = and_then (place_in object key store) (λ at. item_at object key at store)
 
 -- Exists(key)
 abbrev pub exists_of : ObjNo → Value → Store → Result Bool VbError
@@ -94,17 +92,13 @@ remove_of object key store =
 
 -- ---- the whole dictionary
 
--- a dictionary without its entries
-abbrev pub emptied : Dictionary → Dictionary
-emptied dictionary = record dictionary { pairs = [] }
-
--- RemoveAll
-abbrev pub with_all_removed : ObjNo → Store → Store
-with_all_removed object store = with_dictionary emptied object store
-
--- what it answers
+-- what RemoveAll answers; it leaves the data of `without_entries`
 abbrev pub remove_all_of : ObjNo → Store → Result (Unit {0}) HeapStop
 remove_all_of object store = and_then (dictionary_of object store) (λ _. Ok tt)
+
+-- CompareMode
+abbrev pub compare_mode_of : ObjNo → Store → Result ℤ VbError
+compare_mode_of object store = value.and_then (dictionary_of object store) (λ dictionary. Ok dictionary.mode)
 
 -- whether a dictionary may take a mode: 0 or 1, and only without entries
 abbrev pub takes_mode : ℤ → Dictionary → Bool

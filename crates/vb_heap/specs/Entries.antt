@@ -2,11 +2,12 @@
 -- refused. An entry has a place, counted from 0 in the order of insertion.
 use Rattle.std.specs.Prelude.{ℕ, ℤ, pos, List, [], ◌∷◌, ◌++◌, length, slice_get, slice_set, remove}
 use Rattle.std.specs.Prelude.{Option, Some, None, is_some, Result, Ok, Err, ◌==◌, if◌then◌else◌}
-use Rattle.std.specs.Option.{option_map_or}
+use Rattle.std.specs.Option.{option_map, option_map_or}
 use Rattle.vb_value.specs.declared.fault.VbError.{VbError}
 use Rattle.vb_value.specs.declared.session.Pair.{Pair}
 use Rattle.vb_value.specs.declared.value.ObjNo.{ObjNo}
 use Rattle.vb_value.specs.declared.value.Value.{Value}
+use Rattle.vb_value.specs.Errors as value
 use Rattle.vb_value.specs.Errors.{object_not_set, unsupported, invalid_call, out_of_range, key_exists}
 use Rattle.vb_heap.specs.declared.fault.HeapStop.{HeapStop}
 use Rattle.vb_heap.specs.declared.key.Key.{Key}
@@ -62,24 +63,32 @@ abbrev pub mode_of : Result Dictionary VbError → ℤ
 mode_of (Ok dictionary) = dictionary.mode
 mode_of (Err refused) = pos 0
 
--- an object that consists of these entries
-abbrev pub of_entries : Dictionary → Object → Object
-of_entries dictionary object = record object { content = Entries dictionary }
+-- `entry_count`: how many entries a dictionary has
+abbrev pub entry_count_of : Result Dictionary VbError → ℕ
+entry_count_of (Ok dictionary) = length dictionary.pairs
+entry_count_of (Err refused) = 0
 
--- the objects with a dictionary in the place of what that one was
-abbrev pub objects_with : ℕ → Dictionary → List (ℕ × Object) → List (ℕ × Object)
-objects_with number dictionary objects =
-    option_map_or (λ object. replaced number (of_entries dictionary object) objects) (numbered number objects) objects
+-- what an object consists of with its dictionary changed; an object of a class stays
+abbrev pub content_changed : (Dictionary → Dictionary) → Content → Content
+content_changed change (Entries dictionary) = Entries (change dictionary)
+content_changed change (Fields class cells) = Fields class cells
+
+-- the same of an object
+abbrev pub object_changed : (Dictionary → Dictionary) → Object → Object
+object_changed change object = record object { content = content_changed change object.content }
+
+-- the same of an object that may be there
+abbrev pub found_changed : (Dictionary → Dictionary) → Option Object → Option Object
+found_changed change found = option_map (object_changed change) found
+
+-- the objects with the dictionary of one of them changed, if it is there
+abbrev pub objects_changed : (Dictionary → Dictionary) → ℕ → List (ℕ × Object) → List (ℕ × Object)
+objects_changed change number objects =
+    option_map_or (λ object. replaced number (object_changed change object) objects) (numbered number objects) objects
 
 -- the data with a dictionary changed, if it is there
-abbrev pub changed : (Dictionary → Dictionary) → ObjNo → Result Dictionary VbError → Store → Store
-changed change object (Ok dictionary) store =
-    record store { objects = objects_with object.0 (change dictionary) store.objects }
-changed change object (Err refused) store = store
-
--- the data with a dictionary changed
 abbrev pub with_dictionary : (Dictionary → Dictionary) → ObjNo → Store → Store
-with_dictionary change object store = changed change object (dictionary_of object store) store
+with_dictionary change object store = record store { objects = objects_changed change object.0 store.objects }
 
 -- a dictionary with an entry more, which is the last
 abbrev pub pair_added : Pair → Dictionary → Dictionary
@@ -104,19 +113,27 @@ item_set at item dictionary = record dictionary {
 abbrev pub entry_dropped : ℕ → Dictionary → Dictionary
 entry_dropped at dictionary = record dictionary { pairs = remove dictionary.pairs at }
 
+-- a dictionary without its entries
+abbrev pub emptied : Dictionary → Dictionary
+emptied dictionary = record dictionary { pairs = [] }
+
 -- a dictionary whose keys compare so, if it has no entries
 abbrev pub mode_set : ℤ → Dictionary → Dictionary
 mode_set mode dictionary = if length dictionary.pairs == 0 then record dictionary { mode = mode } else dictionary
 
--- whether a key is free: not where it can be none, nor where it has an entry
-abbrev pub free_key : Option Key → Dictionary → Result (Unit {0}) VbError
-free_key (Some key) dictionary = if is_some (entry_of key dictionary) then Err key_exists else Ok tt
+-- what a key says that has no entry yet; Invalid procedure call or argument where it is none
+abbrev pub free_key : Option Key → Dictionary → Result Key VbError
+free_key (Some key) dictionary = if is_some (entry_of key dictionary) then Err key_exists else Ok key
 free_key None dictionary = Err invalid_call
 
 -- the entry at a place; Subscript out of range where there is none
 abbrev pub pair_there : Option Pair → Result Pair VbError
 pair_there (Some pair) = Ok pair
 pair_there None = Err out_of_range
+
+-- the same in a dictionary
+abbrev pub entry_there : ℕ → Result Dictionary VbError → Result Pair VbError
+entry_there at answer = value.and_then answer (λ dictionary. pair_there (slice_get dictionary.pairs at))
 
 -- `add_entry`: an entry more, the last
 abbrev pub with_entry : ObjNo → Value → Value → Store → Store
@@ -134,13 +151,16 @@ with_entry_set object at item store = with_dictionary (item_set at item) object 
 
 -- it answers first for the dictionary, then for the place, then the limit Nest and the limit Data
 abbrev pub set_entry_of : ObjNo → ℕ → Value → Store → Result (Unit {0}) HeapStop
-set_entry_of object at item store = and_then (dictionary_of object store) (λ dictionary.
-    and_then (pair_there (slice_get dictionary.pairs at)) (λ _.
-    if_fits_at 0 item (with_entry_set object at item store) tt))
+set_entry_of object at item store = and_then (entry_there at (dictionary_of object store)) (λ _.
+    if_fits_at 0 item (with_entry_set object at item store) tt)
 
 -- `drop_entry`: the entry at a place is gone
 abbrev pub without_entry : ObjNo → ℕ → Store → Store
 without_entry object at store = with_dictionary (entry_dropped at) object store
+
+-- `drop_entries`: all entries are gone
+abbrev pub without_entries : ObjNo → Store → Store
+without_entries object store = with_dictionary emptied object store
 
 -- `set_table_mode`: the keys of a dictionary without entries compare so
 abbrev pub with_mode : ObjNo → ℤ → Store → Store

@@ -74,7 +74,8 @@ pub fn add_cells(cells: &mut Cells, first: u64, count: u32) -> Result<(), Memory
 pub fn remove_cell(cells: &mut Cells, number: u64) -> u64
     requires { sum_by weight_of (values_of cells.old.entries) ≤ most_weight }
     ensures cells { cells.new.entries ≡ without number cells.old.entries }
-    ensures weight { result + sum_by weight_of (values_of cells.new.entries) ≡ sum_by weight_of (values_of cells.old.entries) }
+    ensures weight { result + sum_by weight_of (values_of cells.new.entries)
+        ≡ sum_by weight_of (values_of cells.old.entries) }
 {
     match cells.remove(&number) {
         Some(value) => weight(&value),
@@ -86,7 +87,8 @@ pub fn remove_cell(cells: &mut Cells, number: u64) -> u64
 pub fn remove_cells(cells: &mut Cells, gone: &[CellNo]) -> u64
     requires { sum_by weight_of (values_of cells.old.entries) ≤ most_weight }
     ensures cells { cells.new.entries ≡ without_all gone.now cells.old.entries }
-    ensures weight { result + sum_by weight_of (values_of cells.new.entries) ≡ sum_by weight_of (values_of cells.old.entries) }
+    ensures weight { result + sum_by weight_of (values_of cells.new.entries)
+        ≡ sum_by weight_of (values_of cells.old.entries) }
 {
     let mut weight = 0;
     for cell in gone {
@@ -95,11 +97,12 @@ pub fn remove_cells(cells: &mut Cells, gone: &[CellNo]) -> u64
     weight
 }
 
-/// What the value at a place in a cell weighs. Error 91 where the cell is gone, 9 where an index is out of range, and 13
-/// where an index is asked of no array.
+/// What the value at a place in a cell weighs. Error 91 where the cell is gone, 9 where an index is out of range, and
+/// 13 where an index is asked of no array.
 pub fn weight_at(cells: &Cells, number: u64, steps: &[List<i32>]) -> Result<u64, VbError>
     requires { sum_by weight_of (values_of cells.now.entries) ≤ most_weight }
-    ensures answer { result ≡ weight_told (and_then (value_there (numbered number cells.now.entries)) (value_in steps.now)) }
+    ensures answer { result
+        ≡ weight_told (and_then (value_there (numbered number cells.now.entries)) (value_in steps.now)) }
     ensures within { IfOk result (λ weight. weight ≤ sum_by weight_of (values_of cells.now.entries)) }
 {
     match cells.get(&number) {
@@ -110,7 +113,8 @@ pub fn weight_at(cells: &Cells, number: u64, steps: &[List<i32>]) -> Result<u64,
 
 /// Puts a value at a place in a cell, if there is such a place.
 pub fn put_in_cell(cells: &mut Cells, number: u64, steps: &[List<i32>], new: Value)
-    ensures { cells.new.entries ≡ option_map_or (λ value. replaced number (with_value steps.now new value) cells.old.entries)
+    ensures { cells.new.entries
+        ≡ option_map_or (λ value. replaced number (with_value steps.now new value) cells.old.entries)
         (numbered number cells.old.entries) cells.old.entries }
 {
     if let Some(value) = cells.get_mut(&number) {

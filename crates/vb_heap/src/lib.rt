@@ -18,6 +18,8 @@ mod references;
 mod releases;
 mod saying;
 mod table;
+mod table_map;
+mod tables;
 mod within;
 
 pub use fault::HeapStop;

@@ -69,7 +69,8 @@ pub fn weight_of_object(object: &Object) -> u64
 fn remove_fields(cells: &mut Cells, content: &Content) -> u64
     requires { sum_by weight_of (values_of cells.old.entries) ≤ most_weight }
     ensures cells { cells.new.entries ≡ without_all (fields_of content.now) cells.old.entries }
-    ensures weight { result + sum_by weight_of (values_of cells.new.entries) ≡ sum_by weight_of (values_of cells.old.entries) }
+    ensures weight { result + sum_by weight_of (values_of cells.new.entries)
+        ≡ sum_by weight_of (values_of cells.old.entries) }
 {
     match content {
         Content::Fields {
@@ -86,7 +87,8 @@ pub fn remove_object(objects: &mut Objects, cells: &mut Cells, number: u32) -> u
         ≤ most_weight }
     ensures objects { objects.new.entries ≡ without number objects.old.entries }
     ensures cells { cells.new.entries ≡ without_fields (numbered number objects.old.entries) cells.old.entries }
-    ensures weight { result + (sum_by weight_of (values_of cells.new.entries) + sum_by object_weight (values_of objects.new.entries))
+    ensures weight { result
+        + (sum_by weight_of (values_of cells.new.entries) + sum_by object_weight (values_of objects.new.entries))
         ≡ sum_by weight_of (values_of cells.old.entries) + sum_by object_weight (values_of objects.old.entries) }
 {
     match objects.remove(&number) {

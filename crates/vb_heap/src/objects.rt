@@ -17,7 +17,7 @@ use std::alloc::Global;
 use vb_value::{LimitKind, List, Memory, ObjNo, VbError};
 
 /// What an object weighs without its entries, and a cell that is Empty.
-const LEAST_WEIGHT: u64 = 32;
+pub(crate) const LEAST_WEIGHT: u64 = 32;
 
 /// So many cells from a number on.
 fn cells_from(alloc: Global, first: u64, count: u32) -> Result<List<CellNo>, Memory>

@@ -1,11 +1,11 @@
 //! Entries by what their keys say.
-ghost use Rattle.std.specs.Prelude.{◌≡◌, ◌+◌, ◌<◌, ◌≤◌, remove, slice_get};
+ghost use Rattle.std.specs.Prelude.{◌≡◌, ◌+◌, ◌-◌, ◌<◌, ◌≤◌, ◌^◌, min, remove, slice_get};
 ghost use Rattle.std.specs.Option.{option_map_or};
 ghost use Rattle.indexmap.specs.IndexMap.{index_map_len, set_value_at, values};
 ghost use Rattle.vb_value.specs.Weight.{weight_of};
 ghost use Rattle.vb_heap.specs.Entries.{with_item};
 ghost use Rattle.vb_heap.specs.Limits.{most_weight};
-ghost use Rattle.vb_heap.specs.PairWeight.{entries_weight};
+ghost use Rattle.vb_heap.specs.PairWeight.{entries_weight, pair_weight};
 
 use crate::key::Key;
 use indexmap::IndexMap;
@@ -18,7 +18,8 @@ pub type Pairs = IndexMap<Key, Pair>;
 pub fn set_item(pairs: &mut Pairs, at: usize, item: Value) -> u64
     requires within { at < index_map_len pairs.old }
     requires light { entries_weight (values pairs.old) ≤ most_weight }
-    ensures entries { pairs.new.entries ≡ option_map_or (λ pair. set_value_at pairs.old.entries at (with_item item pair))
+    ensures entries { pairs.new.entries
+        ≡ option_map_or (λ pair. set_value_at pairs.old.entries at (with_item item pair))
         (slice_get (values pairs.old) at) pairs.old.entries }
     ensures weight { result + entries_weight (values pairs.new) ≡ entries_weight (values pairs.old) + weight_of item }
 {
@@ -39,7 +40,14 @@ pub fn remove_pair(pairs: &mut Pairs, at: usize) -> u64
     ensures weight { result + entries_weight (values pairs.new) ≡ entries_weight (values pairs.old) }
 {
     match pairs.shift_remove_index(at) {
-        Some((_, pair)) => weight(&pair.key).saturating_add(weight(&pair.item)),
+        Some((_, pair)) => weight_of_pair(&pair),
         None => 0,
     }
+}
+
+/// What an entry weighs: 2^64 - 1 stands for more.
+pub fn weight_of_pair(pair: &Pair) -> u64
+    ensures { result ≡ min (pair_weight pair.now) (2 ^ 64 - 1) }
+{
+    weight(&pair.key).saturating_add(weight(&pair.item))
 }

@@ -1,5 +1,5 @@
 //! Dictionaries.
-ghost use Rattle.std.specs.Prelude.{◌≡◌, ◌+◌, ◌*◌, ◌-◌, ◌<◌, ◌≤◌, ◌^◌, None, Some, length, min, slice_get};
+ghost use Rattle.std.specs.Prelude.{◌≡◌, ◌+◌, ◌*◌, ◌-◌, ◌<◌, ◌≤◌, ◌^◌, None, Some, IfSome, length, min, slice_get};
 ghost use Rattle.std.specs.Option.{option_copied};
 ghost use Rattle.std.specs.List.{flat_map};
 ghost use Rattle.vb_value.specs.Outcome.{Changes};
@@ -40,8 +40,8 @@ impl Model for Table {
 }
 
 impl Table {
-    ghost use Rattle.vb_heap.specs.Dictionary.{no_entries, entry_of};
-    ghost use Rattle.vb_heap.specs.Entries.{mode_set, entry_dropped, item_set, pair_added};
+    ghost use Rattle.vb_heap.specs.Dictionary.{KeysDiffer, no_entries, entry_of};
+    ghost use Rattle.vb_heap.specs.Entries.{mode_set, emptied, entry_dropped, item_set, pair_added};
     ghost use Rattle.vb_heap.specs.Keys.{key_of};
     ghost use Rattle.vb_heap.specs.Limits.{most_weight};
     ghost use Rattle.vb_heap.specs.References.{references};
@@ -71,6 +71,13 @@ impl Table {
         self.pairs.len()
     }
 
+    /// A law: no key says what a later one says.
+    pub fn keys_differ(&self)
+        ensures { KeysDiffer self.now }
+    {
+        let _ = self.pairs.len();
+    }
+
     /// What the entries weigh.
     pub fn weight(&self) -> u64
         ensures { result ≡ entries_weight self.now.pairs }
@@ -80,7 +87,8 @@ impl Table {
 
     /// Where the entry of a key stands, if it has one.
     pub fn find(&self, key: &Key) -> Option<usize>
-        ensures { result ≡ entry_of key.now self.now }
+        ensures place { result ≡ entry_of key.now self.now }
+        ensures within { IfSome result (λ at. at < length self.now.pairs) }
     {
         self.pairs.get_index_of(key)
     }
@@ -108,24 +116,40 @@ impl Table {
         Ok(())
     }
 
-    /// Puts another item into the entry at a place.
+    /// Puts another item into the entry at a place, if there is one.
     pub fn set(&mut self, at: usize, item: Value)
-        requires within { at < length self.old.pairs }
         requires light { entries_weight self.old.pairs ≤ most_weight }
         requires fits { weight_of item ≤ most_weight }
         ensures { self.new ≡ item_set at item self.old }
     {
+        if self.pairs.len() <= at {
+            return;
+        }
         let new = weight(&item);
         let old = set_item(&mut self.pairs, at, item);
         self.weight = self.weight + new - old;
     }
 
-    /// Drops the entry at a place, if there is one.
-    pub fn drop_at(&mut self, at: usize)
+    /// Drops the entry at a place, and says what it weighed: nothing if there is none.
+    pub fn drop_at(&mut self, at: usize) -> u64
         requires { entries_weight self.old.pairs ≤ most_weight }
-        ensures { self.new ≡ entry_dropped at self.old }
+        ensures data { self.new ≡ entry_dropped at self.old }
+        ensures weight { result + entries_weight self.new.pairs ≡ entries_weight self.old.pairs }
     {
-        self.weight -= remove_pair(&mut self.pairs, at);
+        let weight = remove_pair(&mut self.pairs, at);
+        self.weight -= weight;
+        weight
+    }
+
+    /// Drops all entries, and says what they weighed.
+    pub fn clear(&mut self) -> u64
+        ensures data { self.new ≡ emptied self.old }
+        ensures weight { result ≡ entries_weight self.old.pairs }
+    {
+        let weight = self.weight;
+        self.pairs.clear();
+        self.weight = 0;
+        weight
     }
 
     /// Says how the keys compare, if there are no entries.
@@ -139,7 +163,8 @@ impl Table {
 
     /// How many references to an object are in the items: 2^32 - 1 stands for more.
     pub fn count(&self, object: u32) -> u32
-        ensures count { result ≡ min (count_of object (flat_map (λ pair. references pair.item) self.now.pairs)) (2 ^ 32 - 1) }
+        ensures count { result
+            ≡ min (count_of object (flat_map (λ pair. references pair.item) self.now.pairs)) (2 ^ 32 - 1) }
         ensures most { 32 * result ≤ entries_weight self.now.pairs }
     {
         let mut count: u32 = 0;

@@ -64,7 +64,8 @@ fn item<'a>(value: &'a Value, indices: &[i32]) -> Result<&'a Value, VbError>
 /// The item at `indices` in an array. Error 9 where there is none.
 #[tactic(auto, using(crate::proofs::Positions::items))]
 fn item_of_array<'a>(array: &'a Array, indices: &[i32]) -> Result<&'a Value, VbError>
-    ensures { result_now result ≡ spec.in_range (spec.item_at array.now.items (spec.position array.now.bounds indices.now)) }
+    ensures { result_now result
+        ≡ spec.in_range (spec.item_at array.now.items (spec.position array.now.bounds indices.now)) }
 {
     match place_of(array, indices) {
         Some(at) => Ok(&array.items.as_slice()[at]),
@@ -96,7 +97,8 @@ pub fn put(value: &mut Value, steps: &[List<i32>], new: Value)
 /// The same of an item and of a place in it.
 #[cycle(put)]
 fn put_in(value: &mut Value, indices: &[i32], steps: &[List<i32>], new: Value)
-    ensures { value.new ≡ spec.item_changed (spec.with_value steps.now new) indices.now value.old (out-Value value.old) }
+    ensures { value.new
+        ≡ spec.item_changed (spec.with_value steps.now new) indices.now value.old (out-Value value.old) }
 {
     if let Value::Arr(array) = value {
         put_in_array(array, indices, steps, new);
@@ -106,7 +108,8 @@ fn put_in(value: &mut Value, indices: &[i32], steps: &[List<i32>], new: Value)
 /// The same of an item of an array.
 #[cycle(put)]
 fn put_in_array(array: &mut Array, indices: &[i32], steps: &[List<i32>], new: Value)
-    ensures { array.new ≡ spec.array_changed (spec.with_value steps.now new) array.old (spec.position array.old.bounds indices.now) }
+    ensures { array.new ≡ spec.array_changed (spec.with_value steps.now new) array.old
+        (spec.position array.old.bounds indices.now) }
 {
     if let Some(at) = place_of(array, indices) {
         put_item(&mut array.items, at, steps, new);

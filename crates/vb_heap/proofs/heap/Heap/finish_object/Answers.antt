@@ -9,9 +9,14 @@ invariant_of-self c =
     let was = c.self.invariant.weighed in
     let most = c.self.invariant.light in
     record {
-      new_cells = rw c.remove_object.ensures.cells (below_fields (numbered c.args.object.0 c.self.inside.objects.entries)
+      new_cells =
+          rw c.remove_object.ensures.cells
+          (below_fields (numbered c.args.object.0 c.self.inside.objects.entries)
           c.self.inside.cells.entries c.self.inside.cells_made c.self.invariant.new_cells);
-      new_objects = rw c.remove_object.ensures.objects (below_less c.self.inside.objects.entries c.args.object.0 c.self.inside.objects_made c.self.invariant.new_objects);
+      new_objects =
+          rw c.remove_object.ensures.objects
+          (below_less c.self.inside.objects.entries c.args.object.0 c.self.inside.objects_made
+          c.self.invariant.new_objects);
       weighed = omega arith;
       light = omega arith;
       few = c.self.invariant.few;

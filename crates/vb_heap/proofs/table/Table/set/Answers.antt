@@ -9,7 +9,10 @@ invariant_of-self c =
     let new = c.weight-new.ensures in
     let fits = c.requires.fits in
     record {
-      said = rw c.set_item-old.ensures.entries (said_set c.self.inside.mode c.self.inside.pairs.entries c.args.at c.args.item _ refl c.self.invariant.said);
+      said =
+          rw c.set_item-old.ensures.entries
+          (said_set c.self.inside.mode c.self.inside.pairs.entries c.args.at c.args.item _ refl
+          c.self.invariant.said);
       weighed = omega arith;
     }
 

@@ -1,0 +1,42 @@
+use Rattle.std.proofs.Common.{sym, arith}
+use Rattle.vb_heap.specs.Entries.{pair_added}
+use Rattle.vb_heap.specs.PairWeight.{pair_weight}
+use Rattle.vb_heap.specs.Store.{numbered}
+use Rattle.vb_heap.proofs.Changing.{refuses, accepts, weighs}
+use Rattle.vb_heap.proofs.TableWeights.{below_changed, added_when}
+use Rattle.vb_heap.proofs.heap.Heap.add_said.Goals as goal
+
+pub returns-then-weight-gt-MOST_WEIGHT-clause-answer : goal.returns-then-weight-gt-MOST_WEIGHT-clause-answer
+returns-then-weight-gt-MOST_WEIGHT-clause-answer c _ =
+    let more = added_when (numbered c.args.dictionary.0 c.self.inside.objects.entries) c.args.pair
+    (rw (sym c.self.view_is) at c.requires.there) in
+    rw (sym c.self.view_is)
+    (refuses c.self.inside c.self.invariant c.args.dictionary (pair_added c.args.pair) 0 (pair_weight c.args.pair)
+    c.saturating_add-weight.result more (omega arith) (omega arith) c.if-weight-gt-MOST_WEIGHT.true)
+
+pub invariant_of-self-2 : goal.invariant_of-self-2
+invariant_of-self-2 c =
+    let more = added_when (numbered c.args.dictionary.0 c.self.inside.objects.entries) c.args.pair
+    (rw (sym c.self.view_is) at c.requires.there) in
+    record {
+      new_cells = c.self.invariant.new_cells;
+      new_objects =
+          rw c.in_ok-add_pair.ensures (below_changed (pair_added c.args.pair) c.self.inside.objects.entries
+          c.args.dictionary.0 c.self.inside.objects_made c.self.invariant.new_objects);
+      weighed =
+          rw c.in_ok-add_pair.ensures
+          (weighs c.self.inside c.self.invariant c.args.dictionary (pair_added c.args.pair) 0
+          (pair_weight c.args.pair) c.saturating_add-weight.result more (omega arith) (omega arith)
+          c.if-weight-gt-MOST_WEIGHT.false);
+      light = c.if-weight-gt-MOST_WEIGHT.false;
+      few = c.self.invariant.few;
+    }
+
+pub returns-clause-answer : goal.returns-clause-answer
+returns-clause-answer c =
+    let more = added_when (numbered c.args.dictionary.0 c.self.inside.objects.entries) c.args.pair
+    (rw (sym c.self.view_is) at c.requires.there) in
+    rw (sym c.self.view_is)
+    (accepts c.self.inside c.self.invariant c.args.dictionary (pair_added c.args.pair) 0 (pair_weight c.args.pair)
+    c.saturating_add-weight.result more (omega arith) (omega arith) c.if-weight-gt-MOST_WEIGHT.false
+    (omega arith) (omega arith))

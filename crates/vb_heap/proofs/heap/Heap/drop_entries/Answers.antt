@@ -1,0 +1,29 @@
+use Rattle.std.proofs.Common.{refl, arith}
+use Rattle.vb_heap.specs.Entries.{emptied}
+use Rattle.vb_heap.specs.Store.{numbered}
+use Rattle.vb_heap.proofs.TableWeights.{weight_changed, below_changed, found_within}
+use Rattle.vb_heap.proofs.heap.Heap.drop_entries.Goals as goal
+
+pub overflow_sub-self : goal.overflow_sub-self
+overflow_sub-self c =
+    let gone = c.drop_pairs.ensures.weight in
+    let was = c.self.invariant.weighed in
+    let within = found_within c.self.inside.objects.entries c.args.dictionary.0
+    (numbered c.args.dictionary.0 c.self.inside.objects.entries) refl in
+    omega arith
+
+pub invariant_of-self : goal.invariant_of-self
+invariant_of-self c =
+    let gone = c.drop_pairs.ensures.weight in
+    let was = c.self.invariant.weighed in
+    let most = c.self.invariant.light in
+    let all = weight_changed emptied c.self.inside.objects.entries c.args.dictionary.0 in
+    record {
+      new_cells = c.self.invariant.new_cells;
+      new_objects =
+          rw c.drop_pairs.ensures.entries (below_changed emptied c.self.inside.objects.entries
+          c.args.dictionary.0 c.self.inside.objects_made c.self.invariant.new_objects);
+      weighed = rw c.drop_pairs.ensures.entries (omega arith);
+      light = omega arith;
+      few = c.self.invariant.few;
+    }

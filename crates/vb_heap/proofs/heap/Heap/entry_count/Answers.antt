@@ -1,0 +1,15 @@
+use Rattle.std.proofs.Common.{arith}
+use Rattle.vb_heap.proofs.Indexes.{least_pairs}
+use Rattle.vb_heap.proofs.heap.Heap.entry_count.Goals as goal
+
+pub overflow_cast-result : goal.overflow_cast-result
+overflow_cast-result c =
+    let least = least_pairs c.in-Ok.table.now.pairs in
+    let light = c.in-Ok.ensures.light in
+    omega arith
+
+pub returns-in-Ok-clause-few : goal.returns-in-Ok-clause-few
+returns-in-Ok-clause-few c =
+    let least = least_pairs c.in-Ok.table.now.pairs in
+    let light = c.in-Ok.ensures.light in
+    omega arith
