@@ -1,0 +1,6 @@
+pub mod AnswerText
+pub mod Cookies
+pub mod Draft
+pub mod Finish
+pub mod Fixed
+pub mod Head

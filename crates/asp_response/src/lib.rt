@@ -1,0 +1,22 @@
+//! Answers: what a page says of its answer, call by call, and the bytes that a client gets (RFC 9112).
+#![tactic(auto)]
+
+mod bytes;
+mod cookie;
+mod cookie_text;
+mod cookies;
+mod draft;
+mod field;
+mod finish;
+mod fixed;
+mod head;
+mod headers;
+mod status;
+mod stop;
+mod text;
+
+pub use bytes::answer_bytes;
+pub use cookie::CookiePart;
+pub use draft::{Draft, MOST_BODY};
+pub use fixed::{Unavailable, not_allowed_answer, refusal, status_answer, unavailable_answer};
+pub use stop::DraftStop;
