@@ -1,0 +1,55 @@
+-- What an act asks of the objects that the page is given, and of the Application object through them.
+use Rattle.std.specs.Prelude.{ℕ, List, [], ◌∷◌, map, Result, Ok, Err, Option, None}
+use Rattle.vb_value.specs.declared.application.AppReply.{AppReply}
+use Rattle.vb_value.specs.declared.value.Value.{Value, Str}
+use Rattle.vb_syntax.specs.declared.act.AskStop.{AskStop}
+use Rattle.vb_syntax.specs.declared.act.AskStop.TheVariants as why
+use Rattle.vb_syntax.specs.declared.act.Given.{Given}
+use Rattle.vb_syntax.specs.declared.act.Given.TheVariants as given
+use Rattle.vb_syntax.specs.declared.member.Member.{Member}
+use Rattle.vb_meaning.specs.declared.cause.Cause.TheVariants.{Language}
+use Rattle.vb_meaning.specs.declared.stop.Stop.{Stop}
+use Rattle.vb_meaning.specs.declared.stop.Stop.TheVariants as stop
+use Rattle.vb_meaning.specs.declared.world.World.{World}
+use Rattle.vb_meaning.specs.State.{State, Does}
+use Rattle.vb_meaning.specs.Step.{Step, Gives, Ends}
+use Rattle.vb_meaning.specs.Values.{list_array}
+
+-- what an environment says to one question: what it gives or why it stops, and what it is then
+abbrev pub Said : Type 0 → Type 0
+Said E = Result (Given × E) (AskStop × E)
+
+-- what an environment does: when it is asked, and when a call that it wanted has its reply
+pub record Host (E : Type 0) : Type 0 where
+  pub asked : Member → List Value → E → Said E
+  pub answered : Member → List Value → AppReply → E → Said E
+
+-- why an environment gave nothing
+abbrev pub ask_stop : AskStop → Stop
+ask_stop (why.Error number) = stop.Error (Language number) None
+ask_stop why.PageStop = stop.Page
+ask_stop (why.Limit kind) = stop.Limit kind None
+ask_stop why.Memory = stop.Memory
+
+-- the texts of names
+abbrev pub name_values : List (List ℕ) → List Value
+name_values names = map Str names
+
+-- What comes of what an environment said, with the replies that are left. A call that it wants takes the next of them;
+-- without one the act wants that call.
+abbrev pub heard : {E : Type 0} → Host E → Member → List Value → World → List AppReply → Said E → Step (State E) Value
+heard host member arguments world replies (Ok (given.Value value, env)) =
+    Gives value (record { world = world; env = env; replies = replies })
+heard host member arguments world replies (Ok (given.Names names, env)) =
+    Gives (list_array (name_values names)) (record { world = world; env = env; replies = replies })
+heard host member arguments world [] (Ok (given.Call call, env)) =
+    Ends (stop.Wants call) (record { world = world; env = env; replies = [] })
+heard host member arguments world (reply ∷ replies) (Ok (given.Call call, env)) =
+    heard host member arguments world replies (host.answered member arguments reply env)
+heard host member arguments world replies (Err (reason, env)) =
+    Ends (ask_stop reason) (record { world = world; env = env; replies = replies })
+
+-- a member of the page's objects with these arguments; a list of names is given as an array of them
+unfoldable pub ask : {E : Type 0} → Host E → Member → List Value → Does E Value
+ask host member arguments s =
+    heard host member arguments s.world s.replies (host.asked member arguments s.env)

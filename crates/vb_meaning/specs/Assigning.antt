@@ -1,0 +1,234 @@
+-- Assignments (VBScript 5.6 language reference, "Assignment", "Set Statement", "Property Let Statement"). The value
+-- comes first, and then the whole target from left to right.
+use Rattle.std.specs.Prelude.{ℕ, Bool, true, false, if◌then◌else◌, List, [], ◌∷◌, ◌++◌, length, slice_get}
+use Rattle.std.specs.Prelude.{Option, Some, None, Result, Ok, Err}
+use Rattle.vb_value.specs.declared.fault.VbError.{VbError}
+use Rattle.vb_value.specs.declared.value.Array.{Array}
+use Rattle.vb_value.specs.declared.value.ObjNo.{ObjNo}
+use Rattle.vb_value.specs.declared.value.Value.{Value, out-Value, Obj, Nothing}
+use Rattle.vb_value.specs.declared.value.Value.TheOpen.{Value-F}
+use Rattle.vb_value.specs.Errors.{illegal_assignment, unsupported, object_not_set, object_required, type_mismatch}
+use Rattle.vb_value.specs.Errors.{wrong_number, undefined_variable}
+use Rattle.vb_syntax.specs.declared.member.Member.{Member as PageMember}
+use Rattle.vb_syntax.specs.declared.member.Takes.{Takes}
+use Rattle.vb_syntax.specs.declared.program.expression.Expression.{Expression}
+use Rattle.vb_syntax.specs.declared.program.expression.Head.{Head}
+use Rattle.vb_syntax.specs.declared.program.expression.Head.TheVariants as head
+use Rattle.vb_syntax.specs.declared.program.expression.Path.{Path}
+use Rattle.vb_syntax.specs.declared.program.name.ErrMember.{ErrMember}
+use Rattle.vb_syntax.specs.declared.program.name.Named.{Named}
+use Rattle.vb_syntax.specs.declared.program.name.Named.TheVariants as named
+use Rattle.vb_syntax.specs.declared.program.name.Slot.{Slot}
+use Rattle.vb_syntax.specs.declared.program.name.Slot.TheVariants as slot
+use Rattle.vb_syntax.specs.declared.program.unit.Class.{Class}
+use Rattle.vb_syntax.specs.declared.program.unit.Procedure.{Procedure}
+use Rattle.vb_heap.specs.declared.place.Place.{Place}
+use Rattle.vb_heap.specs.Objects.{class_of, field_of}
+use Rattle.vb_heap.specs.Store.{numbered}
+use Rattle.vb_meaning.specs.declared.world.World.{World}
+use Rattle.vb_meaning.specs.Accesses.{Access, Group, Member, accesses, member_before, given_arguments, groups_split}
+use Rattle.vb_meaning.specs.Accesses.{only_groups}
+use Rattle.vb_meaning.specs.Asking.{ask}
+use Rattle.vb_meaning.specs.Dictionaries.{put_by, set_member}
+use Rattle.vb_meaning.specs.ErrObject.{set_err}
+use Rattle.vb_meaning.specs.Inner.{Inner, Argument, OfValue, Assigned, ByLet, BySet, Owner}
+use Rattle.vb_meaning.specs.Objects.{class_at, dictionary_word, field_named, procedure_named, if_public}
+use Rattle.vb_meaning.specs.Objects.{takes_assigned, own_procedure, owner_class}
+use Rattle.vb_meaning.specs.Paths.{Reached, AtPlace, AtValue, element, reached_value}
+use Rattle.vb_meaning.specs.Places.{variable, hold, held_at, store_place, element_place, indices_of}
+use Rattle.vb_meaning.specs.Reading.{values, arguments, access, field_place, from_name, from_page_member, is_taken}
+use Rattle.vb_meaning.specs.Reading.{subject, me_value}
+use Rattle.vb_meaning.specs.State.{Does, on_world}
+use Rattle.vb_meaning.specs.Step.{Run, ◌>>=◌, ◌>>◌, pure, given, fails}
+use Rattle.vb_meaning.specs.Values.{object_in}
+
+-- ---- what may be assigned
+
+-- A value that is assigned: with Set an object or Nothing, without it anything else.
+abbrev pub assignable : Assigned → Value → Result (Unit {0}) VbError
+assignable BySet (Obj object) = Ok tt
+assignable BySet Nothing = Ok tt
+assignable BySet _ = Err object_required
+assignable ByLet (Obj object) = Err unsupported
+assignable ByLet Nothing = Err object_not_set
+assignable ByLet _ = Ok tt
+
+-- ---- elements
+
+-- a value into the item of a dictionary; another object has none
+abbrev pub put_item_of : ObjNo → List Value → Value → Option ℕ → Run World (Unit {0})
+put_item_of object keys value None = put_by object keys value
+put_item_of object keys value (Some class) = fails unsupported
+
+-- the same in any object
+abbrev pub put_in_object : ObjNo → List Value → Value → Run World (Unit {0})
+put_in_object object keys value world =
+    (given (class_of (numbered object.0 world.heap.objects)) >>= put_item_of object keys value) world
+
+-- A value into an element of what a place holds: of an array, or the item of a dictionary.
+abbrev pub store_in_place : Place → List Value → Value → Value-F Value Array → Run World (Unit {0})
+store_in_place place indices value (Value-F.Arr array) =
+    given (indices_of indices) >>= (λ found. store_place (element_place place found) value)
+store_in_place place indices value (Value-F.Obj object) = put_in_object object indices value
+store_in_place place indices value Value-F.Nothing = fails object_not_set
+store_in_place place indices value _ = fails type_mismatch
+
+-- A value into an element of a value: only an object keeps it.
+abbrev pub store_in_value : List Value → Value → Value-F Value Array → Run World (Unit {0})
+store_in_value indices value (Value-F.Obj object) = put_in_object object indices value
+store_in_value indices value Value-F.Nothing = fails object_not_set
+store_in_value indices value _ = fails illegal_assignment
+
+-- a value into an element of what is reached
+unfoldable pub store_element : Reached → List Value → Value → Run World (Unit {0})
+store_element (AtPlace place) indices value =
+    held_at place >>= (λ whole. store_in_place place indices value (out-Value whole))
+store_element (AtValue whole) indices value = store_in_value indices value (out-Value whole)
+
+module _ (E : Type 0) (m : Inner E) (how : Assigned) where
+  -- ---- members of objects
+
+  -- a property of an object, with its arguments and then the value; a method or no such property takes none
+  abbrev pub property : Owner → Option Procedure → List Expression → Value → Does E (Unit {0})
+  property owner (Some procedure) supplied value = arguments E m [] supplied >>= (λ found.
+      m.enter owner procedure (found ++ OfValue value ∷ []) >> pure tt)
+  property owner None supplied value = fails unsupported
+
+  -- a field that is reached, or an element of it
+  abbrev pub into_field : Option (List Expression) → Reached → Value → Does E (Unit {0})
+  into_field None (AtPlace place) value = on_world (store_place place value)
+  into_field None (AtValue whole) value = fails illegal_assignment
+  into_field (Some indices) field value =
+      values E m [] indices >>= (λ found. on_world (store_element field found value))
+
+  -- a public member of an object of a class
+  abbrev pub into_class : ObjNo → ℕ → Class → ℕ → Option (List Expression) → Value → Option ℕ → Does E (Unit {0})
+  into_class object number class name supplied value (Some field) =
+      field_place E m object field >>= (λ reached. into_field supplied reached value)
+  into_class object number class name supplied value None = property (Some (object, number))
+      (if_public (procedure_named name (takes_assigned how) class.procedures)) (given_arguments supplied) value
+
+  -- a member of an object of a class that the program has
+  abbrev pub into_class_of : ObjNo → ℕ → Option Class → ℕ → Option (List Expression) → Value → Does E (Unit {0})
+  into_class_of object number (Some class) name supplied value =
+      into_class object number class name supplied value (field_named name class.fields)
+  into_class_of object number None name supplied value = fails unsupported
+
+  -- a member of an object that has not ended
+  abbrev pub into_object : ObjNo → ℕ → Option (List Expression) → Value → Option ℕ → Does E (Unit {0})
+  into_object object name supplied value None = values E m [] (given_arguments supplied) >>= (λ found.
+      on_world (set_member object (dictionary_word m.program name) found value))
+  into_object object name supplied value (Some number) =
+      into_class_of object number (class_at m.program (Some number)) name supplied value
+
+  -- a member of a value, which has to be an object; the object is held
+  unfoldable pub into_member : Value → ℕ → Option (List Expression) → Value → Does E (Unit {0})
+  into_member whole name supplied value = on_world (hold whole >> given (object_in whole)) >>= (λ object.
+      on_world (λ world. given (class_of (numbered object.0 world.heap.objects)) world)
+      >>= into_object object name supplied value)
+
+  -- ---- the last access
+
+  abbrev pub into_access : Reached → Access → Value → Does E (Unit {0})
+  into_access from (Group indices) value =
+      values E m [] indices >>= (λ found. on_world (store_element from found value))
+  into_access from (Member name supplied) value =
+      on_world (reached_value from) >>= (λ whole. into_member whole name supplied value)
+
+  -- a value into what the accesses come to, of which there is at least one
+  abbrev pub into : Reached → Access → List Access → Value → Does E (Unit {0})
+  into from first [] value = into_access from first value
+  into from first (second ∷ others) value = access E m from first >>= (λ next. into next second others value)
+
+  -- a value into what stands behind a value; a value alone keeps none
+  abbrev pub into_value : Does E Value → List Access → Value → Does E (Unit {0})
+  into_value run [] value = fails illegal_assignment
+  into_value run (first ∷ others) value = run >>= (λ whole. into (AtValue whole) first others value)
+
+  -- ---- where a target begins
+
+  -- a variable, or what its accesses come to
+  abbrev pub into_place : List Access → Value → Place → Does E (Unit {0})
+  into_place [] value place = on_world (store_place place value)
+  into_place (first ∷ others) value place = into (AtPlace place) first others value
+
+  -- The result of a procedure is a variable, but with parentheses it is no place.
+  abbrev pub into_slot : Slot → List Access → Value → Does E (Unit {0})
+  into_slot slot.Result (Group indices ∷ others) value = fails illegal_assignment
+  into_slot found more value = on_world (variable found) >>= into_place more value
+
+  -- a value into what stands behind what is reached; without anything behind it there is no place
+  abbrev pub into_rest : Does E Reached → List Access → Value → Does E (Unit {0})
+  into_rest run [] value = fails illegal_assignment
+  into_rest run (first ∷ others) value = run >>= (λ from. into from first others value)
+
+  -- the call that a path begins with, and a value into what stands behind it
+  abbrev pub into_called : Named → List Access → Value → Does E (Unit {0})
+  into_called found (Group supplied ∷ more) value = into_rest (from_name E m found (Group supplied ∷ [])) more value
+  into_called found more value = into_rest (from_name E m found []) more value
+
+  -- Behind a procedure or a function a member of what it gives may be assigned to. No call is made where parentheses
+  -- alone stand behind the name.
+  abbrev pub into_call : Named → List Access → Value → Does E (Unit {0})
+  into_call found more value =
+      if only_groups more then fails illegal_assignment else into_called found more value
+
+  -- the property of the class around that has the name of that one
+  abbrev pub own_property : ℕ → World → Option Procedure
+  own_property number world = own_procedure number (takes_assigned how) (owner_class m.program world.frame.owner)
+
+  -- a property of the class around, where nothing but its arguments stands behind, or what it gives
+  abbrev pub into_own : ℕ → List Access → Value → Does E (Unit {0})
+  into_own number [] value s = property s.world.frame.owner (own_property number s.world) [] value s
+  into_own number (Group supplied ∷ []) value s =
+      property s.world.frame.owner (own_property number s.world) supplied value s
+  into_own number more value s = into_called (named.Own number) more value s
+
+  -- a name that stands for nothing
+  abbrev pub into_unknown : List Access → Does E (Unit {0})
+  into_unknown [] = fails undefined_variable
+  into_unknown (first ∷ others) = fails type_mismatch
+
+  -- a value into what a name and the accesses behind it come to
+  abbrev pub into_name : Named → List Access → Value → Does E (Unit {0})
+  into_name (named.Place found) more value = into_slot found more value
+  into_name (named.Own number) more value = into_own number more value
+  into_name (named.PageConstant number) more value = into_rest (from_name E m (named.PageConstant number) []) more value
+  into_name (named.LocalConstant number) more value =
+      into_rest (from_name E m (named.LocalConstant number) []) more value
+  into_name (named.Value literal) more value = into_rest (from_name E m (named.Value literal) []) more value
+  into_name named.Unknown more value = into_unknown more
+  into_name (named.Class number) more value = fails illegal_assignment
+  into_name found more value = into_call found more value
+
+  -- a member of the page's objects is written: its arguments, and then the value
+  abbrev pub write_member : PageMember → Takes → List Value → Value → Does E (Unit {0})
+  write_member found takes supplied value =
+      if takes.is_written then (if is_taken takes (length supplied)
+          then ask m.host found (supplied ++ value ∷ []) >> pure tt else fails wrong_number)
+      else fails unsupported
+
+  -- the same, or a value into what stands behind the member
+  abbrev pub into_page_member : PageMember → Takes → List Expression → List Access → Value → Does E (Unit {0})
+  into_page_member found takes supplied [] value =
+      values E m [] supplied >>= (λ given_values. write_member found takes given_values value)
+  into_page_member found takes supplied more value =
+      into_rest (from_page_member E m found takes (supplied, [])) more value
+
+  -- a member of Err
+  abbrev pub into_err : ErrMember → List Access → Value → Does E (Unit {0})
+  into_err found [] value = on_world (set_err found value)
+  into_err found more value = fails unsupported
+
+  -- a value into what a path comes to
+  abbrev pub into_head : Head → List Access → Value → Does E (Unit {0})
+  into_head (head.Named found) more value = into_name found more value
+  into_head head.Me more value = into_value (on_world (λ world. me_value world.frame.owner world)) more value
+  into_head (head.With name) more value = into_value (on_world subject) (member_before name more) value
+  into_head (head.Err found) more value = into_err found more value
+  into_head (head.Member found groups takes) more value =
+      into_page_member found takes (groups_split groups more).0 (groups_split groups more).1 value
+
+  -- A value is assigned to a path.
+  unfoldable pub assign_to : Path → Value → Does E (Unit {0})
+  assign_to path value = into_head path.head (accesses path.steps) value

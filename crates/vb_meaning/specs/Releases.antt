@@ -1,0 +1,142 @@
+-- Release points: how objects end to which nothing refers any more, and their terminators (VBScript 5.6 language
+-- reference, "Terminate Event").
+use Rattle.std.specs.Prelude.{ℕ, zero, suc, ◌+◌, ◌-◌, true, List, [], Option, Some, None, Result, Ok, Err, slice_get}
+use Rattle.std.specs.Option.{option_and_then}
+use Rattle.vb_value.specs.declared.value.Value.{Value, Empty}
+use Rattle.vb_syntax.specs.declared.program.unit.Class.{Class}
+use Rattle.vb_syntax.specs.declared.program.unit.Procedure.{Procedure}
+use Rattle.vb_heap.specs.declared.object.Object.{Object}
+use Rattle.vb_heap.specs.Limits.{most_objects}
+use Rattle.vb_heap.specs.Objects.{class_in}
+use Rattle.vb_heap.specs.Releases.{oldest_loose, oldest_live, with_ending, finished, object_of}
+use Rattle.vb_heap.specs.Store.{Store, numbered}
+use Rattle.vb_meaning.specs.declared.stop.Stop.{Stop}
+use Rattle.vb_meaning.specs.declared.stop.Stop.TheVariants as stop
+use Rattle.vb_meaning.specs.declared.world.World.{World}
+use Rattle.vb_meaning.specs.Errors.{cleared, in_line}
+use Rattle.vb_meaning.specs.Inner.{Inner, Owner}
+use Rattle.vb_meaning.specs.Objects.{class_at}
+use Rattle.vb_meaning.specs.Places.{let_go}
+use Rattle.vb_meaning.specs.State.{State, Does, with_heap}
+use Rattle.vb_meaning.specs.Step.{Step, Gives, Ends, and_then, ◌>>=◌, ◌>>◌, pure}
+
+-- the world in which a terminator begins: Err holds no error
+abbrev pub terminating : World → World
+terminating world = cleared (record world { terminates = true })
+
+-- The world after a terminator: its object has ended, and Err holds what it held before.
+abbrev pub ended : ℕ → World → World → World
+ended object before world = record world {
+  heap = finished object (numbered object world.heap.objects) world.heap;
+  err = before.err;
+  terminates = before.terminates;
+  finished = world.finished + 1;
+}
+
+-- the class of an object by its number
+abbrev pub class_number : Option Object → Option ℕ
+class_number (Some object) = class_in object.content
+class_number None = None
+
+-- the Class_Terminate of a class
+abbrev pub terminator_in : Option Class → Option Procedure
+terminator_in (Some class) = option_and_then (slice_get class.procedures) class.terminate
+terminator_in None = None
+
+module _ (E : Type 0) where
+  -- a state with another world
+  abbrev pub in_world : World → State E → State E
+  in_world world s = record s { world = world }
+
+  -- How a terminator came to its end: an error ends it alone. A page stop goes on once its object has ended.
+  abbrev pub terminated : ℕ → World → Step (State E) Value → Step (State E) (Unit {0})
+  terminated object before (Gives value s) = Gives tt (in_world (ended object before s.world) s)
+  terminated object before (Ends (stop.Error what line) s) = Gives tt (in_world (ended object before s.world) s)
+  terminated object before (Ends stop.Page s) = Ends stop.Page (in_world (ended object before s.world) s)
+  terminated object before (Ends (stop.Limit kind line) s) = Ends (stop.Limit kind line) s
+  terminated object before (Ends (stop.Wants call) s) = Ends (stop.Wants call) s
+  terminated object before (Ends stop.Memory s) = Ends stop.Memory s
+
+  -- a page stop that goes no further
+  abbrev pub without_page_stop : Step (State E) (Unit {0}) → Step (State E) (Unit {0})
+  without_page_stop (Ends stop.Page s) = Gives tt s
+  without_page_stop (Gives done s) = Gives done s
+  without_page_stop (Ends (stop.Error what line) s) = Ends (stop.Error what line) s
+  without_page_stop (Ends (stop.Limit kind line) s) = Ends (stop.Limit kind line) s
+  without_page_stop (Ends (stop.Wants call) s) = Ends (stop.Wants call) s
+  without_page_stop (Ends stop.Memory s) = Ends stop.Memory s
+
+module _ (E : Type 0) (m : Inner E) where
+  -- the terminator of an object, if its class has one
+  abbrev pub terminator : ℕ → Option ℕ → Option Procedure → Does E Value
+  terminator object (Some class) (Some procedure) = m.enter (Some (object_of object, class)) procedure []
+  terminator object _ _ = pure Empty
+
+  -- the same for the class of this number
+  abbrev pub terminator_of : ℕ → Option ℕ → Does E Value
+  terminator_of object class = terminator object class (terminator_in (class_at m.program class))
+
+  -- the terminator of an ending object, and what follows it
+  unfoldable pub terminate : ℕ → Does E (Unit {0})
+  terminate object s = terminated E object s.world
+      (terminator_of object (class_number (numbered object s.world.heap.objects)) (in_world E (terminating s.world) s))
+
+  -- an object that was found ends, and more do
+  abbrev pub released_one : Does E (Unit {0}) → Option ℕ → Does E (Unit {0})
+  released_one more (Some object) s =
+      (terminate object >> more) (in_world E (with_heap (with_ending (Some object)) s.world) s)
+  released_one more None s = Gives tt s
+
+  -- While some live object has no reference, the oldest such ends, at most so many times.
+  abbrev pub settle_times : ℕ → Does E (Unit {0})
+  settle_times zero s = Gives tt s
+  settle_times (suc more) s = released_one (settle_times more) (oldest_loose s.world.heap) s
+
+  -- no object ends twice
+  unfoldable pub settle : Does E (Unit {0})
+  settle s = settle_times (most_objects - s.world.finished) s
+
+  -- The end of a statement or of a head: what it held is held no more, and objects end. An error goes on behind it.
+  abbrev pub release : {A : Type 0} → ℕ → Step (State E) A → Step (State E) A
+  release mark (Gives value s) = (settle >> pure value) (in_world E (let_go mark s.world) s)
+  release mark (Ends (stop.Error what line) s) =
+      (settle >> Ends (stop.Error what line)) (in_world E (let_go mark s.world) s)
+  release mark (Ends stop.Page s) = Ends stop.Page s
+  release mark (Ends (stop.Limit kind line) s) = Ends (stop.Limit kind line) s
+  release mark (Ends (stop.Wants call) s) = Ends (stop.Wants call) s
+  release mark (Ends stop.Memory s) = Ends stop.Memory s
+
+  -- ---- the end of the page
+
+  -- the line in which a terminator begins
+  abbrev pub terminator_line : Option Procedure → ℕ
+  terminator_line (Some procedure) = procedure.line
+  terminator_line None = 0
+
+  -- the same of the terminator of an object
+  abbrev pub line_of : ℕ → World → ℕ
+  line_of object world =
+      terminator_line (terminator_in (class_at m.program (class_number (numbered object world.heap.objects))))
+
+  -- An object ends where no statement does, so that its terminator is entered in its own line. A page stop in a
+  -- terminator ends that terminator alone.
+  abbrev pub end_one : Does E (Unit {0}) → Option ℕ → Does E (Unit {0})
+  end_one more (Some object) s = and_then (in_line (line_of object s.world) (without_page_stop E (terminate object
+      (in_world E (with_heap (with_ending (Some object)) s.world) s)))) (λ _. more)
+  end_one more None s = Gives tt s
+
+  -- while some live object has no reference, as above
+  abbrev pub settle_last_times : ℕ → Does E (Unit {0})
+  settle_last_times zero s = Gives tt s
+  settle_last_times (suc more) s = end_one (settle_last_times more) (oldest_loose s.world.heap) s
+
+  unfoldable pub settle_last : Does E (Unit {0})
+  settle_last s = settle_last_times (most_objects - s.world.finished) s
+
+  -- each object that is left ends in the order of creation, and after each what it leaves without references
+  abbrev pub end_times : ℕ → Does E (Unit {0})
+  end_times zero s = Gives tt s
+  end_times (suc more) s = end_one (settle_last >> end_times more) (oldest_live s.world.heap) s
+
+  unfoldable pub end_all : Does E (Unit {0})
+  end_all s = end_times (most_objects - s.world.finished) s

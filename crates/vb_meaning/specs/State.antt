@@ -1,0 +1,59 @@
+-- All that an act changes: the world, the environment and the replies that are left.
+use Rattle.std.specs.Prelude.{List, Option, Some, None, Result, Ok, Err, ℕ}
+use Rattle.vb_value.specs.declared.application.AppReply.{AppReply}
+use Rattle.vb_heap.specs.declared.fault.HeapStop.{HeapStop}
+use Rattle.vb_heap.specs.declared.fault.HeapStop.TheVariants as heap
+use Rattle.vb_heap.specs.Store.{Store}
+use Rattle.vb_meaning.specs.declared.cause.Cause.TheVariants.{Language}
+use Rattle.vb_meaning.specs.declared.stop.Stop.{Stop}
+use Rattle.vb_meaning.specs.declared.stop.Stop.TheVariants as stop
+use Rattle.vb_meaning.specs.declared.world.Frame.{Frame}
+use Rattle.vb_meaning.specs.declared.world.World.{World}
+use Rattle.vb_meaning.specs.Step.{Step, Gives, Ends, Run}
+
+-- the state of an act in an environment of type E
+pub record State (E : Type 0) : Type 0 where
+  pub world : World
+  pub env : E
+  -- the replies of the Application object that no call has taken yet
+  pub replies : List AppReply
+
+-- what is done in an act
+abbrev pub Does : Type 0 → Type 0 → Type 0
+Does E A = Run (State E) A
+
+-- a step of the world, in a state
+abbrev pub lifted : {E A : Type 0} → E → List AppReply → Step World A → Step (State E) A
+lifted env replies (Gives value world) = Gives value (record { world = world; env = env; replies = replies })
+lifted env replies (Ends why world) = Ends why (record { world = world; env = env; replies = replies })
+
+-- a change of the world alone
+abbrev pub on_world : {E A : Type 0} → Run World A → Does E A
+on_world change s = lifted s.env s.replies (change s.world)
+
+-- a look at the world
+abbrev pub looking : {E A : Type 0} → (World → A) → Does E A
+looking at s = Gives (at s.world) s
+
+-- the procedure that runs
+abbrev pub with_frame : (Frame → Frame) → World → World
+with_frame change world = record world { frame = change world.frame }
+
+-- the data of the page
+abbrev pub with_heap : (Store → Store) → World → World
+with_heap change world = record world { heap = change world.heap }
+
+-- why a call on the data of the page gave nothing
+abbrev pub heap_stop : HeapStop → Stop
+heap_stop (heap.Error number) = stop.Error (Language number) None
+heap_stop (heap.Limit kind) = stop.Limit kind None
+heap_stop heap.Memory = stop.Memory
+
+-- what a call on the data of the page answers, and the world that it leaves where it is not refused
+abbrev pub heap_answer : {A : Type 0} → Result A HeapStop → World → World → Step World A
+heap_answer (Ok value) changed world = Gives value changed
+heap_answer (Err why) changed world = Ends (heap_stop why) world
+
+-- a call on the data of the page
+abbrev pub on_heap : {A : Type 0} → (Store → Result A HeapStop) → (Store → Store) → Run World A
+on_heap answer change world = heap_answer (answer world.heap) (with_heap change world) world

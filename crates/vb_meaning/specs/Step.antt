@@ -1,0 +1,56 @@
+-- What something does: it changes a state, and gives a value or ends.
+use Rattle.std.specs.Prelude.{◌≡◌, ◌≢◌, ℕ, Option, None, Result, Ok, Err}
+use Rattle.vb_value.specs.declared.application.AppCall.{AppCall}
+use Rattle.vb_value.specs.declared.fault.VbError.{VbError}
+use Rattle.vb_value.specs.declared.limit.LimitKind.{LimitKind}
+use Rattle.vb_meaning.specs.declared.cause.Cause.{Cause}
+use Rattle.vb_meaning.specs.declared.cause.Cause.TheVariants.{Language}
+use Rattle.vb_meaning.specs.declared.stop.Stop.{Stop}
+use Rattle.vb_meaning.specs.declared.stop.Stop.TheVariants as stop
+
+-- a value with the state that is left, or why there is none with the state that is left
+pub data Step (S A : Type 0) : Type 0 where
+  Gives : A → S → Step S A
+  Ends : Stop → S → Step S A
+
+-- something that may be done in a state
+abbrev pub Run : Type 0 → Type 0 → Type 0
+Run S A = S → Step S A
+
+-- what is done with the value of a step, if it has one
+abbrev pub and_then : {S A B : Type 0} → Step S A → (A → Run S B) → Step S B
+and_then (Gives value s) next = next value s
+and_then (Ends why s) next = Ends why s
+
+-- one after the other, where the second needs the value of the first
+infixl 10 ◌>>=◌
+abbrev pub ◌>>=◌ : {S A B : Type 0} → Run S A → (A → Run S B) → Run S B
+first >>= next = λ s. and_then (first s) next
+
+-- one after the other
+infixl 10 ◌>>◌
+abbrev pub ◌>>◌ : {S A B : Type 0} → Run S A → Run S B → Run S B
+first >> second = first >>= (λ _. second)
+
+-- a value, and no change
+abbrev pub pure : {S A : Type 0} → A → Run S A
+pure value = Gives value
+
+-- an end, and no change
+abbrev pub ends : {S A : Type 0} → Stop → Run S A
+ends why = Ends why
+
+-- an error of the language; the statement around gives it its line
+abbrev pub fails : {S A : Type 0} → VbError → Run S A
+fails error = Ends (stop.Error (Language error.number) None)
+
+-- what an operator, a conversion or a function answers
+abbrev pub given : {S A : Type 0} → Result A VbError → Run S A
+given (Ok value) = Gives value
+given (Err error) = fails error
+
+-- How a call shows a step: what it answers and the state that it leaves are that step's. Nothing is said of a call
+-- that ran out of memory.
+abbrev pub Ran : {S A : Type 0} → Step S A → Result A Stop → S → Type 0
+Ran step (Ok value) new = step ≡ Gives value new
+Ran step (Err why) new = why ≢ stop.Memory → step ≡ Ends why new
