@@ -1,22 +1,18 @@
 -- An act: the page's variables are made, its part of the program runs, and then the variables and the objects go.
-use Rattle.std.specs.Prelude.{ℕ, zero, false, List, [], ◌∷◌, Option, Some, None, slice_get}
+use Rattle.std.specs.Prelude.{ℕ, false, List, [], Option, Some, None, slice_get}
 use Rattle.vb_value.specs.declared.application.AppReply.{AppReply}
-use Rattle.vb_value.specs.declared.value.Value.{Value}
 use Rattle.vb_value.specs.Errors.{undefined_variable}
 use Rattle.vb_syntax.specs.declared.act.Act.{Act}
 use Rattle.vb_syntax.specs.declared.act.Act.TheVariants as act
-use Rattle.vb_syntax.specs.declared.act.ActDone.{ActDone}
 use Rattle.vb_syntax.specs.declared.act.ActEnd.{ActEnd}
 use Rattle.vb_syntax.specs.declared.act.ActEnd.TheVariants as end
 use Rattle.vb_syntax.specs.declared.program.Program.{Program}
 use Rattle.vb_syntax.specs.declared.program.unit.Procedure.{Procedure}
 use Rattle.vb_syntax.specs.declared.program.unit.Unit.{Unit as Code}
-use Rattle.vb_heap.specs.Store.{Store, no_data}
-use Rattle.vb_meaning.specs.declared.cause.Cause.{Cause}
+use Rattle.vb_heap.specs.Store.{no_data}
 use Rattle.vb_meaning.specs.declared.cause.Raised.{Raised}
 use Rattle.vb_meaning.specs.declared.plain_end.PlainEnd.{PlainEnd}
 use Rattle.vb_meaning.specs.declared.plain_end.PlainEnd.TheVariants.{Wants, Ends as Ended}
-use Rattle.vb_meaning.specs.declared.stop.Stop.{Stop}
 use Rattle.vb_meaning.specs.declared.stop.Stop.TheVariants as stop
 use Rattle.vb_meaning.specs.declared.world.World.{World}
 use Rattle.vb_meaning.specs.Asking.{Host}

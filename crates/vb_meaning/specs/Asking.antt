@@ -1,5 +1,5 @@
 -- What an act asks of the objects that the page is given, and of the Application object through them.
-use Rattle.std.specs.Prelude.{ℕ, List, [], ◌∷◌, map, Result, Ok, Err, Option, None}
+use Rattle.std.specs.Prelude.{ℕ, List, [], ◌∷◌, map, Result, Ok, Err, None}
 use Rattle.vb_value.specs.declared.application.AppReply.{AppReply}
 use Rattle.vb_value.specs.declared.value.Value.{Value, Str}
 use Rattle.vb_syntax.specs.declared.act.AskStop.{AskStop}
@@ -7,13 +7,13 @@ use Rattle.vb_syntax.specs.declared.act.AskStop.TheVariants as why
 use Rattle.vb_syntax.specs.declared.act.Given.{Given}
 use Rattle.vb_syntax.specs.declared.act.Given.TheVariants as given
 use Rattle.vb_syntax.specs.declared.member.Member.{Member}
+use Rattle.vb_heap.specs.DictionaryCalls.{array_of}
 use Rattle.vb_meaning.specs.declared.cause.Cause.TheVariants.{Language}
 use Rattle.vb_meaning.specs.declared.stop.Stop.{Stop}
 use Rattle.vb_meaning.specs.declared.stop.Stop.TheVariants as stop
 use Rattle.vb_meaning.specs.declared.world.World.{World}
 use Rattle.vb_meaning.specs.State.{State, Does}
 use Rattle.vb_meaning.specs.Step.{Step, Gives, Ends}
-use Rattle.vb_meaning.specs.Values.{list_array}
 
 -- what an environment says to one question: what it gives or why it stops, and what it is then
 abbrev pub Said : Type 0 → Type 0
@@ -41,7 +41,7 @@ abbrev pub heard : {E : Type 0} → Host E → Member → List Value → World �
 heard host member arguments world replies (Ok (given.Value value, env)) =
     Gives value (record { world = world; env = env; replies = replies })
 heard host member arguments world replies (Ok (given.Names names, env)) =
-    Gives (list_array (name_values names)) (record { world = world; env = env; replies = replies })
+    Gives (array_of (name_values names)) (record { world = world; env = env; replies = replies })
 heard host member arguments world [] (Ok (given.Call call, env)) =
     Ends (stop.Wants call) (record { world = world; env = env; replies = [] })
 heard host member arguments world (reply ∷ replies) (Ok (given.Call call, env)) =

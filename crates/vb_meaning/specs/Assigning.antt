@@ -1,6 +1,6 @@
 -- Assignments (VBScript 5.6 language reference, "Assignment", "Set Statement", "Property Let Statement"). The value
 -- comes first, and then the whole target from left to right.
-use Rattle.std.specs.Prelude.{ℕ, Bool, true, false, if◌then◌else◌, List, [], ◌∷◌, ◌++◌, length, slice_get}
+use Rattle.std.specs.Prelude.{ℕ, if◌then◌else◌, List, [], ◌∷◌, ◌++◌, length}
 use Rattle.std.specs.Prelude.{Option, Some, None, Result, Ok, Err}
 use Rattle.vb_value.specs.declared.fault.VbError.{VbError}
 use Rattle.vb_value.specs.declared.value.Array.{Array}
@@ -23,7 +23,7 @@ use Rattle.vb_syntax.specs.declared.program.name.Slot.TheVariants as slot
 use Rattle.vb_syntax.specs.declared.program.unit.Class.{Class}
 use Rattle.vb_syntax.specs.declared.program.unit.Procedure.{Procedure}
 use Rattle.vb_heap.specs.declared.place.Place.{Place}
-use Rattle.vb_heap.specs.Objects.{class_of, field_of}
+use Rattle.vb_heap.specs.Objects.{class_of}
 use Rattle.vb_heap.specs.Store.{numbered}
 use Rattle.vb_meaning.specs.declared.world.World.{World}
 use Rattle.vb_meaning.specs.Accesses.{Access, Group, Member, accesses, member_before, given_arguments, groups_split}
@@ -31,10 +31,10 @@ use Rattle.vb_meaning.specs.Accesses.{only_groups}
 use Rattle.vb_meaning.specs.Asking.{ask}
 use Rattle.vb_meaning.specs.Dictionaries.{put_by, set_member}
 use Rattle.vb_meaning.specs.ErrObject.{set_err}
-use Rattle.vb_meaning.specs.Inner.{Inner, Argument, OfValue, Assigned, ByLet, BySet, Owner}
+use Rattle.vb_meaning.specs.Inner.{Inner, OfValue, Assigned, ByLet, BySet, Owner}
 use Rattle.vb_meaning.specs.Objects.{class_at, dictionary_word, field_named, procedure_named, if_public}
 use Rattle.vb_meaning.specs.Objects.{takes_assigned, own_procedure, owner_class}
-use Rattle.vb_meaning.specs.Paths.{Reached, AtPlace, AtValue, element, reached_value}
+use Rattle.vb_meaning.specs.Paths.{Reached, AtPlace, AtValue, reached_value}
 use Rattle.vb_meaning.specs.Places.{variable, hold, held_at, store_place, element_place, indices_of}
 use Rattle.vb_meaning.specs.Reading.{values, arguments, access, field_place, from_name, from_page_member, is_taken}
 use Rattle.vb_meaning.specs.Reading.{subject, me_value}

@@ -1,7 +1,6 @@
 -- Statements one after the other, and what an Exit leaves.
 use Rattle.std.specs.Prelude.{List, [], ◌∷◌}
 use Rattle.vb_syntax.specs.declared.program.statement.Statement.{Statement}
-use Rattle.vb_syntax.specs.declared.statement.ExitKind.{ExitKind}
 use Rattle.vb_meaning.specs.declared.world.Exit.{Exit}
 use Rattle.vb_meaning.specs.declared.world.Exit.TheVariants.{Next, Leave}
 use Rattle.vb_meaning.specs.Inner.{Inner}

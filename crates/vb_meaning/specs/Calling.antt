@@ -1,17 +1,15 @@
 -- Procedures: how they are entered with their arguments, and how they are left (VBScript 5.6 language reference, "Sub
 -- Statement", "Function Statement", "Property Get Statement").
-use Rattle.std.specs.Prelude.{ℕ, ◌+◌, ◌==◌, nat_lt, nat_le, Bool, true, false, if◌then◌else◌, List, [], ◌∷◌, ◌++◌}
-use Rattle.std.specs.Prelude.{length, drop, Option, Some, None, Result, Ok, Err}
+use Rattle.std.specs.Prelude.{ℕ, ◌+◌, ◌==◌, nat_lt, Bool, true, false, if◌then◌else◌, List, [], ◌∷◌, ◌++◌}
+use Rattle.std.specs.Prelude.{length, drop, Option, Some, None}
 use Rattle.vb_value.specs.declared.value.Value.{Value, Empty}
 use Rattle.vb_value.specs.Errors.{wrong_number}
-use Rattle.vb_syntax.specs.declared.program.unit.Constant.{Constant}
 use Rattle.vb_syntax.specs.declared.program.unit.DeclaredArray.{DeclaredArray}
 use Rattle.vb_syntax.specs.declared.program.unit.Procedure.{Procedure}
 use Rattle.vb_syntax.specs.declared.program.unit.ProcedureKind.{ProcedureKind}
 use Rattle.vb_syntax.specs.declared.program.unit.ProcedureKind.TheVariants as kind
 use Rattle.vb_heap.specs.declared.place.CellNo.{CellNo}
 use Rattle.vb_heap.specs.declared.place.Place.{Place}
-use Rattle.vb_meaning.specs.declared.stop.Stop.{Stop}
 use Rattle.vb_meaning.specs.declared.stop.Stop.TheVariants as stop
 use Rattle.vb_meaning.specs.declared.world.Exit.{Exit}
 use Rattle.vb_meaning.specs.declared.world.Frame.{Frame}
@@ -23,7 +21,7 @@ use Rattle.vb_meaning.specs.Inner.{Inner, Argument, OfPlace, OfValue, Owner}
 use Rattle.vb_meaning.specs.Places.{new_cell, read_place, cell_place, cells_dropped, hold}
 use Rattle.vb_meaning.specs.Releases.{settle, in_world}
 use Rattle.vb_meaning.specs.State.{State, Does, on_world, with_frame, with_heap}
-use Rattle.vb_meaning.specs.Step.{Step, Gives, Ends, Run, and_then, ◌>>=◌, ◌>>◌, pure, fails}
+use Rattle.vb_meaning.specs.Step.{Step, Gives, Ends, Run, ◌>>=◌, ◌>>◌, pure, fails}
 
 -- how many procedures may be open
 abbrev pub most_calls : ℕ

@@ -1,15 +1,15 @@
 -- Dictionaries in a script (Microsoft Scripting Runtime, "Dictionary Object"): what each member does with its
 -- arguments, and where it may be assigned to.
-use Rattle.std.specs.Prelude.{ℕ, ℤ, Bool, List, [], ◌∷◌, Option, Some, None, Result, Ok, Err, unwrap_or}
+use Rattle.std.specs.Prelude.{List, [], ◌∷◌, Option, Some, None, Result}
 use Rattle.vb_value.specs.declared.fault.VbError.{VbError}
 use Rattle.vb_value.specs.declared.value.ObjNo.{ObjNo}
 use Rattle.vb_value.specs.declared.value.Value.{Value, Empty, Long, Bool as Boolean}
 use Rattle.vb_value.specs.Conversions.{to_long_of}
-use Rattle.vb_value.specs.Errors.{wrong_number, unsupported, and_then}
+use Rattle.vb_value.specs.Errors.{wrong_number, unsupported}
 use Rattle.vb_syntax.specs.declared.program.name.DictionaryMember.{DictionaryMember}
 use Rattle.vb_syntax.specs.declared.program.name.DictionaryMember.TheVariants as word
 use Rattle.vb_heap.specs.DictionaryCalls as dictionary
-use Rattle.vb_heap.specs.Entries.{dictionary_of, add_entry_of, with_entry, with_mode, mode_of}
+use Rattle.vb_heap.specs.Entries.{add_entry_of, with_entry, with_mode, without_entries}
 use Rattle.vb_heap.specs.Store.{Store}
 use Rattle.vb_meaning.specs.declared.world.World.{World}
 use Rattle.vb_meaning.specs.State.{on_heap}
@@ -37,10 +37,6 @@ abbrev pub put_by : ObjNo → List Value → Value → Run World (Unit {0})
 put_by object (key ∷ []) value = put_item object key value
 put_by object _ value = fails wrong_number
 
--- CompareMode of a dictionary
-abbrev pub mode_value : ObjNo → Store → Result Value VbError
-mode_value object store = and_then (dictionary_of object store) (λ found. Ok (Long found.mode))
-
 -- CompareMode is another one
 abbrev pub set_mode : ObjNo → Value → Run World (Unit {0})
 set_mode object value = given (to_long_of value) >>= (λ mode.
@@ -55,11 +51,11 @@ member object word.Exists (key ∷ []) = asking (dictionary.exists_of object key
 member object word.Remove (key ∷ []) =
     on_heap (dictionary.remove_of object key) (dictionary.with_removed object key) >> pure Empty
 member object word.RemoveAll [] =
-    on_heap (dictionary.remove_all_of object) (dictionary.with_all_removed object) >> pure Empty
+    on_heap (dictionary.remove_all_of object) (without_entries object) >> pure Empty
 member object word.Keys [] = asking (dictionary.keys_of object)
 member object word.Items [] = asking (dictionary.items_of object)
 member object word.Count [] = asking (dictionary.count_of object) >>= (λ count. pure (Long count))
-member object word.CompareMode [] = asking (mode_value object)
+member object word.CompareMode [] = asking (dictionary.compare_mode_of object) >>= (λ mode. pure (Long mode))
 member object _ _ = fails wrong_number
 
 -- a member by its name; another name is no member

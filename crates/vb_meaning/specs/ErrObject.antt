@@ -1,5 +1,5 @@
 -- The members of Err (VBScript 5.6 language reference, "Err Object").
-use Rattle.std.specs.Prelude.{ℕ, ℤ, pos, Bool, if◌then◌else◌, List, [], ◌∷◌, Option, Some, None, Result, Ok, Err, unwrap_or}
+use Rattle.std.specs.Prelude.{ℕ, ℤ, pos, if◌then◌else◌, List, [], ◌∷◌, Option, Some, None, Result, Ok, Err}
 use Rattle.std.specs.Ordering.{int_eq}
 use Rattle.vb_value.specs.declared.fault.VbError.{VbError}
 use Rattle.vb_value.specs.declared.value.Value.{Value, Empty, Long, Str}
@@ -13,7 +13,7 @@ use Rattle.vb_meaning.specs.declared.cause.Raised.{Raised}
 use Rattle.vb_meaning.specs.declared.stop.Stop.TheVariants as stop
 use Rattle.vb_meaning.specs.declared.world.World.{World}
 use Rattle.vb_meaning.specs.Errors.{cleared, with_err, language_source}
-use Rattle.vb_meaning.specs.Step.{Step, Gives, Ends, Run, ◌>>=◌, pure, given, fails}
+use Rattle.vb_meaning.specs.Step.{Gives, Ends, Run, ◌>>=◌, given, fails}
 
 -- a text, or another one where it is left out
 abbrev pub text_or : List ℕ → Option Value → Result (List ℕ) VbError

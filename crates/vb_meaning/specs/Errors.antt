@@ -1,12 +1,11 @@
 -- Errors, what Err holds of them, and what On Error makes of them (VBScript 5.6 language reference, "Err Object" and
 -- "On Error Statement").
-use Rattle.std.specs.Prelude.{ℕ, ◌-◌, nat_lt, ℤ, pos, Bool, if◌then◌else◌, List, [], Option, Some, None, codes}
+use Rattle.std.specs.Prelude.{ℕ, ◌-◌, nat_lt, ℤ, pos, Bool, if◌then◌else◌, List, [], Some, None, codes}
 use Rattle.vb_value.specs.declared.limit.LimitKind.TheVariants.{Ticks, Depth}
 use Rattle.vb_value.specs.ErrorText.{error_text_of}
 use Rattle.vb_meaning.specs.declared.cause.Cause.{Cause}
 use Rattle.vb_meaning.specs.declared.cause.Cause.TheVariants as cause
 use Rattle.vb_meaning.specs.declared.cause.Raised.{Raised}
-use Rattle.vb_meaning.specs.declared.stop.Stop.{Stop}
 use Rattle.vb_meaning.specs.declared.stop.Stop.TheVariants as stop
 use Rattle.vb_meaning.specs.declared.world.World.{World}
 use Rattle.vb_meaning.specs.State.{State, with_frame}

@@ -1,7 +1,7 @@
 -- A statement as a whole: its tick, what it does by what it says, what becomes of an error in it, and the release point
 -- at its end (VBScript 5.6 language reference, "Statements").
-use Rattle.std.specs.Prelude.{ℕ, Bool, true, false, List, [], ◌∷◌, Option}
-use Rattle.vb_value.specs.declared.value.Value.{Value, Str}
+use Rattle.std.specs.Prelude.{ℕ, true, false}
+use Rattle.vb_value.specs.declared.value.Value.{Str}
 use Rattle.vb_syntax.specs.declared.program.statement.Case.{Case}
 use Rattle.vb_syntax.specs.declared.program.statement.ElseIf.{ElseIf}
 use Rattle.vb_syntax.specs.declared.program.statement.Statement.{Statement}
@@ -14,10 +14,10 @@ use Rattle.vb_meaning.specs.Inner.{Inner, ByLet, BySet}
 use Rattle.vb_meaning.specs.Loops.{do_statement, while_statement, for_statement, for_each_statement}
 use Rattle.vb_meaning.specs.Places.{held_so_far}
 use Rattle.vb_meaning.specs.Releases.{release}
-use Rattle.vb_meaning.specs.State.{State, Does, on_world}
+use Rattle.vb_meaning.specs.State.{Does, on_world}
 use Rattle.vb_meaning.specs.Statements.{redim, assignment, if_statement, select_statement, with_statement, leave}
 use Rattle.vb_meaning.specs.Statements.{erase_all, write, handles}
-use Rattle.vb_meaning.specs.Step.{Step, ◌>>=◌, ◌>>◌, pure}
+use Rattle.vb_meaning.specs.Step.{◌>>=◌, ◌>>◌, pure}
 
 -- what a statement says, with its parts
 abbrev pub Said : Type 0

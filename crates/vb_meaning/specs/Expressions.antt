@@ -1,9 +1,8 @@
 -- Expressions (VBScript 5.6 language reference, "Operators").
-use Rattle.std.specs.Prelude.{ℕ, zero, suc, Bool, true, false, ◌&&◌, if◌then◌else◌, List, [], ◌∷◌, Option, Some, None}
-use Rattle.std.specs.Prelude.{Result, Ok, Err, slice_get}
+use Rattle.std.specs.Prelude.{ℕ, zero, suc, Bool, true, false, if◌then◌else◌, List, [], ◌∷◌}
+use Rattle.std.specs.Prelude.{slice_get}
 use Rattle.vb_value.specs.declared.operator.Op1.TheVariants.{Minus, Not}
-use Rattle.vb_value.specs.declared.value.ObjNo.{ObjNo}
-use Rattle.vb_value.specs.declared.value.Value.{Value, Obj, Nothing}
+use Rattle.vb_value.specs.declared.value.Value.{Value, Nothing}
 use Rattle.vb_value.specs.Errors.{undefined_variable}
 use Rattle.vb_syntax.specs.declared.program.Program.{Program}
 use Rattle.vb_syntax.specs.declared.program.expression.Expression.{Expression, out-Expression}
@@ -13,14 +12,13 @@ use Rattle.vb_syntax.specs.declared.program.expression.Head.TheVariants as head
 use Rattle.vb_syntax.specs.declared.program.expression.Operation.{Operation, out-Operation}
 use Rattle.vb_syntax.specs.declared.program.expression.Path.{Path}
 use Rattle.vb_syntax.specs.declared.program.expression.Step.{Step as PathStep}
-use Rattle.vb_syntax.specs.declared.program.name.Named.{Named}
 use Rattle.vb_syntax.specs.declared.program.name.Named.TheVariants as named
 use Rattle.vb_ops.specs.Operators.{apply1_of, apply2_of}
 use Rattle.vb_meaning.specs.declared.world.World.{World}
 use Rattle.vb_meaning.specs.Accesses.{accesses, only_groups}
 use Rattle.vb_meaning.specs.Inner.{Inner, Argument, OfPlace, OfValue}
 use Rattle.vb_meaning.specs.Making.{new_of}
-use Rattle.vb_meaning.specs.Paths.{Reached, AtPlace, AtValue, reached_value}
+use Rattle.vb_meaning.specs.Paths.{Reached, AtPlace, reached_value}
 use Rattle.vb_meaning.specs.Places.{holding}
 use Rattle.vb_meaning.specs.Reading.{path_value, reached, constant_there, value_there}
 use Rattle.vb_meaning.specs.State.{Does, on_world}

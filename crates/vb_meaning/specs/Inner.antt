@@ -1,6 +1,6 @@
 -- What the rules of one construct stand on: the program, the environment, and what the constructs inside it do. Each of
 -- these is one level deeper, since of all that is begun and not yet ended so many levels may be open.
-use Rattle.std.specs.Prelude.{ℕ, Bool, List, Option}
+use Rattle.std.specs.Prelude.{ℕ, List, Option}
 use Rattle.vb_value.specs.declared.value.ObjNo.{ObjNo}
 use Rattle.vb_value.specs.declared.value.Value.{Value}
 use Rattle.vb_syntax.specs.declared.program.Program.{Program}

@@ -35,8 +35,8 @@ use Rattle.vb_meaning.specs.Errors.{in_line, tick}
 use Rattle.vb_meaning.specs.Inner.{Inner}
 use Rattle.vb_meaning.specs.Places.{target_variable, read_place, store_place}
 use Rattle.vb_meaning.specs.Statements.{in_head, condition}
-use Rattle.vb_meaning.specs.State.{State, Does, on_world}
-use Rattle.vb_meaning.specs.Step.{Step, Gives, Ends, Run, ◌>>=◌, ◌>>◌, pure, ends, given}
+use Rattle.vb_meaning.specs.State.{Does, on_world}
+use Rattle.vb_meaning.specs.Step.{Run, ◌>>=◌, ◌>>◌, pure, ends, given}
 use Rattle.vb_meaning.specs.Values.{copied}
 
 -- ---- what an Exit leaves

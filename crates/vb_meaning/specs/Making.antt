@@ -14,7 +14,7 @@ use Rattle.vb_heap.specs.Objects.{new_object_of, with_new_object, field_of}
 use Rattle.vb_heap.specs.Store.{numbered}
 use Rattle.vb_meaning.specs.declared.world.World.{World}
 use Rattle.vb_meaning.specs.Errors.{in_line}
-use Rattle.vb_meaning.specs.Inner.{Inner, Owner}
+use Rattle.vb_meaning.specs.Inner.{Inner}
 use Rattle.vb_meaning.specs.Objects.{class_at}
 use Rattle.vb_meaning.specs.Places.{hold, cell_place}
 use Rattle.vb_meaning.specs.State.{Does, on_world, on_heap}

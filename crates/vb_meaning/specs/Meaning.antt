@@ -1,7 +1,7 @@
 -- The meaning of a program's expressions and statements: the rules, each on what is inside it, as deep as may be. Of the
 -- statements, operators, paths and calls that are begun and not yet ended at most 2,000 may be open; the next is the
 -- error Out of stack space.
-use Rattle.std.specs.Prelude.{ℕ, zero, suc, if◌then◌else◌, List}
+use Rattle.std.specs.Prelude.{ℕ, zero, suc, List}
 use Rattle.vb_value.specs.declared.value.Value.{Value}
 use Rattle.vb_syntax.specs.declared.program.Program.{Program}
 use Rattle.vb_syntax.specs.declared.program.expression.Expression.{Expression, out-Expression}

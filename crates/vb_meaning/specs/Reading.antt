@@ -1,27 +1,21 @@
 -- A path whose value is wanted, and arguments (VBScript 5.6 language reference, "Variables", "Function Statement",
 -- "Property Get Statement").
 use Rattle.std.specs.Prelude.{ℕ, nat_lt, ◌||◌, Bool, true, false, if◌then◌else◌, List, [], ◌∷◌, ◌++◌, length}
-use Rattle.std.specs.Prelude.{slice_get, Option, Some, None, Result, Ok, Err, codes}
-use Rattle.vb_value.specs.declared.fault.VbError.{VbError}
+use Rattle.std.specs.Prelude.{slice_get, Option, Some, None, Ok, codes}
 use Rattle.vb_value.specs.declared.value.ObjNo.{ObjNo}
-use Rattle.vb_value.specs.declared.value.Value.{Value, Empty, Obj, Str, Nothing}
+use Rattle.vb_value.specs.declared.value.Value.{Value, Obj, Str, Nothing}
 use Rattle.vb_value.specs.Conversions.{to_str_of}
 use Rattle.vb_value.specs.Errors.{type_mismatch, unsupported, wrong_number, object_not_set, undefined_variable}
 use Rattle.vb_value.specs.Errors.{cannot_create_object, and_then}
 use Rattle.vb_value.specs.Folding.{same_name}
 use Rattle.vb_syntax.specs.declared.member.Member.{Member as PageMember}
 use Rattle.vb_syntax.specs.declared.member.Takes.{Takes}
-use Rattle.vb_syntax.specs.declared.program.expression.Expression.{Expression, out-Expression}
-use Rattle.vb_syntax.specs.declared.program.expression.Expression.TheOpen.{Expression-F}
+use Rattle.vb_syntax.specs.declared.program.expression.Expression.{Expression}
 use Rattle.vb_syntax.specs.declared.program.expression.Head.{Head}
 use Rattle.vb_syntax.specs.declared.program.expression.Head.TheVariants as head
-use Rattle.vb_syntax.specs.declared.program.expression.Operation.{Operation}
 use Rattle.vb_syntax.specs.declared.program.expression.Path.{Path}
-use Rattle.vb_syntax.specs.declared.program.expression.Step.{Step as PathStep}
-use Rattle.vb_syntax.specs.declared.program.name.ErrMember.{ErrMember}
 use Rattle.vb_syntax.specs.declared.program.name.Named.{Named}
 use Rattle.vb_syntax.specs.declared.program.name.Named.TheVariants as named
-use Rattle.vb_syntax.specs.declared.program.name.Slot.{Slot}
 use Rattle.vb_syntax.specs.declared.program.unit.Class.{Class}
 use Rattle.vb_syntax.specs.declared.program.unit.Constant.{Constant}
 use Rattle.vb_syntax.specs.declared.program.unit.Procedure.{Procedure}
@@ -33,17 +27,17 @@ use Rattle.vb_heap.specs.Objects.{class_of, field_of}
 use Rattle.vb_heap.specs.Store.{numbered}
 use Rattle.vb_meaning.specs.declared.world.World.{World}
 use Rattle.vb_meaning.specs.Accesses.{Access, Group, Member, accesses, member_before, given_arguments, call_split}
-use Rattle.vb_meaning.specs.Accesses.{groups_split, only_groups}
+use Rattle.vb_meaning.specs.Accesses.{groups_split}
 use Rattle.vb_meaning.specs.Asking.{ask}
 use Rattle.vb_meaning.specs.Dictionaries.{named_member}
 use Rattle.vb_meaning.specs.ErrObject.{err_value}
-use Rattle.vb_meaning.specs.Inner.{Inner, Argument, OfPlace, OfValue, Owner}
+use Rattle.vb_meaning.specs.Inner.{Inner, Argument, Owner}
 use Rattle.vb_meaning.specs.Objects.{class_at, dictionary_word, field_named, procedure_named, if_public, is_read}
 use Rattle.vb_meaning.specs.Objects.{name_of_class, own_procedure, owner_class}
 use Rattle.vb_meaning.specs.Paths.{Reached, AtPlace, AtValue, element, reached_value}
 use Rattle.vb_meaning.specs.Places.{variable, hold, holding, cell_place}
-use Rattle.vb_meaning.specs.State.{State, Does, on_world, on_heap}
-use Rattle.vb_meaning.specs.Step.{Step, Run, ◌>>=◌, ◌>>◌, pure, given, fails}
+use Rattle.vb_meaning.specs.State.{Does, on_world, on_heap}
+use Rattle.vb_meaning.specs.Step.{Run, ◌>>=◌, ◌>>◌, pure, given, fails}
 use Rattle.vb_meaning.specs.Values.{object_in, constant_value, literal_value}
 
 -- ---- objects of the language

@@ -1,6 +1,6 @@
 -- Release points: how objects end to which nothing refers any more, and their terminators (VBScript 5.6 language
 -- reference, "Terminate Event").
-use Rattle.std.specs.Prelude.{ℕ, zero, suc, ◌+◌, ◌-◌, true, List, [], Option, Some, None, Result, Ok, Err, slice_get}
+use Rattle.std.specs.Prelude.{ℕ, zero, suc, ◌+◌, ◌-◌, true, [], Option, Some, None, slice_get}
 use Rattle.std.specs.Option.{option_and_then}
 use Rattle.vb_value.specs.declared.value.Value.{Value, Empty}
 use Rattle.vb_syntax.specs.declared.program.unit.Class.{Class}
@@ -9,16 +9,15 @@ use Rattle.vb_heap.specs.declared.object.Object.{Object}
 use Rattle.vb_heap.specs.Limits.{most_objects}
 use Rattle.vb_heap.specs.Objects.{class_in}
 use Rattle.vb_heap.specs.Releases.{oldest_loose, oldest_live, with_ending, finished, object_of}
-use Rattle.vb_heap.specs.Store.{Store, numbered}
-use Rattle.vb_meaning.specs.declared.stop.Stop.{Stop}
+use Rattle.vb_heap.specs.Store.{numbered}
 use Rattle.vb_meaning.specs.declared.stop.Stop.TheVariants as stop
 use Rattle.vb_meaning.specs.declared.world.World.{World}
 use Rattle.vb_meaning.specs.Errors.{cleared, in_line}
-use Rattle.vb_meaning.specs.Inner.{Inner, Owner}
+use Rattle.vb_meaning.specs.Inner.{Inner}
 use Rattle.vb_meaning.specs.Objects.{class_at}
 use Rattle.vb_meaning.specs.Places.{let_go}
 use Rattle.vb_meaning.specs.State.{State, Does, with_heap}
-use Rattle.vb_meaning.specs.Step.{Step, Gives, Ends, and_then, ◌>>=◌, ◌>>◌, pure}
+use Rattle.vb_meaning.specs.Step.{Step, Gives, Ends, and_then, ◌>>◌, pure}
 
 -- the world in which a terminator begins: Err holds no error
 abbrev pub terminating : World → World

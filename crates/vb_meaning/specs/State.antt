@@ -1,5 +1,5 @@
 -- All that an act changes: the world, the environment and the replies that are left.
-use Rattle.std.specs.Prelude.{List, Option, Some, None, Result, Ok, Err, ℕ}
+use Rattle.std.specs.Prelude.{List, None, Result, Ok, Err}
 use Rattle.vb_value.specs.declared.application.AppReply.{AppReply}
 use Rattle.vb_heap.specs.declared.fault.HeapStop.{HeapStop}
 use Rattle.vb_heap.specs.declared.fault.HeapStop.TheVariants as heap

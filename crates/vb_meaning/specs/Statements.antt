@@ -1,5 +1,5 @@
 -- Statements, but for loops (VBScript 5.6 language reference, "Statements", with those of an ASP page).
-use Rattle.std.specs.Prelude.{ℕ, ◌+◌, ◌-◌, ◌==◌, nat_le, Bool, true, false, ◌&&◌, not, if◌then◌else◌, ℤ, List, [], ◌∷◌, ◌++◌}
+use Rattle.std.specs.Prelude.{ℕ, ◌-◌, ◌==◌, Bool, true, false, ◌&&◌, if◌then◌else◌, ℤ, List, [], ◌∷◌, ◌++◌}
 use Rattle.std.specs.Prelude.{length, take, replicate, Option, Some, None, Result, Ok, Err}
 use Rattle.std.specs.List.{list_any}
 use Rattle.std.specs.Ordering.{int_eq}
@@ -7,10 +7,10 @@ use Rattle.std.specs.Cmp.Lexicographic.{pointwise}
 use Rattle.vb_value.specs.declared.fault.VbError.{VbError}
 use Rattle.vb_value.specs.declared.operator.Op2.TheVariants.{Equal}
 use Rattle.vb_value.specs.declared.value.Array.{Array}
-use Rattle.vb_value.specs.declared.value.Value.{Value, Empty, Str, out-Value}
+use Rattle.vb_value.specs.declared.value.Value.{Value, Empty, out-Value}
 use Rattle.vb_value.specs.declared.value.Value.TheOpen.{Value-F}
 use Rattle.vb_value.specs.declared.value.Value.TheViews.{Arr}
-use Rattle.vb_value.specs.Errors.{array_is_fixed, out_of_range, type_mismatch, illegal_assignment}
+use Rattle.vb_value.specs.Errors.{array_is_fixed, out_of_range, type_mismatch}
 use Rattle.vb_value.specs.Sound.{item_count}
 use Rattle.vb_syntax.specs.declared.member.Member.TheVariants.{ResponseWrite}
 use Rattle.vb_syntax.specs.declared.program.expression.Expression.{Expression}
@@ -36,7 +36,7 @@ use Rattle.vb_meaning.specs.Asking.{ask}
 use Rattle.vb_meaning.specs.Assigning.{assignable}
 use Rattle.vb_meaning.specs.Blocks.{block}
 use Rattle.vb_meaning.specs.Errors.{in_line, resumed, cleared, on_error}
-use Rattle.vb_meaning.specs.Inner.{Inner, Assigned, ByLet, BySet}
+use Rattle.vb_meaning.specs.Inner.{Inner, Assigned}
 use Rattle.vb_meaning.specs.Paths.{AtPlace, element}
 use Rattle.vb_meaning.specs.Places.{variable, target_variable, held_at, held_so_far, indices_of}
 use Rattle.vb_meaning.specs.Reading.{values, from_head}

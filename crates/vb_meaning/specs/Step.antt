@@ -1,9 +1,6 @@
 -- What something does: it changes a state, and gives a value or ends.
-use Rattle.std.specs.Prelude.{◌≡◌, ◌≢◌, ℕ, Option, None, Result, Ok, Err}
-use Rattle.vb_value.specs.declared.application.AppCall.{AppCall}
+use Rattle.std.specs.Prelude.{◌≡◌, ◌≢◌, None, Result, Ok, Err}
 use Rattle.vb_value.specs.declared.fault.VbError.{VbError}
-use Rattle.vb_value.specs.declared.limit.LimitKind.{LimitKind}
-use Rattle.vb_meaning.specs.declared.cause.Cause.{Cause}
 use Rattle.vb_meaning.specs.declared.cause.Cause.TheVariants.{Language}
 use Rattle.vb_meaning.specs.declared.stop.Stop.{Stop}
 use Rattle.vb_meaning.specs.declared.stop.Stop.TheVariants as stop

@@ -1,12 +1,12 @@
 -- Values that are written down, and copies of values (VBScript 5.6 language reference, "VBScript Data Types").
-use Rattle.std.specs.Prelude.{ℕ, suc, ℤ, pos, negsuc, ◌-ℤ◌, Bool, true, false, List, [], ◌∷◌, replicate, length}
+use Rattle.std.specs.Prelude.{suc, ℤ, negsuc, Bool, true, false, List, [], ◌∷◌, replicate}
 use Rattle.std.specs.Prelude.{Result, Ok, Err, if◌then◌else◌}
 use Rattle.std.specs.List.{list_any}
 use Rattle.vb_value.specs.declared.fault.VbError.{VbError}
 use Rattle.vb_value.specs.declared.operator.Op1.TheVariants.{Minus}
 use Rattle.vb_value.specs.declared.value.Array.{Array, roll-Array}
 use Rattle.vb_value.specs.declared.value.ObjNo.{ObjNo}
-use Rattle.vb_value.specs.declared.value.Value.{Value, Empty, Null, Bool as Boolean, Int, Long, Cur, Str, Obj, Nothing}
+use Rattle.vb_value.specs.declared.value.Value.{Value, Empty, Null, Bool as Boolean, Int, Long, Str, Obj, Nothing}
 use Rattle.vb_value.specs.declared.value.Value.{roll-Value}
 use Rattle.vb_value.specs.declared.value.Value.TheFolds.{fold-Value}
 use Rattle.vb_value.specs.declared.value.Value.TheOpen.{Value-F, Array-F}
@@ -17,7 +17,6 @@ use Rattle.vb_syntax.specs.declared.declaration.ConstantValue.{ConstantValue}
 use Rattle.vb_syntax.specs.declared.declaration.ConstantValue.TheVariants as constant
 use Rattle.vb_syntax.specs.declared.expression.Literal.{Literal}
 use Rattle.vb_syntax.specs.declared.expression.Literal.TheVariants as literal
-use Rattle.vb_syntax.specs.declared.program.unit.DeclaredArray.{DeclaredArray}
 use Rattle.vb_ops.specs.Operators.{apply1_of}
 
 -- a value that is written down
@@ -54,10 +53,6 @@ copied = fold-Value Value Array value_copied array_copied
 -- an array of these bounds with the value Empty for each item
 abbrev pub empty_array : Bool → List ℤ → Array
 empty_array fixed bounds = record { bounds = bounds; fixed = fixed; items = replicate (item_count bounds) Empty }
-
--- an array of one dimension that is not fixed, with these items
-abbrev pub list_array : List Value → Value
-list_array items = Arr (record { bounds = (pos (length items) -ℤ pos 1) ∷ []; fixed = false; items = items })
 
 -- whether a bound is below -1
 abbrev pub is_bad_bound : ℤ → Bool
