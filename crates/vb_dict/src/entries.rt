@@ -25,8 +25,8 @@ pub fn add(
     heap.add_entry(dictionary, copy(alloc, key)?, item)
 }
 
-/// `Item`, written: another item in the key's entry, which stays in its place, or an entry more. Errors 91, 438 and 5 as
-/// for `add`, then the limit Nest, and then the limit Data.
+/// `Item`, written: another item in the key's entry, which stays in its place, or an entry more. Errors 91, 438 and 5
+/// as for `add`, then the limit Nest, and then the limit Data.
 pub fn put(
     alloc: Global,
     heap: &mut Heap,
@@ -73,8 +73,8 @@ pub fn exists(heap: &Heap, dictionary: ObjNo, key: &Value) -> Result<bool, VbFau
     Ok(place_of(heap, dictionary, key)?.is_some())
 }
 
-/// `Remove`: the key's entry is gone, and the later ones move up. Errors 91, 438 and 5 as for `add`, and 32811 where the
-/// key has no entry.
+/// `Remove`: the key's entry is gone, and the later ones move up. Errors 91, 438 and 5 as for `add`, and 32811 where
+/// the key has no entry.
 pub fn remove(heap: &mut Heap, dictionary: ObjNo, key: &Value) -> Result<(), HeapStop>
     ensures answer { Answers result HeapStop.Memory (spec.remove_of dictionary key.now heap.old) }
     ensures data { Changes result heap.old heap.new (spec.with_removed dictionary key.now heap.old) }

@@ -43,8 +43,8 @@ pub fn mode(heap: &Heap, dictionary: ObjNo) -> Result<i32, VbError>
     Ok(heap.table_mode(dictionary))
 }
 
-/// `CompareMode`, written. Errors 91 and 438 as for `remove_all`, and 5 where there are entries or the mode is neither 0
-/// nor 1.
+/// `CompareMode`, written. Errors 91 and 438 as for `remove_all`, and 5 where there are entries or the mode is neither
+/// 0 nor 1.
 pub fn set_mode(heap: &mut Heap, dictionary: ObjNo, mode: i32) -> Result<(), HeapStop>
     ensures answer { Answers result HeapStop.Memory (spec.set_mode_of dictionary mode heap.old) }
     ensures data { Changes result heap.old heap.new (with_mode dictionary mode heap.old) }
