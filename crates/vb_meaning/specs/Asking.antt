@@ -1,18 +1,16 @@
 -- What an act asks of the objects that the page is given, and of the Application object through them.
-use Rattle.std.specs.Prelude.{ℕ, List, [], ◌∷◌, map, Result, Ok, Err, None}
+use Rattle.std.specs.Prelude.{ℕ, List, [], ◌∷◌, map, Result, Ok, Err}
 use Rattle.vb_value.specs.declared.application.AppReply.{AppReply}
 use Rattle.vb_value.specs.declared.value.Value.{Value, Str}
 use Rattle.vb_syntax.specs.declared.act.AskStop.{AskStop}
-use Rattle.vb_syntax.specs.declared.act.AskStop.TheVariants as why
 use Rattle.vb_syntax.specs.declared.act.Given.{Given}
 use Rattle.vb_syntax.specs.declared.act.Given.TheVariants as given
 use Rattle.vb_syntax.specs.declared.member.Member.{Member}
 use Rattle.vb_heap.specs.DictionaryCalls.{array_of}
-use Rattle.vb_meaning.specs.declared.cause.Cause.TheVariants.{Language}
-use Rattle.vb_meaning.specs.declared.stop.Stop.{Stop}
 use Rattle.vb_meaning.specs.declared.stop.Stop.TheVariants as stop
 use Rattle.vb_meaning.specs.declared.world.World.{World}
 use Rattle.vb_meaning.specs.State.{State, Does}
+use Rattle.vb_meaning.specs.Stops.{ask_stop}
 use Rattle.vb_meaning.specs.Step.{Step, Gives, Ends}
 
 -- what an environment says to one question: what it gives or why it stops, and what it is then
@@ -23,13 +21,6 @@ Said E = Result (Given × E) (AskStop × E)
 pub record Host (E : Type 0) : Type 0 where
   pub asked : Member → List Value → E → Said E
   pub answered : Member → List Value → AppReply → E → Said E
-
--- why an environment gave nothing
-abbrev pub ask_stop : AskStop → Stop
-ask_stop (why.Error number) = stop.Error (Language number) None
-ask_stop why.PageStop = stop.Page
-ask_stop (why.Limit kind) = stop.Limit kind None
-ask_stop why.Memory = stop.Memory
 
 -- the texts of names
 abbrev pub name_values : List (List ℕ) → List Value

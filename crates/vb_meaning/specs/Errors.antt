@@ -6,6 +6,7 @@ use Rattle.vb_value.specs.ErrorText.{error_text_of}
 use Rattle.vb_meaning.specs.declared.cause.Cause.{Cause}
 use Rattle.vb_meaning.specs.declared.cause.Cause.TheVariants as cause
 use Rattle.vb_meaning.specs.declared.cause.Raised.{Raised}
+use Rattle.vb_meaning.specs.declared.stop.Stop.{Stop}
 use Rattle.vb_meaning.specs.declared.stop.Stop.TheVariants as stop
 use Rattle.vb_meaning.specs.declared.world.World.{World}
 use Rattle.vb_meaning.specs.State.{State, with_frame}
@@ -38,15 +39,19 @@ abbrev pub cleared : World → World
 cleared world = with_err no_error world
 
 -- an error or a limit that has no line yet arose in this one
+abbrev pub stop_in : ℕ → Stop → Stop
+stop_in line (stop.Error what None) = stop.Error what (Some line)
+stop_in line (stop.Error what (Some at)) = stop.Error what (Some at)
+stop_in line (stop.Limit kind None) = stop.Limit kind (Some line)
+stop_in line (stop.Limit kind (Some at)) = stop.Limit kind (Some at)
+stop_in line stop.Page = stop.Page
+stop_in line (stop.Wants call) = stop.Wants call
+stop_in line stop.Memory = stop.Memory
+
+-- a step in a line
 abbrev pub in_line : {S A : Type 0} → ℕ → Step S A → Step S A
 in_line line (Gives value s) = Gives value s
-in_line line (Ends (stop.Error what None) s) = Ends (stop.Error what (Some line)) s
-in_line line (Ends (stop.Limit kind None) s) = Ends (stop.Limit kind (Some line)) s
-in_line line (Ends (stop.Error what (Some at)) s) = Ends (stop.Error what (Some at)) s
-in_line line (Ends (stop.Limit kind (Some at)) s) = Ends (stop.Limit kind (Some at)) s
-in_line line (Ends stop.Page s) = Ends stop.Page s
-in_line line (Ends (stop.Wants call) s) = Ends (stop.Wants call) s
-in_line line (Ends stop.Memory s) = Ends stop.Memory s
+in_line line (Ends why s) = Ends (stop_in line why) s
 
 -- Under On Error Resume Next an error only changes Err, and what `instead` says is given. Else it stays.
 abbrev pub resumed : {E A : Type 0} → A → Step (State E) A → Step (State E) A
@@ -68,7 +73,10 @@ unfoldable pub tick : Run World (Unit {0})
 tick world = if nat_lt 0 world.ticks then Gives tt (record world { ticks = world.ticks - 1 })
     else Ends (stop.Limit Ticks None) world
 
--- One construct too many is begun: Out of stack space, and the limit Depth while a terminator runs.
+-- why one construct more is too many: Out of stack space, and the limit Depth while a terminator runs
+abbrev pub depth_stop : World → Stop
+depth_stop world = if world.terminates then stop.Limit Depth None else stop.Error (cause.Language (pos 28)) None
+
+-- one construct too many is begun
 abbrev pub too_deep : {A : Type 0} → Run World A
-too_deep world =
-    Ends (if world.terminates then stop.Limit Depth None else stop.Error (cause.Language (pos 28)) None) world
+too_deep world = Ends (depth_stop world) world

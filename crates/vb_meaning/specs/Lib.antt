@@ -1,3 +1,4 @@
+pub mod Stops
 pub mod Step
 pub mod State
 pub mod Values

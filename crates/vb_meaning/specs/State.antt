@@ -1,14 +1,11 @@
 -- All that an act changes: the world, the environment and the replies that are left.
-use Rattle.std.specs.Prelude.{List, None, Result, Ok, Err}
+use Rattle.std.specs.Prelude.{List, Result, Ok, Err}
 use Rattle.vb_value.specs.declared.application.AppReply.{AppReply}
 use Rattle.vb_heap.specs.declared.fault.HeapStop.{HeapStop}
-use Rattle.vb_heap.specs.declared.fault.HeapStop.TheVariants as heap
 use Rattle.vb_heap.specs.Store.{Store}
-use Rattle.vb_meaning.specs.declared.cause.Cause.TheVariants.{Language}
-use Rattle.vb_meaning.specs.declared.stop.Stop.{Stop}
-use Rattle.vb_meaning.specs.declared.stop.Stop.TheVariants as stop
 use Rattle.vb_meaning.specs.declared.world.Frame.{Frame}
 use Rattle.vb_meaning.specs.declared.world.World.{World}
+use Rattle.vb_meaning.specs.Stops.{heap_stop}
 use Rattle.vb_meaning.specs.Step.{Step, Gives, Ends, Run}
 
 -- the state of an act in an environment of type E
@@ -42,12 +39,6 @@ with_frame change world = record world { frame = change world.frame }
 -- the data of the page
 abbrev pub with_heap : (Store → Store) → World → World
 with_heap change world = record world { heap = change world.heap }
-
--- why a call on the data of the page gave nothing
-abbrev pub heap_stop : HeapStop → Stop
-heap_stop (heap.Error number) = stop.Error (Language number) None
-heap_stop (heap.Limit kind) = stop.Limit kind None
-heap_stop heap.Memory = stop.Memory
 
 -- what a call on the data of the page answers, and the world that it leaves where it is not refused
 abbrev pub heap_answer : {A : Type 0} → Result A HeapStop → World → World → Step World A

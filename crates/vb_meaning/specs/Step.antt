@@ -37,14 +37,27 @@ pure value = Gives value
 abbrev pub ends : {S A : Type 0} → Stop → Run S A
 ends why = Ends why
 
+-- an error of the language as a stop
+abbrev pub error_stop : VbError → Stop
+error_stop error = stop.Error (Language error.number) None
+
 -- an error of the language; the statement around gives it its line
 abbrev pub fails : {S A : Type 0} → VbError → Run S A
-fails error = Ends (stop.Error (Language error.number) None)
+fails error = Ends (error_stop error)
+
+-- an answer with its error as a stop
+abbrev pub raising : {A : Type 0} → Result A VbError → Result A Stop
+raising (Ok value) = Ok value
+raising (Err error) = Err (error_stop error)
+
+-- an answer as a step that changes nothing
+abbrev pub came : {S A : Type 0} → Result A Stop → Run S A
+came (Ok value) = Gives value
+came (Err why) = Ends why
 
 -- what an operator, a conversion or a function answers
 abbrev pub given : {S A : Type 0} → Result A VbError → Run S A
-given (Ok value) = Gives value
-given (Err error) = fails error
+given answer = came (raising answer)
 
 -- How a call shows a step: what it answers and the state that it leaves are that step's. Nothing is said of a call
 -- that ran out of memory.

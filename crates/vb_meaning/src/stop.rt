@@ -1,7 +1,11 @@
 //! Why something that a script does gives no value.
+ghost use Rattle.std.specs.Prelude.{◌≡◌};
 
 use crate::cause::Cause;
-use vb_value::{AppCall, LimitKind};
+use std::alloc::{AllocError, AllocFailed};
+use vb_heap::HeapStop;
+use vb_syntax::AskStop;
+use vb_value::{AppCall, LimitKind, Memory, VbError, VbFault};
 
 /// Why something that a script does gives no value.
 #[derive(Debug, Drop)]
@@ -16,4 +20,86 @@ pub enum Stop {
     Wants(AppCall),
     /// Memory ran out. No meaning ends so.
     Memory,
+}
+
+impl From<Memory> for Stop {
+    ghost use Rattle.vb_meaning.specs.declared.stop.Stop.TheVariants.{Memory as OutOfMemory};
+
+    ghost from_gives = { λ _ stop. stop ≡ OutOfMemory };
+
+    fn from(_: Memory) -> Stop {
+        Stop::Memory
+    }
+}
+
+impl From<AllocError> for Stop {
+    ghost use Rattle.vb_meaning.specs.declared.stop.Stop.TheVariants.{Memory as OutOfMemory};
+
+    ghost from_gives = { λ _ stop. stop ≡ OutOfMemory };
+
+    fn from(_: AllocError) -> Stop {
+        Stop::Memory
+    }
+}
+
+impl<T: Drop> From<AllocFailed<T>> for Stop {
+    ghost use Rattle.vb_meaning.specs.declared.stop.Stop.TheVariants.{Memory as OutOfMemory};
+
+    ghost from_gives = { λ _ stop. stop ≡ OutOfMemory };
+
+    fn from(_: AllocFailed<T>) -> Stop {
+        Stop::Memory
+    }
+}
+
+impl From<VbError> for Stop {
+    ghost use Rattle.vb_meaning.specs.Step.{error_stop};
+
+    ghost from_gives = { λ error stop. stop ≡ error_stop error };
+
+    fn from(error: VbError) -> Stop {
+        Stop::Error(Cause::Language(error.number), None)
+    }
+}
+
+impl From<VbFault> for Stop {
+    ghost use Rattle.vb_meaning.specs.Stops.{fault_stop};
+
+    ghost from_gives = { λ fault stop. stop ≡ fault_stop fault };
+
+    fn from(fault: VbFault) -> Stop {
+        match fault {
+            VbFault::Error(number) => Stop::Error(Cause::Language(number), None),
+            VbFault::Memory => Stop::Memory,
+        }
+    }
+}
+
+impl From<HeapStop> for Stop {
+    ghost use Rattle.vb_meaning.specs.Stops.{heap_stop};
+
+    ghost from_gives = { λ why stop. stop ≡ heap_stop why };
+
+    fn from(why: HeapStop) -> Stop {
+        match why {
+            HeapStop::Error(number) => Stop::Error(Cause::Language(number), None),
+            HeapStop::Limit(kind) => Stop::Limit(kind, None),
+            HeapStop::Memory => Stop::Memory,
+        }
+    }
+}
+
+impl From<AskStop> for Stop {
+    ghost use Rattle.vb_meaning.specs.Stops.{ask_stop};
+
+    ghost from_gives = { λ why stop. stop ≡ ask_stop why };
+
+    fn from(why: AskStop) -> Stop {
+        match why {
+            AskStop::Error(number) => Stop::Error(Cause::Language(number), None),
+            AskStop::PageStop => Stop::Page,
+            AskStop::Limit(kind) => Stop::Limit(kind, None),
+            AskStop::Memory => Stop::Memory,
+        }
+    }
 }
