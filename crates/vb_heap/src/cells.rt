@@ -2,6 +2,7 @@
 ghost use Rattle.std.specs.Prelude.{◌≡◌};
 ghost use Rattle.vb_value.specs.Errors.{reported};
 ghost use Rattle.vb_value.specs.Outcome.{Answers, Changes};
+ghost use Rattle.vb_heap.specs.Saturated.{result_now};
 ghost use Rattle.vb_heap.specs.Cells.{new_cell_of, with_new_cell, without_cell, read_of, store_of, with_stored};
 
 use crate::cell_map::{add_cell, put_in_cell, remove_cell, weight_at};
@@ -42,15 +43,22 @@ impl Heap {
         self.weight -= remove_cell(&mut self.cells, cell.0);
     }
 
-    /// A copy of the value at a place. Error 91 where the cell is gone, 9 where an index is out of range, and 13 where
-    /// an index is asked of no array.
+    /// The value at a place, where it lies. Error 91 where the cell is gone, 9 where an index is out of range, and 13
+    /// where an index is asked of no array.
+    pub fn look(&self, place: &Place) -> Result<&Value, VbError>
+        ensures { result_now result ≡ read_of place.now self.now }
+    {
+        let Some(value) = self.cells.get(&place.cell.0) else {
+            return Err(VbError::OBJECT_NOT_SET);
+        };
+        value_in(value, place.steps.as_slice())
+    }
+
+    /// A copy of the value at a place, with the errors of [`Heap::look`].
     pub fn read(&self, alloc: Global, place: &Place) -> Result<Value, VbFault>
         ensures { Answers result VbFault.Memory (reported (read_of place.now self.now)) }
     {
-        let Some(value) = self.cells.get(&place.cell.0) else {
-            return Err(VbError::OBJECT_NOT_SET)?;
-        };
-        Ok(copy(alloc, value_in(value, place.steps.as_slice())?)?)
+        Ok(copy(alloc, self.look(place)?)?)
     }
 
     /// Puts another value at a place. Error 91 where the cell is gone, 9 where an index is out of range, 13 where an

@@ -8,7 +8,7 @@ use Rattle.vb_value.specs.declared.value.Array.{Array, roll-Array}
 use Rattle.vb_value.specs.declared.value.ObjNo.{ObjNo}
 use Rattle.vb_value.specs.declared.value.Value.{Value, Empty, Null, Bool as Boolean, Int, Long, Str, Obj, Nothing}
 use Rattle.vb_value.specs.declared.value.Value.{roll-Value}
-use Rattle.vb_value.specs.declared.value.Value.TheFolds.{fold-Value}
+use Rattle.vb_value.specs.declared.value.Value.TheFolds.{fold-Value, fold-Array}
 use Rattle.vb_value.specs.declared.value.Value.TheOpen.{Value-F, Array-F}
 use Rattle.vb_value.specs.declared.value.Value.TheViews.{Arr}
 use Rattle.vb_value.specs.Errors.{out_of_range, object_required, object_not_set}
@@ -47,6 +47,10 @@ array_copied array = roll-Array (record array { fixed = false })
 -- a copy of a value: an array in it, at any depth, is not fixed
 abbrev pub copied : Value → Value
 copied = fold-Value Value Array value_copied array_copied
+
+-- a copy of an array
+abbrev pub copied_array : Array → Array
+copied_array = fold-Array Value Array value_copied array_copied
 
 -- ---- arrays
 
