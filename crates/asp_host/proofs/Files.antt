@@ -18,12 +18,12 @@ use Rattle.asp_host.specs.Reading.{ShowsAt, IsReadAt, IsRefusedAt}
 
 -- a page file is no longer than what is read of it
 short_page : (bytes body : List ℕ) → IsPageBody bytes body → take 65537 bytes ≡ bytes
-short_page bytes body page = take_all 65537 bytes (omega (arith, page.page.cut.short))
+short_page bytes body page = take_all 65537 bytes (omega (arith, page.page.short))
 
 -- what is read of a file shows what the file shows
 pub read_page : (bytes shown : List ℕ) → IsPageBody (take 65537 bytes) shown → IsPageBody bytes shown
 read_page bytes shown page =
-    let short : length bytes ≤ 65537 = omega (arith, page.page.cut.short, length-take 65537 bytes) in
+    let short : length bytes ≤ 65537 = omega (arith, page.page.short, length-take 65537 bytes) in
     subst (λ (read : List ℕ). IsPageBody read shown) (take_all 65537 bytes short) page
 
 -- where what is read shows nothing, the file does not

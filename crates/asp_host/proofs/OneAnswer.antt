@@ -8,7 +8,7 @@ use Rattle.std.proofs.lemmas.Option.{same_Some}
 use Rattle.vb_value.specs.declared.site_file.SiteFile.{SiteFile}
 use Rattle.vb_value.specs.Folding.{folded}
 use Rattle.page_read.specs.declared.fragment.Fragment.{Fragment}
-use Rattle.page_read.specs.declared.fragment.Fragment.TheVariants.{Text, Write}
+use Rattle.page_read.specs.declared.fragment.Fragment.TheVariants.{Directive, Element, Include, Script, Text, Write}
 use Rattle.page_read.proofs.Pieces.{one_list}
 use Rattle.page_read.proofs.Terms.{sums_unique}
 use Rattle.asp_io.specs.Folder.{AreSitePaths, bytes_of, path_of}
@@ -25,8 +25,12 @@ one_sum_text sum text other is also = is.3 ∙ (ap sum_text (sums_unique sum is.
 
 -- a piece shows one text
 one_shown : (piece : Fragment) (text other : List ℕ) → Shows piece text → Shows piece other → text ≡ other
-one_shown (Text plain) text other is also = is ∙ sym also
+one_shown (Text plain) text other is also = is.1 ∙ sym also.1
 one_shown (Write sum line) text other is also = one_sum_text sum text other is also
+one_shown (Directive session) text other is also = elim is [ ]
+one_shown (Script script line) text other is also = elim is [ ]
+one_shown (Element script line) text other is also = elim is [ ]
+one_shown (Include from_root path line) text other is also = elim is [ ]
 
 -- pieces show one text
 one_together : (pieces : List Fragment) (text other : List ℕ) → ShowTogether pieces text → ShowTogether pieces other

@@ -1,11 +1,12 @@
 -- What a page of text and sums shows.
-use Rattle.std.specs.Prelude.{◌≡◌, ℕ, ◌-◌, ◌≤◌, map, List, [], ◌∷◌, ◌++◌, All, length, sum_by}
-use Rattle.std.specs.Prelude.{encode_utf8_all, Option, MatchOption}
+use Rattle.std.specs.Prelude.{◌≡◌, ℕ, ◌-◌, ◌≤◌, map, List, [], ◌∷◌, ◌++◌, All, length, take, sum_by}
+use Rattle.std.specs.Prelude.{codes, encode_utf8_all, Option, None, MatchOption}
 use Rattle.std.specs.Fmt.{decimal}
 use Rattle.std.specs.Int.Digits.{number_from_digits}
 use Rattle.page_read.specs.declared.fragment.Fragment.{Fragment}
 use Rattle.page_read.specs.declared.fragment.Fragment.TheVariants.{Text, Write}
 use Rattle.page_read.specs.Fragments.{IsFragmentsOf}
+use Rattle.page_read.specs.Marks.{place_of}
 use Rattle.page_read.specs.Sum.{IsSum}
 
 -- the number that a digit stands for: the digits 0 to 9 are the characters 48 to 57
@@ -34,10 +35,17 @@ sum_text numbers = decimal (sum_by value_of numbers)
 abbrev pub IsSumText : List ℕ → List ℕ → Type 0
 IsSumText sum shown = (numbers : List (List ℕ)) × IsSum sum numbers × IsBounded numbers × (shown ≡ sum_text numbers)
 
--- the piece shows this text: itself, or the value of its sum
+-- the text has no `<!--`, `<script` or `<object` in any ASCII case
+pub record IsUntagged (text : List ℕ) : Type 0 where
+  pub comment : place_of (codes "<!--") text ≡ None
+  pub script : place_of (codes "<script") text ≡ None
+  pub object : place_of (codes "<object") text ≡ None
+
+-- the piece shows this text: itself, where it is plain text without tags, or the value of its sum; no other piece is run
 abbrev pub Shows : Fragment → List ℕ → Type 0
-Shows (Text text) shown = shown ≡ text
+Shows (Text text) shown = IsUntagged text × (shown ≡ text)
 Shows (Write text line) shown = IsSumText text shown
+Shows _ shown = ⊥
 
 -- the pieces show this text, one after the other
 abbrev pub ShowTogether : List Fragment → List ℕ → Type 0
@@ -45,8 +53,14 @@ ShowTogether [] shown = shown ≡ []
 ShowTogether (piece ∷ pieces) shown = (first : List ℕ) × (others : List ℕ) × Shows piece first
     × ShowTogether pieces others × (shown ≡ first ++ others)
 
--- a page file with these bytes shows this text
+-- the UTF-8 of a byte order mark (RFC 3629, section 6) stands first
+abbrev pub IsMarked : List ℕ → Type 0
+IsMarked bytes = take 3 bytes ≡ 0xEF ∷ 0xBB ∷ 0xBF ∷ []
+
+-- a page file with these bytes, at most 65,536 without a byte order mark, shows this text
 pub record IsPageText (bytes shown : List ℕ) : Type 0 where
+  pub short : length bytes ≤ 65536
+  pub unmarked : ¬ (IsMarked bytes)
   pub pieces : List Fragment
   pub cut : IsFragmentsOf bytes pieces
   pub together : ShowTogether pieces shown

@@ -9,10 +9,9 @@ ghost use Rattle.asp_host.specs.Page.{IsReadAs};
 ghost use Rattle.asp_host.specs.Site as spec;
 ghost use Rattle.asp_host.specs.Reading as reading;
 
-use crate::page::page_text;
+use crate::page::{MOST_BYTES, page_text};
 use crate::site::{chosen_paths, is_global};
 use asp_io::{Folder, IoStop};
-use page_read::MOST_BYTES;
 use std::alloc::Global;
 use vb_value::{Bytes, Copied, List, Memory, Stop, Text, fold};
 

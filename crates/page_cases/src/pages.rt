@@ -6,7 +6,10 @@ use page_read::{Fragment, PageStop, SumStop, fragments, sum_numbers};
 use std::alloc::Global;
 use vb_value::{Memory, Text};
 
-/// Page files, each with its pieces: text in quotes, and a value that is written in quotes behind its line.
+/// How many bytes a page file of a case may have.
+const MOST_BYTES: usize = 4_194_304;
+
+/// Page files, each with its pieces: what each is, its line and its text in quotes.
 pub struct Pages;
 
 /// Page files by their bytes in hexadecimal.
@@ -47,6 +50,9 @@ impl Subject for Sums {
 }
 
 fn pieces_text(alloc: Global, bytes: &[u8]) -> Result<String, CaseStop> {
+    if bytes.len() > MOST_BYTES {
+        return Err(CaseStop::Unreadable);
+    }
     let pieces = match fragments(alloc, bytes) {
         Ok(pieces) => pieces,
         Err(PageStop::Fault { kind, line }) => return Ok(format!(in alloc; "{kind:?} {line}")?),
@@ -63,13 +69,38 @@ fn pieces_text(alloc: Global, bytes: &[u8]) -> Result<String, CaseStop> {
 }
 
 fn push_piece(out: &mut String, alloc: Global, piece: &Fragment) -> Result<(), Memory> {
-    let text = match piece {
-        Fragment::Text(text) => text,
-        Fragment::Write { text, line } => {
-            out.push_str(format!(in alloc; "{line}: ")?.as_str())?;
-            text
-        }
-    };
+    match piece {
+        Fragment::Directive { session: true } => Ok(out.push_str("directive")?),
+        Fragment::Directive { session: false } => Ok(out.push_str("directive without sessions")?),
+        Fragment::Text(text) => push_quoted(out, alloc, text),
+        Fragment::Script { text, line } => push_placed(out, alloc, "script ", *line, text),
+        Fragment::Write { text, line } => push_placed(out, alloc, "", *line, text),
+        Fragment::Element { text, line } => push_placed(out, alloc, "element ", *line, text),
+        Fragment::Include {
+            from_root: true,
+            path,
+            line,
+        } => push_placed(out, alloc, "virtual ", *line, path),
+        Fragment::Include {
+            from_root: false,
+            path,
+            line,
+        } => push_placed(out, alloc, "file ", *line, path),
+    }
+}
+
+fn push_placed(
+    out: &mut String,
+    alloc: Global,
+    kind: &str,
+    line: u32,
+    text: &Text,
+) -> Result<(), Memory> {
+    out.push_str(format!(in alloc; "{kind}{line}: ")?.as_str())?;
+    push_quoted(out, alloc, text)
+}
+
+fn push_quoted(out: &mut String, alloc: Global, text: &Text) -> Result<(), Memory> {
     out.push('"')?;
     out.push_str(text.to_string(alloc)?.as_str())?;
     Ok(out.push('"')?)

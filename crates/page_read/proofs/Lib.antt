@@ -1,6 +1,6 @@
 pub mod Terms
-pub mod Begins
-pub mod Bodies
+pub mod Fronts
+pub mod Marks
+pub mod Attributes
 pub mod Pieces
-pub mod Reading
 pub mod Page

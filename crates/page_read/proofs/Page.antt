@@ -1,31 +1,26 @@
 -- The bytes of a page and its text.
-use Rattle.std.proofs.Common.{◌≡◌, ◌≢◌, ℕ, ◌<◌, ◌≤◌, ◌^◌, Bool, true, false, List, [], Ok, Err, Some, length}
-use Rattle.std.proofs.Common.{refl, ap, subst, arith, if◌then◌else◌}
+use Rattle.std.proofs.Common.{◌≡◌, ℕ, ◌<◌, ◌^◌, Bool, true, false, List, [], Ok, Err, length}
+use Rattle.std.proofs.Common.{refl, ap, subst, inl, inr, arith, if◌then◌else◌}
+use Rattle.std.specs.Prelude.{Result}
 use Rattle.std.specs.Str.{chars, is_utf8, IsUtf8}
-use Rattle.std.specs.List.{slice_get}
 use Rattle.std.proofs.lemmas.Str.{encodes-chars, length-le-encodes, is_utf8-from_IsUtf8, IsUtf8-from_is_utf8}
-use Rattle.vb_value.specs.declared.text.Utf8Stop.{Utf8Stop}
-use Rattle.vb_value.specs.declared.text.Utf8Stop.TheVariants.{NotUtf8, Memory as NoRoomForText}
+use Rattle.vb_value.specs.declared.stop.Stop.{Stop}
+use Rattle.vb_value.specs.declared.stop.Stop.TheVariants.{Fault, Memory}
+use Rattle.vb_value.specs.declared.text.Utf8Stop.TheVariants.{NotUtf8}
 use Rattle.vb_value.specs.Decoding.{decoded}
-use Rattle.page_read.specs.declared.fragment.Fragment.{Fragment}
 use Rattle.vb_value.specs.Outcome.{OnFault}
-use Rattle.page_read.specs.Fragments.{AreCut, IsFragmentsOf}
-use Rattle.page_read.specs.Reading.{stop_of_text}
+use Rattle.page_read.specs.declared.fault.PageFault.TheVariants as faults
+use Rattle.page_read.specs.declared.fault.PageFault.{PageFault}
+use Rattle.page_read.specs.declared.fragment.Fragment.{Fragment}
+use Rattle.page_read.specs.Fragments.{AreCut, HasFault, IsFragmentsOf, StopsAt, unmarked}
 
 -- bytes that are UTF-8 are decoded
 utf8_decoded : (bytes : List ℕ) → IsUtf8 bytes → decoded bytes ≡ Ok (chars bytes)
 utf8_decoded bytes is = rw (is_utf8-from_IsUtf8 bytes is) refl
 
--- bytes that are not decoded belong to no pieces
-pub no_text : (bytes : List ℕ) (stop : Utf8Stop) → (stop ≢ NoRoomForText → decoded bytes ≡ Err stop)
-    → OnFault {T = List Fragment} (Err (stop_of_text stop)) (λ _ _. (pieces : List Fragment)
-    → ¬ (IsFragmentsOf bytes pieces))
-no_text bytes NotUtf8 says =
-    λ pieces is.
-    let there = utf8_decoded bytes is.utf8 in
-    let not_there : decoded bytes ≡ Err NotUtf8 = says (λ e. cc) in
-    cc
-no_text bytes NoRoomForText says = tt
+-- bytes that are not decoded are no UTF-8 as a whole
+pub no_text : (bytes : List ℕ) → decoded bytes ≡ Err NotUtf8 → HasFault bytes faults.NotUtf8 0
+no_text bytes is = inl (refl, refl, λ utf8. let there = utf8_decoded bytes utf8 in cc)
 
 -- what was decoded is the bytes' text
 pub text_is : (bytes text : List ℕ) → decoded bytes ≡ Ok text → IsUtf8 bytes × (text ≡ chars bytes)
@@ -36,22 +31,27 @@ text_is bytes text is =
     test (is_utf8 bytes) refl is
 
 -- a text has no more characters than bytes
-pub short_text : (bytes text : List ℕ) → decoded bytes ≡ Ok text → length bytes ≤ 65536 → length text < 2 ^ 31
+pub short_text : (bytes text : List ℕ) → decoded bytes ≡ Ok text → length bytes < 2 ^ 31 → length text < 2 ^ 31
 short_text bytes text is short =
     let both = text_is bytes text is in
     let long = ap length both.1 in
     let whole = ap length (encodes-chars bytes both.0) in
-    let fits : length text ≤ 65536 = omega (arith, long, whole, length-le-encodes (chars bytes), short) in
-    omega (arith, fits)
+    omega (arith, long, whole, length-le-encodes (chars bytes), short)
 
 -- the pieces of the text are those of the bytes
-pub pieces_there : (bytes text : List ℕ) (pieces : List Fragment) → decoded bytes ≡ Ok text → length bytes ≤ 65536
-    → slice_get text 0 ≢ Some 0xFEFF → AreCut [] text pieces → IsFragmentsOf bytes pieces
-pieces_there bytes text pieces is short unmarked cut =
+pub pieces_there : (bytes text page : List ℕ) (pieces : List Fragment) → decoded bytes ≡ Ok text → page ≡ unmarked text
+    → AreCut page page pieces [] → IsFragmentsOf bytes pieces
+pieces_there bytes text page pieces is page_is cut =
     let both = text_is bytes text is in
-    record {
-      short = short;
-      utf8 = both.0;
-      unmarked = subst (λ (t : List ℕ). slice_get t 0 ≢ Some 0xFEFF) both.1 unmarked;
-      cut = subst (λ (t : List ℕ). AreCut [] t pieces) both.1 cut;
-    }
+    let P : List ℕ → Type 0 = λ p. AreCut p p pieces [] in
+    record { utf8 = both.0; cut = subst (λ (t : List ℕ). P (unmarked t)) both.1 (subst P page_is cut) }
+
+-- the fault of the text is that of the bytes
+pub fault_there : (bytes text page : List ℕ) (result : Result (List Fragment) (Stop PageFault)) → decoded bytes ≡ Ok text
+    → page ≡ unmarked text → OnFault result (StopsAt page) → OnFault result (HasFault bytes)
+fault_there bytes text page (Ok pieces) is page_is fault = tt
+fault_there bytes text page (Err (Fault kind line)) is page_is fault =
+    let both = text_is bytes text is in
+    let P : List ℕ → Type 0 = λ p. StopsAt p kind line in
+    inr (both.0, subst (λ (t : List ℕ). P (unmarked t)) both.1 (subst P page_is fault))
+fault_there bytes text page (Err Memory) is page_is fault = tt

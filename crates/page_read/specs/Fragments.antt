@@ -1,58 +1,83 @@
--- What a page file is cut into: how a piece may be spelled, what it must be where it stands, and which pieces belong to
--- which bytes. A form of page is a case of `Spells` and a case of `IsPlaced`.
-use Rattle.std.specs.Prelude.{◌≡◌, ◌≢◌, ℕ, ◌≤◌, List, [], ◌∷◌, ◌++◌, length, chars, codes, IsUtf8, slice_get, Some}
+-- Which pieces belong to which bytes of a page file, and what is wrong with bytes to which none belong.
+use Rattle.std.specs.Prelude.{◌≡◌, ◌≢◌, ℕ, ◌-◌, ◌<◌, ◌⊎◌, ◌==◌, if◌then◌else◌, true, false, List, [], ◌∷◌, ◌++◌, length, take, drop, chars, IsUtf8}
+use Rattle.std.specs.Prelude.{Ok, Err}
 use Rattle.vb_value.specs.Lines.{line_at}
+use Rattle.page_read.specs.declared.fault.PageFault.{PageFault}
+use Rattle.page_read.specs.declared.fault.PageFault.TheVariants.{NotUtf8}
 use Rattle.page_read.specs.declared.fragment.Fragment.{Fragment}
-use Rattle.page_read.specs.declared.fragment.Fragment.TheVariants.{Text, Write}
-use Rattle.page_read.specs.Forms.{BeginsNoFormWithin, EndsPlain, HoldsNoClose}
-use Rattle.page_read.specs.Sum.{IsSomeSum}
+use Rattle.page_read.specs.declared.fragment.Fragment.TheVariants.{Text}
+use Rattle.page_read.specs.Forms.{begins_form, opened}
 
 -- ---- one piece
 
--- the piece may be spelled so
-abbrev pub Spells : Fragment → List ℕ → Type 0
-Spells (Text text) spelling = spelling ≡ text
-Spells (Write text line) spelling = spelling ≡ codes "<%=" ++ text ++ codes "%>"
+-- what stands before the end of a page's text
+abbrev pub text_before : List ℕ → List ℕ → List ℕ
+text_before page end = take (length page - length end) page
 
--- plain text isn't empty, no form begins in it, and it goes on up to a form or the end
-pub record IsPlain (text rest : List ℕ) : Type 0 where
-  pub filled : text ≢ []
-  pub plain : BeginsNoFormWithin (length text) (text ++ rest)
+-- the line in which the end of a page's text begins
+abbrev pub line_of : List ℕ → List ℕ → ℕ
+line_of page end = line_at page (length page - length end)
+
+-- no form begins at one of the first `count` places of the text
+abbrev pub BeginsNoFormWithin : ℕ → List ℕ → Type 0
+BeginsNoFormWithin count text = (at : ℕ) → at < count → begins_form (drop at text) ≡ false
+
+-- a form begins here, or nothing is left
+abbrev pub EndsPlain : List ℕ → Type 0
+EndsPlain text = (text ≡ []) ⊎ (begins_form text ≡ true)
+
+-- the text begins with this piece of plain text: it isn't empty, no form begins in it, and it goes on up to a form or
+-- the end
+pub record IsPlain (text : List ℕ) (found : Fragment) (rest : List ℕ) : Type 0 where
+  pub front : List ℕ
+  pub is_text : found ≡ Text front
+  pub spelled : text ≡ front ++ rest
+  pub filled : front ≢ []
+  pub plain : BeginsNoFormWithin (length front) text
   pub ends : EndsPlain rest
 
--- what is written is a sum with no `%>` in it, and its line is that of the place where its `<%=` stands
-pub record IsWrite (before text body : List ℕ) (line : ℕ) : Type 0 where
-  pub unclosed : HoldsNoClose body
-  pub sum : IsSomeSum body
-  pub at_line : line ≡ line_at (before ++ text) (length before)
+-- at the front of the text, the end of that page, a form begins that is this piece, and this follows it
+pub record IsForm (page text : List ℕ) (found : Fragment) (rest : List ℕ) : Type 0 where
+  pub form : begins_form text ≡ true
+  pub piece : opened (text_before page text) (line_of page text) text ≡ Ok (found, rest)
 
--- The piece is what it must be where it stands: behind `before`, at the front of `text`, with `rest` behind its spelling.
-abbrev pub IsPlaced : List ℕ → List ℕ → Fragment → List ℕ → Type 0
-IsPlaced before text (Text plain) rest = IsPlain plain rest
-IsPlaced before text (Write body line) rest = IsWrite before text body line
-
--- the text, which stands behind `before`, is the piece, so spelled, and then the rest
-pub record IsFirst (before text : List ℕ) (piece : Fragment) (spelling rest : List ℕ) : Type 0 where
-  pub spelled : text ≡ spelling ++ rest
-  pub spells : Spells piece spelling
-  pub placed : IsPlaced before text piece rest
+-- the text, the end of that page, begins with the piece, and this follows it: a form is there, or plain text
+abbrev pub IsFirst : List ℕ → List ℕ → Fragment → List ℕ → Type 0
+IsFirst page text piece rest = IsForm page text piece rest ⊎ IsPlain text piece rest
 
 -- ---- all pieces
 
--- the text, which stands behind `before`, is cut into the pieces
-abbrev pub AreCut : List ℕ → List ℕ → List Fragment → Type 0
-AreCut before text [] = text ≡ []
-AreCut before text (piece ∷ pieces) = (spelling : List ℕ) × (rest : List ℕ)
-    × IsFirst before text piece spelling rest × AreCut (before ++ spelling) rest pieces
+-- the text, the end of that page, is cut into the pieces, and this follows them
+abbrev pub AreCut : List ℕ → List ℕ → List Fragment → List ℕ → Type 0
+AreCut page text [] end = text ≡ end
+AreCut page text (piece ∷ pieces) end = (rest : List ℕ) × IsFirst page text piece rest × AreCut page rest pieces end
 
--- the pieces are those of a file with these bytes: at most 65,536 bytes of UTF-8 without a byte order mark (U+FEFF),
--- whose text is cut into them
+-- the text without the byte order mark (U+FEFF) that may stand first in it
+abbrev pub unmarked : List ℕ → List ℕ
+unmarked [] = []
+unmarked (c ∷ text) = if c == 0xFEFF then text else c ∷ text
+
+-- the pieces are those of a file with these bytes: UTF-8 (RFC 3629), of which the text is cut into them
 pub record IsFragmentsOf (bytes : List ℕ) (pieces : List Fragment) : Type 0 where
-  pub short : length bytes ≤ 65536
   pub utf8 : IsUtf8 bytes
-  pub unmarked : slice_get (chars bytes) 0 ≢ Some 0xFEFF
-  pub cut : AreCut [] (chars bytes) pieces
+  pub cut : AreCut (unmarked (chars bytes)) (unmarked (chars bytes)) pieces []
 
--- no pieces are those of a file with these bytes
-abbrev pub IsNoPage : List ℕ → Type 0
-IsNoPage bytes = (pieces : List Fragment) → ¬ (IsFragmentsOf bytes pieces)
+-- ---- what is wrong
+
+-- at the front of the text, the end of that page, a form begins that has this fault
+pub record HasFaultHere (page text : List ℕ) (kind : PageFault) : Type 0 where
+  pub form : begins_form text ≡ true
+  pub fault : opened (text_before page text) (line_of page text) text ≡ Err kind
+
+-- the page's text is cut into pieces up to a place at which a form begins that has this fault, in this line
+pub record StopsAt (page : List ℕ) (kind : PageFault) (line : ℕ) : Type 0 where
+  pub pieces : List Fragment
+  pub end : List ℕ
+  pub cut : AreCut page page pieces end
+  pub fault : HasFaultHere page end kind
+  pub at_line : line ≡ line_of page end
+
+-- the file with these bytes has this fault in this line: it is no UTF-8 as a whole, or the fault stands in its text
+abbrev pub HasFault : List ℕ → PageFault → ℕ → Type 0
+HasFault bytes kind line = ((kind ≡ NotUtf8) × (line ≡ 0) × ¬ (IsUtf8 bytes))
+    ⊎ (IsUtf8 bytes × StopsAt (unmarked (chars bytes)) kind line)

@@ -1,5 +1,11 @@
 -- How far the characters of a kind go on from the front of a text.
 use Rattle.std.specs.Prelude.{◌≡◌, ℕ, ◌≤◌, List, [], ◌∷◌, length, take, drop, All}
+use Rattle.vb_value.specs.declared.site_file.FaultKind.{FaultKind}
+use Rattle.vb_value.specs.declared.site_file.FaultKind.TheVariants.{NotYet}
+use Rattle.vb_value.specs.declared.stop.Stop.{Stop}
+use Rattle.vb_value.specs.declared.stop.Stop.TheVariants.{Fault, Memory}
+use Rattle.page_read.specs.declared.sum.SumStop.{SumStop}
+use Rattle.page_read.specs.declared.sum.SumStop.TheVariants.{NoSum, Memory as NoRoom}
 
 -- the text doesn't begin with a character of the kind
 abbrev pub BeginsNot : (ℕ → Type 0) → List ℕ → Type 0
@@ -16,3 +22,8 @@ pub record IsFront (Kind : ℕ → Type 0) (text : List ℕ) (count : ℕ) : Typ
 abbrev pub EndsTerm : List ℕ → Type 0
 EndsTerm [] = Unit {0}
 EndsTerm (character ∷ text) = character ≡ 43
+
+-- the stop of a page where what is written is not a sum that can be read
+abbrev pub stop_of_sum : SumStop → Stop FaultKind
+stop_of_sum NoSum = Fault NotYet 0
+stop_of_sum NoRoom = Memory

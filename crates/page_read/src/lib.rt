@@ -1,11 +1,17 @@
-//! Page files: a page is read into its pieces of text and the values that it writes, and each of these
-//! into its numbers.
+//! Page files: a page is read into its pieces: its directive, text, script, values that it writes, script elements and
+//! includes. Of the values the sums of the first page are read into their numbers.
 #![tactic(auto)]
 
-mod form;
+mod attribute;
+mod fault;
 mod fragment;
+mod mark;
+mod opened;
 mod piece;
 mod sum;
+mod tag;
 
-pub use fragment::{Fragment, MOST_BYTES, NOT_YET, PageStop, fragments, fragments_unique};
+pub use fault::{PageFault, PageStop};
+pub use fragment::{Fragment, fragments, fragments_or_fault, fragments_unique, one_fault};
+pub use mark::place_of;
 pub use sum::{SumStop, sum_numbers, sum_unique};

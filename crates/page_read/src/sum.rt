@@ -6,7 +6,7 @@ ghost use Rattle.page_read.specs.Sum.{AreTerms, IsBlank, IsDigit, IsSum, IsTerm}
 
 use std::alloc::Global;
 use std::fmt;
-use vb_value::{List, Memory, Text};
+use vb_value::{FaultKind, List, Memory, Stop, Text};
 
 /// Why a text was not read as a sum.
 #[derive(Clone, Copy, Debug, PartialEq, Eq)]
@@ -24,6 +24,22 @@ impl From<Memory> for SumStop {
 
     fn from(_: Memory) -> SumStop {
         SumStop::Memory
+    }
+}
+
+impl From<SumStop> for Stop<FaultKind> {
+    ghost use Rattle.page_read.specs.Front.{stop_of_sum};
+
+    ghost from_gives = { λ stop gives. gives ≡ stop_of_sum stop };
+
+    fn from(stop: SumStop) -> Stop<FaultKind> {
+        match stop {
+            SumStop::NoSum => Stop::Fault {
+                kind: FaultKind::NotYet,
+                line: 0,
+            },
+            SumStop::Memory => Stop::Memory,
+        }
     }
 }
 

@@ -1,15 +1,18 @@
-use Rattle.std.proofs.Common.{arith}
-use Rattle.page_read.proofs.Reading.{read_step}
+use Rattle.std.proofs.Common.{arith, subst, sym, List}
+use Rattle.page_read.specs.declared.fragment.Fragment.{Fragment}
+use Rattle.page_read.specs.Fragments.{AreCut}
+use Rattle.page_read.proofs.Pieces.{cut_more}
 use Rattle.page_read.proofs.piece.pieces.Goals as goal
 
-pub loop-at-preserved : goal.loop-at-preserved
-loop-at-preserved c =
-    let now = c.loop-at in
-    let first = c.in_ok-piece in
+pub loop-rest-preserved : goal.loop-rest-preserved
+loop-rest-preserved c =
+    let page = c.args.page.now in
+    let now = c.loop-rest in
+    let found = c.in-Ok.found in
     record {
-      within = first.ensures.within.1;
-      low = omega (arith, first.ensures.within, c.line_behind-line.ensures.below, now.invariant.low);
+      within = omega (arith, now.invariant.within, c.in-Ok.ensures.shorter);
+      low = omega (arith, now.invariant.within, now.invariant.low, c.in-Ok.ensures.shorter, c.line_behind-line.ensures.below);
       at_line = c.line_behind-line.ensures.line;
-      read = read_step c.args.text.now now.at first.count now.pieces _ first.piece c.in_ok-push.ensures
-          now.invariant.read first.ensures.ok first.ensures.within.1;
+      cut = subst (λ (pieces : List Fragment). AreCut page page pieces found.1.now) (sym c.in_ok-push.ensures)
+          (cut_more page page now.rest.now found.1.now now.pieces found.0 now.invariant.cut c.in-Ok.ensures.value);
     }

@@ -1,15 +1,14 @@
-use Rattle.std.proofs.Common.{◌≡◌, ◌+◌, ◌-◌, ◌≤◌, length}
-use Rattle.vb_value.specs.Lines.{line_at}
-use Rattle.page_read.proofs.Reading.{IsReadUpTo}
+use Rattle.std.proofs.Common.{◌≡◌, ◌+◌, ◌≤◌, length}
+use Rattle.page_read.specs.Fragments.{AreCut, line_of}
 use Rattle.page_read.proofs.piece.pieces.Given as goal
 
-abbrev pub invariant-loop-at : goal.invariant-loop-at
-invariant-loop-at l = record {
-  within : l.at ≤ length l.text;
-  low : l.line ≤ l.at + 1;
-  at_line : l.line ≡ line_at l.text l.at;
-  read : IsReadUpTo l.text l.at l.pieces;
+abbrev pub invariant-loop-rest : goal.invariant-loop-rest
+invariant-loop-rest l = record {
+  within : length l.rest ≤ length l.page;
+  low : l.line + length l.rest ≤ length l.page + 1;
+  at_line : l.line ≡ line_of l.page l.rest;
+  cut : AreCut l.page l.page l.pieces l.rest;
 }
 
-abbrev pub decreases-loop-at : goal.decreases-loop-at
-decreases-loop-at l = length l.text - l.at
+abbrev pub decreases-loop-rest : goal.decreases-loop-rest
+decreases-loop-rest l = length l.rest

@@ -1,5 +1,0 @@
-use Rattle.page_read.specs.Forms.{BeginsNoFormWithin}
-use Rattle.page_read.proofs.form.plain_len.Given as goal
-
-abbrev pub invariant-loop-at : goal.invariant-loop-at
-invariant-loop-at l = BeginsNoFormWithin l.at l.text
