@@ -46,7 +46,7 @@ fresh_world = record {
 
 -- the page's variables are made, and its constants stand for values
 abbrev pub page_begins : Code → Run World (Unit {0})
-page_begins unit = declared_cells (first_fault unit.constants) unit.variables >>= (λ cells world.
+page_begins unit = declared_cells [] (first_fault unit.constants) unit.variables >>= (λ cells world.
     (constants_made unit.constants >> pure tt) (record world { page = cells }))
 
 -- a line that is known, or 0

@@ -29,7 +29,7 @@ use Rattle.vb_meaning.specs.declared.world.World.{World}
 use Rattle.vb_meaning.specs.Accesses.{Access, Group, Member, accesses, member_before, given_arguments, groups_split}
 use Rattle.vb_meaning.specs.Accesses.{only_groups}
 use Rattle.vb_meaning.specs.Asking.{ask}
-use Rattle.vb_meaning.specs.Dictionaries.{put_by, set_member}
+use Rattle.vb_meaning.specs.Dictionaries.{asking, has_items, put_by, set_member}
 use Rattle.vb_meaning.specs.ErrObject.{set_err}
 use Rattle.vb_meaning.specs.Inner.{Inner, OfValue, Assigned, ByLet, BySet, Owner}
 use Rattle.vb_meaning.specs.Objects.{class_at, dictionary_word, field_named, procedure_named, if_public}
@@ -55,15 +55,9 @@ assignable ByLet _ = Ok tt
 
 -- ---- elements
 
--- a value into the item of a dictionary; another object has none
-abbrev pub put_item_of : ObjNo → List Value → Value → Option ℕ → Run World (Unit {0})
-put_item_of object keys value None = put_by object keys value
-put_item_of object keys value (Some class) = fails unsupported
-
--- the same in any object
+-- a value into an item of an object, which has to be a dictionary
 abbrev pub put_in_object : ObjNo → List Value → Value → Run World (Unit {0})
-put_in_object object keys value world =
-    (given (class_of (numbered object.0 world.heap.objects)) >>= put_item_of object keys value) world
+put_in_object object keys value = asking (has_items object) >> put_by object keys value
 
 -- A value into an element of what a place holds: of an array, or the item of a dictionary.
 abbrev pub store_in_place : Place → List Value → Value → Value-F Value Array → Run World (Unit {0})
@@ -205,7 +199,7 @@ module _ (E : Type 0) (m : Inner E) (how : Assigned) where
   abbrev pub write_member : PageMember → Takes → List Value → Value → Does E (Unit {0})
   write_member found takes supplied value =
       if takes.is_written then (if is_taken takes (length supplied)
-          then ask m.host found (supplied ++ value ∷ []) >> pure tt else fails wrong_number)
+      then ask m.host found (supplied ++ value ∷ []) >> pure tt else fails wrong_number)
       else fails unsupported
 
   -- the same, or a value into what stands behind the member

@@ -1,6 +1,6 @@
 -- Declarations: what they make at the start of their scope (VBScript 5.6 language reference, "Dim Statement", "Const
 -- Statement"). A fault of one arises there, with the line of the declaration, and of several the first counts.
-use Rattle.std.specs.Prelude.{ℕ, nat_lt, if◌then◌else◌, List, [], ◌∷◌, Option, Some, None, Result, Ok, Err}
+use Rattle.std.specs.Prelude.{◌++◌, ℕ, nat_lt, if◌then◌else◌, List, [], ◌∷◌, Option, Some, None, Result, Ok, Err}
 use Rattle.vb_value.specs.declared.fault.VbError.{VbError}
 use Rattle.vb_value.specs.declared.value.Value.{Value, Empty}
 use Rattle.vb_syntax.specs.declared.program.unit.Constant.{Constant}
@@ -49,14 +49,22 @@ cell_for None value world = new_cell value world
 abbrev pub declared_cell : Option DeclaredArray → Run World CellNo
 declared_cell array = declared_value array >>= cell_for array
 
--- the cells of declared variables, in their order
-abbrev pub declared_cells : Faulty → List (Option DeclaredArray) → Run World (List CellNo)
-declared_cells fault [] = pure []
-declared_cells fault (first ∷ others) = fault_before fault first >> declared_cell first >>= (λ cell.
-    declared_cells fault others >>= (λ cells. pure (cell ∷ cells)))
+-- the cells of declared variables in their order, behind those so far
+abbrev pub declared_cells : List CellNo → Faulty → List (Option DeclaredArray) → Run World (List CellNo)
+declared_cells done fault [] = pure done
+declared_cells done fault (first ∷ others) = fault_before fault first >> declared_cell first >>= (λ cell.
+    declared_cells (done ++ cell ∷ []) fault others)
+
+-- the value of a constant
+abbrev pub constant_made : Constant → Run World Value
+constant_made constant world = in_line constant.line (given (constant_value constant.value) world)
+
+-- the values of constants in their order, behind those so far
+abbrev pub constants_from : List Value → List Constant → Run World (List Value)
+constants_from done [] = pure done
+constants_from done (constant ∷ constants) =
+    constant_made constant >>= (λ value. constants_from (done ++ value ∷ []) constants)
 
 -- the values of constants, in their order
 abbrev pub constants_made : List Constant → Run World (List Value)
-constants_made [] = pure []
-constants_made (constant ∷ constants) = (λ world. in_line constant.line (given (constant_value constant.value) world))
-    >>= (λ value. constants_made constants >>= (λ values. pure (value ∷ values)))
+constants_made constants = constants_from [] constants

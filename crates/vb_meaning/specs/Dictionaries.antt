@@ -1,16 +1,17 @@
 -- Dictionaries in a script (Microsoft Scripting Runtime, "Dictionary Object"): what each member does with its
 -- arguments, and where it may be assigned to.
-use Rattle.std.specs.Prelude.{List, [], ◌∷◌, Option, Some, None, Result}
+use Rattle.std.specs.Prelude.{ℕ, List, [], ◌∷◌, Option, Some, None, Result, Ok, Err}
 use Rattle.vb_value.specs.declared.fault.VbError.{VbError}
 use Rattle.vb_value.specs.declared.value.ObjNo.{ObjNo}
 use Rattle.vb_value.specs.declared.value.Value.{Value, Empty, Long, Bool as Boolean}
 use Rattle.vb_value.specs.Conversions.{to_long_of}
-use Rattle.vb_value.specs.Errors.{wrong_number, unsupported}
+use Rattle.vb_value.specs.Errors.{wrong_number, unsupported, and_then}
 use Rattle.vb_syntax.specs.declared.program.name.DictionaryMember.{DictionaryMember}
 use Rattle.vb_syntax.specs.declared.program.name.DictionaryMember.TheVariants as word
 use Rattle.vb_heap.specs.DictionaryCalls as dictionary
 use Rattle.vb_heap.specs.Entries.{add_entry_of, with_entry, with_mode, without_entries}
-use Rattle.vb_heap.specs.Store.{Store}
+use Rattle.vb_heap.specs.Objects.{class_of}
+use Rattle.vb_heap.specs.Store.{Store, numbered}
 use Rattle.vb_meaning.specs.declared.world.World.{World}
 use Rattle.vb_meaning.specs.State.{on_heap}
 use Rattle.vb_meaning.specs.Step.{Run, ◌>>=◌, ◌>>◌, pure, given, fails}
@@ -18,6 +19,15 @@ use Rattle.vb_meaning.specs.Step.{Run, ◌>>=◌, ◌>>◌, pure, given, fails}
 -- what a question to the data of the page gives
 abbrev pub asking : {A : Type 0} → (Store → Result A VbError) → Run World A
 asking question world = given (question world.heap) world
+
+-- no class is that of a dictionary; an object of a class has no items
+abbrev pub no_class : Option ℕ → Result (Unit {0}) VbError
+no_class None = Ok tt
+no_class (Some class) = Err unsupported
+
+-- whether an object has items: it is a dictionary that has not ended
+abbrev pub has_items : ObjNo → Store → Result (Unit {0}) VbError
+has_items object store = and_then (class_of (numbered object.0 store.objects)) no_class
 
 -- an item by its key, which is added with Empty where it is absent
 unfoldable pub item : ObjNo → Value → Run World Value

@@ -30,87 +30,87 @@ unfoldable mutual
   pub value : (E : Type 0) → Host E → Program → ℕ → Expression → Does E Value
   value E host program zero expression = written_or program (out-Expression (bare expression)) (on_world too_deep)
   value E host program (suc levels) expression = valued E (record {
-      host = host;
-      program = program;
-      value = value E host program levels;
-      argument = argument E host program levels;
-      assign = assign E host program levels;
-      call = call E host program levels;
-      statement = statement E host program levels;
-      enter = enter E host program levels;
-    }) expression
+    host = host;
+    program = program;
+    value = value E host program levels;
+    argument = argument E host program levels;
+    assign = assign E host program levels;
+    call = call E host program levels;
+    statement = statement E host program levels;
+    enter = enter E host program levels;
+  }) expression
 
   -- an expression as an argument
   pub argument : (E : Type 0) → Host E → Program → ℕ → Expression → Does E Argument
   argument E host program zero expression =
       written_or program (out-Expression (bare expression)) (on_world too_deep) >>= (λ found. pure (OfValue found))
   argument E host program (suc levels) expression = argument_of E (record {
-      host = host;
-      program = program;
-      value = value E host program levels;
-      argument = argument E host program levels;
-      assign = assign E host program levels;
-      call = call E host program levels;
-      statement = statement E host program levels;
-      enter = enter E host program levels;
-    }) expression
+    host = host;
+    program = program;
+    value = value E host program levels;
+    argument = argument E host program levels;
+    assign = assign E host program levels;
+    call = call E host program levels;
+    statement = statement E host program levels;
+    enter = enter E host program levels;
+  }) expression
 
   -- a path to which a value is assigned
   pub assign : (E : Type 0) → Host E → Program → ℕ → Assigned → Path → Value → Does E (Unit {0})
   assign E host program zero how path found = on_world too_deep
   assign E host program (suc levels) how path found = assign_to E (record {
-      host = host;
-      program = program;
-      value = value E host program levels;
-      argument = argument E host program levels;
-      assign = assign E host program levels;
-      call = call E host program levels;
-      statement = statement E host program levels;
-      enter = enter E host program levels;
-    }) how path found
+    host = host;
+    program = program;
+    value = value E host program levels;
+    argument = argument E host program levels;
+    assign = assign E host program levels;
+    call = call E host program levels;
+    statement = statement E host program levels;
+    enter = enter E host program levels;
+  }) how path found
 
   -- a path that a statement calls
   pub call : (E : Type 0) → Host E → Program → ℕ → Path → Does E (Unit {0})
   call E host program zero path = on_world too_deep
   call E host program (suc levels) path = call_of E (record {
-      host = host;
-      program = program;
-      value = value E host program levels;
-      argument = argument E host program levels;
-      assign = assign E host program levels;
-      call = call E host program levels;
-      statement = statement E host program levels;
-      enter = enter E host program levels;
-    }) path
+    host = host;
+    program = program;
+    value = value E host program levels;
+    argument = argument E host program levels;
+    assign = assign E host program levels;
+    call = call E host program levels;
+    statement = statement E host program levels;
+    enter = enter E host program levels;
+  }) path
 
   -- a statement
   pub statement : (E : Type 0) → Host E → Program → ℕ → Statement → Does E Exit
   statement E host program zero found = refused found.line (out-StatementKind found.kind)
   statement E host program (suc levels) found = statement_of E (record {
-      host = host;
-      program = program;
-      value = value E host program levels;
-      argument = argument E host program levels;
-      assign = assign E host program levels;
-      call = call E host program levels;
-      statement = statement E host program levels;
-      enter = enter E host program levels;
-    }) found
+    host = host;
+    program = program;
+    value = value E host program levels;
+    argument = argument E host program levels;
+    assign = assign E host program levels;
+    call = call E host program levels;
+    statement = statement E host program levels;
+    enter = enter E host program levels;
+  }) found
 
   -- a procedure that is called
   pub enter : (E : Type 0) → Host E → Program → ℕ → Owner → Procedure → List Argument → Does E Value
   enter E host program zero owner procedure arguments = on_world too_deep
   enter E host program (suc levels) owner procedure arguments =
       enter_of E (record {
-      host = host;
-      program = program;
-      value = value E host program levels;
-      argument = argument E host program levels;
-      assign = assign E host program levels;
-      call = call E host program levels;
-      statement = statement E host program levels;
-      enter = enter E host program levels;
-    }) owner procedure arguments
+        host = host;
+        program = program;
+        value = value E host program levels;
+        argument = argument E host program levels;
+        assign = assign E host program levels;
+        call = call E host program levels;
+        statement = statement E host program levels;
+        enter = enter E host program levels;
+      }) owner procedure arguments
 
 -- the constructs inside one, where so many more may be begun
 abbrev pub inside : (E : Type 0) → Host E → Program → ℕ → Inner E

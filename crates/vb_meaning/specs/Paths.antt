@@ -11,7 +11,7 @@ use Rattle.vb_heap.specs.Objects.{class_of}
 use Rattle.vb_heap.specs.Places.{value_in}
 use Rattle.vb_heap.specs.Store.{numbered}
 use Rattle.vb_meaning.specs.declared.world.World.{World}
-use Rattle.vb_meaning.specs.Dictionaries.{item_by}
+use Rattle.vb_meaning.specs.Dictionaries.{asking, has_items, item_by}
 use Rattle.vb_meaning.specs.Places.{element_place, indices_of, held_at, read_place}
 use Rattle.vb_meaning.specs.Step.{Run, ◌>>=◌, ◌>>◌, pure, given, fails}
 use Rattle.vb_meaning.specs.Values.{copied}
@@ -23,14 +23,9 @@ pub data Reached : Type 0 where
 
 -- ---- elements
 
--- an item of an object that is a dictionary; another object has none
-abbrev pub item_of : ObjNo → List Value → Option ℕ → Run World Value
-item_of object keys None = item_by object keys
-item_of object keys (Some class) = fails unsupported
-
--- the same of any object; an ended one is not set
+-- an item of an object, which has to be a dictionary
 abbrev pub item_in : ObjNo → List Value → Run World Value
-item_in object keys world = (given (class_of (numbered object.0 world.heap.objects)) >>= item_of object keys) world
+item_in object keys = asking (has_items object) >> item_by object keys
 
 -- an element of a value that is no place: of an array by its indices, of a dictionary by its key
 abbrev pub element_in : Value → Value-F Value Array → List Value → Run World Value

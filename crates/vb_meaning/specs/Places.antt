@@ -93,11 +93,15 @@ target_variable _ = fails illegal_assignment
 
 -- ---- elements
 
--- indices, each made Long, from left to right
+-- indices, each made Long, from left to right, behind those so far
+abbrev pub indices_from : List ℤ → List Value → Result (List ℤ) VbError
+indices_from done [] = Ok done
+indices_from done (index ∷ indices) =
+    and_then (to_long_of index) (λ number. indices_from (done ++ number ∷ []) indices)
+
+-- indices, each made Long
 abbrev pub indices_of : List Value → Result (List ℤ) VbError
-indices_of [] = Ok []
-indices_of (index ∷ indices) = and_then (to_long_of index) (λ first.
-    and_then (indices_of indices) (λ others. Ok (first ∷ others)))
+indices_of indices = indices_from [] indices
 
 -- the element at these indices of what a place holds
 abbrev pub element_place : Place → List ℤ → Place

@@ -121,6 +121,11 @@ pub trait Intrinsics {
         ensures { Runs result stops self.new (asked member arguments.now self.old) };
 
     /// Goes on with a member that wanted a call of the Application object, now that the call has its reply.
-    fn answer(&mut self, member: Member, arguments: &[Value], reply: AppReply) -> Result<Given, AskStop>
+    fn answer(
+        &mut self,
+        member: Member,
+        arguments: &[Value],
+        reply: AppReply,
+    ) -> Result<Given, AskStop>
         ensures { Runs result stops self.new (answered member arguments.now reply self.old) };
 }
