@@ -1,0 +1,4 @@
+mod Chaining
+mod CookieKeeping
+mod Pairing
+mod Trimming

@@ -1,0 +1,6 @@
+pub mod Collection
+pub mod Cookies
+pub mod Inputs
+pub mod Kept
+pub mod Pairs
+pub mod Request
