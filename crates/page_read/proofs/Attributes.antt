@@ -67,7 +67,8 @@ next_read most rest behind found more first whole before filled is pushed =
     ∙ ap (λ (l : List Attribute). with_more l (attributes_within most behind)) (sym pushed)
 
 -- the same number of attributes to come, otherwise said
-pub renumbered : (left most : ℕ) (rest : List ℕ) (found : List Attribute) (whole : Option (List Attribute)) → left ≡ most
+pub renumbered : (left most : ℕ) (rest : List ℕ) (found : List Attribute) (whole : Option (List Attribute))
+    → left ≡ most
     → whole ≡ with_more found (attributes_within left rest) → whole ≡ with_more found (attributes_within most rest)
 renumbered left most rest found whole same before =
     before ∙ ap (λ (n : ℕ). with_more found (attributes_within n rest)) same

@@ -1,5 +1,6 @@
 -- How far characters of a kind go on from the front of a text, found place by place.
-use Rattle.std.proofs.Common.{◌≡◌, ℕ, ◌+◌, ◌<◌, ◌≤◌, Bool, true, false, List, length, get_or, drop, refl, ◌∙◌, ap, arith}
+use Rattle.std.proofs.Common.{◌≡◌, ℕ, ◌+◌, ◌<◌, ◌≤◌, Bool, true, false, List, length, get_or, drop, refl, ◌∙◌, ap}
+use Rattle.std.proofs.Common.{arith}
 use Rattle.std.proofs.Common.{drop-cons, add-one}
 use Rattle.std.specs.Prelude.{cond}
 use Rattle.std.specs.List.{prefix_len}

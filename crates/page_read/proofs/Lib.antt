@@ -4,3 +4,5 @@ pub mod Marks
 pub mod Attributes
 pub mod Pieces
 pub mod Page
+pub mod Spelling
+pub mod SpelledForms

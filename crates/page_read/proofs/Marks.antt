@@ -1,11 +1,13 @@
 -- What a text begins with, in any ASCII case, and the first place of a mark.
-use Rattle.std.proofs.Common.{◌≡◌, ℕ, ◌+◌, ◌-◌, ◌<◌, ◌≤◌, Bool, true, false, List, ◌∷◌, length, get_or, take, drop, refl, sym}
+use Rattle.std.proofs.Common.{◌≡◌, ℕ, ◌+◌, ◌-◌, ◌<◌, ◌≤◌, Bool, true, false, List, ◌∷◌, length, get_or, take, drop}
+use Rattle.std.proofs.Common.{refl, sym}
 use Rattle.std.proofs.Common.{◌∙◌, ap, arith, length-drop}
 use Rattle.std.proofs.Common.{drop-cons, add-one, inl, inr}
 use Rattle.std.specs.Prelude.{bytes_eq, Option, Some, None, cond}
 use Rattle.std.specs.Option.{option_map}
 use Rattle.std.specs.Char.{to_ascii_lowercase}
-use Rattle.std.proofs.lemmas.List.{take_more_same, get_or-map, get_or_default, length-map, length-take, take_all, drop_all}
+use Rattle.std.proofs.lemmas.List.{take_more_same, get_or-map, get_or_default, length-map, length-take, take_all}
+use Rattle.std.proofs.lemmas.List.{drop_all}
 use Rattle.std.proofs.lemmas.Slice.Eq.{bytes_eq-Decides}
 use Rattle.std.proofs.lemmas.Bool.{cases_Bool}
 use Rattle.vb_value.specs.Folding.{folded}
@@ -53,8 +55,10 @@ place_step mark text at within =
     rw cut refl
 
 -- where the mark doesn't stand at the place, the search goes on behind it
-pub place_more : (mark text : List ℕ) (at : ℕ) (found : Option ℕ) → at < length text → begins mark (drop at text) ≡ false
-    → found ≡ from_there at (place_of mark (drop at text)) → found ≡ from_there (at + 1) (place_of mark (drop (at + 1) text))
+pub place_more : (mark text : List ℕ) (at : ℕ) (found : Option ℕ) → at < length text
+    → begins mark (drop at text) ≡ false
+    → found ≡ from_there at (place_of mark (drop at text))
+    → found ≡ from_there (at + 1) (place_of mark (drop (at + 1) text))
 place_more mark text at found within fails before =
     let next = option_map (λ (k : ℕ). k + 1) (place_of mark (drop (at + 1) text)) in
     before ∙ ap (from_there at) (place_step mark text at within ∙ ap (λ (b : Bool). cond b (Some 0) next) fails)
@@ -95,6 +99,7 @@ pub whole_rest : (text : List ℕ) (at : ℕ) → take (length text - at) (drop 
 whole_rest text at = take_all (length text - at) (drop at text) (omega (arith, length-drop at text))
 
 -- what a test says of a text that is cut so
-pub tested : (mark text : List ℕ) (at : ℕ) (is : Bool) (b : Bool) → is ≡ begins mark (take (length text - at) (drop at text))
+pub tested : (mark text : List ℕ) (at : ℕ) (is : Bool) (b : Bool)
+    → is ≡ begins mark (take (length text - at) (drop at text))
     → is ≡ b → begins mark (drop at text) ≡ b
 tested mark text at is b tests says = ap (begins mark) (sym (whole_rest text at)) ∙ (sym tests ∙ says)

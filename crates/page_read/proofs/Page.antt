@@ -47,7 +47,8 @@ pieces_there bytes text page pieces is page_is cut =
     record { utf8 = both.0; cut = subst (λ (t : List ℕ). P (unmarked t)) both.1 (subst P page_is cut) }
 
 -- the fault of the text is that of the bytes
-pub fault_there : (bytes text page : List ℕ) (result : Result (List Fragment) (Stop PageFault)) → decoded bytes ≡ Ok text
+pub fault_there : (bytes text page : List ℕ) (result : Result (List Fragment) (Stop PageFault))
+    → decoded bytes ≡ Ok text
     → page ≡ unmarked text → OnFault result (StopsAt page) → OnFault result (HasFault bytes)
 fault_there bytes text page (Ok pieces) is page_is fault = tt
 fault_there bytes text page (Err (Fault kind line)) is page_is fault =

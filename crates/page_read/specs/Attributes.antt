@@ -1,5 +1,6 @@
 -- The attributes of a directive and of a tag: names, each with a value or without one, and blanks before each.
-use Rattle.std.specs.Prelude.{ℕ, zero, suc, ◌+◌, Bool, not, ◌||◌, ◌==◌, if◌then◌else◌, List, [], ◌∷◌, take, drop, length}
+use Rattle.std.specs.Prelude.{ℕ, zero, suc, ◌+◌, Bool, not, ◌||◌, ◌==◌, if◌then◌else◌, List, [], ◌∷◌, take, drop}
+use Rattle.std.specs.Prelude.{length}
 use Rattle.std.specs.Prelude.{Option, None, Some}
 use Rattle.std.specs.List.{prefix_len}
 use Rattle.std.specs.Option.{option_map, option_and_then}
@@ -39,7 +40,8 @@ named found = option_map (λ (value : List ℕ × List ℕ). (record { name = fo
 
 -- the attribute at the front, which has a blank before it, and what follows
 abbrev pub first_attribute : List ℕ → Option (Attribute × List ℕ)
-first_attribute text = if prefix_len is_blank text == 0 then None else option_and_then named (first_word (unblanked text))
+first_attribute text = if prefix_len is_blank text == 0 then None else option_and_then named (first_word (unblanked
+    text))
 
 -- the attributes of a text that has at most so many
 unfoldable pub attributes_within : ℕ → List ℕ → Option (List Attribute)

@@ -1,5 +1,6 @@
 -- The forms of a page other than plain text: which begins at a place, and what it is.
-use Rattle.std.specs.Prelude.{ℕ, ◌+◌, Bool, true, false, not, ◌&&◌, ◌||◌, ◌==◌, if◌then◌else◌, List, [], ◌∷◌, take, drop}
+use Rattle.std.specs.Prelude.{ℕ, ◌+◌, Bool, true, false, not, ◌&&◌, ◌||◌, ◌==◌, if◌then◌else◌, List, [], ◌∷◌, take}
+use Rattle.std.specs.Prelude.{drop}
 use Rattle.std.specs.Prelude.{bytes_eq, codes, slice_index, Option, None, Some, Result, Ok, Err}
 use Rattle.std.specs.List.{list_all, list_any, prefix_len}
 use Rattle.std.specs.Option.{is_some, option_map, option_and_then}
@@ -128,7 +129,8 @@ directive_at before inside =
 abbrev pub block_of : List ℕ → ℕ → List ℕ → Result Fragment PageFault
 block_of before line [] = Ok (Script [] line)
 block_of before line (c ∷ inside) =
-    if c == 61 then Ok (Write inside line) else if c == 64 then directive_at before inside else Ok (Script (c ∷ inside) line)
+    if c == 61 then Ok (Write inside line) else if c == 64 then directive_at before inside else Ok (Script (c ∷
+    inside) line)
 
 -- the piece and what follows it
 abbrev pub with_rest : List ℕ → Result Fragment PageFault → Result (Fragment × List ℕ) PageFault

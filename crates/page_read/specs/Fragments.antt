@@ -1,5 +1,6 @@
 -- Which pieces belong to which bytes of a page file, and what is wrong with bytes to which none belong.
-use Rattle.std.specs.Prelude.{◌≡◌, ◌≢◌, ℕ, ◌-◌, ◌<◌, ◌⊎◌, ◌==◌, if◌then◌else◌, true, false, List, [], ◌∷◌, ◌++◌, length, take, drop, chars, IsUtf8}
+use Rattle.std.specs.Prelude.{◌≡◌, ◌≢◌, ℕ, ◌-◌, ◌<◌, ◌⊎◌, ◌==◌, if◌then◌else◌, true, false, List, [], ◌∷◌, ◌++◌}
+use Rattle.std.specs.Prelude.{length, take, drop, chars, IsUtf8}
 use Rattle.std.specs.Prelude.{Ok, Err}
 use Rattle.vb_value.specs.Lines.{line_at}
 use Rattle.page_read.specs.declared.fault.PageFault.{PageFault}

@@ -5,3 +5,4 @@ pub mod Attributes
 pub mod Forms
 pub mod Fragments
 pub mod Reading
+pub mod Spelling

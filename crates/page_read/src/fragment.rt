@@ -1,9 +1,10 @@
 //! The pieces of a page file.
-ghost use Rattle.std.specs.Prelude.{◌≡◌, ◌^◌, ◌<◌, ◌≤◌, ℕ, List as Items, IfOk, length};
+ghost use Rattle.std.specs.Prelude.{◌≡◌, ◌^◌, ◌<◌, ◌≤◌, ℕ, List as Items, IfOk, chars, length};
 ghost use Rattle.page_read.specs.declared.fault.PageFault.{PageFault as Kind};
 ghost use Rattle.page_read.specs.declared.fragment.Fragment.{Fragment as Piece};
 ghost use Rattle.vb_value.specs.Outcome.{OnFault};
 ghost use Rattle.page_read.specs.Fragments.{HasFault, IsFragmentsOf, unmarked};
+ghost use Rattle.page_read.specs.Spelling.{SpellTogether};
 
 use crate::fault::{PageFault, PageStop};
 use crate::piece::pieces;
@@ -97,4 +98,11 @@ pub fn fragments_or_fault()
 pub fn one_fault()
     ensures { (bytes : Items ℕ) (kind other : Kind) (line number : ℕ) → HasFault bytes kind line
         → HasFault bytes other number → (kind ≡ other) × (line ≡ number) }
+{}
+
+/// The text of a file is the spellings of its pieces, one after the other.
+#[tactic(auto, using(crate::proofs::SpelledForms::pieces_spelled))]
+pub fn pieces_spelled()
+    ensures { (bytes : Items ℕ) (pieces : Items Piece) → IsFragmentsOf bytes pieces
+        → SpellTogether pieces (unmarked (chars bytes)) }
 {}

@@ -12,6 +12,8 @@ mod sum;
 mod tag;
 
 pub use fault::{PageFault, PageStop};
-pub use fragment::{Fragment, fragments, fragments_or_fault, fragments_unique, one_fault};
+pub use fragment::{
+    Fragment, fragments, fragments_or_fault, fragments_unique, one_fault, pieces_spelled,
+};
 pub use mark::place_of;
 pub use sum::{SumStop, sum_numbers, sum_unique};

@@ -11,7 +11,8 @@ returns-then-begins-clause-value c =
 
 pub returns-then-begins-clause-within : goal.returns-then-begins-clause-within
 returns-then-begins-clause-within c =
-    let there = tested c.args.mark.now c.args.text.now c.loop-at.at c.begins.result true c.begins.ensures c.if-begins.true in
+    let there = tested c.args.mark.now c.args.text.now c.loop-at.at c.begins.result true c.begins.ensures
+    c.if-begins.true in
     omega (arith, begins_short c.args.mark.now _ there, length-drop c.loop-at.at c.args.text.now, c.loop-at-test.true)
 
 pub loop-at-preserved : goal.loop-at-preserved

@@ -11,7 +11,13 @@ loop-rest-preserved c =
     let found = c.in-Ok.found in
     record {
       within = omega (arith, now.invariant.within, c.in-Ok.ensures.shorter);
-      low = omega (arith, now.invariant.within, now.invariant.low, c.in-Ok.ensures.shorter, c.line_behind-line.ensures.below);
+      low = omega (
+        arith,
+        now.invariant.within,
+        now.invariant.low,
+        c.in-Ok.ensures.shorter,
+        c.line_behind-line.ensures.below,
+      );
       at_line = c.line_behind-line.ensures.line;
       cut = subst (λ (pieces : List Fragment). AreCut page page pieces found.1.now) (sym c.in_ok-push.ensures)
           (cut_more page page now.rest.now found.1.now now.pieces found.0 now.invariant.cut c.in-Ok.ensures.value);
