@@ -25,3 +25,4 @@ mod within;
 pub use fault::HeapStop;
 pub use heap::Heap;
 pub use place::{CellNo, Place};
+pub use within::value_in;

@@ -31,10 +31,17 @@ use Rattle.vb_meaning.specs.Accesses.{only_groups}
 use Rattle.vb_meaning.specs.Asking.{ask}
 use Rattle.vb_meaning.specs.Dictionaries.{asking, has_items, put_by, set_member}
 use Rattle.vb_meaning.specs.ErrObject.{set_err}
-use Rattle.vb_meaning.specs.Inner.{Inner, OfValue, Assigned, ByLet, BySet, Owner}
+use Rattle.vb_meaning.specs.Inner.{Inner, Owner}
+use Rattle.vb_meaning.specs.declared.reached.Argument.TheVariants.{Value as OfValue}
+use Rattle.vb_meaning.specs.declared.reached.Assigned.{Assigned}
+use Rattle.vb_meaning.specs.declared.reached.Assigned.TheVariants.{Let as ByLet, Set as BySet}
 use Rattle.vb_meaning.specs.Objects.{class_at, dictionary_word, field_named, procedure_named, if_public}
 use Rattle.vb_meaning.specs.Objects.{takes_assigned, own_procedure, owner_class}
-use Rattle.vb_meaning.specs.Paths.{Reached, AtPlace, AtValue, reached_value}
+use Rattle.vb_meaning.specs.Paths.{kind_of, reached_value}
+use Rattle.vb_meaning.specs.declared.reached.Kind.{Kind}
+use Rattle.vb_meaning.specs.declared.reached.Kind.TheVariants as kind
+use Rattle.vb_meaning.specs.declared.reached.Reached.{Reached}
+use Rattle.vb_meaning.specs.declared.reached.Reached.TheVariants.{Place as AtPlace, Value as AtValue}
 use Rattle.vb_meaning.specs.Places.{variable, hold, held_at, store_place, element_place, indices_of}
 use Rattle.vb_meaning.specs.Reading.{values, arguments, access, field_place, from_name, from_page_member, is_taken}
 use Rattle.vb_meaning.specs.Reading.{subject, me_value}
@@ -60,24 +67,25 @@ abbrev pub put_in_object : ObjNo → List Value → Value → Run World (Unit {0
 put_in_object object keys value = asking (has_items object) >> put_by object keys value
 
 -- A value into an element of what a place holds: of an array, or the item of a dictionary.
-abbrev pub store_in_place : Place → List Value → Value → Value-F Value Array → Run World (Unit {0})
-store_in_place place indices value (Value-F.Arr array) =
+abbrev pub store_in_place : Place → List Value → Value → Kind → Run World (Unit {0})
+store_in_place place indices value kind.Array =
     given (indices_of indices) >>= (λ found. store_place (element_place place found) value)
-store_in_place place indices value (Value-F.Obj object) = put_in_object object indices value
-store_in_place place indices value Value-F.Nothing = fails object_not_set
-store_in_place place indices value _ = fails type_mismatch
+store_in_place place indices value (kind.Object object) = put_in_object object indices value
+store_in_place place indices value kind.Nothing = fails object_not_set
+store_in_place place indices value kind.Scalar = fails type_mismatch
 
 -- A value into an element of a value: only an object keeps it.
-abbrev pub store_in_value : List Value → Value → Value-F Value Array → Run World (Unit {0})
-store_in_value indices value (Value-F.Obj object) = put_in_object object indices value
-store_in_value indices value Value-F.Nothing = fails object_not_set
-store_in_value indices value _ = fails illegal_assignment
+abbrev pub store_in_value : List Value → Value → Kind → Run World (Unit {0})
+store_in_value indices value (kind.Object object) = put_in_object object indices value
+store_in_value indices value kind.Nothing = fails object_not_set
+store_in_value indices value kind.Array = fails illegal_assignment
+store_in_value indices value kind.Scalar = fails illegal_assignment
 
 -- a value into an element of what is reached
 unfoldable pub store_element : Reached → List Value → Value → Run World (Unit {0})
 store_element (AtPlace place) indices value =
-    held_at place >>= (λ whole. store_in_place place indices value (out-Value whole))
-store_element (AtValue whole) indices value = store_in_value indices value (out-Value whole)
+    held_at place >>= (λ whole. store_in_place place indices value (kind_of whole))
+store_element (AtValue whole) indices value = store_in_value indices value (kind_of whole)
 
 module _ (E : Type 0) (m : Inner E) (how : Assigned) where
   -- ---- members of objects

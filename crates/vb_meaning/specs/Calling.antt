@@ -17,7 +17,9 @@ use Rattle.vb_meaning.specs.declared.world.World.{World}
 use Rattle.vb_meaning.specs.Blocks.{block}
 use Rattle.vb_meaning.specs.Declaring.{Faulty, declared_cell, first_fault, fault_before, constants_made}
 use Rattle.vb_meaning.specs.Errors.{tick, too_deep}
-use Rattle.vb_meaning.specs.Inner.{Inner, Argument, OfPlace, OfValue, Owner}
+use Rattle.vb_meaning.specs.Inner.{Inner, Owner}
+use Rattle.vb_meaning.specs.declared.reached.Argument.{Argument}
+use Rattle.vb_meaning.specs.declared.reached.Argument.TheVariants.{Place as OfPlace, Value as OfValue}
 use Rattle.vb_meaning.specs.Places.{new_cell, read_place, cell_place, cells_dropped, hold}
 use Rattle.vb_meaning.specs.Releases.{settle, in_world}
 use Rattle.vb_meaning.specs.State.{State, Does, on_world, with_frame, with_heap}

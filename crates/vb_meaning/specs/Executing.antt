@@ -10,7 +10,8 @@ use Rattle.vb_syntax.specs.declared.program.statement.StatementKind.TheOpen.{Sta
 use Rattle.vb_meaning.specs.declared.world.Exit.{Exit}
 use Rattle.vb_meaning.specs.declared.world.Exit.TheVariants.{Next}
 use Rattle.vb_meaning.specs.Errors.{in_line, resumed, tick, too_deep}
-use Rattle.vb_meaning.specs.Inner.{Inner, ByLet, BySet}
+use Rattle.vb_meaning.specs.Inner.{Inner}
+use Rattle.vb_meaning.specs.declared.reached.Assigned.TheVariants.{Let as ByLet, Set as BySet}
 use Rattle.vb_meaning.specs.Loops.{do_statement, while_statement, for_statement, for_each_statement}
 use Rattle.vb_meaning.specs.Places.{held_so_far}
 use Rattle.vb_meaning.specs.Releases.{release}

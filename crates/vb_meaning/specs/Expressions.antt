@@ -16,9 +16,13 @@ use Rattle.vb_syntax.specs.declared.program.name.Named.TheVariants as named
 use Rattle.vb_ops.specs.Operators.{apply1_of, apply2_of}
 use Rattle.vb_meaning.specs.declared.world.World.{World}
 use Rattle.vb_meaning.specs.Accesses.{accesses, only_groups}
-use Rattle.vb_meaning.specs.Inner.{Inner, Argument, OfPlace, OfValue}
+use Rattle.vb_meaning.specs.Inner.{Inner}
+use Rattle.vb_meaning.specs.declared.reached.Argument.{Argument}
+use Rattle.vb_meaning.specs.declared.reached.Argument.TheVariants.{Place as OfPlace, Value as OfValue}
 use Rattle.vb_meaning.specs.Making.{new_of}
-use Rattle.vb_meaning.specs.Paths.{Reached, AtPlace, reached_value}
+use Rattle.vb_meaning.specs.Paths.{reached_value}
+use Rattle.vb_meaning.specs.declared.reached.Reached.{Reached}
+use Rattle.vb_meaning.specs.declared.reached.Reached.TheVariants.{Place as AtPlace}
 use Rattle.vb_meaning.specs.Places.{holding}
 use Rattle.vb_meaning.specs.Reading.{path_value, reached, constant_there, value_there}
 use Rattle.vb_meaning.specs.State.{Does, on_world}

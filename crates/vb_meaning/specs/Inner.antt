@@ -9,19 +9,11 @@ use Rattle.vb_syntax.specs.declared.program.expression.Path.{Path}
 use Rattle.vb_syntax.specs.declared.program.statement.Statement.{Statement}
 use Rattle.vb_syntax.specs.declared.program.unit.Procedure.{Procedure}
 use Rattle.vb_heap.specs.declared.place.Place.{Place}
+use Rattle.vb_meaning.specs.declared.reached.Argument.{Argument}
+use Rattle.vb_meaning.specs.declared.reached.Assigned.{Assigned}
 use Rattle.vb_meaning.specs.declared.world.Exit.{Exit}
 use Rattle.vb_meaning.specs.Asking.{Host}
 use Rattle.vb_meaning.specs.State.{Does}
-
--- an argument: the caller's place, or a value
-pub data Argument : Type 0 where
-  OfPlace : Place → Argument
-  OfValue : Value → Argument
-
--- how a value is assigned: with Set or without
-pub data Assigned : Type 0 where
-  ByLet : Assigned
-  BySet : Assigned
 
 -- the object whose method a procedure is, and the number of its class; none for a procedure of the page
 abbrev pub Owner : Type 0

@@ -16,7 +16,10 @@ use Rattle.vb_meaning.specs.Calling.{enter_of}
 use Rattle.vb_meaning.specs.Errors.{too_deep}
 use Rattle.vb_meaning.specs.Executing.{statement_of, refused}
 use Rattle.vb_meaning.specs.Expressions.{valued, argument_of, bare, written_or}
-use Rattle.vb_meaning.specs.Inner.{Inner, Argument, OfValue, Assigned, Owner}
+use Rattle.vb_meaning.specs.Inner.{Inner, Owner}
+use Rattle.vb_meaning.specs.declared.reached.Argument.{Argument}
+use Rattle.vb_meaning.specs.declared.reached.Argument.TheVariants.{Value as OfValue}
+use Rattle.vb_meaning.specs.declared.reached.Assigned.{Assigned}
 use Rattle.vb_meaning.specs.State.{Does, on_world}
 use Rattle.vb_meaning.specs.Statements.{call_of}
 use Rattle.vb_meaning.specs.Step.{◌>>=◌, pure}

@@ -13,7 +13,9 @@ use Rattle.vb_syntax.specs.declared.program.unit.ProcedureKind.{ProcedureKind}
 use Rattle.vb_syntax.specs.declared.program.unit.ProcedureKind.TheVariants as kind
 use Rattle.vb_heap.specs.Objects.{class_of}
 use Rattle.vb_heap.specs.Store.{Store, numbered}
-use Rattle.vb_meaning.specs.Inner.{Assigned, ByLet, BySet, Owner}
+use Rattle.vb_meaning.specs.Inner.{Owner}
+use Rattle.vb_meaning.specs.declared.reached.Assigned.{Assigned}
+use Rattle.vb_meaning.specs.declared.reached.Assigned.TheVariants.{Let as ByLet, Set as BySet}
 
 -- ---- procedures of a name
 

@@ -10,16 +10,15 @@ use Rattle.vb_heap.specs.declared.place.Place.{Place}
 use Rattle.vb_heap.specs.Objects.{class_of}
 use Rattle.vb_heap.specs.Places.{value_in}
 use Rattle.vb_heap.specs.Store.{numbered}
+use Rattle.vb_meaning.specs.declared.reached.Kind.{Kind}
+use Rattle.vb_meaning.specs.declared.reached.Kind.TheVariants as kind
+use Rattle.vb_meaning.specs.declared.reached.Reached.{Reached}
+use Rattle.vb_meaning.specs.declared.reached.Reached.TheVariants.{Place as AtPlace, Value as AtValue}
 use Rattle.vb_meaning.specs.declared.world.World.{World}
 use Rattle.vb_meaning.specs.Dictionaries.{asking, has_items, item_by}
 use Rattle.vb_meaning.specs.Places.{element_place, indices_of, held_at, read_place}
 use Rattle.vb_meaning.specs.Step.{Run, ◌>>=◌, ◌>>◌, pure, given, fails}
 use Rattle.vb_meaning.specs.Values.{copied}
-
--- what a path has come to: a place that holds a value, or a value
-pub data Reached : Type 0 where
-  AtPlace : Place → Reached
-  AtValue : Value → Reached
 
 -- ---- elements
 
@@ -27,30 +26,48 @@ pub data Reached : Type 0 where
 abbrev pub item_in : ObjNo → List Value → Run World Value
 item_in object keys = asking (has_items object) >> item_by object keys
 
+-- what a value is that is asked for an element, by what it is
+abbrev pub kind_layer : Value-F Value Array → Kind
+kind_layer (Value-F.Arr array) = kind.Array
+kind_layer (Value-F.Obj object) = kind.Object object
+kind_layer Value-F.Nothing = kind.Nothing
+kind_layer _ = kind.Scalar
+
+-- what a value is that is asked for an element
+abbrev pub kind_of : Value → Kind
+kind_of value = kind_layer (out-Value value)
+
+-- an element of an array
+abbrev pub array_element : Value → List Value → Run World Value
+array_element whole indices = given (and_then (indices_of indices) (λ found. value_in (found ∷ []) whole))
+
 -- an element of a value that is no place: of an array by its indices, of a dictionary by its key
-abbrev pub element_in : Value → Value-F Value Array → List Value → Run World Value
-element_in whole (Value-F.Arr array) indices =
-    given (and_then (indices_of indices) (λ found. value_in (found ∷ []) whole))
-element_in whole (Value-F.Obj object) indices = item_in object indices
-element_in whole Value-F.Nothing indices = fails object_not_set
-element_in whole _ indices = fails type_mismatch
+abbrev pub element_in : Value → List Value → Kind → Run World Value
+element_in whole indices kind.Array = array_element whole indices
+element_in whole indices (kind.Object object) = item_in object indices
+element_in whole indices kind.Nothing = fails object_not_set
+element_in whole indices kind.Scalar = fails type_mismatch
 
 -- the same, as what is reached
 abbrev pub element_of_value : Value → List Value → Run World Reached
-element_of_value value indices = element_in value (out-Value value) indices >>= (λ found. pure (AtValue (copied found)))
+element_of_value value indices =
+    element_in value indices (kind_of value) >>= (λ found. pure (AtValue (copied found)))
 
 -- the element at these indices of what a place holds, if there is one there
 abbrev pub element_at : Place → List ℤ → Run World Reached
 element_at place indices = held_at (element_place place indices) >> pure (AtPlace (element_place place indices))
 
--- an element of what a place holds: of an array a place again
-abbrev pub element_of_place : Place → List Value → Value-F Value Array → Value → Run World Reached
-element_of_place place indices (Value-F.Arr array) whole = given (indices_of indices) >>= element_at place
-element_of_place place indices _ whole = element_of_value whole indices
+-- an element of what a place holds: of an array a place again, of a dictionary an item
+abbrev pub element_of_place : Place → List Value → Kind → Run World Reached
+element_of_place place indices kind.Array = given (indices_of indices) >>= element_at place
+element_of_place place indices (kind.Object object) =
+    item_in object indices >>= (λ found. pure (AtValue (copied found)))
+element_of_place place indices kind.Nothing = fails object_not_set
+element_of_place place indices kind.Scalar = fails type_mismatch
 
 -- an element of what is reached
 unfoldable pub element : Reached → List Value → Run World Reached
-element (AtPlace place) indices = held_at place >>= (λ whole. element_of_place place indices (out-Value whole) whole)
+element (AtPlace place) indices = held_at place >>= (λ whole. element_of_place place indices (kind_of whole))
 element (AtValue value) indices = element_of_value value indices
 
 -- the value that is reached

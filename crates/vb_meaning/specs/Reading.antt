@@ -31,10 +31,13 @@ use Rattle.vb_meaning.specs.Accesses.{groups_split}
 use Rattle.vb_meaning.specs.Asking.{ask}
 use Rattle.vb_meaning.specs.Dictionaries.{named_member}
 use Rattle.vb_meaning.specs.ErrObject.{err_value}
-use Rattle.vb_meaning.specs.Inner.{Inner, Argument, Owner}
+use Rattle.vb_meaning.specs.Inner.{Inner, Owner}
+use Rattle.vb_meaning.specs.declared.reached.Argument.{Argument}
 use Rattle.vb_meaning.specs.Objects.{class_at, dictionary_word, field_named, procedure_named, if_public, is_read}
 use Rattle.vb_meaning.specs.Objects.{name_of_class, own_procedure, owner_class}
-use Rattle.vb_meaning.specs.Paths.{Reached, AtPlace, AtValue, element, reached_value}
+use Rattle.vb_meaning.specs.Paths.{element, reached_value}
+use Rattle.vb_meaning.specs.declared.reached.Reached.{Reached}
+use Rattle.vb_meaning.specs.declared.reached.Reached.TheVariants.{Place as AtPlace, Value as AtValue}
 use Rattle.vb_meaning.specs.Places.{variable, hold, holding, cell_place}
 use Rattle.vb_meaning.specs.State.{Does, on_world, on_heap}
 use Rattle.vb_meaning.specs.Step.{Run, ◌>>=◌, ◌>>◌, pure, given, fails}

@@ -36,8 +36,10 @@ use Rattle.vb_meaning.specs.Asking.{ask}
 use Rattle.vb_meaning.specs.Assigning.{assignable}
 use Rattle.vb_meaning.specs.Blocks.{block}
 use Rattle.vb_meaning.specs.Errors.{in_line, resumed, cleared, on_error}
-use Rattle.vb_meaning.specs.Inner.{Inner, Assigned}
-use Rattle.vb_meaning.specs.Paths.{AtPlace, element}
+use Rattle.vb_meaning.specs.Inner.{Inner}
+use Rattle.vb_meaning.specs.declared.reached.Assigned.{Assigned}
+use Rattle.vb_meaning.specs.Paths.{element}
+use Rattle.vb_meaning.specs.declared.reached.Reached.TheVariants.{Place as AtPlace}
 use Rattle.vb_meaning.specs.Places.{variable, target_variable, held_at, held_so_far, indices_of}
 use Rattle.vb_meaning.specs.Reading.{values, from_head}
 use Rattle.vb_meaning.specs.Releases.{release}
