@@ -150,10 +150,14 @@ module _ (E : Type 0) (m : Inner E) where
   otherwise_block (Some statements) = block E m statements
   otherwise_block None = pure Next
 
-  -- the ElseIf parts, the condition of each in its own line
+  -- the condition of an ElseIf, in its own line
+  abbrev pub else_if_chooses : ElseIf → Does E Bool
+  else_if_chooses found s = in_line (out-ElseIf found).line (chooses (out-ElseIf found).condition s)
+
+  -- the ElseIf parts
   abbrev pub else_ifs : List ElseIf → Option (List Statement) → Does E Exit
   else_ifs [] otherwise = otherwise_block otherwise
-  else_ifs (first ∷ others) otherwise = (λ s. in_line (out-ElseIf first).line (chooses (out-ElseIf first).condition s)) >>= (λ holds.
+  else_ifs (first ∷ others) otherwise = else_if_chooses first >>= (λ holds.
       if holds then block E m (out-ElseIf first).«then» else else_ifs others otherwise)
 
   unfoldable pub if_statement : Expression → List Statement → List ElseIf → Option (List Statement) → Does E Exit
@@ -169,10 +173,14 @@ module _ (E : Type 0) (m : Inner E) where
       given (apply2_of Equal subject value) >>= (λ equal. given (truth_of equal) >>= (λ holds.
       if holds then pure true else is_among subject others)))
 
+  -- whether a Case holds, in its own line
+  abbrev pub case_holds : Value → Case → Does E Bool
+  case_holds subject found s = in_line (out-Case found).line (is_among subject (out-Case found).values s)
+
   -- the block of the first Case that holds, or that of Case Else
   abbrev pub first_case : Value → List Case → Option (List Statement) → Does E (Option (List Statement))
   first_case subject [] otherwise = pure otherwise
-  first_case subject (first ∷ others) otherwise = (λ s. in_line (out-Case first).line (is_among subject (out-Case first).values s)) >>= (λ holds.
+  first_case subject (first ∷ others) otherwise = case_holds subject first >>= (λ holds.
       if holds then pure (Some (out-Case first).body) else first_case subject others otherwise)
 
   -- the subject and the Case expressions that are tried are one head

@@ -1,0 +1,15 @@
+use Rattle.std.proofs.Common.{◌≡◌, length}
+use Rattle.vb_meaning.specs.Meaning.{inside}
+use Rattle.vb_meaning.specs.Expressions.{operations}
+use Rattle.vb_plain.specs.Seen.{seen, host}
+use Rattle.vb_plain.proofs.rules.Rules.operations.Given as goal
+
+abbrev pub invariant-loop-operations : goal.invariant-loop-operations
+invariant-loop-operations g l =
+    operations (g.row.I.Denot) (inside (g.row.I.Denot) (host g.I.Intrinsics.asked g.I.Intrinsics.answered) l.p
+    l.self.levels) l.fn.left l.fn.operations (seen l.fn.playing l.fn.env)
+    ≡ operations (g.row.I.Denot) (inside (g.row.I.Denot) (host g.I.Intrinsics.asked g.I.Intrinsics.answered) l.p
+    l.self.levels) l.left l.operations (seen l.playing l.env)
+
+abbrev pub decreases-loop-operations : goal.decreases-loop-operations
+decreases-loop-operations g l = length l.operations
