@@ -136,10 +136,14 @@ module _ (E : Type 0) (m : Inner E) where
       class_member object number class name supplied (field_named name class.fields)
   member_in object number None name supplied = fails unsupported
 
+  -- a member of a dictionary
+  abbrev pub of_dictionary : ObjNo → ℕ → List Expression → Does E Reached
+  of_dictionary object name supplied = values [] supplied >>= (λ found.
+      on_world (named_member object (dictionary_word m.program name) found >>= (λ value. pure (AtValue value))))
+
   -- a member of an object: of a dictionary, or of an object of a class
   abbrev pub object_member : ObjNo → ℕ → Option (List Expression) → Option ℕ → Does E Reached
-  object_member object name supplied None = values [] (given_arguments supplied) >>= (λ found.
-      on_world (named_member object (dictionary_word m.program name) found >>= (λ value. pure (AtValue value))))
+  object_member object name supplied None = of_dictionary object name (given_arguments supplied)
   object_member object name supplied (Some number) =
       member_in object number (class_at m.program (Some number)) name supplied
 

@@ -2,6 +2,7 @@
 #![tactic(auto)]
 
 pub mod accesses;
+pub mod asking;
 pub mod classes;
 pub mod copying;
 pub mod declaring;

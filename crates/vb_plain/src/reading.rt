@@ -9,15 +9,18 @@ ghost use Rattle.vb_plain.specs.Nests.{Evaluates, Passes, Enters};
 ghost use Rattle.vb_plain.specs.Seen.{seen, host};
 ghost use Rattle.vb_plain.specs.Steps.{access_seen};
 
-use crate::classes::{field_named, if_public, read_named};
-use crate::paths::element;
-use crate::places::cell_place;
+use crate::accesses::{Access, first_access};
+use crate::classes::{class_at, dictionary_word, field_named, if_public, read_named};
+use crate::dictionaries::named_member;
+use crate::paths::{element, reached_value};
+use crate::places::{cell_place, hold};
 use crate::playing::Playing;
 use crate::rules::Rules;
+use crate::values::object_in;
 use std::alloc::Global;
 use vb_meaning::{Argument, Reached, Stop};
 use vb_syntax::Intrinsics;
-use vb_syntax::program::{Class, Expression, Procedure, Program};
+use vb_syntax::program::{Class, Expression, Procedure, Program, Step};
 use vb_value::{List, ObjNo, Value, VbError};
 
 impl<
@@ -124,5 +127,144 @@ impl<
             procedure,
             supplied.unwrap_or(&[]),
         )
+    }
+
+    /// A member of an object: of a dictionary, or of an object of a class.
+    fn object_member(
+        &self,
+        p: &Program,
+        playing: &mut Playing<'_>,
+        env: &mut I,
+        object: ObjNo,
+        name: u32,
+        supplied: Option<&[Expression]>,
+        class: Option<u32>,
+    ) -> Result<Reached, Stop>
+        requires evaluates { Evaluates I (host I.asked I.answered) self.now.levels (V.pre self.now.value)
+            (V.post self.now.value) }
+        requires passes { Passes I (host I.asked I.answered) self.now.levels (A.pre self.now.argument)
+            (A.post self.now.argument) }
+        requires enters { Enters I (host I.asked I.answered) self.now.levels (N.pre self.now.enter)
+            (N.post self.now.enter) }
+        ensures { Ran (spec.object_member I (inside I (host I.asked I.answered) p.now self.now.levels) object name
+            (option_copied supplied.entry) class (seen playing.old env.old)) result (seen playing.new env.new) }
+    {
+        let Some(number) = class else {
+            return self.dictionary_member(p, playing, env, object, name, supplied.unwrap_or(&[]));
+        };
+        match class_at(p, number) {
+            Some(class) => self.class_member(
+                p, playing, env, object, number, class, name, supplied,
+            ),
+            None => Err(Stop::from(VbError::UNSUPPORTED)),
+        }
+    }
+
+    /// A member of a dictionary.
+    fn dictionary_member(
+        &self,
+        p: &Program,
+        playing: &mut Playing<'_>,
+        env: &mut I,
+        object: ObjNo,
+        name: u32,
+        supplied: &[Expression],
+    ) -> Result<Reached, Stop>
+        requires { Evaluates I (host I.asked I.answered) self.now.levels (V.pre self.now.value)
+            (V.post self.now.value) }
+        ensures { Ran (spec.of_dictionary I (inside I (host I.asked I.answered) p.now self.now.levels) object name
+            supplied.now (seen playing.old env.old)) result (seen playing.new env.new) }
+    {
+        let arguments = self.values(p, playing, env, supplied)?;
+        let word = dictionary_word(p, name);
+        let value = named_member(
+            self.alloc,
+            &mut playing.world,
+            object,
+            word,
+            arguments.as_slice(),
+        )?;
+        Ok(Reached::Value(value))
+    }
+
+    /// A member of a value, which has to be an object that has not ended. The object is held.
+    #[tactic(auto, unfolding(vb_meaning::specs::Reading::member_of))]
+    pub fn member_of(
+        &self,
+        p: &Program,
+        playing: &mut Playing<'_>,
+        env: &mut I,
+        value: &Value,
+        name: u32,
+        supplied: Option<&[Expression]>,
+    ) -> Result<Reached, Stop>
+        requires evaluates { Evaluates I (host I.asked I.answered) self.now.levels (V.pre self.now.value)
+            (V.post self.now.value) }
+        requires passes { Passes I (host I.asked I.answered) self.now.levels (A.pre self.now.argument)
+            (A.post self.now.argument) }
+        requires enters { Enters I (host I.asked I.answered) self.now.levels (N.pre self.now.enter)
+            (N.post self.now.enter) }
+        ensures { Ran (spec.member_of I (inside I (host I.asked I.answered) p.now self.now.levels) value.now name
+            (option_copied supplied.entry) (seen playing.old env.old)) result (seen playing.new env.new) }
+    {
+        hold(&mut playing.world, value)?;
+        let object = object_in(value)?;
+        let class = playing.world.heap.class(object)?;
+        self.object_member(p, playing, env, object, name, supplied, class)
+    }
+
+    /// What one access reaches from what is reached.
+    fn access(
+        &self,
+        p: &Program,
+        playing: &mut Playing<'_>,
+        env: &mut I,
+        from: Reached,
+        access: Access<'_>,
+    ) -> Result<Reached, Stop>
+        requires evaluates { Evaluates I (host I.asked I.answered) self.now.levels (V.pre self.now.value)
+            (V.post self.now.value) }
+        requires passes { Passes I (host I.asked I.answered) self.now.levels (A.pre self.now.argument)
+            (A.post self.now.argument) }
+        requires enters { Enters I (host I.asked I.answered) self.now.levels (N.pre self.now.enter)
+            (N.post self.now.enter) }
+        ensures { Ran (spec.access I (inside I (host I.asked I.answered) p.now self.now.levels) from
+            (access_seen access.entry) (seen playing.old env.old)) result (seen playing.new env.new) }
+    {
+        match access {
+            Access::Group(indices) => {
+                let indices = self.values(p, playing, env, indices)?;
+                element(self.alloc, &mut playing.world, from, indices.as_slice())
+            }
+            Access::Member(name, supplied) => {
+                let value = reached_value(self.alloc, &playing.world, from)?;
+                self.member_of(p, playing, env, &value, name, supplied)
+            }
+        }
+    }
+
+    /// What some steps reach from what is reached.
+    pub fn walk(
+        &self,
+        p: &Program,
+        playing: &mut Playing<'_>,
+        env: &mut I,
+        mut from: Reached,
+        mut steps: &[Step],
+    ) -> Result<Reached, Stop>
+        requires evaluates { Evaluates I (host I.asked I.answered) self.now.levels (V.pre self.now.value)
+            (V.post self.now.value) }
+        requires passes { Passes I (host I.asked I.answered) self.now.levels (A.pre self.now.argument)
+            (A.post self.now.argument) }
+        requires enters { Enters I (host I.asked I.answered) self.now.levels (N.pre self.now.enter)
+            (N.post self.now.enter) }
+        ensures { Ran (spec.walk I (inside I (host I.asked I.answered) p.now self.now.levels) from
+            (accesses steps.entry.now) (seen playing.old env.old)) result (seen playing.new env.new) }
+    {
+        while let Some((access, rest)) = first_access(steps) {
+            from = self.access(p, playing, env, from, access)?;
+            steps = rest;
+        }
+        Ok(from)
     }
 }
