@@ -1,11 +1,10 @@
 -- The numbers of names, when one more name comes.
 use Rattle.std.proofs.Common.{◌≡◌, ℕ, ◌+◌, Bool, true, false, cond, IsTrue, List, [], ◌∷◌, ◌++◌}
-use Rattle.std.proofs.Common.{length, Option, Some, None, Result, Ok, nat_eq, nat_cmp, is_some, refl, sym, ap, subst, ◌∙◌, arith}
-use Rattle.std.specs.BTreeMap.{BTreeMap, get, is_at, IsUnchanged}
+use Rattle.std.proofs.Common.{length, Option, Some, None, Result, Ok, nat_eq, is_some, refl, sym, ap, subst, ◌∙◌, arith}
+use Rattle.std.specs.HashMap.{HashMap, get, IsUnchanged}
 use Rattle.std.specs.Map.{lookup}
-use Rattle.std.specs.Cmp.Lexicographic.{pointwise, slice_cmp}
+use Rattle.std.specs.Cmp.Lexicographic.{pointwise}
 use Rattle.std.specs.List.{position_from}
-use Rattle.std.proofs.lemmas.Map.Text.{is_eq-slice_cmp}
 use Rattle.std.proofs.lemmas.Slice.Eq.{bytes_eq-Decides}
 use Rattle.std.proofs.lemmas.Bool.{false≢true}
 use Rattle.std.proofs.lemmas.Bool.Decides.{same_from_decides}
@@ -65,11 +64,10 @@ number_of_key-again names name key there =
 -- a new name gets the next number
 pub number_of_key-new : (names : List Name) (name key : Name) → number_of_key names (folded name) ≡ None
     → number_of_key (names ++ name ∷ []) key
-    ≡ cond (is_at (slice_cmp nat_cmp (folded name)) key) (Some (length names)) (number_of_key names key)
+    ≡ cond (pointwise nat_eq (folded name) key) (Some (length names)) (number_of_key names key)
 number_of_key-new names name key absent =
     position-push (λ other. pointwise nat_eq key (folded other)) 0 names name
     ∙ go (pointwise nat_eq (folded name) key) refl
-    ∙ ap (λ b. cond b (Some (length names)) (number_of_key names key)) (sym (is_eq-slice_cmp (folded name) key))
   where
     turned : (one other : Name) → pointwise nat_eq one other ≡ pointwise nat_eq other one
     turned one other = same_from_decides _ _ (bytes_eq-Decides one other)
@@ -93,8 +91,8 @@ number_of_key-new names name key absent =
         ∙ or_else-none (number_of_key names key)
 
 -- a name that is there already
-numbered_again : (numbers : BTreeMap Name ℕ) (names more : List Name) (name key : Name) → IsNumbered numbers names
-    → more ≡ names ++ name ∷ [] → key ≡ folded name → true ≡ is_some (get (slice_cmp nat_cmp) numbers key)
+numbered_again : {S : Type 0} (numbers : HashMap Name ℕ S) (names more : List Name) (name key : Name) → IsNumbered numbers names
+    → more ≡ names ++ name ∷ [] → key ≡ folded name → true ≡ is_some (get (pointwise nat_eq) numbers key)
     → IsNumbered numbers more
 numbered_again numbers names more name key are all is there =
     let found : is_some (number_of_key names (folded name)) ≡ true =
@@ -102,35 +100,35 @@ numbered_again numbers names more name key are all is there =
     λ other. are other ∙ sym (ap (λ l. number_of_key l other) all ∙ number_of_key-again names name other found)
 
 -- a new name
-pub numbered_new : (numbers after : BTreeMap Name ℕ) (names more : List Name) (name key : Name) (number : ℕ)
+pub numbered_new : {S : Type 0} (numbers after : HashMap Name ℕ S) (names more : List Name) (name key : Name) (number : ℕ)
     → IsNumbered numbers names → more ≡ names ++ name ∷ [] → key ≡ folded name
-    → get (slice_cmp nat_cmp) numbers key ≡ None → number ≡ length names
-    → ((other : Name) → get (slice_cmp nat_cmp) after other
-    ≡ cond (is_at (slice_cmp nat_cmp key) other) (Some number) (get (slice_cmp nat_cmp) numbers other))
+    → get (pointwise nat_eq) numbers key ≡ None → number ≡ length names
+    → ((other : Name) → get (pointwise nat_eq) after other
+    ≡ cond (pointwise nat_eq key other) (Some number) (get (pointwise nat_eq) numbers other))
     → IsNumbered after more
 numbered_new numbers after names more name key number are all is absent next puts =
     let new : number_of_key names (folded name) ≡ None = ap (number_of_key names) (sym is) ∙ sym (are key) ∙ absent in
     λ other. puts other
-    ∙ ap (λ k. cond (is_at (slice_cmp nat_cmp k) other) (Some number) (get (slice_cmp nat_cmp) numbers other)) is
-    ∙ ap (λ n. cond (is_at (slice_cmp nat_cmp (folded name)) other) (Some n)
-    (get (slice_cmp nat_cmp) numbers other)) next
-    ∙ ap (λ n. cond (is_at (slice_cmp nat_cmp (folded name)) other) (Some (length names)) n) (are other)
+    ∙ ap (λ k. cond (pointwise nat_eq k other) (Some number) (get (pointwise nat_eq) numbers other)) is
+    ∙ ap (λ n. cond (pointwise nat_eq (folded name) other) (Some n)
+    (get (pointwise nat_eq) numbers other)) next
+    ∙ ap (λ n. cond (pointwise nat_eq (folded name) other) (Some (length names)) n) (are other)
     ∙ sym (ap (λ l. number_of_key l other) all ∙ number_of_key-new names name other new)
 
 -- a map with the same entries
-same_numbers : (numbers after : BTreeMap Name ℕ) (names : List Name) → IsUnchanged numbers after
+same_numbers : {S : Type 0} (numbers after : HashMap Name ℕ S) (names : List Name) → IsUnchanged numbers after
     → IsNumbered numbers names → IsNumbered after names
-same_numbers numbers after names same are = λ key. ap (lookup (is_at (slice_cmp nat_cmp key))) same ∙ are key
+same_numbers numbers after names same are = λ key. ap (lookup (pointwise nat_eq key)) same ∙ are key
 
 -- a name that was put into the map, if its key was not there
-pub numbered_put : (result : Result Bool Memory) (numbers after : BTreeMap Name ℕ) (names more : List Name)
+pub numbered_put : {S : Type 0} (result : Result Bool Memory) (numbers after : HashMap Name ℕ S) (names more : List Name)
     (name key : Name) (number : ℕ) (is_new : Bool)
     → IsNumbered numbers names → more ≡ names ++ name ∷ [] → key ≡ folded name → number ≡ length names
     → result ≡ Ok is_new
-    → (result ≡ Ok true → get (slice_cmp nat_cmp) numbers key ≡ None)
-    → (result ≡ Ok true → (other : Name) → get (slice_cmp nat_cmp) after other
-    ≡ cond (is_at (slice_cmp nat_cmp key) other) (Some number) (get (slice_cmp nat_cmp) numbers other))
-    → (result ≡ Ok false → is_some (get (slice_cmp nat_cmp) numbers key) ≡ true)
+    → (result ≡ Ok true → get (pointwise nat_eq) numbers key ≡ None)
+    → (result ≡ Ok true → (other : Name) → get (pointwise nat_eq) after other
+    ≡ cond (pointwise nat_eq key other) (Some number) (get (pointwise nat_eq) numbers other))
+    → (result ≡ Ok false → is_some (get (pointwise nat_eq) numbers key) ≡ true)
     → (result ≡ Ok false → IsUnchanged numbers after)
     → IsNumbered after more
 numbered_put result numbers after names more name key number true are all is next answer absent puts there kept =

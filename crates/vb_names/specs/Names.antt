@@ -1,10 +1,9 @@
 -- Names in an order, found by their keys.
-use Rattle.std.specs.Prelude.{◌≡◌, ℕ, List}
-use Rattle.std.specs.BTreeMap.{BTreeMap, get}
-use Rattle.std.specs.Cmp.Lexicographic.{slice_cmp}
-use Rattle.std.specs.Ordering.{nat_cmp}
+use Rattle.std.specs.Prelude.{◌≡◌, ℕ, List, nat_eq}
+use Rattle.std.specs.Cmp.Lexicographic.{pointwise}
+use Rattle.std.specs.HashMap.{HashMap, get}
 use Rattle.vb_syntax.specs.scope.Names.{Name, number_of_key}
 
 -- the map has each key with the number of the first name that has it
-abbrev pub IsNumbered : BTreeMap Name ℕ → List Name → Type 0
-IsNumbered numbers names = (key : Name) → get (slice_cmp nat_cmp) numbers key ≡ number_of_key names key
+abbrev pub IsNumbered : {S : Type 0} → HashMap Name ℕ S → List Name → Type 0
+IsNumbered numbers names = (key : Name) → get (pointwise nat_eq) numbers key ≡ number_of_key names key

@@ -156,11 +156,11 @@ fn check_write(
         (spec.write_faults (scopes_seen scopes.entry) names.old name.now)) }
     ensures after { OnOk result (names.new ≡ add_name names.old name.now) }
 {
-    let alloc = *name.allocator();
-    if is_constant(&scopes.named(alloc, false, name)?) {
+    let (found, object) = scopes.meant(false, name)?;
+    if is_constant(&found) {
         return refuse(ScopeFault::ConstTarget, line);
     }
-    if scopes.object(alloc, name)?.is_some() {
+    if object.is_some() {
         return refuse(ScopeFault::BadMember, line);
     }
     check_name(names, line, name)
@@ -170,7 +170,7 @@ fn check_write(
 fn is_bare(scopes: Scopes<'_>, name: &Text, steps: &[Shape], is_group: bool) -> Result<bool, Memory>
     ensures { Gives result (spec.is_bare (scopes_seen scopes.entry) name.now steps.now is_group) }
 {
-    match scopes.object(*name.allocator(), name)? {
+    match scopes.meant(false, name)?.1 {
         None => Ok(false),
         Some(object) => Ok(member_meant(object, is_group, steps).is_none()),
     }

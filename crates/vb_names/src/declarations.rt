@@ -4,11 +4,12 @@ ghost use Rattle.vb_value.specs.Outcome.{Gives};
 ghost use Rattle.vb_syntax.specs.scope.Scopes as spec;
 ghost use Rattle.vb_names.specs.Declarations.{declarations_seen};
 
+use crate::key::Key;
 use crate::names::Names;
 use std::alloc::Global;
 use vb_syntax::program::{Constant, DeclaredArray, Named, Slot};
 use vb_syntax::{Level, Note, NoteKind, copy_bounds};
-use vb_value::{Copied, List, Memory, Text, fold};
+use vb_value::{Copied, List, Memory, Text};
 
 /// The names that a page, a class or a procedure declares, and what they stand for.
 #[derive(Debug, Drop)]
@@ -71,7 +72,7 @@ fn push_name(found: &mut Declarations, name: &Text, meaning: Named) -> Result<()
     ensures { IfOk result (λ _. declarations_seen found.new
         ≡ spec.with_name name.now meaning (declarations_seen found.old)) }
 {
-    let key = fold(*name.allocator(), name)?;
+    let key = Key::of(name)?;
     found.names.push(name.copy()?, key)?;
     found.meanings.push(meaning)
 }

@@ -3,6 +3,7 @@
 
 mod checks;
 mod declarations;
+mod key;
 mod language;
 mod members;
 mod names;
@@ -11,6 +12,7 @@ mod undeclared;
 
 pub use checks::{DeclaredNames, check_notes};
 pub use declarations::{Declarations, copy_array, declared};
+pub use key::Key;
 pub use language::dictionary_member;
 pub use members::{err_meant, groups_behind, length_of, member_meant};
 pub use names::Names;

@@ -1,25 +1,25 @@
 //! Names in an order, which are found by their numbers.
-ghost use Rattle.std.specs.Prelude.{◌≡◌, ◌++◌, ◌∷◌, [], length, ℕ, List as Items, true, false, cond};
+ghost use Rattle.std.specs.Prelude.{◌≡◌, ◌++◌, ◌∷◌, [], length, ℕ, List as Items, true, false, cond, nat_eq};
 ghost use Rattle.std.specs.Prelude.{Ok, Some, None, is_some, IfOk, OnErr};
-ghost use Rattle.std.specs.BTreeMap.{get, is_at, IsUnchanged};
-ghost use Rattle.std.specs.Cmp.Lexicographic.{slice_cmp};
-ghost use Rattle.std.specs.Ordering.{nat_cmp};
+ghost use Rattle.std.specs.Cmp.Lexicographic.{pointwise};
+ghost use Rattle.std.specs.HashMap.{get, IsUnchanged};
 ghost use Rattle.vb_value.specs.Folding.{folded};
 ghost use Rattle.vb_value.specs.Outcome.{Adds, Changes, Gives};
 ghost use Rattle.vb_syntax.specs.scope.Names.{number_of_key, add_name, has_name};
 
+use crate::key::Key;
 use std::alloc::Global;
-use std::collections::BTreeMap;
-use std::collections::btree_map::Entry;
+use std::collections::HashMap;
+use std::collections::hash_map::Entry;
 use std::marker::Model;
-use vb_value::{Copied, List, Memory, Text, fold};
+use vb_value::{Copied, List, Memory, Text};
 
-/// Names in an order. A name is found in it by its key, which is the name with its letters made small.
+/// Names in an order. A name is found in it by its key.
 #[derive(Debug, Drop)]
 pub struct Names {
     written: List<Text>,
     /// For each key, the number of the first name that has it.
-    numbers: BTreeMap<Text, u32>,
+    numbers: HashMap<Key, u32>,
 }
 
 impl Model for Names {
@@ -43,7 +43,7 @@ impl Names {
     {
         Names {
             written: List::new(alloc),
-            numbers: BTreeMap::new(alloc),
+            numbers: HashMap::new(alloc),
         }
     }
 
@@ -73,14 +73,14 @@ impl Names {
     }
 
     /// The number of the first name that has the key.
-    pub fn number(&self, key: &Text) -> Option<u32>
+    pub fn number(&self, key: &Key) -> Option<u32>
         ensures { result ≡ number_of_key self.now key.now }
     {
         self.numbers.get(key).copied()
     }
 
     /// Adds a name at the end, with its key. Memory is the answer too where 4,294,967,296 names are there already.
-    pub fn push(&mut self, name: Text, key: Text) -> Result<(), Memory>
+    pub fn push(&mut self, name: Text, key: Key) -> Result<(), Memory>
         requires { key ≡ folded name }
         ensures { Changes result self.old self.new (self.old ++ name ∷ []) }
     {
@@ -100,30 +100,13 @@ impl Names {
         ensures was { IfOk result (λ was. was ≡ has_name self.old name.now) }
         ensures added { IfOk result (λ _. self.new ≡ add_name self.old name.now) }
     {
-        let key = fold(*name.allocator(), name)?;
-        let number = u32::try_from(self.written.len()).map_err(|_| Memory)?;
-        self.written.push(name.copy()?)?;
-        match put_first(&mut self.numbers, key, number) {
-            Ok(true) => Ok(false),
-            Ok(false) => {
-                let _ = self.written.pop();
-                Ok(true)
-            }
-            Err(_) => {
-                let _ = self.written.pop();
-                Err(Memory)
-            }
+        let key = Key::of(name)?;
+        if self.number(&key).is_some() {
+            return Ok(true);
         }
+        self.push(name.copy()?, key)?;
+        Ok(false)
     }
-}
-
-/// Adds a name at the end of some.
-pub fn push_name(names: &mut Names, name: &Text) -> Result<(), Memory>
-    ensures { Adds result names.old names.new (name.now ∷ []) }
-{
-    let written = name.copy()?;
-    let key = fold(*name.allocator(), name)?;
-    names.push(written, key)
 }
 
 /// Whether a name is among some.
@@ -133,16 +116,16 @@ pub fn has(names: &Names, name: &Text) -> Result<bool, Memory>
     if names.len() == 0 {
         return Ok(false);
     }
-    let key = fold(*name.allocator(), name)?;
+    let key = Key::of(name)?;
     Ok(names.number(&key).is_some())
 }
 
 /// Puts a number at a key, if there is none. It answers whether it did.
-fn put_first(numbers: &mut BTreeMap<Text, u32>, key: Text, number: u32) -> Result<bool, Memory>
-    ensures absent { result ≡ Ok true → get (slice_cmp nat_cmp) numbers.old key ≡ None }
-    ensures added { result ≡ Ok true → (other : Items ℕ) → get (slice_cmp nat_cmp) numbers.new other
-        ≡ cond (is_at (slice_cmp nat_cmp key) other) (Some number) (get (slice_cmp nat_cmp) numbers.old other) }
-    ensures there { result ≡ Ok false → is_some (get (slice_cmp nat_cmp) numbers.old key) ≡ true }
+fn put_first(numbers: &mut HashMap<Key, u32>, key: Key, number: u32) -> Result<bool, Memory>
+    ensures absent { result ≡ Ok true → get (pointwise nat_eq) numbers.old key ≡ None }
+    ensures added { result ≡ Ok true → (other : Items ℕ) → get (pointwise nat_eq) numbers.new other
+        ≡ cond (pointwise nat_eq key other) (Some number) (get (pointwise nat_eq) numbers.old other) }
+    ensures there { result ≡ Ok false → is_some (get (pointwise nat_eq) numbers.old key) ≡ true }
     ensures kept { result ≡ Ok false → IsUnchanged numbers.old numbers.new }
     ensures refused { OnErr result (IsUnchanged numbers.old numbers.new) }
 {

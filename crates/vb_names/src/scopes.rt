@@ -1,5 +1,5 @@
 //! What names stand for in the scopes around a place.
-ghost use Rattle.std.specs.Prelude.{◌≡◌, false};
+ghost use Rattle.std.specs.Prelude.{◌≡◌, false, true};
 ghost use Rattle.std.specs.Option.{option_copied};
 ghost use Rattle.vb_value.specs.Folding.{folded};
 ghost use Rattle.vb_value.specs.Outcome.{Gives};
@@ -8,11 +8,11 @@ ghost use Rattle.vb_syntax.specs.scope.Trees as trees;
 ghost use Rattle.vb_names.specs.Declarations.{declarations_seen, scopes_seen};
 
 use crate::declarations::Declarations;
+use crate::key::Key;
 use crate::language::{object_named, of_language};
-use std::alloc::Global;
 use vb_syntax::PageObject;
 use vb_syntax::program::{Named, Slot};
-use vb_value::{Copied, Memory, Text, fold};
+use vb_value::{Copied, Memory, Text};
 
 /// The scopes around a place.
 #[derive(Clone, Copy)]
@@ -26,7 +26,7 @@ pub struct Scopes<'a> {
 }
 
 /// What a key stands for in one scope.
-fn standing_in<'a>(found: &'a Declarations, key: &Text) -> Option<&'a Named>
+fn standing_in<'a>(found: &'a Declarations, key: &Key) -> Option<&'a Named>
     ensures { option_copied result ≡ spec.standing_in (declarations_seen found.now) key.now }
 {
     match found.names.number(key) {
@@ -45,13 +45,19 @@ fn where_called(is_called: bool, found: Option<&Named>) -> Option<&Named>
     }
 }
 
+/// Whether a name stands for nothing.
+pub fn is_unknown(named: &Named) -> bool
+    ensures { result ≡ spec.is_unknown named.now }
+{
+    matches!(named, Named::Unknown)
+}
+
 /// The number of a class of the page.
 pub fn class_number(page: &Declarations, class: &Text) -> Result<Option<u32>, Memory>
     ensures { Gives result
         (trees.class_number (spec.standing_in (declarations_seen page.now) (folded class.now))) }
 {
-    let key = fold(*class.allocator(), class)?;
-    match standing_in(page, &key) {
+    match standing_in(page, &Key::of(class)?) {
         Some(Named::Class(number)) => Ok(Some(*number)),
         _ => Ok(None),
     }
@@ -60,7 +66,7 @@ pub fn class_number(page: &Declarations, class: &Text) -> Result<Option<u32>, Me
 impl<'a> Scopes<'a> {
     #[tactic(auto, unfolding(vb_syntax::specs::scope::Scopes::declared_in))]
     /// What a key stands for, where a scope declares it.
-    pub fn declared(self, is_called: bool, key: &Text) -> Option<&'a Named>
+    pub fn declared(self, is_called: bool, key: &Key) -> Option<&'a Named>
         ensures { option_copied result ≡ spec.declared_in (scopes_seen self.entry) is_called key.now }
     {
         if let Some(found) = where_called(is_called, standing_in(self.body, key)) {
@@ -73,35 +79,61 @@ impl<'a> Scopes<'a> {
     }
 
     #[tactic(auto, unfolding(vb_syntax::specs::scope::Scopes::named_in))]
-    /// What a name stands for. It is called where `is_called` is true.
-    pub fn named(self, alloc: Global, is_called: bool, name: &Text) -> Result<Named, Memory>
+    /// What a name stands for, which has the key.
+    fn named_by(self, is_called: bool, name: &Text, key: &Key) -> Result<Named, Memory>
+        requires { key.now ≡ folded name.now }
         ensures { Gives result (spec.named_in (scopes_seen self.entry) is_called name.now) }
     {
-        let key = fold(alloc, name)?;
-        if let Some(found) = self.declared(is_called, &key) {
+        if let Some(found) = self.declared(is_called, key) {
             return found.copy();
         }
-        match of_language(alloc, name.as_slice())? {
+        match of_language(*name.allocator(), name.as_slice())? {
             Some(found) => Ok(found),
             None => Ok(Named::Unknown),
         }
     }
 
-    /// Whether no scope declares a name and the language has none of it.
-    pub fn is_unknown(self, alloc: Global, name: &Text) -> Result<bool, Memory>
-        ensures { Gives result (spec.is_unknown (spec.named_in (scopes_seen self.entry) false name.now)) }
+    /// What a name stands for. It is called where `is_called` is true.
+    pub fn named(self, is_called: bool, name: &Text) -> Result<Named, Memory>
+        ensures { Gives result (spec.named_in (scopes_seen self.entry) is_called name.now) }
     {
-        Ok(matches!(self.named(alloc, false, name)?, Named::Unknown))
+        self.named_by(is_called, name, &Key::of(name)?)
     }
 
-    #[tactic(auto, unfolding(vb_syntax::specs::scope::Scopes::object_in))]
-    /// The object of the page that a name stands for.
-    pub fn object(self, alloc: Global, name: &Text) -> Result<Option<PageObject>, Memory>
-        ensures { Gives result (spec.object_in (scopes_seen self.entry) name.now) }
+    #[tactic(auto, using(crate::proofs::Objects::objects))]
+    /// The object of the page that a name stands for, which has the key and stands for nothing else.
+    fn object_by(self, is_called: bool, name: &Text, key: &Key) -> Option<PageObject>
+        requires key { key.now ≡ folded name.now }
+        requires unknown { spec.is_unknown (spec.named_in (scopes_seen self) is_called name.now) ≡ true }
+        ensures { result ≡ spec.object_in (scopes_seen self.entry) name.now }
     {
-        if self.is_unknown(alloc, name)? {
-            return Ok(object_named(name.as_slice()));
+        if !is_called {
+            return object_named(name.as_slice());
         }
-        Ok(None)
+        match self.declared(false, key) {
+            None => object_named(name.as_slice()),
+            Some(found) => {
+                if is_unknown(found) {
+                    object_named(name.as_slice())
+                } else {
+                    None
+                }
+            }
+        }
+    }
+
+    #[tactic(auto, using(crate::proofs::Objects::objects))]
+    /// What a name stands for, and the object of the page that it stands for. It is called where `is_called` is true.
+    pub fn meant(self, is_called: bool, name: &Text) -> Result<(Named, Option<PageObject>), Memory>
+        ensures { let scopes = scopes_seen self.entry in
+            Gives result (spec.named_in scopes is_called name.now, spec.object_in scopes name.now) }
+    {
+        let key = Key::of(name)?;
+        let named = self.named_by(is_called, name, &key)?;
+        if !is_unknown(&named) {
+            return Ok((named, None));
+        }
+        let object = self.object_by(is_called, name, &key);
+        Ok((named, object))
     }
 }

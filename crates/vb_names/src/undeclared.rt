@@ -6,12 +6,13 @@ ghost use Rattle.vb_syntax.specs.scope.Scopes as spec;
 ghost use Rattle.vb_names.specs.Declarations.{declarations_seen, scopes_seen};
 
 use crate::declarations::{Declarations, declared, push_variable};
-use crate::language::object_named;
-use crate::scopes::Scopes;
+use crate::key::Key;
+use crate::scopes::{Scopes, is_unknown};
 use std::alloc::Global;
 use vb_syntax::{Level, Note, NoteKind};
-use vb_value::{Memory, Text, fold};
+use vb_value::{Memory, Text};
 
+#[tactic(auto, using(crate::proofs::Objects::objects))]
 /// A name that is mentioned, where that makes it a variable.
 fn mentioned<'a>(
     explicit: bool,
@@ -23,7 +24,8 @@ fn mentioned<'a>(
     if explicit {
         return Ok(None);
     }
-    if scopes.is_unknown(*name.allocator(), name)? && object_named(name.as_slice()).is_none() {
+    let (named, object) = scopes.meant(false, name)?;
+    if is_unknown(&named) && object.is_none() {
         return Ok(Some(name));
     }
     Ok(None)
@@ -33,7 +35,7 @@ fn mentioned<'a>(
 fn resized<'a>(scopes: Scopes<'_>, name: &'a Text) -> Result<Option<&'a Text>, Memory>
     ensures { IfOk result (λ made. option_copied made ≡ spec.resized (scopes_seen scopes.entry) name.now) }
 {
-    let key = fold(*name.allocator(), name)?;
+    let key = Key::of(name)?;
     if scopes.declared(false, &key).is_some() {
         return Ok(None);
     }
@@ -70,20 +72,20 @@ fn push_made(found: &mut Declarations, level: Level, made: Option<&Text>) -> Res
 /// Adds the variable that one place of the page makes.
 fn make_on_page(
     page: &mut Declarations,
-    alloc: Global,
     explicit: bool,
+    nothing: &Declarations,
     note: &Note,
 ) -> Result<(), Memory>
+    requires { declarations_seen nothing.now ≡ spec.nothing_declared }
     ensures { IfOk result (λ _. declarations_seen page.new
         ≡ spec.make_on_page explicit (declarations_seen page.old) note.now) }
 {
-    let nothing = Declarations::new(alloc);
     let made = made_by(
         explicit,
         Scopes {
             page: &*page,
-            class: &nothing,
-            body: &nothing,
+            class: nothing,
+            body: nothing,
         },
         &note.kind,
     )?;
@@ -95,9 +97,10 @@ fn make_on_page(
 pub fn page_scope(alloc: Global, explicit: bool, notes: &[Note]) -> Result<Declarations, Memory>
     ensures { IfOk result (λ page. declarations_seen page ≡ spec.page_scope_of explicit notes.now) }
 {
+    let nothing = Declarations::new(alloc);
     let mut page = declared(alloc, Level::Page, notes)?;
     for note in notes {
-        make_on_page(&mut page, alloc, explicit, note)?;
+        make_on_page(&mut page, explicit, &nothing, note)?;
     }
     Ok(page)
 }

@@ -1,10 +1,10 @@
--- What a call gives, said in another way.
-use Rattle.std.proofs.Common.{◌≡◌, ◌∙◌, Result, Ok, Err}
+-- What a call adds, said in another way.
+use Rattle.std.proofs.Common.{◌≡◌, ◌∙◌, List, [], ◌∷◌, ◌++◌, Result, Ok, Err, ap}
 use Rattle.vb_value.specs.declared.memory.Memory.{Memory}
-use Rattle.vb_value.specs.Outcome.{Gives}
+use Rattle.vb_value.specs.Outcome.{Adds, Changes}
 
--- a call that gives a value gives what is the same value
-pub gives_same : {T : Type 0} (result : Result T Memory) (one other : T) → Gives result one → one ≡ other
-    → Gives result other
-gives_same (Ok given) one other gives same = gives ∙ same
-gives_same (Err stop) one other gives same = gives
+-- a call that adds an item adds the list that is that item
+pub adds_one : {T A : Type 0} (result : Result T Memory) (old new : List A) (item : A) (items : List A)
+    → Changes result old new (old ++ item ∷ []) → item ∷ [] ≡ items → Adds result old new items
+adds_one (Ok done) old new item items changed same = changed ∙ ap (λ l. old ++ l) same
+adds_one (Err stop) old new item items changed same = tt

@@ -2,3 +2,4 @@ pub mod Giving
 pub mod TreePaths
 pub mod Programs
 pub mod OneProgram
+pub mod Last

@@ -1,5 +1,5 @@
 -- A program is what a script resolves to.
-use Rattle.std.proofs.Common.{◌≡◌, ℕ, Bool, List, [], map, Option}
+use Rattle.std.proofs.Common.{◌≡◌, ◌∙◌, ℕ, Bool, List, [], map, Option, ap}
 use Rattle.std.specs.List.{flat_map}
 use Rattle.vb_syntax.specs.declared.declaration.Access.{Access}
 use Rattle.vb_syntax.specs.declared.declaration.Parameter.{Parameter}
@@ -10,13 +10,18 @@ use Rattle.vb_syntax.specs.declared.program.unit.Constant.{Constant}
 use Rattle.vb_syntax.specs.declared.program.unit.DeclaredArray.{DeclaredArray}
 use Rattle.vb_syntax.specs.declared.program.unit.Procedure.{Procedure}
 use Rattle.vb_syntax.specs.declared.program.unit.ProcedureKind.{ProcedureKind}
+use Rattle.vb_syntax.specs.declared.program.unit.ProcedureKind.{ProcedureKind}
+use Rattle.vb_syntax.specs.declared.program.unit.Field.{Field}
+use Rattle.vb_syntax.specs.declared.unit.Class.{Class as SourceClass}
 use Rattle.vb_syntax.specs.declared.unit.Unit.{Unit as Script}
 use Rattle.vb_syntax.specs.scope.Resolving.{Resolves}
 use Rattle.vb_syntax.specs.scope.Faults.{faults_of, names_of}
 use Rattle.vb_syntax.specs.scope.Names.{Name, name_number, dictionary_member}
 use Rattle.vb_syntax.specs.scope.Programs.{Parts, program_of, own_statement, procedure_of, class_of}
 use Rattle.vb_syntax.specs.scope.Programs.{is_private, procedure_in, names_where, is_place, is_procedure, is_class}
-use Rattle.vb_syntax.specs.scope.Scopes.{Declarations, page_scope, body_scope, body_scopes}
+use Rattle.vb_syntax.specs.scope.Programs.{fields_of, procedure_member, sub_number}
+use Rattle.std.specs.Prelude.{codes}
+use Rattle.vb_syntax.specs.scope.Scopes.{Declarations, class_scope, page_scope, body_scope, body_scopes}
 use Rattle.vb_syntax.specs.scope.Trees.{statement_of}
 use Rattle.vb_syntax.specs.scope.Units.{Body, procedures_of, classes_of}
 
@@ -87,3 +92,33 @@ pub procedure_is : (explicit : Bool) (page : Declarations) (names : List Name) (
     ≡ procedure_in explicit page names class access kind name body
 procedure_is explicit page names class access kind name body private number by_value scope statements
     is_it is_number are_by_value is_scope are_statements = cc
+
+-- a procedure is what its parts make it
+pub same_procedure : (explicit : Bool) (page : Declarations) (names : List Name) (class outer : Declarations)
+    (access given : Option Access) (kind is_kind : ProcedureKind) (name is_name : Name) (body is_body : Body)
+    → class ≡ outer → access ≡ given → kind ≡ is_kind → name ≡ is_name → body ≡ is_body
+    → procedure_in explicit page names class access kind name body
+    ≡ procedure_in explicit page names outer given is_kind is_name is_body
+same_procedure explicit page names class outer access given kind is_kind name is_name body is_body a b c d e =
+    ap (λ (x : Declarations). procedure_in explicit page names x access kind name body) a
+    ∙ ap (λ (x : Option Access). procedure_in explicit page names outer x kind name body) b
+    ∙ ap (λ (x : ProcedureKind). procedure_in explicit page names outer given x name body) c
+    ∙ ap (λ (x : Name). procedure_in explicit page names outer given is_kind x body) d
+    ∙ ap (λ (x : Body). procedure_in explicit page names outer given is_kind is_name x) e
+
+-- these parts are the class
+pub class_is : (explicit : Bool) (page : Declarations) (names : List Name) (found : SourceClass) (class : Declarations)
+    (fields : List Field) (procedures : List Procedure) (initialize terminate : Option ℕ)
+    → class ≡ class_scope found → fields ≡ flat_map (fields_of names) found.members
+    → procedures ≡ flat_map (procedure_member explicit page names class) found.members
+    → initialize ≡ sub_number (codes "class_initialize") found.members
+    → terminate ≡ sub_number (codes "class_terminate") found.members
+    → record {
+      line = found.line;
+      fields = fields;
+      procedures = procedures;
+      initialize = initialize;
+      terminate = terminate;
+    }
+    ≡ class_of explicit page names found
+class_is explicit page names found class fields procedures initialize terminate a b c d e = cc

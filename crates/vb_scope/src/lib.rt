@@ -4,7 +4,6 @@
 mod laws;
 mod listing;
 mod resolving;
-mod scopes;
 mod trees;
 mod unit_checks;
 

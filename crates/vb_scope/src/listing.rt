@@ -3,10 +3,11 @@ ghost use Rattle.std.specs.Prelude.{◌≡◌, map};
 ghost use Rattle.vb_value.specs.Outcome.{Gives};
 ghost use Rattle.vb_syntax.specs.scope.Names as names_spec;
 ghost use Rattle.vb_syntax.specs.scope.Programs as spec;
+ghost use Rattle.vb_names.specs.Declarations.{declarations_seen};
 ghost use Rattle.vb_scope.specs.Standing.{stands_so};
 
 use std::alloc::Global;
-use vb_names::dictionary_member;
+use vb_names::{Declarations, dictionary_member};
 use vb_syntax::program::{DictionaryMember, Named};
 use vb_value::{Copied, List, Memory, Text};
 
@@ -32,16 +33,17 @@ fn stands_so(standing: Standing, meaning: &Named) -> bool
     }
 }
 
-/// The names that stand for that, in their order.
+/// The names of a scope that stand for that, in their order.
 pub fn names_where(
     alloc: Global,
     standing: Standing,
-    mut names: &[Text],
-    mut meanings: &[Named],
+    found: &Declarations,
 ) -> Result<List<Text>, Memory>
-    ensures { Gives result (spec.names_where (stands_so standing) names.entry.now meanings.entry.now) }
+    ensures { Gives result (spec.names_in (stands_so standing) (declarations_seen found.now)) }
 {
     let mut all = List::new(alloc);
+    let mut names = found.names.as_slice();
+    let mut meanings = found.meanings.as_slice();
     while let [name, more @ ..] = names {
         let [meaning, rest @ ..] = meanings else {
             return Ok(all);

@@ -1,5 +1,5 @@
 //! Scripts as programs.
-ghost use Rattle.std.specs.Prelude.{◌≡◌, [], IfOk, Ok};
+ghost use Rattle.std.specs.Prelude.{◌≡◌, [], IfOk, Ok, map};
 ghost use Rattle.vb_value.specs.Outcome.{Answers, OnFault};
 ghost use Rattle.vb_value.specs.declared.stop.Stop.TheVariants.{Memory as OutOfMemory};
 ghost use Rattle.vb_syntax.specs.scope.Resolving.{IsFirstFault, Resolves};
@@ -9,93 +9,81 @@ ghost use Rattle.vb_syntax.specs.scope.Scopes.{page_scope as scope_of_page};
 ghost use Rattle.vb_names.specs.Checking.{Finds};
 ghost use Rattle.vb_names.specs.Declarations.{declarations_seen};
 ghost use Rattle.vb_scope.specs.Answers.{answered, parts_of};
+ghost use Rattle.vb_scope.specs.Inside.{scopes_inside};
 
 use crate::listing::{Standing, dictionary, names_where};
-use crate::scopes::page_notes;
-use crate::trees::{Script, own_statements, page_classes, page_procedures};
+use crate::trees::{Script, Trees, page_trees};
 use crate::unit_checks::check_items;
 use std::alloc::Global;
 use vb_names::{Declarations, DeclaredNames, Names, page_scope};
+use vb_notes::note_items;
 use vb_syntax::program::{Program, Unit as ResolvedUnit};
 use vb_syntax::{ScopeStop, Unit};
-use vb_value::Memory;
+use vb_value::{List, Memory};
 
 #[tactic(auto, unfolding(vb_syntax::specs::scope::Faults::faults_of, vb_syntax::specs::scope::Faults::names_of))]
-/// Checks a script, and gives its names.
-fn check_unit(alloc: Global, unit: &Unit, page: &Declarations) -> Result<Names, ScopeStop>
+/// Checks a script, and gives its names and the scopes inside each of its items.
+fn check_unit(
+    alloc: Global,
+    unit: &Unit,
+    page: &Declarations,
+) -> Result<(Names, List<List<Declarations>>), ScopeStop>
     requires { declarations_seen page.now ≡ scope_of_page unit.now }
     ensures faults { Finds result (faults_of unit.now) }
-    ensures names { IfOk result (λ names. names ≡ names_of unit.now) }
+    ensures names { IfOk result (λ found. found.0 ≡ names_of unit.now) }
+    ensures inside { IfOk result (λ found. map (map declarations_seen) found.1
+        ≡ map (scopes_inside unit.now.option_explicit (declarations_seen page.now)) unit.now.items) }
 {
     let mut names = Names::new(alloc);
     let mut declared = DeclaredNames::new(alloc);
-    check_items(
-        &mut names,
-        &mut declared,
-        alloc,
-        unit.option_explicit,
-        page,
-        unit.items.as_slice(),
-    )?;
-    Ok(names)
+    let (explicit, items) = (unit.option_explicit, unit.items.as_slice());
+    let inside = check_items(&mut names, &mut declared, alloc, explicit, page, items)?;
+    Ok((names, inside))
 }
 
 #[tactic(auto, using(crate::proofs::Programs::resolved), unfolding(vb_syntax::specs::scope::Programs::program_of))]
-/// The program of a script without a fault, by its page's scope and its names.
-fn program(alloc: Global, unit: &Unit, page: Declarations, names: Names) -> Result<Program, Memory>
+/// The program of a script without a fault, by its page's scope, its names, and the scopes inside each of its items.
+fn program(
+    alloc: Global,
+    unit: &Unit,
+    page: Declarations,
+    checked: (Names, List<List<Declarations>>),
+) -> Result<Program, Memory>
     requires page { declarations_seen page ≡ scope_of_page unit.now }
-    requires names { names ≡ names_of unit.now }
+    requires names { checked.0 ≡ names_of unit.now }
+    requires inside { map (map declarations_seen) checked.1
+        ≡ map (scopes_inside unit.now.option_explicit (declarations_seen page)) unit.now.items }
     requires faultless { faults_of unit.now ≡ [] }
     ensures { IfOk result (λ program. parts_of program ≡ program_of unit.now) }
 {
+    let (names, inside) = checked;
     let script = Script {
         alloc,
         explicit: unit.option_explicit,
         page: &page,
         names: &names,
     };
-    let body = own_statements(script, unit.items.as_slice())?;
-    let procedures = page_procedures(script, unit.items.as_slice())?;
-    let classes = page_classes(script, unit.items.as_slice())?;
+    let trees = page_trees(script, unit.items.as_slice(), inside)?;
     let says = dictionary(alloc, names.as_slice())?;
+    let vars = names_where(alloc, Standing::Variable, &page)?;
+    let procs = names_where(alloc, Standing::Procedure, &page)?;
+    let class_names = names_where(alloc, Standing::Class, &page)?;
     let Declarations {
-        names: declared,
-        meanings,
         arrays,
         constants,
-        procedures: _,
-        classes: _,
-        members: _,
+        ..
     } = page;
-    let vars = names_where(
-        alloc,
-        Standing::Variable,
-        declared.as_slice(),
-        meanings.as_slice(),
-    )?;
-    let procs = names_where(
-        alloc,
-        Standing::Procedure,
-        declared.as_slice(),
-        meanings.as_slice(),
-    )?;
-    let class_names = names_where(
-        alloc,
-        Standing::Class,
-        declared.as_slice(),
-        meanings.as_slice(),
-    )?;
-    let unit_of_names = ResolvedUnit {
-        body,
+    let resolved = ResolvedUnit {
+        body: trees.body,
         variables: arrays,
         constants,
-        procedures,
-        classes,
+        procedures: trees.procedures,
+        classes: trees.classes,
         names: names.into_texts(),
         dictionary: says,
     };
     Ok(Program {
-        unit: unit_of_names,
+        unit: resolved,
         vars,
         procs,
         classes: class_names,
@@ -110,8 +98,9 @@ pub fn resolve(alloc: Global, unit: Unit) -> Result<Program, ScopeStop>
     ensures only { (program : Parts) → Resolves unit program → Answers (answered result) OutOfMemory (Ok program) }
     ensures fault { OnFault result (IsFirstFault unit) }
 {
-    let notes = page_notes(alloc, &unit)?;
+    let mut notes = List::new(alloc);
+    note_items(&mut notes, unit.items.as_slice())?;
     let page = page_scope(alloc, unit.option_explicit, notes.as_slice())?;
-    let names = check_unit(alloc, &unit, &page)?;
-    Ok(program(alloc, &unit, page, names)?)
+    let checked = check_unit(alloc, &unit, &page)?;
+    Ok(program(alloc, &unit, page, checked)?)
 }

@@ -7,4 +7,4 @@ mod simple;
 mod statements;
 mod units;
 
-pub use units::{Script, own_statements, page_classes, page_procedures};
+pub use units::{Script, Trees, page_trees};

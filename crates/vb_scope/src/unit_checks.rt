@@ -1,19 +1,29 @@
-//! The faults of a whole script, in the order of their places.
-ghost use Rattle.std.specs.Prelude.{◌≡◌, ◌++◌, ◌∷◌, [], OnOk, IfOk, fold, false, true};
+//! The faults of a whole script, in the order of their places, and the scopes that stand inside its items.
+ghost use Rattle.std.specs.Prelude.{◌≡◌, ◌++◌, ◌∷◌, [], OnOk, IfOk, fold, map, false, true};
 ghost use Rattle.vb_syntax.specs.scope.Faults as spec;
+ghost use Rattle.vb_syntax.specs.scope.Scopes as scopes_spec;
 ghost use Rattle.vb_syntax.specs.scope.Units as units;
 ghost use Rattle.vb_notes.specs.Bodies.{body_seen};
 ghost use Rattle.vb_names.specs.Checking.{Finds, so_far};
 ghost use Rattle.vb_names.specs.Declarations.{declarations_seen};
+ghost use Rattle.vb_scope.specs.Inside.{member_scope, scopes_inside};
 
-use crate::scopes::{body_notes, class_scope};
 use std::alloc::Global;
-use vb_names::{Declarations, DeclaredNames, Names, Scopes, body_scope, check_notes};
-use vb_notes::{Body, body_of, body_of_property, note_item, note_member};
-use vb_syntax::{Class, ClassMember, Item, ScopeStop};
-use vb_value::List;
+use vb_names::{Declarations, DeclaredNames, Names, Scopes, body_scope, check_notes, declared};
+use vb_notes::{Body, body_of, body_of_property, note_body, note_item, note_member, note_members};
+use vb_syntax::{Class, ClassMember, Item, Level, ScopeStop};
+use vb_value::{List, Memory};
 
-/// Checks the body of a procedure, which has a scope of its own.
+/// A class's scope.
+pub fn class_scope(alloc: Global, class: &Class) -> Result<Declarations, Memory>
+    ensures { IfOk result (λ found. declarations_seen found ≡ scopes_spec.class_scope class.now) }
+{
+    let mut notes = List::new(alloc);
+    note_members(&mut notes, class.members.as_slice())?;
+    declared(alloc, Level::Class, notes.as_slice())
+}
+
+/// Checks the body of a procedure, and gives its scope.
 fn check_body(
     names: &mut Names,
     alloc: Global,
@@ -21,23 +31,24 @@ fn check_body(
     page: &Declarations,
     class: &Declarations,
     body: Body<'_>,
-) -> Result<(), ScopeStop>
+) -> Result<Declarations, ScopeStop>
     ensures faults { Finds result (spec.body_faults explicit (declarations_seen page.now) (declarations_seen class.now)
         names.old (body_seen body.entry)) }
     ensures after { OnOk result (names.new ≡ spec.after_body names.old (body_seen body.entry)) }
+    ensures scope { IfOk result (λ found. declarations_seen found ≡ scopes_spec.body_scope explicit
+        (declarations_seen page.now) (declarations_seen class.now) (body_seen body.entry)) }
 {
-    let notes = body_notes(alloc, body)?;
+    let mut notes = List::new(alloc);
+    note_body(&mut notes, body)?;
     let found = body_scope(alloc, explicit, page, class, notes.as_slice())?;
-    let scopes = Scopes {
-        page,
-        class,
-        body: &found,
-    };
+    let body = &found;
+    let scopes = Scopes { page, class, body };
     let mut declared = DeclaredNames::new(alloc);
-    check_notes(names, &mut declared, scopes, notes.as_slice())
+    check_notes(names, &mut declared, scopes, notes.as_slice())?;
+    Ok(found)
 }
 
-/// Checks the body of a member, if it has one.
+/// Checks the body of a member, if it has one, and gives its scope.
 fn check_bodies(
     names: &mut Names,
     alloc: Global,
@@ -45,13 +56,15 @@ fn check_bodies(
     page: &Declarations,
     class: &Declarations,
     member: &ClassMember,
-) -> Result<(), ScopeStop>
+) -> Result<Declarations, ScopeStop>
     ensures faults { Finds result (spec.bodies_faults explicit (declarations_seen page.now) (declarations_seen class.now)
         names.old (units.member_body member.now)) }
     ensures after { OnOk result (names.new ≡ fold spec.after_body names.old (units.member_body member.now)) }
+    ensures scope { IfOk result (λ found. declarations_seen found ≡ member_scope explicit (declarations_seen page.now)
+        (declarations_seen class.now) member.now) }
 {
     match member {
-        ClassMember::Fields { .. } => Ok(()),
+        ClassMember::Fields { .. } => Ok(Declarations::new(alloc)),
         ClassMember::Method(found) => {
             check_body(names, alloc, explicit, page, class, body_of(true, found))
         }
@@ -61,7 +74,7 @@ fn check_bodies(
     }
 }
 
-/// Checks a member of a class, and then its body.
+/// Checks a member of a class, and then its body, of which it gives the scope.
 fn check_member(
     names: &mut Names,
     declared: &mut DeclaredNames,
@@ -70,25 +83,23 @@ fn check_member(
     page: &Declarations,
     class: &Declarations,
     member: &ClassMember,
-) -> Result<(), ScopeStop>
+) -> Result<Declarations, ScopeStop>
     ensures faults { Finds result (spec.member_faults explicit (declarations_seen page.now) (declarations_seen class.now)
         (so_far names.old declared.old) member.now) }
     ensures after { OnOk result (so_far names.new declared.new
         ≡ spec.after_member (so_far names.old declared.old) member.now) }
+    ensures scope { IfOk result (λ found. declarations_seen found ≡ member_scope explicit (declarations_seen page.now)
+        (declarations_seen class.now) member.now) }
 {
     let mut notes = List::new(alloc);
     note_member(&mut notes, member)?;
-    let nothing = Declarations::new(alloc);
-    let scopes = Scopes {
-        page,
-        class,
-        body: &nothing,
-    };
+    let body = &Declarations::new(alloc);
+    let scopes = Scopes { page, class, body };
     check_notes(names, declared, scopes, notes.as_slice())?;
     check_bodies(names, alloc, explicit, page, class, member)
 }
 
-/// Checks the members of a class.
+/// Checks the members of a class, and gives the scopes of their bodies.
 fn check_members(
     names: &mut Names,
     declared: &mut DeclaredNames,
@@ -97,34 +108,42 @@ fn check_members(
     page: &Declarations,
     class: &Declarations,
     mut members: &[ClassMember],
-) -> Result<(), ScopeStop>
+) -> Result<List<Declarations>, ScopeStop>
     ensures faults { Finds result (spec.members_faults explicit (declarations_seen page.now) (declarations_seen class.now)
         (so_far names.old declared.old) members.entry.now) }
     ensures after { OnOk result (so_far names.new declared.new
         ≡ spec.after_members (so_far names.old declared.old) members.entry.now) }
+    ensures scopes { IfOk result (λ all. map declarations_seen all ≡ map (member_scope explicit
+        (declarations_seen page.now) (declarations_seen class.now)) members.entry.now) }
 {
+    let mut all = List::new(alloc);
     while let [member, rest @ ..] = members {
-        check_member(names, declared, alloc, explicit, page, class, member)?;
+        let found = check_member(names, declared, alloc, explicit, page, class, member)?;
+        all.push(found)?;
         members = rest;
     }
-    Ok(())
+    Ok(all)
 }
 
-/// Checks a class.
+#[tactic(auto, using(crate::proofs::Last::map_push))]
+/// Checks a class, and gives the scopes of its members' bodies and then its own.
 fn check_class(
     names: &mut Names,
     alloc: Global,
     explicit: bool,
     page: &Declarations,
     class: &Class,
-) -> Result<(), ScopeStop>
+) -> Result<List<Declarations>, ScopeStop>
     ensures faults { Finds result
         (spec.class_faults explicit (declarations_seen page.now) names.old class.now) }
     ensures after { OnOk result (names.new ≡ spec.after_class names.old class.now) }
+    ensures scopes { IfOk result (λ all. map declarations_seen all ≡ map (member_scope explicit
+        (declarations_seen page.now) (scopes_spec.class_scope class.now)) class.now.members
+        ++ scopes_spec.class_scope class.now ∷ []) }
 {
     let found = class_scope(alloc, class)?;
     let mut declared = DeclaredNames::new(alloc);
-    check_members(
+    let mut all = check_members(
         names,
         &mut declared,
         alloc,
@@ -132,38 +151,39 @@ fn check_class(
         page,
         &found,
         class.members.as_slice(),
-    )
+    )?;
+    all.push(found)?;
+    Ok(all)
 }
 
-/// Checks what stands inside an item.
+/// Checks what stands inside an item, and gives its scopes.
 fn check_inside(
     names: &mut Names,
     alloc: Global,
     explicit: bool,
     page: &Declarations,
     item: &Item,
-) -> Result<(), ScopeStop>
+) -> Result<List<Declarations>, ScopeStop>
     ensures faults { Finds result (spec.inside_faults explicit (declarations_seen page.now) names.old item.now) }
     ensures after { OnOk result (names.new ≡ spec.after_inside names.old item.now) }
+    ensures scopes { IfOk result (λ all. map declarations_seen all
+        ≡ scopes_inside explicit (declarations_seen page.now) item.now) }
 {
     match item {
         Item::Procedure(found) => {
             let nothing = Declarations::new(alloc);
-            check_body(
-                names,
-                alloc,
-                explicit,
-                page,
-                &nothing,
-                body_of(false, found),
-            )
+            let body = body_of(false, found);
+            let scope = check_body(names, alloc, explicit, page, &nothing, body)?;
+            let mut all = List::new(alloc);
+            all.push(scope)?;
+            Ok(all)
         }
         Item::Class(found) => check_class(names, alloc, explicit, page, found),
-        Item::Statement(_) | Item::Variables { .. } => Ok(()),
+        Item::Statement(_) | Item::Variables { .. } => Ok(List::new(alloc)),
     }
 }
 
-/// Checks an item: what it says on the page, and then what stands inside.
+/// Checks an item: what it says on the page, and then what stands inside, of which it gives the scopes.
 fn check_item(
     names: &mut Names,
     declared: &mut DeclaredNames,
@@ -171,26 +191,25 @@ fn check_item(
     explicit: bool,
     page: &Declarations,
     item: &Item,
-) -> Result<(), ScopeStop>
+) -> Result<List<Declarations>, ScopeStop>
     ensures faults { Finds result (spec.item_faults explicit (declarations_seen page.now)
         (so_far names.old declared.old) item.now) }
     ensures after { OnOk result (so_far names.new declared.new
         ≡ spec.after_item (so_far names.old declared.old) item.now) }
+    ensures scopes { IfOk result (λ all. map declarations_seen all
+        ≡ scopes_inside explicit (declarations_seen page.now) item.now) }
 {
     let mut notes = List::new(alloc);
     note_item(&mut notes, item)?;
-    let nothing = Declarations::new(alloc);
-    let scopes = Scopes {
-        page,
-        class: &nothing,
-        body: &nothing,
-    };
+    let class = &Declarations::new(alloc);
+    let body = class;
+    let scopes = Scopes { page, class, body };
     check_notes(names, declared, scopes, notes.as_slice())?;
     check_inside(names, alloc, explicit, page, item)
 }
 
-/// Checks items, each with what stands inside it, up to the first fault. After a fault, or out of memory, `names` and
-/// `declared` have some of the names.
+/// Checks items, each with what stands inside it, up to the first fault, and gives the scopes inside each. After a fault,
+/// or out of memory, `names` and `declared` have some of the names.
 pub fn check_items(
     names: &mut Names,
     declared: &mut DeclaredNames,
@@ -198,15 +217,19 @@ pub fn check_items(
     explicit: bool,
     page: &Declarations,
     mut items: &[Item],
-) -> Result<(), ScopeStop>
+) -> Result<List<List<Declarations>>, ScopeStop>
     ensures faults { Finds result (spec.items_faults explicit (declarations_seen page.now)
         (so_far names.old declared.old) items.entry.now) }
     ensures after { OnOk result (so_far names.new declared.new
         ≡ spec.after_items (so_far names.old declared.old) items.entry.now) }
+    ensures scopes { IfOk result (λ all. map (map declarations_seen) all
+        ≡ map (scopes_inside explicit (declarations_seen page.now)) items.entry.now) }
 {
+    let mut all = List::with_capacity(alloc, items.len())?;
     while let [item, rest @ ..] = items {
-        check_item(names, declared, alloc, explicit, page, item)?;
+        let scopes = check_item(names, declared, alloc, explicit, page, item)?;
+        all.push(scopes)?;
         items = rest;
     }
-    Ok(())
+    Ok(all)
 }

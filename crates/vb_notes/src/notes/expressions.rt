@@ -7,10 +7,10 @@ ghost use Rattle.vb_syntax.specs.scope.Notes.{Notes};
 ghost use Rattle.vb_value.specs.Outcome.{Adds, Gives};
 ghost use Rattle.vb_syntax.specs.scope.Shapes.{shape_of, used_steps};
 
-use crate::notes::words::{at_most, note, note_part, note_write, shapes, unless};
+use crate::notes::words::{Notes, at_most, note, note_part, note_write, shapes, unless};
 use std::alloc::Global;
 use vb_syntax::{
-    Around, Expression, Note, NoteKind, Operation, Path, PathHead, PathUse, ScopeFault, Shape, Step,
+    Around, Expression, NoteKind, Operation, Path, PathHead, PathUse, ScopeFault, Shape, Step,
 };
 use vb_value::{Copied, List, Memory, Text};
 
@@ -27,7 +27,7 @@ pub fn steps_used(alloc: Global, used: PathUse, steps: &[Step]) -> Result<List<S
 
 /// Adds a name at the head of a path.
 fn note_named(
-    notes: &mut List<Note>,
+    notes: &mut Notes,
     line: u32,
     used: PathUse,
     name: &Text,
@@ -50,7 +50,7 @@ fn note_named(
 
 /// Adds the head of a path.
 fn note_head(
-    notes: &mut List<Note>,
+    notes: &mut Notes,
     line: u32,
     around: Around,
     used: PathUse,
@@ -72,7 +72,7 @@ fn note_head(
 /// Adds an expression. It recurses once for each expression inside another.
 #[cycle(expressions)]
 pub fn note_expression(
-    notes: &mut List<Note>,
+    notes: &mut Notes,
     line: u32,
     around: Around,
     expression: &Expression,
@@ -97,7 +97,7 @@ pub fn note_expression(
 /// Adds the right operands of operators.
 #[cycle(expressions)]
 fn note_operations(
-    notes: &mut List<Note>,
+    notes: &mut Notes,
     line: u32,
     around: Around,
     operations: &[Operation],
@@ -114,7 +114,7 @@ fn note_operations(
 /// Adds a path that is used so.
 #[cycle(expressions)]
 pub fn note_path(
-    notes: &mut List<Note>,
+    notes: &mut Notes,
     line: u32,
     around: Around,
     path: &Path,
@@ -128,12 +128,7 @@ pub fn note_path(
 
 /// Adds what stands behind a path's head.
 #[cycle(expressions)]
-fn note_steps(
-    notes: &mut List<Note>,
-    line: u32,
-    around: Around,
-    steps: &[Step],
-) -> Result<(), Memory>
+fn note_steps(notes: &mut Notes, line: u32, around: Around, steps: &[Step]) -> Result<(), Memory>
     ensures { Adds result notes.old notes.new
         (flat_map (λ (step : Step). (spec.step_notes line around step).1) steps.now) }
 {
@@ -145,7 +140,7 @@ fn note_steps(
 
 /// Adds a step of a path.
 #[cycle(expressions)]
-fn note_step(notes: &mut List<Note>, line: u32, around: Around, step: &Step) -> Result<(), Memory>
+fn note_step(notes: &mut Notes, line: u32, around: Around, step: &Step) -> Result<(), Memory>
     ensures { Adds result notes.old notes.new (spec.step_notes line around step.now).1 }
 {
     match step {
@@ -160,7 +155,7 @@ fn note_step(notes: &mut List<Note>, line: u32, around: Around, step: &Step) -> 
 /// Adds expressions.
 #[cycle(expressions)]
 pub fn note_expressions(
-    notes: &mut List<Note>,
+    notes: &mut Notes,
     line: u32,
     around: Around,
     expressions: &[Expression],

@@ -7,19 +7,15 @@ ghost use Rattle.vb_syntax.specs.scope.Notes.{expression_notes, path_notes};
 ghost use Rattle.vb_value.specs.Outcome.{Adds};
 
 use crate::notes::expressions::{note_expression, note_expressions, note_path};
-use crate::notes::words::{at_most, call_use, note, note_write, unless};
+use crate::notes::words::{Notes, at_most, call_use, note, note_write, unless};
 use vb_syntax::{
-    Around, Constant, Declared, ExitKind, Expression, Note, NoteKind, Path, PathUse, Repetition,
-    Resized, ScopeFault,
+    Around, Constant, Declared, ExitKind, Expression, NoteKind, Path, PathUse, Repetition, Resized,
+    ScopeFault,
 };
 use vb_value::{Copied, List, Memory, Text};
 
 /// Adds declared constants.
-pub fn note_constants(
-    notes: &mut List<Note>,
-    line: u32,
-    constants: &[Constant],
-) -> Result<(), Memory>
+pub fn note_constants(notes: &mut Notes, line: u32, constants: &[Constant]) -> Result<(), Memory>
     ensures { Adds result notes.old notes.new (flat_map (spec.constant_notes line) constants.now) }
 {
     for constant in constants {
@@ -30,7 +26,7 @@ pub fn note_constants(
 }
 
 /// Adds a declared variable, and its dimensions.
-fn note_variable(notes: &mut List<Note>, line: u32, variable: &Declared) -> Result<(), Memory>
+fn note_variable(notes: &mut Notes, line: u32, variable: &Declared) -> Result<(), Memory>
     ensures { Adds result notes.old notes.new (spec.variable_notes line variable.now) }
 {
     let kind = NoteKind::Variable(variable.copy()?);
@@ -42,11 +38,7 @@ fn note_variable(notes: &mut List<Note>, line: u32, variable: &Declared) -> Resu
 }
 
 /// Adds declared variables.
-pub fn note_variables(
-    notes: &mut List<Note>,
-    line: u32,
-    variables: &[Declared],
-) -> Result<(), Memory>
+pub fn note_variables(notes: &mut Notes, line: u32, variables: &[Declared]) -> Result<(), Memory>
     ensures { Adds result notes.old notes.new (flat_map (spec.variable_notes line) variables.now) }
 {
     for variable in variables {
@@ -56,12 +48,7 @@ pub fn note_variables(
 }
 
 /// Adds an array that gets new bounds.
-fn note_resized(
-    notes: &mut List<Note>,
-    line: u32,
-    around: Around,
-    array: &Resized,
-) -> Result<(), Memory>
+fn note_resized(notes: &mut Notes, line: u32, around: Around, array: &Resized) -> Result<(), Memory>
     ensures { Adds result notes.old notes.new (spec.resized_notes line around array.now) }
 {
     note(notes, line, NoteKind::Resize(array.name.copy()?))?;
@@ -71,7 +58,7 @@ fn note_resized(
 
 /// Adds arrays that get new bounds.
 pub fn note_arrays(
-    notes: &mut List<Note>,
+    notes: &mut Notes,
     line: u32,
     around: Around,
     arrays: &[Resized],
@@ -86,7 +73,7 @@ pub fn note_arrays(
 
 /// Adds an assignment.
 pub fn note_assignment(
-    notes: &mut List<Note>,
+    notes: &mut Notes,
     line: u32,
     around: Around,
     target: &Path,
@@ -101,7 +88,7 @@ pub fn note_assignment(
 
 /// Adds a call with arguments.
 pub fn note_call(
-    notes: &mut List<Note>,
+    notes: &mut Notes,
     line: u32,
     around: Around,
     callee: &Path,
@@ -118,7 +105,7 @@ pub fn note_call(
 }
 
 /// Adds names that are written alone.
-pub fn note_writes(notes: &mut List<Note>, line: u32, names: &[Text]) -> Result<(), Memory>
+pub fn note_writes(notes: &mut Notes, line: u32, names: &[Text]) -> Result<(), Memory>
     ensures { Adds result notes.old notes.new (flat_map (spec.write_notes line) names.now) }
 {
     for name in names {
@@ -141,12 +128,7 @@ fn is_inside(around: Around, kind: ExitKind) -> bool
 }
 
 /// Adds the fault of an Exit that does not stand inside what it names.
-pub fn note_exit(
-    notes: &mut List<Note>,
-    line: u32,
-    around: Around,
-    kind: ExitKind,
-) -> Result<(), Memory>
+pub fn note_exit(notes: &mut Notes, line: u32, around: Around, kind: ExitKind) -> Result<(), Memory>
     ensures { Adds result notes.old notes.new
         (spec.unless (spec.is_inside around kind) ScopeFault.BadExit line) }
 {
@@ -155,7 +137,7 @@ pub fn note_exit(
 
 /// Adds the condition of a `Do` where it stands before the block.
 pub fn note_before(
-    notes: &mut List<Note>,
+    notes: &mut Notes,
     line: u32,
     around: Around,
     repetition: &Repetition,
@@ -169,11 +151,7 @@ pub fn note_before(
 }
 
 /// Adds the condition of a `Do` where it stands behind the block, in its own line.
-pub fn note_after(
-    notes: &mut List<Note>,
-    around: Around,
-    repetition: &Repetition,
-) -> Result<(), Memory>
+pub fn note_after(notes: &mut Notes, around: Around, repetition: &Repetition) -> Result<(), Memory>
     ensures { Adds result notes.old notes.new (spec.after_notes around repetition.now) }
 {
     match repetition {
@@ -189,7 +167,7 @@ pub fn note_after(
 
 /// Adds an expression, where there is one.
 pub fn note_optional(
-    notes: &mut List<Note>,
+    notes: &mut Notes,
     line: u32,
     around: Around,
     found: &Option<Expression>,
@@ -204,7 +182,7 @@ pub fn note_optional(
 
 /// Adds the expression that a For Each goes over.
 pub fn note_group(
-    notes: &mut List<Note>,
+    notes: &mut Notes,
     line: u32,
     around: Around,
     group: &Expression,

@@ -11,16 +11,16 @@ use crate::notes::simple::{
     note_after, note_arrays, note_assignment, note_before, note_call, note_constants, note_exit,
     note_group, note_optional, note_variables, note_writes,
 };
-use crate::notes::words::note_write;
+use crate::notes::words::{Notes, note_write};
 use vb_syntax::{
-    Around, Case, ElseIf, Expression, Note, PathUse, Repetition, Statement, StatementKind as Kind,
+    Around, Case, ElseIf, Expression, PathUse, Repetition, Statement, StatementKind as Kind,
 };
 use vb_value::{List, Memory, Text};
 
 /// Adds a statement. It recurses once for each statement and each expression inside another.
 #[cycle(statements)]
 pub fn note_statement(
-    notes: &mut List<Note>,
+    notes: &mut Notes,
     around: Around,
     statement: &Statement,
 ) -> Result<(), Memory>
@@ -31,7 +31,7 @@ pub fn note_statement(
 
 /// Adds what a statement says.
 #[cycle(statements)]
-fn note_kind(notes: &mut List<Note>, line: u32, around: Around, kind: &Kind) -> Result<(), Memory>
+fn note_kind(notes: &mut Notes, line: u32, around: Around, kind: &Kind) -> Result<(), Memory>
     ensures { Adds result notes.old notes.new (spec.kind_notes kind.now line around) }
 {
     match kind {
@@ -90,11 +90,7 @@ fn note_kind(notes: &mut List<Note>, line: u32, around: Around, kind: &Kind) -> 
 
 /// Adds statements.
 #[cycle(statements)]
-pub fn note_block(
-    notes: &mut List<Note>,
-    around: Around,
-    body: &List<Statement>,
-) -> Result<(), Memory>
+pub fn note_block(notes: &mut Notes, around: Around, body: &List<Statement>) -> Result<(), Memory>
     ensures { Adds result notes.old notes.new (spec.body_notes around body.now) }
 {
     for statement in body.as_slice() {
@@ -106,7 +102,7 @@ pub fn note_block(
 /// Adds an `If` on several lines.
 #[cycle(statements)]
 fn note_if(
-    notes: &mut List<Note>,
+    notes: &mut Notes,
     line: u32,
     around: Around,
     then: &List<Statement>,
@@ -125,7 +121,7 @@ fn note_if(
 /// Adds an `If` on one line.
 #[cycle(statements)]
 fn note_line_if(
-    notes: &mut List<Note>,
+    notes: &mut Notes,
     line: u32,
     around: Around,
     then: &List<Statement>,
@@ -142,7 +138,7 @@ fn note_line_if(
 /// Adds a `Select`.
 #[cycle(statements)]
 fn note_select(
-    notes: &mut List<Note>,
+    notes: &mut Notes,
     line: u32,
     around: Around,
     cases: &List<Case>,
@@ -159,7 +155,7 @@ fn note_select(
 /// Adds the statements behind an `Else`, where there is one.
 #[cycle(statements)]
 fn note_otherwise(
-    notes: &mut List<Note>,
+    notes: &mut Notes,
     around: Around,
     otherwise: &Option<List<Statement>>,
 ) -> Result<(), Memory>
@@ -175,7 +171,7 @@ fn note_otherwise(
 /// Adds a condition and the statements behind it.
 #[cycle(statements)]
 fn note_tested(
-    notes: &mut List<Note>,
+    notes: &mut Notes,
     line: u32,
     around: Around,
     body: &List<Statement>,
@@ -190,11 +186,7 @@ fn note_tested(
 
 /// Adds the `ElseIf` parts of an `If`.
 #[cycle(statements)]
-fn note_else_ifs(
-    notes: &mut List<Note>,
-    around: Around,
-    others: &List<ElseIf>,
-) -> Result<(), Memory>
+fn note_else_ifs(notes: &mut Notes, around: Around, others: &List<ElseIf>) -> Result<(), Memory>
     ensures { Adds result notes.old notes.new
         (spec.block_notes around (map spec.else_if_notes others.now)) }
 {
@@ -206,7 +198,7 @@ fn note_else_ifs(
 
 /// Adds an `ElseIf` part.
 #[cycle(statements)]
-fn note_else_if(notes: &mut List<Note>, around: Around, other: &ElseIf) -> Result<(), Memory>
+fn note_else_if(notes: &mut Notes, around: Around, other: &ElseIf) -> Result<(), Memory>
     ensures { Adds result notes.old notes.new (spec.else_if_notes other.now around) }
 {
     note_expression(notes, other.line, around, &other.condition)?;
@@ -216,7 +208,7 @@ fn note_else_if(notes: &mut List<Note>, around: Around, other: &ElseIf) -> Resul
 /// Adds a `Select` as far as its last `Case` with values.
 #[cycle(statements)]
 fn note_cases(
-    notes: &mut List<Note>,
+    notes: &mut Notes,
     line: u32,
     around: Around,
     cases: &List<Case>,
@@ -234,7 +226,7 @@ fn note_cases(
 
 /// Adds a `Case` part.
 #[cycle(statements)]
-fn note_case(notes: &mut List<Note>, around: Around, case: &Case) -> Result<(), Memory>
+fn note_case(notes: &mut Notes, around: Around, case: &Case) -> Result<(), Memory>
     ensures { Adds result notes.old notes.new (spec.case_notes case.now around) }
 {
     note_expressions(notes, case.line, around, case.values.as_slice())?;
@@ -244,7 +236,7 @@ fn note_case(notes: &mut List<Note>, around: Around, case: &Case) -> Result<(), 
 /// Adds a `For` that counts.
 #[cycle(statements)]
 fn note_for(
-    notes: &mut List<Note>,
+    notes: &mut Notes,
     line: u32,
     around: Around,
     body: &List<Statement>,
@@ -260,20 +252,15 @@ fn note_for(
     note_expression(notes, line, around, from)?;
     note_expression(notes, line, around, to)?;
     note_optional(notes, line, around, by)?;
-    note_block(
-        notes,
-        Around {
-            in_for: true,
-            ..around
-        },
-        body,
-    )
+    let mut inside = around;
+    inside.in_for = true;
+    note_block(notes, inside, body)
 }
 
 /// Adds a `For Each`.
 #[cycle(statements)]
 fn note_for_each(
-    notes: &mut List<Note>,
+    notes: &mut Notes,
     line: u32,
     around: Around,
     body: &List<Statement>,
@@ -285,20 +272,15 @@ fn note_for_each(
 {
     note_write(notes, line, variable)?;
     note_group(notes, line, around, group)?;
-    note_block(
-        notes,
-        Around {
-            in_for: true,
-            ..around
-        },
-        body,
-    )
+    let mut inside = around;
+    inside.in_for = true;
+    note_block(notes, inside, body)
 }
 
 /// Adds a `Do`.
 #[cycle(statements)]
 fn note_do(
-    notes: &mut List<Note>,
+    notes: &mut Notes,
     line: u32,
     around: Around,
     body: &List<Statement>,
@@ -308,21 +290,16 @@ fn note_do(
         (map statement_notes body.now)) line around) }
 {
     note_before(notes, line, around, repetition)?;
-    note_block(
-        notes,
-        Around {
-            in_do: true,
-            ..around
-        },
-        body,
-    )?;
+    let mut inside = around;
+    inside.in_do = true;
+    note_block(notes, inside, body)?;
     note_after(notes, around, repetition)
 }
 
 /// Adds a `With`.
 #[cycle(statements)]
 fn note_with(
-    notes: &mut List<Note>,
+    notes: &mut Notes,
     line: u32,
     around: Around,
     body: &List<Statement>,
@@ -332,12 +309,7 @@ fn note_with(
         (map statement_notes body.now)) line around) }
 {
     note_expression(notes, line, around, subject)?;
-    note_block(
-        notes,
-        Around {
-            in_with: true,
-            ..around
-        },
-        body,
-    )
+    let mut inside = around;
+    inside.in_with = true;
+    note_block(notes, inside, body)
 }

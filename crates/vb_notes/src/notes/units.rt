@@ -10,9 +10,9 @@ ghost use Rattle.vb_notes.specs.Bodies.{body_seen};
 use crate::body::{Body, around_in};
 use crate::notes::simple::note_variables;
 use crate::notes::statements::{note_block, note_statement};
-use crate::notes::words::{at_most, note as add};
-use vb_syntax::{Around, ClassMember, Declared, Item, Note, NoteKind, Parameter, PropertyKind};
-use vb_value::{Copied, List, Memory, Text};
+use crate::notes::words::{Notes, at_most, note as add};
+use vb_syntax::{Around, ClassMember, Declared, Item, NoteKind, Parameter, PropertyKind};
+use vb_value::{Copied, Memory, Text};
 
 /// Nothing stands around the statements of the page.
 const ON_PAGE: Around = Around {
@@ -25,7 +25,7 @@ const ON_PAGE: Around = Around {
 
 /// Adds a declared method or property.
 fn note_member_name(
-    notes: &mut List<Note>,
+    notes: &mut Notes,
     line: u32,
     name: &Text,
     accessor: Option<PropertyKind>,
@@ -37,11 +37,7 @@ fn note_member_name(
 }
 
 /// Adds parameters.
-fn note_parameters(
-    notes: &mut List<Note>,
-    line: u32,
-    parameters: &[Parameter],
-) -> Result<(), Memory>
+fn note_parameters(notes: &mut Notes, line: u32, parameters: &[Parameter]) -> Result<(), Memory>
     ensures { Adds result notes.old notes.new (flat_map (spec.parameter_notes line) parameters.now) }
 {
     for parameter in parameters {
@@ -55,7 +51,7 @@ fn note_parameters(
 }
 
 /// Adds the name of a procedure's result, where there is one.
-fn note_result(notes: &mut List<Note>, line: u32, given: Option<&Text>) -> Result<(), Memory>
+fn note_result(notes: &mut Notes, line: u32, given: Option<&Text>) -> Result<(), Memory>
     ensures { Adds result notes.old notes.new (spec.result_notes line (option_copied given.entry)) }
 {
     match given {
@@ -66,7 +62,7 @@ fn note_result(notes: &mut List<Note>, line: u32, given: Option<&Text>) -> Resul
 
 /// Adds what a procedure says: the name of its result, its parameters, of which there are 255 at most, and its
 /// statements.
-pub fn note_body(notes: &mut List<Note>, body: Body<'_>) -> Result<(), Memory>
+pub fn note_body(notes: &mut Notes, body: Body<'_>) -> Result<(), Memory>
     ensures { Adds result notes.old notes.new (spec.in_body (body_seen body.entry)) }
 {
     note_result(notes, body.line, body.result)?;
@@ -76,7 +72,7 @@ pub fn note_body(notes: &mut List<Note>, body: Body<'_>) -> Result<(), Memory>
 }
 
 /// Adds what an item says as a part of the page.
-pub fn note_item(notes: &mut List<Note>, item: &Item) -> Result<(), Memory>
+pub fn note_item(notes: &mut Notes, item: &Item) -> Result<(), Memory>
     ensures { Adds result notes.old notes.new (spec.item_notes item.now) }
 {
     match item {
@@ -92,7 +88,7 @@ pub fn note_item(notes: &mut List<Note>, item: &Item) -> Result<(), Memory>
 }
 
 /// Adds what items say as parts of the page.
-pub fn note_items(notes: &mut List<Note>, items: &[Item]) -> Result<(), Memory>
+pub fn note_items(notes: &mut Notes, items: &[Item]) -> Result<(), Memory>
     ensures { Adds result notes.old notes.new (flat_map spec.item_notes items.now) }
 {
     for item in items {
@@ -102,7 +98,7 @@ pub fn note_items(notes: &mut List<Note>, items: &[Item]) -> Result<(), Memory>
 }
 
 /// Adds what a member says as a part of its class.
-pub fn note_member(notes: &mut List<Note>, member: &ClassMember) -> Result<(), Memory>
+pub fn note_member(notes: &mut Notes, member: &ClassMember) -> Result<(), Memory>
     ensures { Adds result notes.old notes.new (spec.member_notes member.now) }
 {
     match member {
@@ -122,7 +118,7 @@ pub fn note_member(notes: &mut List<Note>, member: &ClassMember) -> Result<(), M
 }
 
 /// Adds what members say as parts of their class.
-pub fn note_members(notes: &mut List<Note>, members: &[ClassMember]) -> Result<(), Memory>
+pub fn note_members(notes: &mut Notes, members: &[ClassMember]) -> Result<(), Memory>
     ensures { Adds result notes.old notes.new (flat_map spec.member_notes members.now) }
 {
     for member in members {

@@ -8,20 +8,18 @@ use std::alloc::Global;
 use vb_syntax::{Expression, Note, NoteKind, PathUse, ScopeFault, Shape, Step};
 use vb_value::{Copied, List, Memory, Text};
 
+/// What is said, in the order of its places.
+pub type Notes = List<Note>;
+
 /// Adds one thing that is said in a line.
-pub fn note(notes: &mut List<Note>, line: u32, kind: NoteKind) -> Result<(), Memory>
+pub fn note(notes: &mut Notes, line: u32, kind: NoteKind) -> Result<(), Memory>
     ensures { Adds result notes.old notes.new (spec.note line kind) }
 {
     notes.push(Note { line, kind })
 }
 
 /// Adds a fault, unless something holds.
-pub fn unless(
-    notes: &mut List<Note>,
-    holds: bool,
-    fault: ScopeFault,
-    line: u32,
-) -> Result<(), Memory>
+pub fn unless(notes: &mut Notes, holds: bool, fault: ScopeFault, line: u32) -> Result<(), Memory>
     ensures { Adds result notes.old notes.new (spec.unless holds fault line) }
 {
     if holds {
@@ -31,21 +29,21 @@ pub fn unless(
 }
 
 /// Adds a fault, where there are more than so many.
-pub fn at_most(notes: &mut List<Note>, most: usize, count: usize, line: u32) -> Result<(), Memory>
+pub fn at_most(notes: &mut Notes, most: usize, count: usize, line: u32) -> Result<(), Memory>
     ensures { Adds result notes.old notes.new (spec.at_most most count line) }
 {
     unless(notes, most >= count, ScopeFault::TooMany, line)
 }
 
 /// Adds a name that is written alone.
-pub fn note_write(notes: &mut List<Note>, line: u32, name: &Text) -> Result<(), Memory>
+pub fn note_write(notes: &mut Notes, line: u32, name: &Text) -> Result<(), Memory>
     ensures { Adds result notes.old notes.new (spec.write_notes line name.now) }
 {
     note(notes, line, NoteKind::Write(name.copy()?))
 }
 
 /// Adds a name of a member or of a class.
-pub fn note_part(notes: &mut List<Note>, line: u32, name: &Text) -> Result<(), Memory>
+pub fn note_part(notes: &mut Notes, line: u32, name: &Text) -> Result<(), Memory>
     ensures { Adds result notes.old notes.new (spec.note line (NoteKind.Part name.now)) }
 {
     note(notes, line, NoteKind::Part(name.copy()?))

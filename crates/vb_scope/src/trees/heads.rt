@@ -8,10 +8,10 @@ ghost use Rattle.vb_syntax.specs.scope.Notes.{is_group};
 ghost use Rattle.vb_names.specs.Declarations.{scopes_seen};
 
 use std::alloc::Global;
-use vb_names::{Names, Scopes, err_meant, groups_behind, length_of, member_meant};
+use vb_names::{Key, Names, Scopes, err_meant, groups_behind, length_of, member_meant};
 use vb_syntax::program::{Head, Named};
 use vb_syntax::{PageObject, PathHead, PathUse, Shape};
-use vb_value::{Memory, Text, fold};
+use vb_value::{Memory, Text};
 
 /// All names of the script, and the scopes around a place.
 #[derive(Clone, Copy)]
@@ -22,18 +22,17 @@ pub struct Place<'a> {
 }
 
 /// The number of a name among all names.
-pub fn name_number(alloc: Global, names: &Names, name: &Text) -> Result<u32, Memory>
+pub fn name_number(names: &Names, name: &Text) -> Result<u32, Memory>
     ensures { Gives result (name_number names.now name.now) }
 {
-    let key = fold(alloc, name)?;
-    Ok(names.number(&key).unwrap_or(0))
+    Ok(names.number(&Key::of(name)?).unwrap_or(0))
 }
 
 /// The same at a place.
 pub fn number(place: Place<'_>, name: &Text) -> Result<u32, Memory>
     ensures { Gives result (name_number place.entry.names.now name.now) }
 {
-    name_number(place.alloc, place.names, name)
+    name_number(place.names, name)
 }
 
 /// Whether all steps are parentheses.
@@ -110,13 +109,10 @@ fn name_head(
     ensures { Gives result (spec.name_head place.entry.names.now (scopes_seen place.entry.scopes) used name.now
         steps.now) }
 {
-    match place.scopes.object(place.alloc, name)? {
+    let (named, object) = place.scopes.meant(is_called(used, steps), name)?;
+    match object {
         Some(object) => Ok(member_head(used, steps, object)),
-        None => {
-            let called = is_called(used, steps);
-            let named = place.scopes.named(place.alloc, called, name)?;
-            Ok(named_head(named, steps))
-        }
+        None => Ok(named_head(named, steps)),
     }
 }
 

@@ -9,9 +9,8 @@ use crate::trees::expressions::{expression, expressions, path};
 use crate::trees::heads::Place;
 use vb_notes::call_use;
 use vb_syntax::program::{
-    Condition as ResolvedCondition, Expression as Resolved, Named,
-    Repetition as ResolvedRepetition, Resized as ResolvedResized, StatementKind as ResolvedKind,
-    Step as ResolvedStep,
+    Condition as ResolvedCondition, Expression as Value, Named, Repetition as ResolvedRepetition,
+    Resized as ResolvedResized, StatementKind as Resolved, Step as ResolvedStep,
 };
 use vb_syntax::{Condition, Expression, Path, PathUse, Repetition, Resized, StatementKind as Kind};
 use vb_value::{List, Memory, Text};
@@ -20,7 +19,7 @@ use vb_value::{List, Memory, Text};
 pub fn target(place: Place<'_>, name: &Text) -> Result<Named, Memory>
     ensures { Gives result (spec.target_of place.entry.names.now (scopes_seen place.entry.scopes) name.now) }
 {
-    place.scopes.named(place.alloc, false, name)
+    place.scopes.named(false, name)
 }
 
 /// What names stand for that are written alone.
@@ -58,7 +57,7 @@ pub fn arrays(place: Place<'_>, found: &[Resized]) -> Result<List<ResolvedResize
 }
 
 /// An expression, where there is one.
-pub fn optional(place: Place<'_>, found: &Option<Expression>) -> Result<Option<Resolved>, Memory>
+pub fn optional(place: Place<'_>, found: &Option<Expression>) -> Result<Option<Value>, Memory>
     ensures { Gives result (spec.optional_of place.entry.names.now (scopes_seen place.entry.scopes) found.now) }
 {
     match found {
@@ -68,11 +67,11 @@ pub fn optional(place: Place<'_>, found: &Option<Expression>) -> Result<Option<R
 }
 
 /// The expression that a For Each goes over.
-pub fn group(place: Place<'_>, found: &Expression) -> Result<Resolved, Memory>
+pub fn group(place: Place<'_>, found: &Expression) -> Result<Value, Memory>
     ensures { Gives result (spec.group_of place.entry.names.now (scopes_seen place.entry.scopes) found.now) }
 {
     match found {
-        Expression::Path(found) => Ok(Resolved::Path(path(place, found, PathUse::Group)?)),
+        Expression::Path(found) => Ok(Value::Path(path(place, found, PathUse::Group)?)),
         _ => expression(place, found),
     }
 }
@@ -105,52 +104,40 @@ pub fn repetition(place: Place<'_>, found: &Repetition) -> Result<ResolvedRepeti
 }
 
 /// A `ReDim`.
-pub fn redim(
-    place: Place<'_>,
-    preserve: bool,
-    found: &List<Resized>,
-) -> Result<ResolvedKind, Memory>
+pub fn redim(place: Place<'_>, preserve: bool, found: &List<Resized>) -> Result<Resolved, Memory>
     ensures { Gives result (spec.kind_layer place.entry.names.now (scopes_seen place.entry.scopes)
         (layer.ReDim preserve found.now)) }
 {
-    Ok(ResolvedKind::ReDim {
+    Ok(Resolved::ReDim {
         preserve,
         arrays: arrays(place, found.as_slice())?,
     })
 }
 
 /// A `Set`.
-pub fn set(place: Place<'_>, target: &Path, value: &Expression) -> Result<ResolvedKind, Memory>
+pub fn set(place: Place<'_>, target: &Path, value: &Expression) -> Result<Resolved, Memory>
     ensures { Gives result (spec.kind_layer place.entry.names.now (scopes_seen place.entry.scopes)
         (layer.Set target.now value.now)) }
 {
-    Ok(ResolvedKind::Set {
+    Ok(Resolved::Set {
         target: path(place, target, PathUse::Target)?,
         value: expression(place, value)?,
     })
 }
 
 /// An assignment.
-pub fn assignment(
-    place: Place<'_>,
-    target: &Path,
-    value: &Expression,
-) -> Result<ResolvedKind, Memory>
+pub fn assignment(place: Place<'_>, target: &Path, value: &Expression) -> Result<Resolved, Memory>
     ensures { Gives result (spec.kind_layer place.entry.names.now (scopes_seen place.entry.scopes)
         (layer.Assign target.now value.now)) }
 {
-    Ok(ResolvedKind::Assign {
+    Ok(Resolved::Assign {
         target: path(place, target, PathUse::Target)?,
         value: expression(place, value)?,
     })
 }
 
 /// A call with arguments.
-pub fn call(
-    place: Place<'_>,
-    callee: &Path,
-    given: &List<Expression>,
-) -> Result<ResolvedKind, Memory>
+pub fn call(place: Place<'_>, callee: &Path, given: &List<Expression>) -> Result<Resolved, Memory>
     ensures { Gives result (spec.kind_layer place.entry.names.now (scopes_seen place.entry.scopes)
         (layer.Call callee.now given.now)) }
 {
@@ -160,35 +147,15 @@ pub fn call(
         let given = expressions(place, given.as_slice())?;
         path.steps.push(ResolvedStep::Group(given))?;
     }
-    Ok(ResolvedKind::Call { callee: path })
-}
-
-/// A call of a path alone.
-pub fn call_path(place: Place<'_>, callee: &Path) -> Result<ResolvedKind, Memory>
-    ensures { Gives result (spec.kind_layer place.entry.names.now (scopes_seen place.entry.scopes)
-        (layer.CallPath callee.now)) }
-{
-    Ok(ResolvedKind::Call {
-        callee: path(place, callee, PathUse::Callee)?,
-    })
+    Ok(Resolved::Call { callee: path })
 }
 
 /// An `Erase`.
-pub fn erase(place: Place<'_>, names: &List<Text>) -> Result<ResolvedKind, Memory>
+pub fn erase(place: Place<'_>, names: &List<Text>) -> Result<Resolved, Memory>
     ensures { Gives result (spec.kind_layer place.entry.names.now (scopes_seen place.entry.scopes)
         (layer.Erase names.now)) }
 {
-    Ok(ResolvedKind::Erase {
+    Ok(Resolved::Erase {
         arrays: targets(place, names.as_slice())?,
-    })
-}
-
-/// The value of an expression, written to the page.
-pub fn page_write(place: Place<'_>, value: &Expression) -> Result<ResolvedKind, Memory>
-    ensures { Gives result (spec.kind_layer place.entry.names.now (scopes_seen place.entry.scopes)
-        (layer.PageWrite value.now)) }
-{
-    Ok(ResolvedKind::PageWrite {
-        value: expression(place, value)?,
     })
 }

@@ -6,16 +6,16 @@ ghost use Rattle.vb_syntax.specs.scope.Trees as spec;
 ghost use Rattle.vb_syntax.specs.declared.statement.StatementKind.TheOpen as layer;
 ghost use Rattle.vb_names.specs.Declarations.{scopes_seen};
 
-use crate::trees::expressions::{expression, expressions};
+use crate::trees::expressions::{expression, expressions, path};
 use crate::trees::heads::Place;
 use crate::trees::simple::{
-    assignment, call, call_path, erase, group, optional, page_write, redim, repetition, set, target,
+    assignment, call, erase, group, optional, redim, repetition, set, target,
 };
 use vb_syntax::program::{
     Case as ResolvedCase, ElseIf as ResolvedElseIf, Statement as ResolvedStatement,
     StatementKind as Resolved,
 };
-use vb_syntax::{Case, ElseIf, Expression, Repetition, Statement, StatementKind as Kind};
+use vb_syntax::{Case, ElseIf, Expression, PathUse, Repetition, Statement, StatementKind as Kind};
 use vb_value::{Copied, List, Memory, Text};
 
 /// A statement. It recurses once for each statement and each expression inside another.
@@ -45,7 +45,9 @@ fn kind(place: Place<'_>, found: &Kind) -> Result<Resolved, Memory>
         Kind::Set { target, value } => set(place, target, value),
         Kind::Assign { target, value } => assignment(place, target, value),
         Kind::Call { callee, arguments } => call(place, callee, arguments),
-        Kind::CallPath { callee } => call_path(place, callee),
+        Kind::CallPath { callee } => Ok(Resolved::Call {
+            callee: path(place, callee, PathUse::Callee)?,
+        }),
         Kind::If {
             condition,
             then,
@@ -82,7 +84,9 @@ fn kind(place: Place<'_>, found: &Kind) -> Result<Resolved, Memory>
         Kind::OnErrorGoToZero => Ok(Resolved::OnErrorGoToZero),
         Kind::Erase { names } => erase(place, names),
         Kind::PageText { text } => Ok(Resolved::PageText { text: text.copy()? }),
-        Kind::PageWrite { value } => page_write(place, value),
+        Kind::PageWrite { value } => Ok(Resolved::PageWrite {
+            value: expression(place, value)?,
+        }),
     }
 }
 

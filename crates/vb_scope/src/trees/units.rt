@@ -1,21 +1,21 @@
 //! Procedures and classes.
-ghost use Rattle.std.specs.Prelude.{◌≡◌, ◌++◌, ◌∷◌, [], map, false, true};
+ghost use Rattle.std.specs.Prelude.{◌≡◌, ◌++◌, ◌∷◌, [], map, false, true, IfOk};
 ghost use Rattle.std.specs.List.{flat_map};
 ghost use Rattle.vb_value.specs.Outcome.{Adds, Gives};
 ghost use Rattle.vb_syntax.specs.declared.declaration.Parameter.{Parameter};
 ghost use Rattle.vb_syntax.specs.scope.Programs as spec;
 ghost use Rattle.vb_syntax.specs.scope.Trees.{statement_of};
 ghost use Rattle.vb_syntax.specs.scope.Units as units;
-ghost use Rattle.vb_syntax.specs.scope.Scopes.{on_page_in};
+ghost use Rattle.vb_syntax.specs.scope.Scopes.{on_page_in, nothing_declared, class_scope, body_scope};
 ghost use Rattle.vb_notes.specs.Bodies.{body_seen};
 ghost use Rattle.vb_names.specs.Declarations.{declarations_seen};
+ghost use Rattle.vb_scope.specs.Inside.{member_scope, scopes_inside};
 
-use crate::scopes::{body_notes, class_scope};
 use crate::trees::heads::{Place, name_number};
 use crate::trees::members::{fields, sub_number};
 use crate::trees::statements::{block, statement};
 use std::alloc::Global;
-use vb_names::{Declarations, Names, Scopes, body_scope};
+use vb_names::{Declarations, Names, Scopes};
 use vb_notes::{Body, body_of, body_of_property};
 use vb_syntax::program::{
     Class as ResolvedClass, Procedure as ResolvedProcedure, ProcedureKind as ResolvedKind,
@@ -83,25 +83,20 @@ fn by_value(alloc: Global, parameters: &[Parameter]) -> Result<List<bool>, Memor
     Ok(all)
 }
 
-/// A procedure that stands in a class or in none.
+/// A procedure that stands in a class or in none, by the scope of its body.
 fn procedure(
     script: Script<'_>,
     class: &Declarations,
     heading: Heading<'_>,
     body: Body<'_>,
+    found: Declarations,
 ) -> Result<ResolvedProcedure, Memory>
+    requires { declarations_seen found ≡ body_scope script.explicit (declarations_seen script.page.now)
+        (declarations_seen class.now) (body_seen body) }
     ensures { Gives result (spec.procedure_in script.entry.explicit (declarations_seen script.entry.page.now)
         script.entry.names.now (declarations_seen class.now) heading.entry.access heading.entry.kind
         heading.entry.name.now (body_seen body.entry)) }
 {
-    let notes = body_notes(script.alloc, body)?;
-    let found = body_scope(
-        script.alloc,
-        script.explicit,
-        script.page,
-        class,
-        notes.as_slice(),
-    )?;
     let place = Place {
         alloc: script.alloc,
         names: script.names,
@@ -121,7 +116,7 @@ fn procedure(
         line: body.line,
         is_private: is_private(heading.access),
         kind: heading.kind,
-        name: name_number(script.alloc, script.names, heading.name)?,
+        name: name_number(script.names, heading.name)?,
         by_value: by_value(script.alloc, body.parameters.as_slice())?,
         variables: arrays,
         constants,
@@ -129,52 +124,30 @@ fn procedure(
     })
 }
 
-/// A procedure of the page.
-pub fn procedure_of(script: Script<'_>, found: &Procedure) -> Result<ResolvedProcedure, Memory>
-    ensures { Gives result (spec.procedure_of script.entry.explicit (declarations_seen script.entry.page.now)
-        script.entry.names.now found.now) }
+/// How a procedure of the page or of a class stands in its script.
+fn heading_of(found: &Procedure) -> Heading<'_>
+    ensures access { result.access ≡ found.now.access }
+    ensures kind { result.kind ≡ spec.kind_of found.now.kind }
+    ensures name { result.name.now ≡ found.now.name }
 {
-    let nothing = Declarations::new(script.alloc);
-    let heading = Heading {
+    Heading {
         access: found.access,
         kind: kind_of(found.kind),
         name: &found.name,
-    };
-    procedure(script, &nothing, heading, body_of(false, found))
+    }
 }
 
-/// A method.
-fn method_of(
-    script: Script<'_>,
-    class: &Declarations,
-    found: &Procedure,
-) -> Result<ResolvedProcedure, Memory>
-    ensures { Gives result (spec.method_of script.entry.explicit (declarations_seen script.entry.page.now)
-        script.entry.names.now (declarations_seen class.now) found.now) }
+/// How an accessor of a property stands in its script.
+fn heading_of_property(found: &Property) -> Heading<'_>
+    ensures access { result.access ≡ found.now.access }
+    ensures kind { result.kind ≡ spec.kind_of_property found.now.kind }
+    ensures name { result.name.now ≡ found.now.name }
 {
-    let heading = Heading {
-        access: found.access,
-        kind: kind_of(found.kind),
-        name: &found.name,
-    };
-    procedure(script, class, heading, body_of(true, found))
-}
-
-/// An accessor of a property.
-fn property_of(
-    script: Script<'_>,
-    class: &Declarations,
-    found: &Property,
-) -> Result<ResolvedProcedure, Memory>
-    ensures { Gives result (spec.property_of script.entry.explicit (declarations_seen script.entry.page.now)
-        script.entry.names.now (declarations_seen class.now) found.now) }
-{
-    let heading = Heading {
+    Heading {
         access: found.access,
         kind: kind_of_property(found.kind),
         name: &found.name,
-    };
-    procedure(script, class, heading, body_of_property(found))
+    }
 }
 
 /// Adds the method or property that a member is.
@@ -183,44 +156,70 @@ fn push_procedure(
     script: Script<'_>,
     class: &Declarations,
     member: &ClassMember,
+    scope: Declarations,
 ) -> Result<(), Memory>
+    requires { declarations_seen scope ≡ member_scope script.explicit (declarations_seen script.page.now)
+        (declarations_seen class.now) member.now }
     ensures { Adds result all.old all.new (spec.procedure_member script.entry.explicit
         (declarations_seen script.entry.page.now) script.entry.names.now (declarations_seen class.now) member.now) }
 {
     match member {
         ClassMember::Fields { .. } => Ok(()),
-        ClassMember::Method(found) => all.push(method_of(script, class, found)?),
-        ClassMember::Property(found) => all.push(property_of(script, class, found)?),
+        ClassMember::Method(found) => {
+            let (heading, body) = (heading_of(found), body_of(true, found));
+            all.push(procedure(script, class, heading, body, scope)?)
+        }
+        ClassMember::Property(found) => {
+            let (heading, body) = (heading_of_property(found), body_of_property(found));
+            all.push(procedure(script, class, heading, body, scope)?)
+        }
     }
 }
 
-/// The methods and properties of members.
+/// The methods and properties of members, by the scope of each.
 fn procedures(
     script: Script<'_>,
     class: &Declarations,
-    members: &[ClassMember],
+    mut members: &[ClassMember],
+    scopes: List<Declarations>,
 ) -> Result<List<ResolvedProcedure>, Memory>
+    requires { map declarations_seen scopes ≡ map (member_scope script.explicit (declarations_seen script.page.now)
+        (declarations_seen class.now)) members.now }
     ensures { Gives result (flat_map (spec.procedure_member script.entry.explicit
-        (declarations_seen script.entry.page.now) script.entry.names.now (declarations_seen class.now)) members.now) }
+        (declarations_seen script.entry.page.now) script.entry.names.now (declarations_seen class.now))
+        members.entry.now) }
 {
     let mut all = List::new(script.alloc);
-    for member in members {
-        push_procedure(&mut all, script, class, member)?;
+    let mut scopes = scopes.into_vec().into_iter();
+    while let [member, rest @ ..] = members {
+        let Some(scope) = scopes.next() else {
+            unreachable!();
+        };
+        push_procedure(&mut all, script, class, member, scope)?;
+        members = rest;
     }
     Ok(all)
 }
 
-/// A class.
-pub fn class_of(script: Script<'_>, found: &Class) -> Result<ResolvedClass, Memory>
+/// A class, by the scopes of its members and its own.
+fn class_of(
+    script: Script<'_>,
+    found: &Class,
+    mut scopes: List<Declarations>,
+) -> Result<ResolvedClass, Memory>
+    requires { map declarations_seen scopes ≡ map (member_scope script.explicit (declarations_seen script.page.now)
+        (class_scope found.now)) found.now.members ++ class_scope found.now ∷ [] }
     ensures { Gives result (spec.class_of script.entry.explicit (declarations_seen script.entry.page.now)
         script.entry.names.now found.now) }
 {
-    let scope = class_scope(script.alloc, found)?;
+    let Some(scope) = scopes.pop() else {
+        unreachable!();
+    };
     let members = found.members.as_slice();
     Ok(ResolvedClass {
         line: found.line,
         fields: fields(script, members)?,
-        procedures: procedures(script, &scope, members)?,
+        procedures: procedures(script, &scope, members, scopes)?,
         initialize: sub_number(b"class_initialize", members)?,
         terminate: sub_number(b"class_terminate", members)?,
     })
@@ -231,103 +230,91 @@ fn own_statement(script: Script<'_>, found: &Statement) -> Result<ResolvedStatem
     ensures { Gives result (statement_of script.entry.names.now
         (on_page_in (declarations_seen script.entry.page.now)) found.now) }
 {
-    let nothing = Declarations::new(script.alloc);
+    let (alloc, names, page) = (script.alloc, script.names, script.page);
+    let class = &Declarations::new(alloc);
+    let body = class;
+    let scopes = Scopes { page, class, body };
     let place = Place {
-        alloc: script.alloc,
-        names: script.names,
-        scopes: Scopes {
-            page: script.page,
-            class: &nothing,
-            body: &nothing,
-        },
+        alloc,
+        names,
+        scopes,
     };
     statement(place, found)
 }
 
-/// Adds the statement of the page's own body that an item is.
-fn push_own(
-    all: &mut List<ResolvedStatement>,
+/// The trees of a page.
+#[derive(Debug, Drop)]
+pub struct Trees {
+    /// The statements of its own body.
+    pub body: List<ResolvedStatement>,
+    /// Its procedures.
+    pub procedures: List<ResolvedProcedure>,
+    /// Its classes.
+    pub classes: List<ResolvedClass>,
+}
+
+/// Adds what an item is, by the scopes inside it.
+fn push_item(
+    all: &mut Trees,
     script: Script<'_>,
     item: &Item,
+    mut scopes: List<Declarations>,
 ) -> Result<(), Memory>
-    ensures { Adds result all.old all.new (spec.own_statement (declarations_seen script.entry.page.now)
-        script.entry.names.now item.now) }
+    requires { map declarations_seen scopes
+        ≡ scopes_inside script.explicit (declarations_seen script.page.now) item.now }
+    ensures body { Adds result all.old.body all.new.body (spec.own_statement
+        (declarations_seen script.entry.page.now) script.entry.names.now item.now) }
+    ensures procedures { Adds result all.old.procedures all.new.procedures (map (spec.procedure_of
+        script.entry.explicit (declarations_seen script.entry.page.now) script.entry.names.now)
+        (units.procedure_in_item item.now)) }
+    ensures classes { Adds result all.old.classes all.new.classes (map (spec.class_of
+        script.entry.explicit (declarations_seen script.entry.page.now) script.entry.names.now)
+        (units.class_in_item item.now)) }
 {
     match item {
-        Item::Statement(found) => all.push(own_statement(script, found)?),
-        Item::Variables { line, .. } => all.push(ResolvedStatement {
+        Item::Statement(found) => all.body.push(own_statement(script, found)?),
+        Item::Variables { line, .. } => all.body.push(ResolvedStatement {
             line: *line,
             kind: ResolvedStatementKind::Declaration,
         }),
-        Item::Procedure(_) | Item::Class(_) => Ok(()),
+        Item::Procedure(found) => {
+            let Some(scope) = scopes.pop() else {
+                unreachable!();
+            };
+            let (nothing, body) = (Declarations::new(script.alloc), body_of(false, found));
+            all.procedures.push(procedure(script, &nothing, heading_of(found), body, scope)?)
+        }
+        Item::Class(found) => all.classes.push(class_of(script, found, scopes)?),
     }
 }
 
-/// The statements of the page's own body.
-pub fn own_statements(script: Script<'_>, items: &[Item]) -> Result<List<ResolvedStatement>, Memory>
-    ensures { Gives result (flat_map (spec.own_statement (declarations_seen script.entry.page.now)
-        script.entry.names.now) items.now) }
-{
-    let mut all = List::new(script.alloc);
-    for item in items {
-        push_own(&mut all, script, item)?;
-    }
-    Ok(all)
-}
-
-/// Adds the procedure that an item is.
-fn push_item_procedure(
-    all: &mut List<ResolvedProcedure>,
+/// The trees of a page, by the scopes inside each of its items.
+pub fn page_trees(
     script: Script<'_>,
-    item: &Item,
-) -> Result<(), Memory>
-    ensures { Adds result all.old all.new (map (spec.procedure_of script.entry.explicit
-        (declarations_seen script.entry.page.now) script.entry.names.now) (units.procedure_in_item item.now)) }
+    mut items: &[Item],
+    inside: List<List<Declarations>>,
+) -> Result<Trees, Memory>
+    requires { map (map declarations_seen) inside
+        ≡ map (scopes_inside script.explicit (declarations_seen script.page.now)) items.now }
+    ensures body { IfOk result (λ trees. trees.body ≡ flat_map (spec.own_statement
+        (declarations_seen script.entry.page.now) script.entry.names.now) items.entry.now) }
+    ensures procedures { IfOk result (λ trees. trees.procedures ≡ map (spec.procedure_of script.entry.explicit
+        (declarations_seen script.entry.page.now) script.entry.names.now) (units.procedures_of items.entry.now)) }
+    ensures classes { IfOk result (λ trees. trees.classes ≡ map (spec.class_of script.entry.explicit
+        (declarations_seen script.entry.page.now) script.entry.names.now) (units.classes_of items.entry.now)) }
 {
-    match item {
-        Item::Procedure(found) => all.push(procedure_of(script, found)?),
-        Item::Statement(_) | Item::Variables { .. } | Item::Class(_) => Ok(()),
-    }
-}
-
-/// The procedures of the page.
-pub fn page_procedures(
-    script: Script<'_>,
-    items: &[Item],
-) -> Result<List<ResolvedProcedure>, Memory>
-    ensures { Gives result (map (spec.procedure_of script.entry.explicit
-        (declarations_seen script.entry.page.now) script.entry.names.now) (units.procedures_of items.now)) }
-{
-    let mut all = List::new(script.alloc);
-    for item in items {
-        push_item_procedure(&mut all, script, item)?;
-    }
-    Ok(all)
-}
-
-/// Adds the class that an item is.
-fn push_item_class(
-    all: &mut List<ResolvedClass>,
-    script: Script<'_>,
-    item: &Item,
-) -> Result<(), Memory>
-    ensures { Adds result all.old all.new (map (spec.class_of script.entry.explicit
-        (declarations_seen script.entry.page.now) script.entry.names.now) (units.class_in_item item.now)) }
-{
-    match item {
-        Item::Class(found) => all.push(class_of(script, found)?),
-        Item::Statement(_) | Item::Variables { .. } | Item::Procedure(_) => Ok(()),
-    }
-}
-
-/// The classes of the page.
-pub fn page_classes(script: Script<'_>, items: &[Item]) -> Result<List<ResolvedClass>, Memory>
-    ensures { Gives result (map (spec.class_of script.entry.explicit
-        (declarations_seen script.entry.page.now) script.entry.names.now) (units.classes_of items.now)) }
-{
-    let mut all = List::new(script.alloc);
-    for item in items {
-        push_item_class(&mut all, script, item)?;
+    let mut all = Trees {
+        body: List::new(script.alloc),
+        procedures: List::new(script.alloc),
+        classes: List::new(script.alloc),
+    };
+    let mut inside = inside.into_vec().into_iter();
+    while let [item, rest @ ..] = items {
+        let Some(scopes) = inside.next() else {
+            unreachable!();
+        };
+        push_item(&mut all, script, item, scopes)?;
+        items = rest;
     }
     Ok(all)
 }

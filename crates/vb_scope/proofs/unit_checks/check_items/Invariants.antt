@@ -1,7 +1,8 @@
-use Rattle.std.proofs.Common.{◌≡◌, length}
+use Rattle.std.proofs.Common.{◌≡◌, ◌++◌, length, map}
 use Rattle.vb_syntax.specs.scope.Faults as spec
 use Rattle.vb_names.specs.Checking.{so_far}
 use Rattle.vb_names.specs.Declarations.{declarations_seen}
+use Rattle.vb_scope.specs.Inside.{scopes_inside}
 use Rattle.vb_scope.proofs.unit_checks.check_items.Given as goal
 
 abbrev pub invariant-loop-items : goal.invariant-loop-items
@@ -10,6 +11,8 @@ invariant-loop-items l =
     ≡ spec.items_faults l.explicit (declarations_seen l.page) (so_far l.initial.names l.initial.declared) l.initial.items)
     × (spec.after_items (so_far l.names l.declared) l.items
     ≡ spec.after_items (so_far l.initial.names l.initial.declared) l.initial.items)
+    × (map (map declarations_seen) l.all ++ map (scopes_inside l.explicit (declarations_seen l.page)) l.items
+    ≡ map (scopes_inside l.explicit (declarations_seen l.page)) l.initial.items)
 
 abbrev pub decreases-loop-items : goal.decreases-loop-items
 decreases-loop-items l = length l.items
