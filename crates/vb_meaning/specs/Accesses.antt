@@ -1,6 +1,6 @@
 -- The steps of a path as accesses: an element or a call by a group, and a member together with the group directly
 -- behind it.
-use Rattle.std.specs.Prelude.{ℕ, suc, Bool, true, false, List, [], ◌∷◌, ◌++◌, Option, Some, None}
+use Rattle.std.specs.Prelude.{ℕ, Bool, true, false, List, [], ◌∷◌, Option, Some, None}
 use Rattle.vb_syntax.specs.declared.program.expression.Expression.{Expression}
 use Rattle.vb_syntax.specs.declared.program.expression.Expression.TheOpen.{Step-F}
 use Rattle.vb_syntax.specs.declared.program.expression.Operation.{Operation}
@@ -37,12 +37,6 @@ given_arguments None = []
 abbrev pub call_split : List Access → List Expression × List Access
 call_split (Group arguments ∷ more) = (arguments, more)
 call_split more = ([], more)
-
--- the arguments in so many of the first groups, and what stands behind
-abbrev pub groups_split : ℕ → List Access → List Expression × List Access
-groups_split (suc count) (Group arguments ∷ more) =
-    (arguments ++ (groups_split count more).0, (groups_split count more).1)
-groups_split _ more = ([], more)
 
 -- whether no member is among the accesses
 abbrev pub only_groups : List Access → Bool

@@ -3,10 +3,8 @@
 use Rattle.std.specs.Prelude.{ℕ, if◌then◌else◌, List, [], ◌∷◌, ◌++◌, length}
 use Rattle.std.specs.Prelude.{Option, Some, None, Result, Ok, Err}
 use Rattle.vb_value.specs.declared.fault.VbError.{VbError}
-use Rattle.vb_value.specs.declared.value.Array.{Array}
 use Rattle.vb_value.specs.declared.value.ObjNo.{ObjNo}
-use Rattle.vb_value.specs.declared.value.Value.{Value, out-Value, Obj, Nothing}
-use Rattle.vb_value.specs.declared.value.Value.TheOpen.{Value-F}
+use Rattle.vb_value.specs.declared.value.Value.{Value, Obj, Nothing}
 use Rattle.vb_value.specs.Errors.{illegal_assignment, unsupported, object_not_set, object_required, type_mismatch}
 use Rattle.vb_value.specs.Errors.{wrong_number, undefined_variable}
 use Rattle.vb_syntax.specs.declared.member.Member.{Member as PageMember}
@@ -26,7 +24,7 @@ use Rattle.vb_heap.specs.declared.place.Place.{Place}
 use Rattle.vb_heap.specs.Objects.{class_of}
 use Rattle.vb_heap.specs.Store.{numbered}
 use Rattle.vb_meaning.specs.declared.world.World.{World}
-use Rattle.vb_meaning.specs.Accesses.{Access, Group, Member, accesses, member_before, given_arguments, groups_split}
+use Rattle.vb_meaning.specs.Accesses.{Access, Group, Member, accesses, member_before, given_arguments}
 use Rattle.vb_meaning.specs.Accesses.{only_groups}
 use Rattle.vb_meaning.specs.Asking.{ask}
 use Rattle.vb_meaning.specs.Dictionaries.{asking, has_items, put_by, set_member}
@@ -43,7 +41,7 @@ use Rattle.vb_meaning.specs.declared.reached.Kind.TheVariants as kind
 use Rattle.vb_meaning.specs.declared.reached.Reached.{Reached}
 use Rattle.vb_meaning.specs.declared.reached.Reached.TheVariants.{Place as AtPlace, Value as AtValue}
 use Rattle.vb_meaning.specs.Places.{variable, hold, held_at, store_place, element_place, indices_of}
-use Rattle.vb_meaning.specs.Reading.{values, arguments, access, field_place, from_name, from_page_member, is_taken}
+use Rattle.vb_meaning.specs.Reading.{values, arguments, access, field_place, from_name, from_page_member, group_values, is_taken}
 use Rattle.vb_meaning.specs.Reading.{subject, me_value}
 use Rattle.vb_meaning.specs.State.{Does, on_world}
 use Rattle.vb_meaning.specs.Step.{Run, ◌>>=◌, ◌>>◌, pure, given, fails}
@@ -211,11 +209,10 @@ module _ (E : Type 0) (m : Inner E) (how : Assigned) where
       else fails unsupported
 
   -- the same, or a value into what stands behind the member
-  abbrev pub into_page_member : PageMember → Takes → List Expression → List Access → Value → Does E (Unit {0})
-  into_page_member found takes supplied [] value =
-      values E m [] supplied >>= (λ given_values. write_member found takes given_values value)
-  into_page_member found takes supplied more value =
-      into_rest (from_page_member E m found takes (supplied, [])) more value
+  abbrev pub into_page_member : PageMember → Takes → Value → List Value × List Access → Does E (Unit {0})
+  into_page_member found takes value (supplied, []) = write_member found takes supplied value
+  into_page_member found takes value (supplied, first ∷ others) =
+      into_rest (from_page_member E m found takes (supplied, [])) (first ∷ others) value
 
   -- a member of Err
   abbrev pub into_err : ErrMember → List Access → Value → Does E (Unit {0})
@@ -229,7 +226,7 @@ module _ (E : Type 0) (m : Inner E) (how : Assigned) where
   into_head (head.With name) more value = into_value (on_world subject) (member_before name more) value
   into_head (head.Err found) more value = into_err found more value
   into_head (head.Member found groups takes) more value =
-      into_page_member found takes (groups_split groups more).0 (groups_split groups more).1 value
+      group_values E m groups [] more >>= into_page_member found takes value
 
   -- A value is assigned to a path.
   unfoldable pub assign_to : Path → Value → Does E (Unit {0})

@@ -15,7 +15,7 @@ use Rattle.vb_syntax.specs.declared.program.expression.Step.{Step as PathStep}
 use Rattle.vb_syntax.specs.declared.program.name.Named.TheVariants as named
 use Rattle.vb_ops.specs.Operators.{apply1_of, apply2_of}
 use Rattle.vb_meaning.specs.declared.world.World.{World}
-use Rattle.vb_meaning.specs.Accesses.{accesses, only_groups}
+use Rattle.vb_meaning.specs.Accesses.{Access, accesses, only_groups}
 use Rattle.vb_meaning.specs.Inner.{Inner}
 use Rattle.vb_meaning.specs.declared.reached.Argument.{Argument}
 use Rattle.vb_meaning.specs.declared.reached.Argument.TheVariants.{Place as OfPlace, Value as OfValue}
@@ -24,7 +24,7 @@ use Rattle.vb_meaning.specs.Paths.{reached_value}
 use Rattle.vb_meaning.specs.declared.reached.Reached.{Reached}
 use Rattle.vb_meaning.specs.declared.reached.Reached.TheVariants.{Place as AtPlace}
 use Rattle.vb_meaning.specs.Places.{holding}
-use Rattle.vb_meaning.specs.Reading.{path_value, reached, constant_there, value_there}
+use Rattle.vb_meaning.specs.Reading.{path_value, reached, constant_of, value_of_constant}
 use Rattle.vb_meaning.specs.State.{Does, on_world}
 use Rattle.vb_meaning.specs.Step.{Run, ◌>>=◌, pure, given, fails}
 use Rattle.vb_meaning.specs.Values.{literal_value}
@@ -69,9 +69,9 @@ is_written _ = false
 abbrev pub constant_at : Program → Head → Run World Value
 constant_at program (head.Named (named.Value literal)) world = pure (literal_value literal) world
 constant_at program (head.Named (named.PageConstant number)) world =
-    constant_there (slice_get program.unit.constants number) world
+    given (constant_of (slice_get program.unit.constants number)) world
 constant_at program (head.Named (named.LocalConstant number)) world =
-    value_there (slice_get world.frame.constants number) world
+    given (value_of_constant (slice_get world.frame.constants number)) world
 constant_at program _ world = fails undefined_variable world
 
 -- the value of an expression that is written down
@@ -92,6 +92,11 @@ most_parentheses = 200
 -- an expression without the parentheses of its own around it
 abbrev pub bare : Expression → Expression
 bare expression = without_parentheses most_parentheses expression
+
+-- whether a path may be a place: a name with no member behind it
+abbrev pub may_be_place : Head → List Access → Bool
+may_be_place (head.Named name) more = only_groups more
+may_be_place _ more = false
 
 module _ (E : Type 0) (m : Inner E) where
   -- operators of one level, from left to right, behind the value so far
@@ -121,7 +126,7 @@ module _ (E : Type 0) (m : Inner E) where
 
   -- ---- arguments
 
-  -- what a path gives as an argument: a place, unless a member of an object was asked on the way
+  -- what a path gives as an argument: a place, unless an object's member was asked on the way
   abbrev pub path_argument : Bool → Reached → Does E Argument
   path_argument true (AtPlace place) = pure (OfPlace place)
   path_argument _ found = on_world (reached_value found >>= holding) >>= (λ value. pure (OfValue value))
@@ -129,7 +134,7 @@ module _ (E : Type 0) (m : Inner E) where
   -- an expression as an argument: a path may be a place, anything else is a value
   abbrev pub as_argument : Expression → Said → Does E Argument
   as_argument expression (Expression-F.Path path) =
-      reached E m path >>= path_argument (only_groups (accesses path.steps))
+      reached E m path >>= path_argument (may_be_place path.head (accesses path.steps))
   as_argument expression _ = valued expression >>= (λ value. pure (OfValue value))
 
   unfoldable pub argument_of : Expression → Does E Argument

@@ -8,7 +8,6 @@ use Rattle.vb_syntax.specs.declared.program.expression.Expression.{Expression}
 use Rattle.vb_syntax.specs.declared.program.expression.Path.{Path}
 use Rattle.vb_syntax.specs.declared.program.statement.Statement.{Statement}
 use Rattle.vb_syntax.specs.declared.program.unit.Procedure.{Procedure}
-use Rattle.vb_heap.specs.declared.place.Place.{Place}
 use Rattle.vb_meaning.specs.declared.reached.Argument.{Argument}
 use Rattle.vb_meaning.specs.declared.reached.Assigned.{Assigned}
 use Rattle.vb_meaning.specs.declared.world.Exit.{Exit}

@@ -1,15 +1,13 @@
 -- What the accesses of a path come to: elements of arrays and dictionaries, at places or in values (VBScript 5.6 language
 -- reference, "Creating Array Variables").
-use Rattle.std.specs.Prelude.{ℕ, ℤ, List, [], ◌∷◌, Option, Some, None}
+use Rattle.std.specs.Prelude.{ℤ, List, [], ◌∷◌}
 use Rattle.vb_value.specs.declared.value.Array.{Array}
 use Rattle.vb_value.specs.declared.value.ObjNo.{ObjNo}
 use Rattle.vb_value.specs.declared.value.Value.{Value, out-Value}
 use Rattle.vb_value.specs.declared.value.Value.TheOpen.{Value-F}
-use Rattle.vb_value.specs.Errors.{type_mismatch, unsupported, object_not_set, and_then}
+use Rattle.vb_value.specs.Errors.{type_mismatch, object_not_set, and_then}
 use Rattle.vb_heap.specs.declared.place.Place.{Place}
-use Rattle.vb_heap.specs.Objects.{class_of}
 use Rattle.vb_heap.specs.Places.{value_in}
-use Rattle.vb_heap.specs.Store.{numbered}
 use Rattle.vb_meaning.specs.declared.reached.Kind.{Kind}
 use Rattle.vb_meaning.specs.declared.reached.Kind.TheVariants as kind
 use Rattle.vb_meaning.specs.declared.reached.Reached.{Reached}

@@ -1,7 +1,9 @@
 -- A path whose value is wanted, and arguments (VBScript 5.6 language reference, "Variables", "Function Statement",
 -- "Property Get Statement").
-use Rattle.std.specs.Prelude.{ℕ, nat_lt, ◌||◌, Bool, true, false, if◌then◌else◌, List, [], ◌∷◌, ◌++◌, length}
+use Rattle.std.specs.Prelude.{Result, Ok, Err, zero, suc, ℕ, nat_lt, ◌||◌}
+use Rattle.std.specs.Prelude.{Bool, true, false, if◌then◌else◌, List, [], ◌∷◌, ◌++◌, length}
 use Rattle.std.specs.Prelude.{slice_get, Option, Some, None, Ok, codes}
+use Rattle.vb_value.specs.declared.fault.VbError.{VbError}
 use Rattle.vb_value.specs.declared.value.ObjNo.{ObjNo}
 use Rattle.vb_value.specs.declared.value.Value.{Value, Obj, Str, Nothing}
 use Rattle.vb_value.specs.Conversions.{to_str_of}
@@ -9,7 +11,9 @@ use Rattle.vb_value.specs.Errors.{type_mismatch, unsupported, wrong_number, obje
 use Rattle.vb_value.specs.Errors.{cannot_create_object, and_then}
 use Rattle.vb_value.specs.Folding.{same_name}
 use Rattle.vb_syntax.specs.declared.member.Member.{Member as PageMember}
+use Rattle.vb_syntax.specs.declared.member.Member.TheVariants as asks
 use Rattle.vb_syntax.specs.declared.member.Takes.{Takes}
+use Rattle.vb_syntax.specs.declared.program.Program.{Program}
 use Rattle.vb_syntax.specs.declared.program.expression.Expression.{Expression}
 use Rattle.vb_syntax.specs.declared.program.expression.Head.{Head}
 use Rattle.vb_syntax.specs.declared.program.expression.Head.TheVariants as head
@@ -27,7 +31,7 @@ use Rattle.vb_heap.specs.Objects.{class_of, field_of}
 use Rattle.vb_heap.specs.Store.{numbered}
 use Rattle.vb_meaning.specs.declared.world.World.{World}
 use Rattle.vb_meaning.specs.Accesses.{Access, Group, Member, accesses, member_before, given_arguments, call_split}
-use Rattle.vb_meaning.specs.Accesses.{groups_split}
+use Rattle.vb_meaning.specs.Accesses.{}
 use Rattle.vb_meaning.specs.Asking.{ask}
 use Rattle.vb_meaning.specs.Dictionaries.{named_member}
 use Rattle.vb_meaning.specs.ErrObject.{err_value}
@@ -47,7 +51,7 @@ use Rattle.vb_meaning.specs.Values.{object_in, constant_value, literal_value}
 
 -- CreateObject makes a dictionary, and no other object
 abbrev pub created : List ℕ → Run World Value
-created name = if same_name name (codes "scripting.dictionary")
+created name = if same_name (codes "scripting.dictionary") name
     then on_heap new_table_of with_new_table >>= (λ object. holding (Obj object))
     else fails cannot_create_object
 
@@ -57,24 +61,28 @@ create_object (name ∷ []) = given (to_str_of name) >>= created
 create_object _ = fails wrong_number
 
 -- TypeName with its argument
-abbrev pub type_name : {E : Type 0} → Inner E → List Value → Run World Value
-type_name m (value ∷ []) world =
-    given (and_then (name_of_class m.program world.heap value) (λ class. Ok (Str (type_name_of value class)))) world
-type_name m _ world = fails wrong_number world
+abbrev pub type_name_in : Program → List Value → Run World Value
+type_name_in program (value ∷ []) world =
+    given (and_then (name_of_class program world.heap value) (λ class. Ok (Str (type_name_of value class)))) world
+type_name_in program _ world = fails wrong_number world
 
--- what a constant of the page or of a procedure stands for
-abbrev pub constant_there : Option Constant → Run World Value
-constant_there (Some constant) = given (constant_value constant.value)
-constant_there None = fails undefined_variable
+-- what a constant of the page stands for
+abbrev pub constant_of : Option Constant → Result Value VbError
+constant_of (Some constant) = constant_value constant.value
+constant_of None = Err undefined_variable
 
-abbrev pub value_there : Option Value → Run World Value
-value_there (Some value) = pure value
-value_there None = fails undefined_variable
+-- what a constant of the procedure stands for
+abbrev pub value_of_constant : Option Value → Result Value VbError
+value_of_constant (Some value) = Ok value
+value_of_constant None = Err undefined_variable
 
 -- the object whose method runs, as a value
+abbrev pub me_of : Owner → Result Value VbError
+me_of (Some (object, class)) = Ok (Obj object)
+me_of None = Err object_not_set
+
 abbrev pub me_value : Owner → Run World Value
-me_value (Some (object, class)) = pure (Obj object)
-me_value None = fails object_not_set
+me_value owner = given (me_of owner)
 
 -- the last of some values
 abbrev pub last_of : List Value → Value
@@ -196,9 +204,9 @@ module _ (E : Type 0) (m : Inner E) where
   from_name (named.Place found) more s = (on_world (variable found) >>= (λ place. walk (AtPlace place) more)) s
   from_name (named.Own number) more s = procedure (owner_of s.world) (own_read number s.world) (call_split more) s
   from_name (named.PageConstant number) more s =
-      (from_value (on_world (constant_there (slice_get m.program.unit.constants number))) more) s
+      (from_value (given (constant_of (slice_get m.program.unit.constants number))) more) s
   from_name (named.LocalConstant number) more s =
-      from_value (on_world (value_there (slice_get s.world.frame.constants number))) more s
+      from_value (given (value_of_constant (slice_get s.world.frame.constants number))) more s
   from_name (named.Value literal) more s = (walk (AtValue (literal_value literal)) more) s
   from_name (named.Procedure number) more s =
       (procedure None (slice_get m.program.unit.procedures number) (call_split more)) s
@@ -206,18 +214,28 @@ module _ (E : Type 0) (m : Inner E) where
       (function (λ supplied. given (call_string_of found supplied)) (call_split more)) s
   from_name (named.PlainFunction found) more s =
       (function (λ supplied. given (call_func_of found supplied)) (call_split more)) s
-  from_name named.TypeName more s = (function (type_name m) (call_split more)) s
+  from_name named.TypeName more s = (function (type_name_in m.program) (call_split more)) s
   from_name named.CreateObject more s = (function create_object (call_split more)) s
   from_name named.Unknown more s = (unknown more) s
   from_name (named.Class number) more s = (fails type_mismatch) s
   from_name named.Err more s = (fails type_mismatch) s
 
-  -- a member of the page's objects, with the arguments in its groups
-  abbrev pub page_member : PageMember → Takes → List Value → Does E Value
-  page_member found takes supplied = if is_taken takes (length supplied) then ask m.host found supplied else fails wrong_number
+  -- the values in so many of the first groups, behind those so far, and what stands behind
+  abbrev pub group_values : ℕ → List Value → List Access → Does E (List Value × List Access)
+  group_values zero done more = pure (done, more)
+  group_values (suc count) done (Group supplied ∷ more) =
+      values done supplied >>= (λ found. group_values count found more)
+  group_values (suc count) done more = pure (done, more)
 
-  abbrev pub from_page_member : PageMember → Takes → List Expression × List Access → Does E Reached
-  from_page_member found takes split = from_value (values [] split.0 >>= page_member found takes) split.1
+  -- a member of the page's objects with its arguments; Server.CreateObject is CreateObject
+  abbrev pub page_member : PageMember → Takes → List Value → Does E Value
+  page_member asks.ServerCreateObject takes supplied = on_world (create_object supplied)
+  page_member found takes supplied =
+      if is_taken takes (length supplied) then ask m.host found supplied else fails wrong_number
+
+  -- a member of the page's objects, and what is reached from what it gives
+  abbrev pub from_page_member : PageMember → Takes → List Value × List Access → Does E Reached
+  from_page_member found takes split = from_value (page_member found takes split.0) split.1
 
   -- what a path reaches
   abbrev pub from_head : Head → List Access → Does E Reached
@@ -225,7 +243,7 @@ module _ (E : Type 0) (m : Inner E) where
   from_head head.Me more s = from_value (on_world (me_value s.world.frame.owner)) more s
   from_head (head.With name) more s = (from_value (on_world subject) (member_before name more)) s
   from_head (head.Err found) more s = (function (err_value found) (call_split more)) s
-  from_head (head.Member found groups takes) more s = (from_page_member found takes (groups_split groups more)) s
+  from_head (head.Member found groups takes) more s = (group_values groups [] more >>= from_page_member found takes) s
 
   unfoldable pub reached : Path → Does E Reached
   reached path = from_head path.head (accesses path.steps)

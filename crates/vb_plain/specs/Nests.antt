@@ -82,5 +82,6 @@ pub record Enters (E : Type 0) (host : Host E) (levels : ℕ)
   pub callable : (alloc : Global) (p : Bor Program) (old : MutBor Playing) (env : MutBor E) (owner : Owner)
       (procedure : Bor Procedure) (arguments : List Argument) → pre alloc levels p old env owner procedure arguments
   pub enters : (alloc : Global) (p : Bor Program) (old new : MutBor Playing) (env env' : MutBor E) (owner : Owner)
-      (procedure : Bor Procedure) (arguments : List Argument) (r : Result Value Stop) → post alloc levels p old env owner procedure arguments r new env'
+      (procedure : Bor Procedure) (arguments : List Argument) (r : Result Value Stop)
+      → post alloc levels p old env owner procedure arguments r new env'
       → Ran (enter E host p.now levels owner procedure.now arguments (seen old.now env.now)) r (seen new.now env'.now)
