@@ -4,6 +4,7 @@ ghost use Rattle.std.specs.Option.{option_copied};
 ghost use Rattle.vb_meaning.specs.Objects as spec;
 
 use vb_syntax::program::{Class, DictionaryMember, Field, Procedure, ProcedureKind, Program};
+use vb_value::ObjNo;
 
 /// Whether a procedure gives a value where its name is read.
 pub fn is_read(kind: ProcedureKind) -> bool
@@ -49,6 +50,20 @@ pub fn read_named<'a>(name: u32, mut procedures: &'a [Procedure]) -> Option<&'a 
         procedures = others;
     }
     None
+}
+
+/// Of a method or property of the class around, by the number of the first of its name, the one that is read.
+pub fn own_read<'a>(
+    p: &'a Program,
+    owner: Option<(ObjNo, u32)>,
+    number: u32,
+) -> Option<&'a Procedure>
+    ensures { option_copied result ≡ spec.own_procedure number spec.is_read (spec.owner_class p.now owner) }
+{
+    let (_, class) = owner?;
+    let class = class_at(p, class)?;
+    let first = class.procedures.get(number as usize)?;
+    read_named(first.name, class.procedures.as_slice())
 }
 
 /// A procedure that is seen through an object.

@@ -1,0 +1,99 @@
+//! Functions of the language that ask for objects, and constants.
+ghost use Rattle.std.specs.Prelude.{◌≡◌, [], slice_get, unwrap_or};
+ghost use Rattle.vb_meaning.specs.Reading as spec;
+ghost use Rattle.vb_meaning.specs.Objects as objects;
+ghost use Rattle.vb_meaning.specs.Step.{Ran, raising};
+ghost use Rattle.vb_value.specs.Outcome.{Answers, Gives};
+ghost use Rattle.vb_meaning.specs.declared.stop.Stop.TheVariants as stop;
+
+use crate::err_object::text_of;
+use crate::places::hold;
+use crate::values::constant_value;
+use std::alloc::Global;
+use vb_dict::new_dict;
+use vb_meaning::{Stop, World};
+use vb_syntax::program::Program;
+use vb_value::{Copied, Memory, Text, Value, VbError, copy, is_word};
+
+/// The value of a constant of the page.
+pub fn page_constant(p: &Program, number: u32) -> Result<Value, Stop>
+    ensures { Answers result stop.Memory (raising (spec.constant_of (slice_get p.now.unit.constants number))) }
+{
+    match p.unit.constants.get(number as usize) {
+        Some(constant) => constant_value(&constant.value),
+        None => Err(Stop::from(VbError::UNDEFINED_VARIABLE)),
+    }
+}
+
+/// The value of a constant of the procedure that runs.
+pub fn local_constant(alloc: Global, world: &World, number: u32) -> Result<Value, Stop>
+    ensures { Answers result stop.Memory (raising (spec.value_of_constant (slice_get world.now.frame.constants number))) }
+{
+    match world.frame.constants.get(number as usize) {
+        Some(value) => Ok(copy(alloc, value)?),
+        None => Err(Stop::from(VbError::UNDEFINED_VARIABLE)),
+    }
+}
+
+/// The object of a class that the host has: a dictionary, for the name `Scripting.Dictionary`. Error 429 for any other.
+fn created(world: &mut World, name: &Text) -> Result<Value, Stop>
+    ensures { Ran (spec.created name.now world.old) result world.new }
+{
+    if !is_word(b"scripting.dictionary", name.as_slice()) {
+        return Err(Stop::from(VbError::CANNOT_CREATE_OBJECT));
+    }
+    let object = Value::Obj(new_dict(&mut world.heap)?);
+    hold(world, &object)?;
+    Ok(object)
+}
+
+/// `CreateObject` with its arguments, of which there has to be one.
+pub fn create_object(alloc: Global, world: &mut World, arguments: &[Value]) -> Result<Value, Stop>
+    ensures { Ran (spec.create_object arguments.now world.old) result world.new }
+{
+    match arguments {
+        [name] => created(world, &text_of(alloc, name)?),
+        _ => Err(Stop::from(VbError::WRONG_NUMBER)),
+    }
+}
+
+/// The name of a class as it is declared, none where the program has no such class.
+fn declared_name(alloc: Global, p: &Program, number: u32) -> Result<Text, Memory>
+    ensures { Gives result (unwrap_or (slice_get p.now.classes number) []) }
+{
+    match p.classes.get(number as usize) {
+        Some(name) => name.copy(),
+        None => Ok(Text::new(alloc)),
+    }
+}
+
+/// The name of the class of a value, none where it is no object.
+fn class_name(alloc: Global, p: &Program, world: &World, value: &Value) -> Result<Text, Stop>
+    ensures { Answers result stop.Memory (raising (objects.name_of_class p.now world.now.heap value.now)) }
+{
+    let Value::Obj(object) = value else {
+        return Ok(Text::new(alloc));
+    };
+    match world.heap.class(*object)? {
+        Some(number) => Ok(declared_name(alloc, p, number)?),
+        None => Ok(Text::from_slice(alloc, &['D', 'i', 'c', 't', 'i', 'o', 'n', 'a', 'r', 'y'])?),
+    }
+}
+
+/// `TypeName` with its arguments, of which there has to be one.
+pub fn type_name(
+    alloc: Global,
+    p: &Program,
+    world: &World,
+    arguments: &[Value],
+) -> Result<Value, Stop>
+    ensures { Ran (spec.type_name_in p.now arguments.now world.now) result world.now }
+{
+    match arguments {
+        [value] => {
+            let class = class_name(alloc, p, world, value)?;
+            Ok(Value::Str(vb_funcs::type_name(alloc, value, &class)?))
+        }
+        _ => Err(Stop::from(VbError::WRONG_NUMBER)),
+    }
+}

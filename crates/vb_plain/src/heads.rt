@@ -1,0 +1,148 @@
+//! Where a path begins, and what is reached from there.
+ghost use Rattle.std.specs.Prelude.{◌≡◌, [], slice_get};
+ghost use Rattle.std.specs.Option.{option_copied};
+ghost use Rattle.vb_syntax.specs.declared.program.name.Named.TheVariants as named;
+ghost use Rattle.vb_meaning.specs.Accesses.{accesses, call_split};
+ghost use Rattle.vb_meaning.specs.Meaning.{inside};
+ghost use Rattle.vb_meaning.specs.Reading as spec;
+ghost use Rattle.vb_meaning.specs.Step.{Ran};
+ghost use Rattle.vb_plain.specs.Nests.{Evaluates, Passes, Enters};
+ghost use Rattle.vb_plain.specs.Seen.{seen, host};
+
+use crate::accesses::split_call;
+use crate::places::variable;
+use crate::playing::Playing;
+use crate::rules::Rules;
+use crate::world::raise;
+use std::alloc::Global;
+use vb_funcs::call_func;
+use vb_meaning::{Argument, Reached, Stop};
+use vb_strings::call_string;
+use vb_syntax::Intrinsics;
+use vb_syntax::program::{Expression, Procedure, Program, Slot, Step};
+use vb_value::{List, ObjNo, PlainFn, StrFn, Value};
+
+/// The most arguments that a function of the language is given.
+const MOST_ARGUMENTS: usize = 255;
+
+impl<
+    I: Intrinsics,
+    V: Fn(Global, u32, &Program, &mut Playing<'_>, &mut I, &Expression) -> Result<Value, Stop>,
+    A: Fn(Global, u32, &Program, &mut Playing<'_>, &mut I, &Expression) -> Result<Argument, Stop>,
+    S,
+    C,
+    T,
+    N: Fn(
+        Global,
+        u32,
+        &Program,
+        &mut Playing<'_>,
+        &mut I,
+        Option<(ObjNo, u32)>,
+        &Procedure,
+        List<Argument>,
+    ) -> Result<Value, Stop>,
+> Rules<I, V, A, S, C, T, N> {
+    /// A procedure with its arguments, and what is reached from what it gives.
+    pub fn procedure(
+        &self,
+        p: &Program,
+        playing: &mut Playing<'_>,
+        env: &mut I,
+        owner: Option<(ObjNo, u32)>,
+        procedure: Option<&Procedure>,
+        steps: &[Step],
+    ) -> Result<Reached, Stop>
+        requires evaluates { Evaluates I (host I.asked I.answered) self.now.levels (V.pre self.now.value)
+            (V.post self.now.value) }
+        requires passes { Passes I (host I.asked I.answered) self.now.levels (A.pre self.now.argument)
+            (A.post self.now.argument) }
+        requires enters { Enters I (host I.asked I.answered) self.now.levels (N.pre self.now.enter)
+            (N.post self.now.enter) }
+        ensures { Ran (spec.procedure I (inside I (host I.asked I.answered) p.now self.now.levels) owner
+            (option_copied procedure.entry) (call_split (accesses steps.now)) (seen playing.old env.old))
+            result (seen playing.new env.new) }
+    {
+        let (supplied, rest) = split_call(steps);
+        let from = self.called(p, playing, env, owner, procedure, supplied)?;
+        self.walk(p, playing, env, from, rest)
+    }
+
+    /// A variable, and what is reached from it.
+    pub fn from_variable(
+        &self,
+        p: &Program,
+        playing: &mut Playing<'_>,
+        env: &mut I,
+        slot: Slot,
+        steps: &[Step],
+    ) -> Result<Reached, Stop>
+        requires evaluates { Evaluates I (host I.asked I.answered) self.now.levels (V.pre self.now.value)
+            (V.post self.now.value) }
+        requires passes { Passes I (host I.asked I.answered) self.now.levels (A.pre self.now.argument)
+            (A.post self.now.argument) }
+        requires enters { Enters I (host I.asked I.answered) self.now.levels (N.pre self.now.enter)
+            (N.post self.now.enter) }
+        ensures { Ran (spec.from_name I (inside I (host I.asked I.answered) p.now self.now.levels) (named.Place slot)
+            (accesses steps.now) (seen playing.old env.old)) result (seen playing.new env.new) }
+    {
+        let place = variable(self.alloc, &playing.world, slot)?;
+        self.walk(p, playing, env, Reached::Place(place), steps)
+    }
+
+    /// A function of the language on texts, and what is reached from what it gives.
+    pub fn string_function(
+        &self,
+        p: &Program,
+        playing: &mut Playing<'_>,
+        env: &mut I,
+        found: StrFn,
+        steps: &[Step],
+    ) -> Result<Reached, Stop>
+        requires evaluates { Evaluates I (host I.asked I.answered) self.now.levels (V.pre self.now.value)
+            (V.post self.now.value) }
+        requires passes { Passes I (host I.asked I.answered) self.now.levels (A.pre self.now.argument)
+            (A.post self.now.argument) }
+        requires enters { Enters I (host I.asked I.answered) self.now.levels (N.pre self.now.enter)
+            (N.post self.now.enter) }
+        ensures { Ran (spec.from_name I (inside I (host I.asked I.answered) p.now self.now.levels)
+            (named.StringFunction found) (accesses steps.now) (seen playing.old env.old))
+            result (seen playing.new env.new) }
+    {
+        let (supplied, rest) = split_call(steps);
+        let arguments = self.values(p, playing, env, supplied)?;
+        if MOST_ARGUMENTS < arguments.len() {
+            return Err(Stop::Memory);
+        }
+        let value = raise(call_string(self.alloc, found, arguments.as_slice()))?;
+        self.walk(p, playing, env, Reached::Value(value), rest)
+    }
+
+    /// Another function of the language, and what is reached from what it gives.
+    pub fn plain_function(
+        &self,
+        p: &Program,
+        playing: &mut Playing<'_>,
+        env: &mut I,
+        found: PlainFn,
+        steps: &[Step],
+    ) -> Result<Reached, Stop>
+        requires evaluates { Evaluates I (host I.asked I.answered) self.now.levels (V.pre self.now.value)
+            (V.post self.now.value) }
+        requires passes { Passes I (host I.asked I.answered) self.now.levels (A.pre self.now.argument)
+            (A.post self.now.argument) }
+        requires enters { Enters I (host I.asked I.answered) self.now.levels (N.pre self.now.enter)
+            (N.post self.now.enter) }
+        ensures { Ran (spec.from_name I (inside I (host I.asked I.answered) p.now self.now.levels)
+            (named.PlainFunction found) (accesses steps.now) (seen playing.old env.old))
+            result (seen playing.new env.new) }
+    {
+        let (supplied, rest) = split_call(steps);
+        let arguments = self.values(p, playing, env, supplied)?;
+        if MOST_ARGUMENTS < arguments.len() {
+            return Err(Stop::Memory);
+        }
+        let value = raise(call_func(self.alloc, found, arguments.as_slice()))?;
+        self.walk(p, playing, env, Reached::Value(value), rest)
+    }
+}
