@@ -3,7 +3,7 @@ use Rattle.std.specs.Prelude.{ℕ, List, [], ◌++◌, codes}
 use Rattle.std.specs.Fmt.{decimal}
 use Rattle.vb_value.specs.declared.site_file.SiteFault.{SiteFault}
 use Rattle.vb_value.specs.declared.site_file.FaultKind.{FaultKind}
-use Rattle.vb_value.specs.declared.site_file.FaultKind.TheVariants.{NotYet}
+use Rattle.vb_value.specs.declared.site_file.FaultKind.TheVariants as fault
 use Rattle.asp_host.specs.declared.load.LoadStop.{LoadStop}
 use Rattle.asp_host.specs.declared.load.LoadStop.TheVariants.{Refused, ReadFault as FolderFault, Memory as NoMemory}
 use Rattle.asp_host.specs.declared.status.Status.{Status}
@@ -11,7 +11,7 @@ use Rattle.asp_host.specs.declared.status.Status.TheVariants.{Ok, Memory, Usage,
 
 -- how a command ends where the folder gives no answer
 abbrev pub status_of : LoadStop → Status
-status_of (Refused path) = SiteRefused (record { path = path; line = 0; kind = NotYet })
+status_of (Refused path) = SiteRefused (record { path = path; line = 0; kind = fault.NotYet })
 status_of FolderFault = ReadFault
 status_of NoMemory = Memory
 
@@ -26,7 +26,34 @@ code_of WriteFault = 5
 
 -- the name of what is wrong with a file
 abbrev pub kind_text_of : FaultKind → List ℕ
-kind_text_of NotYet = codes "NotYet"
+kind_text_of fault.NotYet = codes "NotYet"
+kind_text_of fault.NotUtf8 = codes "NotUtf8"
+kind_text_of fault.OpenBlock = codes "OpenBlock"
+kind_text_of fault.LateDirective = codes "LateDirective"
+kind_text_of fault.BadDirective = codes "BadDirective"
+kind_text_of fault.ObjectTag = codes "ObjectTag"
+kind_text_of fault.NotFound = codes "NotFound"
+kind_text_of fault.BadPath = codes "BadPath"
+kind_text_of fault.Cycle = codes "Cycle"
+kind_text_of fault.Depth = codes "Depth"
+kind_text_of fault.BadGlobal = codes "BadGlobal"
+kind_text_of fault.TooLarge = codes "TooLarge"
+kind_text_of fault.OpenString = codes "OpenString"
+kind_text_of fault.OpenBracket = codes "OpenBracket"
+kind_text_of fault.LongName = codes "LongName"
+kind_text_of fault.BadNumber = codes "BadNumber"
+kind_text_of fault.DateLiteral = codes "DateLiteral"
+kind_text_of fault.BadOperator = codes "BadOperator"
+kind_text_of fault.BadCharacter = codes "BadCharacter"
+kind_text_of fault.Unexpected = codes "Unexpected"
+kind_text_of fault.CallParens = codes "CallParens"
+kind_text_of fault.TextHere = codes "TextHere"
+kind_text_of fault.TooDeep = codes "TooDeep"
+kind_text_of fault.Redefined = codes "Redefined"
+kind_text_of fault.BadExit = codes "BadExit"
+kind_text_of fault.ConstTarget = codes "ConstTarget"
+kind_text_of fault.BadMember = codes "BadMember"
+kind_text_of fault.TooMany = codes "TooMany"
 
 -- the line and the kind of a fault
 abbrev pub place_text : ℕ → FaultKind → List ℕ
