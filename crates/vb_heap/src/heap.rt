@@ -62,4 +62,11 @@ impl Heap {
     {
         self.weight
     }
+
+    /// How many objects were made so far, those that have ended among them.
+    pub fn objects_made(&self) -> u32
+        ensures { result ≡ self.now.objects_made }
+    {
+        self.objects_made
+    }
 }

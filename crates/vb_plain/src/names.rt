@@ -6,19 +6,19 @@ ghost use Rattle.vb_meaning.specs.Meaning.{inside};
 ghost use Rattle.vb_meaning.specs.Reading as spec;
 ghost use Rattle.vb_meaning.specs.Step.{Ran};
 ghost use Rattle.vb_plain.specs.Nests.{Evaluates, Passes, Enters};
-ghost use Rattle.vb_plain.specs.Seen.{seen, host};
+ghost use Rattle.vb_world.specs.Seen.{seen, host};
 
-use crate::accesses::split_call;
-use crate::classes::own_read;
-use crate::functions::{create_object, local_constant, page_constant, type_name};
-use crate::playing::Playing;
 use crate::rules::Rules;
-use crate::values::literal_value;
 use std::alloc::Global;
 use vb_meaning::{Argument, Reached, Stop};
 use vb_syntax::Intrinsics;
 use vb_syntax::program::{Expression, Named, Procedure, Program, Step};
 use vb_value::{List, ObjNo, Value, VbError};
+use vb_world::accesses::split_call;
+use vb_world::classes::own_read;
+use vb_world::functions::{create_object, local_constant, page_constant, type_name};
+use vb_world::playing::Playing;
+use vb_world::values::literal_value;
 
 impl<
     I: Intrinsics,
@@ -39,7 +39,7 @@ impl<
     ) -> Result<Value, Stop>,
 > Rules<I, V, A, S, C, T, N> {
     /// A name that stands for nothing. A call of it is error 13, once its arguments are evaluated.
-    #[tactic(auto, using(crate::proofs::Steps::unknown_member))]
+    #[tactic(auto, using(crate::proofs::Unknown::unknown_member))]
     fn unknown(
         &self,
         p: &Program,

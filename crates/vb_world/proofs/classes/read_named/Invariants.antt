@@ -1,6 +1,6 @@
 use Rattle.std.proofs.Common.{◌≡◌, length}
 use Rattle.vb_meaning.specs.Objects.{procedure_named, is_read}
-use Rattle.vb_plain.proofs.classes.read_named.Given as goal
+use Rattle.vb_world.proofs.classes.read_named.Given as goal
 
 abbrev pub invariant-loop-procedures : goal.invariant-loop-procedures
 invariant-loop-procedures l = procedure_named l.name is_read l.fn.procedures ≡ procedure_named l.name is_read l.procedures

@@ -4,8 +4,8 @@ use Rattle.std.specs.Option.{option_copied}
 use denote.Ref.{Bor}
 use Rattle.vb_syntax.specs.declared.program.expression.Step.{Step}
 use Rattle.vb_meaning.specs.Accesses.{Access, Group, Member, accesses}
-use Rattle.vb_plain.specs.declared.accesses.Access.{Access as Found}
-use Rattle.vb_plain.specs.declared.accesses.Access.TheVariants as found
+use Rattle.vb_world.specs.declared.accesses.Access.{Access as Found}
+use Rattle.vb_world.specs.declared.accesses.Access.TheVariants as found
 
 -- one access
 abbrev pub access_seen : Found → Access

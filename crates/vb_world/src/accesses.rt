@@ -2,7 +2,7 @@
 ghost use Rattle.std.specs.Prelude.{◌≡◌};
 ghost use Rattle.std.specs.Prelude.{◌∷◌, [], Some, None};
 ghost use Rattle.vb_meaning.specs.Accesses.{accesses, member_before, call_split};
-ghost use Rattle.vb_plain.specs.Steps.{access_seen, split_seen};
+ghost use Rattle.vb_world.specs.Steps.{access_seen, split_seen};
 
 use vb_syntax::program::{Expression, Step};
 

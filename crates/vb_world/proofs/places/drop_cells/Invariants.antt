@@ -1,7 +1,7 @@
 use Rattle.std.proofs.Common.{◌≡◌, length}
 use Rattle.vb_meaning.specs.Places.{cells_dropped}
 use Rattle.vb_meaning.specs.State.{with_heap}
-use Rattle.vb_plain.proofs.places.drop_cells.Given as goal
+use Rattle.vb_world.proofs.places.drop_cells.Given as goal
 
 abbrev pub invariant-loop-cells : goal.invariant-loop-cells
 invariant-loop-cells l = with_heap (cells_dropped l.fn.cells) l.fn.world ≡ with_heap (cells_dropped l.cells) l.world

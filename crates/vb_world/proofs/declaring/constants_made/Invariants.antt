@@ -1,6 +1,6 @@
 use Rattle.std.proofs.Common.{◌≡◌, length}
 use Rattle.vb_meaning.specs.Declaring.{constants_made, constants_from}
-use Rattle.vb_plain.proofs.declaring.constants_made.Given as goal
+use Rattle.vb_world.proofs.declaring.constants_made.Given as goal
 
 abbrev pub invariant-loop-constants : goal.invariant-loop-constants
 invariant-loop-constants l = constants_made l.fn.constants l.world ≡ constants_from l.values l.constants l.world

@@ -3,7 +3,7 @@ ghost use Rattle.vb_value.specs.Outcome.{Gives};
 ghost use Rattle.vb_heap.specs.DictionaryCalls.{array_of};
 ghost use Rattle.vb_meaning.specs.Asking as spec;
 ghost use Rattle.vb_meaning.specs.Step.{Ran};
-ghost use Rattle.vb_plain.specs.Seen.{seen, host};
+ghost use Rattle.vb_world.specs.Seen.{seen, host};
 
 use crate::playing::Playing;
 use std::alloc::Global;

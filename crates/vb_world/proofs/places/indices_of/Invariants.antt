@@ -1,6 +1,6 @@
 use Rattle.std.proofs.Common.{◌≡◌, length}
 use Rattle.vb_meaning.specs.Places.{indices_of, indices_from}
-use Rattle.vb_plain.proofs.places.indices_of.Given as goal
+use Rattle.vb_world.proofs.places.indices_of.Given as goal
 
 abbrev pub invariant-loop-values : goal.invariant-loop-values
 invariant-loop-values l = indices_of l.fn.values ≡ indices_from l.indices l.values

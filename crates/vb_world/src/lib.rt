@@ -1,0 +1,17 @@
+//! What scripts do to the world: functions that an evaluator of scripts and one that can stop between two steps share.
+#![tactic(auto)]
+
+pub mod accesses;
+pub mod asking;
+pub mod classes;
+pub mod copying;
+pub mod declaring;
+pub mod dictionaries;
+pub mod err_object;
+pub mod errors;
+pub mod functions;
+pub mod paths;
+pub mod places;
+pub mod playing;
+pub mod values;
+pub mod world;
