@@ -6,3 +6,6 @@ pub mod Pieces
 pub mod Page
 pub mod Spelling
 pub mod SpelledForms
+pub mod Folders
+pub mod Expanding
+pub mod OneOutcome

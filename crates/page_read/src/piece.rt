@@ -78,7 +78,7 @@ fn plain_len(alloc: Global, text: &[char]) -> Result<usize, Memory>
 }
 
 /// The line of the place `to`, where `line` is that of the place `from` before it.
-fn line_behind(text: &[char], from: usize, to: usize, line: u32) -> u32
+pub fn line_behind(text: &[char], from: usize, to: usize, line: u32) -> u32
     requires within { from ≤ to × (to ≤ length text.now) }
     requires line { line ≡ line_at text.now from }
     requires room { line + to < 2 ^ 32 + from }
