@@ -1,8 +1,9 @@
 //! The steps of a path as accesses.
 ghost use Rattle.std.specs.Prelude.{◌≡◌};
+ghost use Rattle.std.specs.Option.{option_copied};
 ghost use Rattle.std.specs.Prelude.{◌∷◌, [], Some, None};
-ghost use Rattle.vb_meaning.specs.Accesses.{accesses, member_before, call_split};
-ghost use Rattle.vb_world.specs.Steps.{access_seen, split_seen};
+ghost use Rattle.vb_meaning.specs.Accesses.{accesses, member_before, call_split, only_groups};
+ghost use Rattle.vb_world.specs.Steps.{access_seen, split_seen, group_split_seen, next_group, first_call, call_alone};
 
 use vb_syntax::program::{Expression, Step};
 
@@ -55,5 +56,57 @@ pub fn split_call<'a>(steps: &'a [Step]) -> (&'a [Expression], &'a [Step])
         [] => (&[], steps),
         [Step::Group(arguments), rest @ ..] => (arguments.as_slice(), rest),
         [Step::Member(_), ..] => (&[], steps),
+    }
+}
+
+/// The next of so many groups and what stands behind, if a group stands there.
+#[tactic(auto, using(crate::proofs::Steps::no_group))]
+pub fn next_group<'a>(groups: u32, steps: &'a [Step]) -> Option<(&'a [Expression], &'a [Step])>
+    ensures { group_split_seen result ≡ next_group groups (accesses steps.now) }
+{
+    if groups == 0 {
+        return None;
+    }
+    match steps {
+        [Step::Group(supplied), rest @ ..] => Some((supplied.as_slice(), rest)),
+        [] | [Step::Member(_), ..] => None,
+    }
+}
+
+/// Whether no member is among the accesses of some steps.
+pub fn only_groups(mut steps: &[Step]) -> bool
+    ensures { result ≡ only_groups (accesses steps.entry.now) }
+{
+    while let Some((access, rest)) = first_access(steps) {
+        let Access::Group(_) = access else {
+            return false;
+        };
+        steps = rest;
+    }
+    true
+}
+
+/// The call that a path begins with, if there is one, and what stands behind.
+#[tactic(auto, using(crate::proofs::Steps::no_first_call))]
+pub fn first_call<'a>(steps: &'a [Step]) -> (&'a [Step], &'a [Step])
+    ensures { first_call (accesses steps.now) ≡ (accesses result.0.now, accesses result.1.now) }
+{
+    match steps {
+        [Step::Group(_), ..] => (&steps[..1], &steps[1..]),
+        [] | [Step::Member(_), ..] => (&[], steps),
+    }
+}
+
+/// The arguments of a call, if nothing else stands among some steps.
+#[tactic(auto, using(crate::proofs::Steps::not_alone, crate::proofs::Steps::not_alone_behind))]
+pub fn call_alone<'a>(steps: &'a [Step]) -> Option<&'a [Expression]>
+    ensures { option_copied result ≡ call_alone (accesses steps.now) }
+{
+    match steps {
+        [] => Some(&[]),
+        [Step::Group(supplied)] => Some(supplied.as_slice()),
+        [Step::Group(_), Step::Group(_), ..] => None,
+        [Step::Group(_), Step::Member(_), ..] => None,
+        [Step::Member(_), ..] => None,
     }
 }

@@ -1,14 +1,16 @@
 //! What an act asks of the objects that the page is given.
+ghost use Rattle.std.specs.Prelude.{◌≡◌};
 ghost use Rattle.vb_value.specs.Outcome.{Gives};
 ghost use Rattle.vb_heap.specs.DictionaryCalls.{array_of};
 ghost use Rattle.vb_meaning.specs.Asking as spec;
+ghost use Rattle.vb_meaning.specs.Reading as reading;
 ghost use Rattle.vb_meaning.specs.Step.{Ran};
 ghost use Rattle.vb_world.specs.Seen.{seen, host};
 
 use crate::playing::Playing;
 use std::alloc::Global;
 use vb_meaning::Stop;
-use vb_syntax::{Given, Intrinsics, Member};
+use vb_syntax::{Given, Intrinsics, Member, Takes};
 use vb_value::{AppReply, Array, Copied, List, Memory, Text, Value, copy};
 
 /// A reply equal to that one.
@@ -110,4 +112,11 @@ pub fn ask<I: Intrinsics>(
         },
         Err(why) => Err(Stop::from(why)),
     }
+}
+
+/// Whether a member of the page's objects takes so many arguments.
+pub fn is_taken(takes: Takes, count: usize) -> bool
+    ensures { result ≡ reading.is_taken takes count }
+{
+    takes.fewest as usize <= count && count <= takes.most as usize
 }

@@ -2,7 +2,9 @@
 #![tactic(auto)]
 
 pub mod accesses;
+pub mod around;
 pub mod asking;
+pub mod assigned;
 pub mod classes;
 pub mod copying;
 pub mod declaring;
@@ -15,3 +17,4 @@ pub mod places;
 pub mod playing;
 pub mod values;
 pub mod world;
+pub mod written;

@@ -1,0 +1,90 @@
+//! Expressions that take no level: values that are written down, constants, and parentheses.
+ghost use Rattle.std.specs.Prelude.{◌≡◌};
+ghost use Rattle.std.specs.Option.{option_copied};
+ghost use Rattle.vb_syntax.specs.declared.program.expression.Expression.{out-Expression};
+ghost use Rattle.vb_meaning.specs.Expressions as spec;
+ghost use Rattle.vb_meaning.specs.Step.{Ran};
+ghost use Rattle.vb_world.specs.Written.{parenthesized};
+
+use crate::functions::{local_constant, page_constant};
+use crate::values::literal_value;
+use std::alloc::Global;
+use vb_meaning::{Stop, World};
+use vb_syntax::program::{Expression, Head, Named, Program};
+use vb_value::{Value, VbError};
+
+/// How many parentheses of its own may stand around an expression, which no script exceeds.
+const MOST_PARENTHESES: u32 = 200;
+
+/// What stands in parentheses of its own, while so many more of them may be taken away.
+fn parenthesized<'a>(more: u32, expression: &'a Expression) -> Option<&'a Expression>
+    ensures { option_copied result ≡ parenthesized more (out-Expression expression.now) }
+{
+    match expression {
+        Expression::Parenthesis(inside) if 0 < more => Some(inside.get()),
+        _ => None,
+    }
+}
+
+/// An expression without the parentheses of its own around it.
+#[tactic(auto, using(crate::proofs::Parentheses::bare_on, crate::proofs::Parentheses::bare_end))]
+pub fn bare<'a>(mut expression: &'a Expression) -> &'a Expression
+    ensures { result.now ≡ spec.bare expression.entry.now }
+{
+    let mut more = MOST_PARENTHESES;
+    while let Some(inside) = parenthesized(more, expression) {
+        expression = inside;
+        more -= 1;
+    }
+    expression
+}
+
+/// Whether a name is a constant.
+fn is_constant_name(head: &Head) -> bool
+    ensures { result ≡ spec.is_constant_name head.now }
+{
+    matches!(
+        head,
+        Head::Named(Named::Value(_) | Named::PageConstant(_) | Named::LocalConstant(_))
+    )
+}
+
+/// Whether an expression is a value that is written down, or a constant.
+pub fn is_written(expression: &Expression) -> bool
+    ensures { result ≡ spec.is_written (out-Expression expression.now) }
+{
+    match expression {
+        Expression::Literal(_) | Expression::Nothing => true,
+        Expression::Path(path) => path.steps.is_empty() && is_constant_name(&path.head),
+        _ => false,
+    }
+}
+
+/// The value of the name of a constant.
+fn constant_at(alloc: Global, p: &Program, world: &World, head: &Head) -> Result<Value, Stop>
+    ensures { Ran (spec.constant_at p.now head.now world.now) result world.now }
+{
+    match head {
+        Head::Named(Named::Value(literal)) => Ok(literal_value(literal)?),
+        Head::Named(Named::PageConstant(number)) => page_constant(p, *number),
+        Head::Named(Named::LocalConstant(number)) => local_constant(alloc, world, *number),
+        _ => Err(Stop::from(VbError::UNDEFINED_VARIABLE)),
+    }
+}
+
+/// The value of an expression that is written down.
+pub fn written_value(
+    alloc: Global,
+    p: &Program,
+    world: &World,
+    expression: &Expression,
+) -> Result<Value, Stop>
+    ensures { Ran (spec.written_value p.now (out-Expression expression.now) world.now) result world.now }
+{
+    match expression {
+        Expression::Literal(literal) => Ok(literal_value(literal)?),
+        Expression::Nothing => Ok(Value::Nothing),
+        Expression::Path(path) => constant_at(alloc, p, world, &path.head),
+        _ => Err(Stop::from(VbError::UNDEFINED_VARIABLE)),
+    }
+}
