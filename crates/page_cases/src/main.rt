@@ -3,12 +3,14 @@
 
 mod commands;
 mod hexadecimal;
+mod includes;
 mod pages;
 mod sites;
 mod web;
 
 use case_files::try_file;
 use commands::{CommandWords, try_commands};
+use includes::Includes;
 use pages::{PageBytes, Pages, Sums};
 use std::io;
 use std::io::ErrorKind;
@@ -17,11 +19,12 @@ use web::Web;
 fn main(rt: HostRuntime) -> io::Result<()> {
     let pages = try_file(&rt, "pages.txt", &Pages)?;
     let bytes = try_file(&rt, "bytes.txt", &PageBytes)?;
+    let includes = try_file(&rt, "includes.txt", &Includes)?;
     let sums = try_file(&rt, "sums.txt", &Sums)?;
     let words = try_file(&rt, "words.txt", &CommandWords)?;
     let sites = try_commands(&rt, "sites.txt")?;
     let web = try_file(&rt, "web.txt", &Web)?;
-    if pages && bytes && sums && words && sites && web {
+    if pages && bytes && includes && sums && words && sites && web {
         Ok(())
     } else {
         Err(ErrorKind::InvalidData.into())

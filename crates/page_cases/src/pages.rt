@@ -7,7 +7,7 @@ use std::alloc::Global;
 use vb_value::{Memory, Text};
 
 /// How many bytes a page file of a case may have.
-const MOST_BYTES: usize = 4_194_304;
+pub const MOST_BYTES: usize = 4_194_304;
 
 /// Page files, each with its pieces: what each is, its line and its text in quotes.
 pub struct Pages;
@@ -68,7 +68,8 @@ fn pieces_text(alloc: Global, bytes: &[u8]) -> Result<String, CaseStop> {
     Ok(out)
 }
 
-fn push_piece(out: &mut String, alloc: Global, piece: &Fragment) -> Result<(), Memory> {
+/// Adds a piece as cases write it.
+pub fn push_piece(out: &mut String, alloc: Global, piece: &Fragment) -> Result<(), Memory> {
     match piece {
         Fragment::Directive { session: true } => Ok(out.push_str("directive")?),
         Fragment::Directive { session: false } => Ok(out.push_str("directive without sessions")?),

@@ -6,19 +6,24 @@ use case_files::{CaseStop, read_text};
 use std::alloc::Global;
 use vb_value::{Bytes, List, SiteFile, Text};
 
-/// The site of a case, whose files are written each behind ` ## `: its path, a colon, and its text behind a blank; or its
-/// path, `=`, and its bytes in hexadecimal.
+/// The site of a case, as [`read_files`] reads its files.
 pub fn read_site(alloc: Global, case: &str) -> Result<MemFolder, CaseStop> {
-    let mut site = List::new(alloc);
-    for (i, part) in case.split(" ## ").enumerate() {
-        if i > 0 {
-            site.push(read_file(alloc, part)?)?;
-        }
-    }
-    match SureFolder::new(site) {
+    match SureFolder::new(read_files(alloc, case)?) {
         Some(folder) => Ok(MemFolder::new(folder, List::new(alloc))),
         None => Err(CaseStop::Unreadable),
     }
+}
+
+/// The files of a case, which are written each behind ` ## `: its path, a colon, and its text behind a blank; or its path,
+/// `=`, and its bytes in hexadecimal.
+pub fn read_files(alloc: Global, case: &str) -> Result<List<SiteFile>, CaseStop> {
+    let mut files = List::new(alloc);
+    for (i, part) in case.split(" ## ").enumerate() {
+        if i > 0 {
+            files.push(read_file(alloc, part)?)?;
+        }
+    }
+    Ok(files)
 }
 
 fn read_file(alloc: Global, written: &str) -> Result<SiteFile, CaseStop> {
