@@ -1,6 +1,7 @@
 //! The rules of an evaluator of scripts, as far as they stand.
 #![tactic(auto)]
 
+pub mod blocks;
 pub mod heads;
 pub mod names;
 pub mod reading;

@@ -9,6 +9,7 @@ pub mod classes;
 pub mod copying;
 pub mod declaring;
 pub mod dictionaries;
+pub mod ending;
 pub mod err_object;
 pub mod errors;
 pub mod functions;

@@ -1,0 +1,50 @@
+//! How objects end.
+ghost use Rattle.std.specs.Prelude.{◌≡◌, IfOk};
+ghost use Rattle.std.specs.Option.{option_copied};
+ghost use Rattle.vb_heap.specs.Store.{numbered};
+ghost use Rattle.vb_meaning.specs.Objects as objects;
+ghost use Rattle.vb_meaning.specs.Releases as spec;
+
+use crate::classes::class_at;
+use vb_meaning::{Raised, World};
+use vb_syntax::program::{Procedure, Program};
+use vb_value::{Memory, ObjNo};
+
+/// The number of the class of an object, if it is there and has one.
+pub fn class_number(world: &World, object: ObjNo) -> Option<u32>
+    ensures { result ≡ spec.class_number (numbered object.0 world.now.heap.objects) }
+{
+    match world.heap.class(object) {
+        Ok(class) => class,
+        Err(_) => None,
+    }
+}
+
+/// The Class_Terminate of a class, if it has one.
+pub fn terminator<'a>(p: &'a Program, class: Option<u32>) -> Option<&'a Procedure>
+    ensures { option_copied result ≡ spec.terminator_in (objects.class_at p.now class) }
+{
+    let class = class_at(p, class?)?;
+    let number = class.terminate?;
+    class.procedures.get(number as usize)
+}
+
+/// Ends an object whose terminator has run. Err is again as it was.
+pub fn end_object(
+    world: &mut World,
+    object: ObjNo,
+    err: Raised,
+    terminates: bool,
+) -> Result<(), Memory>
+    ensures { IfOk result (λ _. world.new
+        ≡ spec.ended object.0 (record world.old { err = err; terminates = terminates }) world.old) }
+{
+    if world.finished == u32::MAX {
+        return Err(Memory);
+    }
+    world.heap.finish_object(object);
+    world.err = err;
+    world.terminates = terminates;
+    world.finished += 1;
+    Ok(())
+}
