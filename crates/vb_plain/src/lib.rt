@@ -2,7 +2,9 @@
 #![tactic(auto)]
 
 pub mod blocks;
+pub mod conditions;
 pub mod heads;
 pub mod names;
 pub mod reading;
+pub mod releases;
 pub mod rules;
