@@ -4,7 +4,6 @@ use Rattle.std.specs.Prelude.{ℕ, zero, suc, ◌+◌, Bool, true, false, not, i
 use Rattle.std.specs.Prelude.{Option, Some, None, Result, Ok, Err, map}
 use Rattle.vb_value.specs.declared.fault.VbError.{VbError}
 use Rattle.vb_value.specs.declared.limit.LimitKind.TheVariants.{Ticks}
-use Rattle.vb_value.specs.declared.number.Number.{Number}
 use Rattle.vb_value.specs.declared.operator.Op2.{Op2}
 use Rattle.vb_value.specs.declared.operator.Op2.TheVariants.{Add, AtMost, AtLeast}
 use Rattle.vb_value.specs.declared.value.Array.{Array}
@@ -26,6 +25,7 @@ use Rattle.vb_ops.specs.Operators.{apply2_of, truth_of}
 use Rattle.vb_heap.specs.Entries.{dictionary_of}
 use Rattle.vb_heap.specs.Objects.{class_of}
 use Rattle.vb_heap.specs.Store.{Store, numbered}
+use Rattle.vb_meaning.specs.declared.range.Range.{Range}
 use Rattle.vb_meaning.specs.declared.stop.Stop.TheVariants as stop
 use Rattle.vb_meaning.specs.declared.world.Exit.{Exit}
 use Rattle.vb_meaning.specs.declared.world.Exit.TheVariants.{Next, Leave}
@@ -53,6 +53,47 @@ leaves_for _ = false
 -- no Exit leaves a While alone
 abbrev pub leaves_none : ExitKind → Bool
 leaves_none _ = false
+
+-- ---- For
+
+-- the three values are made numbers from left to right
+abbrev pub range_of : Value → Value → Value → Result Range VbError
+range_of from to step = and_then (to_number_of from) (λ first. and_then (to_number_of to) (λ last.
+    and_then (to_number_of step) (λ by. Ok (record { from = first; to = last; step = by }))))
+
+-- how the variable is compared with the last value, by the sign of the step; 0 counts as positive
+abbrev pub comparison_by : ℤ → Op2
+comparison_by (pos amount) = AtMost
+comparison_by (negsuc amount) = AtLeast
+
+-- whether the variable has not passed the last value
+abbrev pub is_within : Named → Range → Run World Bool
+is_within variable range = target_variable variable >>= (λ place. read_place place >>= (λ value.
+    given (apply2_of (comparison_by (amount_of range.step)) value (number_value range.to)) >>= (λ compared.
+    given (truth_of compared))))
+
+-- a number into the variable
+abbrev pub set_variable : Named → Value → Run World (Unit {0})
+set_variable variable value = target_variable variable >>= (λ place. store_place place value)
+
+-- the step is added to the variable
+abbrev pub add_step : Named → Range → Run World (Unit {0})
+add_step variable range = target_variable variable >>= (λ place. read_place place >>= (λ value.
+    given (apply2_of Add value (number_value range.step)) >>= store_place place))
+
+-- ---- For Each
+
+-- the keys of a dictionary; an object of a class has no items
+abbrev pub keys_of : ObjNo → Store → Option ℕ → Result (List Value) VbError
+keys_of object store None = and_then (dictionary_of object store) (λ found. Ok (map (λ pair. pair.key) found.pairs))
+keys_of object store (Some class) = Err unsupported
+
+-- what a For Each goes over: the items of an array, or the keys of a dictionary
+abbrev pub items_of : Store → Value-F Value Array → Result (List Value) VbError
+items_of store (Value-F.Arr array) = Ok array.items
+items_of store (Value-F.Obj object) = and_then (class_of (numbered object.0 store.objects)) (keys_of object store)
+items_of store Value-F.Nothing = Err object_not_set
+items_of store _ = Err not_a_collection
 
 module _ (E : Type 0) (m : Inner E) where
   -- how a loop goes on after its body: an Exit that leaves it goes on behind it
@@ -96,46 +137,15 @@ module _ (E : Type 0) (m : Inner E) where
 
   -- ---- For
 
-  -- the three numbers of a For
-  pub record Range : Type 0 where
-    pub from : Number
-    pub to : Number
-    pub step : Number
-
   -- the expression of the step, which is 1 where it is left out
   abbrev pub step_value : Option Expression → Does E Value
   step_value (Some step) = m.value step
   step_value None = pure (Int (pos 1))
 
-  -- the three values are made numbers from left to right
-  abbrev pub range_of : Value → Value → Value → Result Range VbError
-  range_of from to step = and_then (to_number_of from) (λ first. and_then (to_number_of to) (λ last.
-      and_then (to_number_of step) (λ by. Ok (record { from = first; to = last; step = by }))))
-
   -- the three expressions are the head, from left to right
   abbrev pub range : Expression → Expression → Option Expression → Does E Range
   range from to step = in_head E m (m.value from >>= (λ first. m.value to >>= (λ last.
       step_value step >>= (λ by. given (range_of first last by)))))
-
-  -- how the variable is compared with the last value, by the sign of the step; 0 counts as positive
-  abbrev pub comparison_by : ℤ → Op2
-  comparison_by (pos amount) = AtMost
-  comparison_by (negsuc amount) = AtLeast
-
-  -- whether the variable has not passed the last value
-  abbrev pub is_within : Named → Range → Run World Bool
-  is_within variable range = target_variable variable >>= (λ place. read_place place >>= (λ value.
-      given (apply2_of (comparison_by (amount_of range.step)) value (number_value range.to)) >>= (λ compared.
-      given (truth_of compared))))
-
-  -- a number into the variable
-  abbrev pub set_variable : Named → Value → Run World (Unit {0})
-  set_variable variable value = target_variable variable >>= (λ place. store_place place value)
-
-  -- the step is added to the variable
-  abbrev pub add_step : Named → Range → Run World (Unit {0})
-  add_step variable range = target_variable variable >>= (λ place. read_place place >>= (λ value.
-      given (apply2_of Add value (number_value range.step)) >>= store_place place))
 
   -- at most so many more turns: the test, the body, and the step
   abbrev pub for_turns : ℕ → Named → Range → List Statement → Does E Exit
@@ -150,18 +160,6 @@ module _ (E : Type 0) (m : Inner E) where
       (λ s. for_turns (s.world.ticks + 1) variable found body s))
 
   -- ---- For Each
-
-  -- the keys of a dictionary; an object of a class has no items
-  abbrev pub keys_of : ObjNo → Store → Option ℕ → Result (List Value) VbError
-  keys_of object store None = and_then (dictionary_of object store) (λ found. Ok (map (λ pair. pair.key) found.pairs))
-  keys_of object store (Some class) = Err unsupported
-
-  -- what a For Each goes over: the items of an array, or the keys of a dictionary
-  abbrev pub items_of : Store → Value-F Value Array → Result (List Value) VbError
-  items_of store (Value-F.Arr array) = Ok array.items
-  items_of store (Value-F.Obj object) = and_then (class_of (numbered object.0 store.objects)) (keys_of object store)
-  items_of store Value-F.Nothing = Err object_not_set
-  items_of store _ = Err not_a_collection
 
   -- item by item
   abbrev pub each_turns : Named → List Value → List Statement → Does E Exit

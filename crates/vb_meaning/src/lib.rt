@@ -3,12 +3,14 @@
 
 mod cause;
 mod plain_end;
+mod range;
 mod reached;
 mod stop;
 mod world;
 
 pub use cause::{Cause, Raised};
 pub use plain_end::PlainEnd;
+pub use range::Range;
 pub use reached::{Argument, Assigned, Kind, Reached};
 pub use stop::Stop;
 pub use world::{Exit, Frame, World};

@@ -2,3 +2,8 @@ pub mod Texts
 pub mod Steps
 pub mod Subjects
 pub mod Parentheses
+pub mod Products
+pub mod EmptyArrays
+pub mod Declared
+pub mod Dropping
+pub mod Keys

@@ -3,13 +3,16 @@
 
 pub mod accesses;
 pub mod around;
+pub mod arrays;
 pub mod asking;
 pub mod assigned;
 pub mod classes;
 pub mod copying;
+pub mod counting;
 pub mod declaring;
 pub mod dictionaries;
 pub mod ending;
+pub mod entering;
 pub mod err_object;
 pub mod errors;
 pub mod functions;
