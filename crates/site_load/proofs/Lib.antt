@@ -1,0 +1,4 @@
+pub mod Causes
+pub mod Picked
+pub mod ChosenPaths
+pub mod Loading

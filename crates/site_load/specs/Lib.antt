@@ -1,0 +1,4 @@
+pub mod Chosen
+pub mod Picking
+pub mod Files
+pub mod Reading
