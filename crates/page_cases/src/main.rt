@@ -2,6 +2,7 @@
 #![tactic(auto)]
 
 mod commands;
+mod folders;
 mod hexadecimal;
 mod includes;
 mod pages;
@@ -10,6 +11,7 @@ mod web;
 
 use case_files::try_file;
 use commands::{CommandWords, try_commands};
+use folders::Folders;
 use includes::Includes;
 use pages::{PageBytes, Pages, Sums};
 use std::io;
@@ -23,8 +25,9 @@ fn main(rt: HostRuntime) -> io::Result<()> {
     let sums = try_file(&rt, "sums.txt", &Sums)?;
     let words = try_file(&rt, "words.txt", &CommandWords)?;
     let sites = try_commands(&rt, "sites.txt")?;
+    let folders = try_file(&rt, "folders.txt", &Folders)?;
     let web = try_file(&rt, "web.txt", &Web)?;
-    if pages && bytes && includes && sums && words && sites && web {
+    if pages && bytes && includes && sums && words && sites && folders && web {
         Ok(())
     } else {
         Err(ErrorKind::InvalidData.into())
