@@ -7,3 +7,4 @@ pub mod EmptyArrays
 pub mod Declared
 pub mod Dropping
 pub mod Keys
+pub mod FieldArrays

@@ -15,6 +15,7 @@ pub mod ending;
 pub mod entering;
 pub mod err_object;
 pub mod errors;
+pub mod fields;
 pub mod functions;
 pub mod paths;
 pub mod places;
