@@ -25,7 +25,7 @@ one_sum_text sum text other is also = is.3 ∙ (ap sum_text (sums_unique sum is.
 
 -- a piece shows one text
 one_shown : (piece : Fragment) (text other : List ℕ) → Shows piece text → Shows piece other → text ≡ other
-one_shown (Text plain) text other is also = is.1 ∙ sym also.1
+one_shown (Text plain line) text other is also = is.1 ∙ sym also.1
 one_shown (Write sum line) text other is also = one_sum_text sum text other is also
 one_shown (Directive session) text other is also = elim is [ ]
 one_shown (Script script line) text other is also = elim is [ ]

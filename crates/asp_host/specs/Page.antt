@@ -43,7 +43,7 @@ pub record IsUntagged (text : List ℕ) : Type 0 where
 
 -- the piece shows this text: itself, where it is plain text without tags, or the value of its sum; no other piece is run
 abbrev pub Shows : Fragment → List ℕ → Type 0
-Shows (Text text) shown = IsUntagged text × (shown ≡ text)
+Shows (Text text line) shown = IsUntagged text × (shown ≡ text)
 Shows (Write text line) shown = IsSumText text shown
 Shows _ shown = ⊥
 

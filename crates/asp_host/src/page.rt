@@ -86,7 +86,7 @@ fn push_shown(alloc: Global, piece: &Fragment, shown: &mut Text) -> Result<(), P
     ensures no_text { OnFault result (λ _ _. (text : Items ℕ) → ¬ (spec.Shows piece.now text)) }
 {
     match piece {
-        Fragment::Text(text) => push_text(text.as_slice(), shown),
+        Fragment::Text { text, line: _ } => push_text(text.as_slice(), shown),
         Fragment::Write { text, line: _ } => push_value(alloc, text.as_slice(), shown),
         _ => Err(NOT_YET),
     }

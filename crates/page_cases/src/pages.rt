@@ -73,7 +73,7 @@ pub fn push_piece(out: &mut String, alloc: Global, piece: &Fragment) -> Result<(
     match piece {
         Fragment::Directive { session: true } => Ok(out.push_str("directive")?),
         Fragment::Directive { session: false } => Ok(out.push_str("directive without sessions")?),
-        Fragment::Text(text) => push_quoted(out, alloc, text),
+        Fragment::Text { text, line: _ } => push_quoted(out, alloc, text),
         Fragment::Script { text, line } => push_placed(out, alloc, "script ", *line, text),
         Fragment::Write { text, line } => push_placed(out, alloc, "", *line, text),
         Fragment::Element { text, line } => push_placed(out, alloc, "element ", *line, text),

@@ -35,8 +35,8 @@ first_short front rest text is = omega (arith, ap length is, length-append front
 -- the text that stands first is no longer than the file
 pub starts_short : (bytes : List ℕ) (pieces : List Fragment) → IsFragmentsOf bytes pieces → length bytes < 2 ^ 31
     → StartsShort pieces
-starts_short bytes (Text text ∷ pieces) of short =
-    let spelled = pieces_spelled bytes (Text text ∷ pieces) of in
+starts_short bytes (Text text line ∷ pieces) of short =
+    let spelled = pieces_spelled bytes (Text text line ∷ pieces) of in
     let within = first_short spelled.0 spelled.1 (unmarked (chars bytes)) spelled.2 in
     let same = ap length spelled.3 in
     let whole = ap length (encodes-chars bytes of.utf8) in

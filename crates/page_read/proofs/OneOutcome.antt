@@ -28,7 +28,7 @@ piece_one : (Comes : SiteFile → Outcome → Type 0) → IsOne Comes → (files
 piece_one Comes is files left chain path (Include from_root target line) one other a b =
     include_one Comes is path line (included files left chain path from_root target) one other a b
 piece_one Comes is files left chain path (Directive session) one other a b = a ∙ sym b
-piece_one Comes is files left chain path (Text text) one other a b = a ∙ sym b
+piece_one Comes is files left chain path (Text text line) one other a b = a ∙ sym b
 piece_one Comes is files left chain path (Script text line) one other a b = a ∙ sym b
 piece_one Comes is files left chain path (Write text line) one other a b = a ∙ sym b
 piece_one Comes is files left chain path (Element text line) one other a b = a ∙ sym b

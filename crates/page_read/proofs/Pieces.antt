@@ -17,15 +17,15 @@ use Rattle.page_read.specs.Reading.{ReadsFirst, ReadsOn}
 -- ---- reading
 
 -- plain text at the front
-pub text_first : (page text plain rest : List ℕ) (count : ℕ) → plain ≡ take count text → rest ≡ drop count text
-    → 0 < count → count ≤ length text → BeginsNoFormWithin count text → EndsPlain (drop count text)
-    → IsFirst page text (Text plain) rest
-text_first page text plain rest count plain_is rest_is some within none ends =
+pub text_first : (page text plain rest : List ℕ) (count line : ℕ) → plain ≡ take count text → rest ≡ drop count text
+    → line ≡ line_of page text → 0 < count → count ≤ length text → BeginsNoFormWithin count text
+    → EndsPlain (drop count text) → IsFirst page text (Text plain line) rest
+text_first page text plain rest count line plain_is rest_is line_is some within none ends =
     let long : length plain ≡ count = ap length plain_is ∙ length-take-le count text within in
     let whole : take count text ++ drop count text ≡ plain ++ rest = cc in
     inr (record {
       front = plain;
-      is_text = refl;
+      is_text = ap (Text plain) line_is;
       spelled = sym (take-append-drop count text) ∙ whole;
       filled = λ empty. let none_long = ap length empty in absurd (omega (arith, none_long, long, some));
       plain = subst (λ (n : ℕ). BeginsNoFormWithin n text) (sym long) none;
@@ -76,8 +76,9 @@ unfolding begins_form include_of server_tag
 no_form = refl
 
 -- no form begins where plain text does
-plain_no_form : (text rest : List ℕ) (piece : Fragment) → IsPlain text piece rest → begins_form text ≡ false
-plain_no_form text rest piece is = at_front is.front is.filled is.plain
+plain_no_form : (page text rest : List ℕ) (piece : Fragment) → IsPlain page text piece rest
+    → begins_form text ≡ false
+plain_no_form page text rest piece is = at_front is.front is.filled is.plain
   where
     at_front : (front : List ℕ) → front ≢ [] → BeginsNoFormWithin (length front) text → begins_form text ≡ false
     at_front [] filled none = absurd (filled refl)
@@ -116,16 +117,16 @@ first_unique : (page text rest left : List ℕ) (piece other : Fragment) → IsF
 first_unique page text rest left piece other first next = elim first [
   | inl form ↦ elim next [
     | inl also ↦ parts_unique (piece, rest) (other, left) _ form.piece also.piece
-    | inr plain ↦ let none = plain_no_form text left other plain in let there = form.form in cc
+    | inr plain ↦ let none = plain_no_form page text left other plain in let there = form.form in cc
   ]
   | inr plain ↦ elim next [
-    | inl form ↦ let none = plain_no_form text rest piece plain in let there = form.form in cc
+    | inl form ↦ let none = plain_no_form page text rest piece plain in let there = form.form in cc
     | inr also ↦
         let one = subst (BeginsNoFormWithin (length plain.front)) plain.spelled plain.plain in
         let two = subst (BeginsNoFormWithin (length also.front)) also.spelled also.plain in
         let both = plain_unique plain.front also.front rest left one two plain.ends also.ends
         (sym plain.spelled ∙ also.spelled) in
-        (plain.is_text ∙ (ap (λ (t : List ℕ). Text t) both.0 ∙ sym also.is_text), both.1)
+        (plain.is_text ∙ (ap (λ (t : List ℕ). Text t (line_of page text)) both.0 ∙ sym also.is_text), both.1)
   ]
 ]
 
@@ -148,7 +149,7 @@ nothing_stuck page piece rest first = elim first [
 pub fault_stuck : (page text : List ℕ) (kind : PageFault) → HasFaultHere page text kind → IsStuck page text
 fault_stuck page text kind fault piece rest first = elim first [
   | inl form ↦ let there = form.piece in let here = fault.fault in cc
-  | inr plain ↦ let none = plain_no_form text rest piece plain in let there = fault.form in cc
+  | inr plain ↦ let none = plain_no_form page text rest piece plain in let there = fault.form in cc
 ]
 
 -- pieces up to a place where none begins are the only ones

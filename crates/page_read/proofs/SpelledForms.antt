@@ -235,9 +235,9 @@ block_cases before inside first line piece rest (Some pair) cut is opens =
 
 -- an element or an object
 element_or_object_is : (text rest : List ℕ) (line : ℕ) (piece : Fragment) (found : Option (List Attribute × List ℕ))
-    → form.server_tag (codes "<script") text ≡ found → form.element_or_object line found ≡ Ok (piece, rest)
+    → form.server_tag (codes "<script") text ≡ found → form.element_or_object line text found ≡ Ok (piece, rest)
     → IsSpelledFirst text piece rest
-element_or_object_is text rest line piece (Some tag) tagged is = element_is text rest line piece tag tagged is
+element_or_object_is text rest line piece (Some tag) tagged is = element_is text rest (form.line_behind line text tag.1) piece tag tagged is
 element_or_object_is text rest line piece None tagged is = cc
 
 -- an include or an element

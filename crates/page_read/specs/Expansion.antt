@@ -74,7 +74,7 @@ PiecesGive Gives (piece ∷ pieces) outcome = (first : Outcome) × Gives piece f
 -- the line of the directive, which stands first in a file or behind blank text
 abbrev pub directive_line : List Fragment → Option ℕ
 directive_line (Directive session ∷ pieces) = Some 1
-directive_line (Text text ∷ Directive session ∷ pieces) = Some (line_at text (length text))
+directive_line (Text text line ∷ Directive session ∷ pieces) = Some (line_at text (length text))
 directive_line pieces = None
 
 -- the line of a directive in a file that is included behind the files at these paths; a page's own may have one

@@ -1,10 +1,11 @@
 -- The forms of a page other than plain text: which begins at a place, and what it is.
-use Rattle.std.specs.Prelude.{ℕ, ◌+◌, Bool, true, false, not, ◌&&◌, ◌||◌, ◌==◌, if◌then◌else◌, List, [], ◌∷◌, take}
+use Rattle.std.specs.Prelude.{ℕ, ◌+◌, ◌-◌, length, Bool, true, false, not, ◌&&◌, ◌||◌, ◌==◌, if◌then◌else◌, List, [], ◌∷◌, take}
 use Rattle.std.specs.Prelude.{drop}
 use Rattle.std.specs.Prelude.{bytes_eq, codes, slice_index, Option, None, Some, Result, Ok, Err}
 use Rattle.std.specs.List.{list_all, list_any, prefix_len}
 use Rattle.std.specs.Option.{is_some, option_map, option_and_then}
 use Rattle.vb_value.specs.Folding.{folded}
+use Rattle.vb_value.specs.Lines.{line_ends}
 use Rattle.page_read.specs.declared.attribute.Attribute.{Attribute}
 use Rattle.page_read.specs.declared.fault.PageFault.{PageFault}
 use Rattle.page_read.specs.declared.fault.PageFault.TheVariants.{OpenBlock, LateDirective, BadDirective, ObjectTag}
@@ -153,12 +154,16 @@ abbrev pub is_for_element : Attribute → Bool
 is_for_element attribute = not (has_name (codes "src") attribute)
     && (not (has_name (codes "language") attribute) || bytes_eq attribute.value (codes "vbscript"))
 
+-- the line of what stands behind a tag at the front of a text, in this line
+abbrev pub line_behind : ℕ → List ℕ → List ℕ → ℕ
+line_behind line text rest = line + line_ends (length text - length rest) text
+
 -- the element with this text inside and this text behind its end, or that of which the end is missing
 abbrev pub closed_element : ℕ → Option (List ℕ × List ℕ) → Result (Fragment × List ℕ) PageFault
 closed_element line (Some found) = Ok (Element found.0 line, found.1)
 closed_element line None = Err OpenBlock
 
--- the script element with these attributes in its tag, of which this stands behind the tag
+-- the script element with these attributes in its tag, of which this stands behind the tag, in this line
 abbrev pub element_at : ℕ → List Attribute × List ℕ → Result (Fragment × List ℕ) PageFault
 element_at line tag =
     if list_all is_for_element tag.0 then closed_element line (cut_by (codes "</script>") tag.1) else Err BadDirective
@@ -166,14 +171,14 @@ element_at line tag =
 -- ---- the piece at a place where a form begins
 
 -- the element with this tag, or that of an object
-abbrev pub element_or_object : ℕ → Option (List Attribute × List ℕ) → Result (Fragment × List ℕ) PageFault
-element_or_object line (Some tag) = element_at line tag
-element_or_object line None = Err ObjectTag
+abbrev pub element_or_object : ℕ → List ℕ → Option (List Attribute × List ℕ) → Result (Fragment × List ℕ) PageFault
+element_or_object line text (Some tag) = element_at (line_behind line text tag.1) tag
+element_or_object line text None = Err ObjectTag
 
 -- this include, or the element at the front of the text
 abbrev pub include_or_element : ℕ → List ℕ → Option (Bool × List ℕ × List ℕ) → Result (Fragment × List ℕ) PageFault
 include_or_element line text (Some found) = Ok (Include found.0 found.1 line, found.2)
-include_or_element line text None = element_or_object line (server_tag (codes "<script") text)
+include_or_element line text None = element_or_object line text (server_tag (codes "<script") text)
 
 -- the block of which this stands behind its `<%`, or what else begins at the front of the text
 abbrev pub block_or_other : List ℕ → ℕ → List ℕ → Option (List ℕ) → Result (Fragment × List ℕ) PageFault

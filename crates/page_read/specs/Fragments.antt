@@ -27,11 +27,11 @@ BeginsNoFormWithin count text = (at : ℕ) → at < count → begins_form (drop 
 abbrev pub EndsPlain : List ℕ → Type 0
 EndsPlain text = (text ≡ []) ⊎ (begins_form text ≡ true)
 
--- the text begins with this piece of plain text: it isn't empty, no form begins in it, and it goes on up to a form or
--- the end
-pub record IsPlain (text : List ℕ) (found : Fragment) (rest : List ℕ) : Type 0 where
+-- the text, the end of that page, begins with this piece of plain text: it isn't empty, no form begins in it, and it
+-- goes on up to a form or the end
+pub record IsPlain (page text : List ℕ) (found : Fragment) (rest : List ℕ) : Type 0 where
   pub front : List ℕ
-  pub is_text : found ≡ Text front
+  pub is_text : found ≡ Text front (line_of page text)
   pub spelled : text ≡ front ++ rest
   pub filled : front ≢ []
   pub plain : BeginsNoFormWithin (length front) text
@@ -44,7 +44,7 @@ pub record IsForm (page text : List ℕ) (found : Fragment) (rest : List ℕ) : 
 
 -- the text, the end of that page, begins with the piece, and this follows it: a form is there, or plain text
 abbrev pub IsFirst : List ℕ → List ℕ → Fragment → List ℕ → Type 0
-IsFirst page text piece rest = IsForm page text piece rest ⊎ IsPlain text piece rest
+IsFirst page text piece rest = IsForm page text piece rest ⊎ IsPlain page text piece rest
 
 -- ---- all pieces
 

@@ -102,7 +102,7 @@ StopsAtFault fault stops.Memory = Unit {0}
 
 -- the text that stands first in a file has fewer than 2^31 characters
 abbrev pub StartsShort : List Fragment → Type 0
-StartsShort (Text text ∷ pieces) = length text < 2 ^ 31
+StartsShort (Text text line ∷ pieces) = length text < 2 ^ 31
 StartsShort pieces = Unit {0}
 
 -- an included file has a directive, which is this fault

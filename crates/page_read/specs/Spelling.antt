@@ -54,7 +54,7 @@ pub record IsElement (text spelling : List ℕ) : Type 0 where
 
 -- the piece may be spelled so
 abbrev pub Spells : Fragment → List ℕ → Type 0
-Spells (Text text) spelling = spelling ≡ text
+Spells (Text text line) spelling = spelling ≡ text
 Spells (Script text line) spelling = IsBetween (codes "<%") text (codes "%>") spelling
 Spells (Write text line) spelling = IsBetween (codes "<%=") text (codes "%>") spelling
 Spells (Directive session) spelling = (inside : List ℕ) × IsBetween (codes "<%@") inside (codes "%>") spelling

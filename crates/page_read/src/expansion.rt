@@ -48,9 +48,11 @@ fn directive_line(pieces: &[Fragment]) -> Option<u32>
 {
     match pieces {
         [Fragment::Directive { session: _ }, ..] => Some(1),
-        [Fragment::Text(text), Fragment::Directive { session: _ }, ..] => {
-            Some(line_behind(text.as_slice(), 0, text.len(), 1))
-        }
+        [
+            Fragment::Text { text, line: _ },
+            Fragment::Directive { session: _ },
+            ..
+        ] => { Some(line_behind(text.as_slice(), 0, text.len(), 1)) }
         _ => None,
     }
 }

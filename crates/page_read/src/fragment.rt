@@ -20,7 +20,12 @@ pub enum Fragment {
         session: bool,
     },
     /// Plain text, which is written as it stands.
-    Text(Text),
+    Text {
+        /// The text.
+        text: Text,
+        /// The line in which it begins.
+        line: u32,
+    },
     /// What stands between `<%` and `%>`.
     Script {
         /// What stands between the marks, blanks and all.
@@ -39,7 +44,7 @@ pub enum Fragment {
     Element {
         /// What stands between the tags, blanks and all.
         text: Text,
-        /// The line in which the `<script` stands.
+        /// The line in which the text begins.
         line: u32,
     },
     /// A file that stands here in place of an include.

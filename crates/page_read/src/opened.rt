@@ -1,5 +1,5 @@
 //! The piece at a place of a page at which a form begins.
-ghost use Rattle.std.specs.Prelude.{◌≡◌, ◌<◌, ◌≤◌, ◌∷◌, IfOk, length};
+ghost use Rattle.std.specs.Prelude.{◌≡◌, ◌+◌, ◌<◌, ◌≤◌, ◌^◌, ◌∷◌, IfOk, length};
 ghost use Rattle.std.specs.List.{list_all, list_any};
 ghost use Rattle.std.specs.Option.{option_and_then};
 ghost use Rattle.vb_value.specs.Outcome.{Gives};
@@ -14,7 +14,7 @@ use crate::fragment::Fragment;
 use crate::mark::{begins, behind, cut_by, is_blank_text};
 use crate::tag::{folded_attributes, include_of, server_tag};
 use std::alloc::Global;
-use vb_value::{List, Memory, Text};
+use vb_value::{List, Memory, Text, line_ends};
 
 const LANGUAGE: [char; 8] = ['l', 'a', 'n', 'g', 'u', 'a', 'g', 'e'];
 
@@ -182,14 +182,16 @@ fn are_for_element(attributes: &[Attribute]) -> bool
     attributes.iter().all(|a| is_for_element(a))
 }
 
-/// The script element with these attributes, from behind its tag, and what follows it.
+/// The script element with these attributes, from behind its tag, where `begins` is the line, and what follows it. Its
+/// tag begins in the line `line`, in which its faults are told.
 fn element_at<'a>(
     alloc: Global,
     line: u32,
+    begins: u32,
     attributes: &[Attribute],
     text: &'a [char],
 ) -> Result<(Fragment, &'a [char]), PageStop>
-    ensures value { ReadsOn result line (spec.element_at line (attributes.now, text.now)) }
+    ensures value { ReadsOn result line (spec.element_at begins (attributes.now, text.now)) }
     ensures shorter { IfOk result (λ found. length found.1.now ≤ length text.now) }
 {
     if !are_for_element(attributes) {
@@ -199,7 +201,7 @@ fn element_at<'a>(
         return Err(fault(PageFault::OpenBlock, line));
     };
     match List::from_slice(alloc, inside) {
-        Ok(text) => Ok((Fragment::Element { text, line }, rest)),
+        Ok(text) => Ok((Fragment::Element { text, line: begins }, rest)),
         Err(Memory) => Err(PageStop::Memory),
     }
 }
@@ -210,6 +212,7 @@ fn include_or_element(
     line: u32,
     text: &[char],
 ) -> Result<(Fragment, &[char]), PageStop>
+    requires { line + length text.now < 2 ^ 32 }
     ensures value { ReadsOn result line (spec.include_or_element line text.now (spec.include_of text.now)) }
     ensures shorter { IfOk result (λ found. length found.1.now < length text.now) }
 {
@@ -227,7 +230,10 @@ fn include_or_element(
         };
     }
     match server_tag(alloc, text, &SCRIPT) {
-        Ok(Some((attributes, rest))) => element_at(alloc, line, attributes.as_slice(), rest),
+        Ok(Some((attributes, rest))) => {
+            let begins = line + line_ends(text.len() - rest.len(), text);
+            element_at(alloc, line, begins, attributes.as_slice(), rest)
+        }
         Ok(None) => Err(fault(PageFault::ObjectTag, line)),
         Err(Memory) => Err(PageStop::Memory),
     }
@@ -241,6 +247,7 @@ pub fn opened<'a>(
     line: u32,
     text: &'a [char],
 ) -> Result<(Fragment, &'a [char]), PageStop>
+    requires { line + length text.now < 2 ^ 32 }
     ensures value { ReadsOn result line (spec.opened before.now line text.now) }
     ensures shorter { IfOk result (λ found. length found.1.now < length text.now) }
 {

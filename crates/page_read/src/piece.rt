@@ -48,6 +48,7 @@ fn first_piece<'a>(
     requires filled { 0 < length text.now }
     requires within { length text.now ≤ length page.now }
     requires line { line ≡ spec.line_of page.now text.now }
+    requires room { line + length text.now < 2 ^ 32 }
     ensures value { ReadsFirst result page.now text.now }
     ensures shorter { IfOk result (λ found. length found.1.now < length text.now) }
 {
@@ -57,7 +58,7 @@ fn first_piece<'a>(
     }
     let (plain, rest) = text.split_at(count);
     match List::from_slice(alloc, plain) {
-        Ok(plain) => Ok((Fragment::Text(plain), rest)),
+        Ok(text) => Ok((Fragment::Text { text, line }, rest)),
         Err(Memory) => Err(PageStop::Memory),
     }
 }
