@@ -31,10 +31,10 @@ empty_array_weight fixed bounds =
     ∙ ap (λ n. 32 + n) (sum_by-replicate weight_of (item_count bounds) Empty
     ∙ (ap (λ n. item_count bounds * n) empty_weight ∙ omega arith))
 
-empty_depth : depth_of Empty ≡ 0
+pub empty_depth : depth_of Empty ≡ 0
 empty_depth = ap depth_of (sym rolls-Empty) ∙ fold-roll-Value ℕ ℕ value_depth array_depth Value-F.Empty
 
-none_deep : (count : ℕ) → greatest (map depth_of (replicate count Empty)) ≡ 0
+pub none_deep : (count : ℕ) → greatest (map depth_of (replicate count Empty)) ≡ 0
 none_deep zero = refl
 none_deep (suc count) =
     ap (λ depth. fold max (max 0 depth) (map depth_of (replicate count Empty))) empty_depth ∙ none_deep count

@@ -8,3 +8,4 @@ pub mod Declared
 pub mod Dropping
 pub mod Keys
 pub mod FieldArrays
+pub mod Resized

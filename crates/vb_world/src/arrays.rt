@@ -60,7 +60,7 @@ pub fn is_too_heavy(world: &World, count: u64) -> bool
 }
 
 /// The value Empty so many times.
-fn empty_items(alloc: Global, count: usize) -> Result<List<Value>, Memory>
+pub fn empty_items(alloc: Global, count: usize) -> Result<List<Value>, Memory>
     ensures { Gives result (replicate count EmptyItem) }
 {
     let mut items = List::with_capacity(alloc, count)?;

@@ -2,9 +2,12 @@
 ghost use Rattle.std.specs.Prelude.{◌≡◌};
 ghost use Rattle.vb_value.specs.Outcome.{Gives};
 ghost use Rattle.vb_meaning.specs.Errors as spec;
+ghost use Rattle.vb_meaning.specs.Statements as statements;
+ghost use Rattle.vb_meaning.specs.Step.{Gives as GivesIn};
 
 use std::alloc::Global;
-use vb_meaning::{Cause, Raised, World};
+use vb_meaning::{Cause, Exit, Raised, World};
+use vb_syntax::ExitKind;
 use vb_value::{Memory, Text, error_text};
 
 /// The source of the language's own errors, in UTF-8.
@@ -67,4 +70,24 @@ pub fn on_error(alloc: Global, world: &mut World, resumes: bool)
 {
     world.frame.resumes = resumes;
     clear(alloc, world);
+}
+
+/// Whether an Exit clears Err.
+fn clears_err(kind: ExitKind) -> bool
+    ensures { result ≡ statements.clears_err kind }
+{
+    matches!(
+        kind,
+        ExitKind::Sub | ExitKind::Function | ExitKind::Property
+    )
+}
+
+/// Exit, which clears Err where it leaves a procedure.
+pub fn leave(alloc: Global, world: &mut World, kind: ExitKind) -> Exit
+    ensures { statements.leave kind world.old ≡ GivesIn result world.new }
+{
+    if clears_err(kind) {
+        clear(alloc, world);
+    }
+    Exit::Leave(kind)
 }

@@ -20,6 +20,7 @@ pub mod functions;
 pub mod paths;
 pub mod places;
 pub mod playing;
+pub mod resizing;
 pub mod values;
 pub mod world;
 pub mod written;

@@ -1,0 +1,102 @@
+-- Arrays in the place of what a variable held: what is refused because it weighs too much, before it is made whole.
+use Rattle.std.proofs.Common.{◌≡◌, ℕ, zero, suc, ◌+◌, ◌*◌, ◌-◌, ◌^◌, ◌<◌, ◌≤◌, min, max, nat_lt, Bool, true, false, List, [], ◌∷◌}
+use Rattle.std.proofs.Common.{◌++◌, map, fold, take, length, replicate, sum_by, refl, sym, ap, ◌∙◌, arith, ℤ, Option, Some, None}
+use Rattle.std.proofs.Common.{Result, Ok, Err, nat_le, cond}
+use Rattle.std.specs.Map.{values_of}
+use Rattle.std.proofs.lemmas.List.{take_all, map-append, append-nil}
+use Rattle.std.proofs.lemmas.List.Sums.{sum_by-append, fold-append}
+use Rattle.std.proofs.lemmas.List.Folds.{sum_by-replicate}
+use Rattle.std.proofs.lemmas.Bool.Decides.{nat_tests}
+use Rattle.vb_value.specs.declared.fault.VbError.{VbError}
+use Rattle.vb_value.specs.declared.limit.LimitKind.TheVariants.{Data, Nest}
+use Rattle.vb_value.specs.declared.value.Array.{Array}
+use Rattle.vb_value.specs.declared.value.Value.{Value, Empty}
+use Rattle.vb_value.specs.declared.value.Value.TheViews.{Arr}
+use Rattle.vb_value.specs.Errors.{and_then}
+use Rattle.vb_value.specs.Plain.{depth_of, value_depth, array_depth, greatest}
+use Rattle.vb_value.specs.Sound.{item_count}
+use Rattle.vb_value.specs.Weight.{weight_of}
+use Rattle.vb_heap.specs.declared.fault.HeapStop.TheVariants.{Limit}
+use Rattle.vb_heap.specs.declared.place.Place.{Place}
+use Rattle.vb_heap.specs.Cells.{read_of, store_of, with_stored, value_there}
+use Rattle.vb_heap.specs.Limits.{is_too_deep}
+use Rattle.vb_heap.specs.PageWeight.{weight_of_page}
+use Rattle.vb_heap.specs.Places.{value_in}
+use Rattle.vb_heap.specs.Store.{Store, numbered}
+use Rattle.vb_heap.proofs.CellWeights.{weight_put, cell_within}
+use Rattle.vb_heap.proofs.Fitting.{too_heavy, answer_heavy, answer_flat}
+use Rattle.vb_heap.proofs.Values.{fold-Arr}
+use Rattle.vb_heap.proofs.ValueWeights.{weight_arr, empty_weight, part_within}
+use Rattle.vb_meaning.specs.declared.world.World.{World}
+use Rattle.vb_meaning.specs.State.{on_heap, heap_answer, with_heap}
+use Rattle.vb_meaning.specs.Statements.{array_into, items_kept, preserved}
+use Rattle.vb_meaning.specs.Step.{Step, Ends}
+use Rattle.vb_meaning.specs.Values.{empty_array}
+use Rattle.vb_meaning.specs.declared.stop.Stop.TheVariants as stop
+use Rattle.vb_world.proofs.EmptyArrays.{empty_array_weight, none_deep, empty_depth as empty_value_depth}
+
+-- fewer items than there were, and more
+pub kept_fewer : (items : List Value) (count : ℕ) → count ≤ length items → items_kept items count ≡ take count items
+kept_fewer items count fewer = let none : count - length items ≡ 0 = omega arith in rw none (append-nil (take count items))
+
+pub kept_all : (items : List Value) (count : ℕ) → length items < count
+    → items_kept items count ≡ items ++ replicate (count - length items) Empty
+kept_all items count more = let all : take count items ≡ items = take_all count items (omega arith) in rw all refl
+
+-- what is at a place weighs no more than the page
+in_found : (store : Store) (place : Place) (old : Value) (found : Option Value) → found ≡ numbered place.cell.0 store.cells
+    → and_then (value_there found) (value_in place.steps) ≡ Ok old
+    → weight_of old ≤ sum_by weight_of (values_of store.cells)
+in_found store place old (Some value) is there =
+    let part = part_within place.steps value old there in
+    let whole = cell_within store.cells place.cell.0 value is in
+    omega arith
+in_found store place old None is there = absurd (cc)
+
+-- a page weighs at least what was put at a place of it
+put_within : (store : Store) (place : Place) (old new : Value) → read_of place store ≡ Ok old
+    → weight_of new ≤ weight_of_page (with_stored place new store)
+put_within store place old new there =
+    let within = in_found store place old (numbered place.cell.0 store.cells) refl there in
+    let both = weight_put store.cells place.cell.0 place.steps new (weight_of old) (rw there refl) in
+    omega arith
+
+-- what is too heavy is refused
+pub refused_heavy : (store : Store) (place : Place) (old new : Value) → read_of place store ≡ Ok old
+    → 16777216 < weight_of new → is_too_deep (length place.steps) new ≡ false
+    → store_of place new store ≡ Err (Limit Data)
+refused_heavy store place old new there heavy flat =
+    let least = put_within store place old new there in
+    rw there (answer_flat (length place.steps) new (with_stored place new store) tt flat
+    ∙ answer_heavy (with_stored place new store) tt (too_heavy (with_stored place new store) (omega arith)))
+
+-- what would lie too deep is refused first
+pub refused_deep : (store : Store) (place : Place) (old new : Value) → read_of place store ≡ Ok old
+    → is_too_deep (length place.steps) new ≡ true → store_of place new store ≡ Err (Limit Nest)
+refused_deep store place old new there deep = rw there (rw deep refl)
+
+-- ---- an array of Empty items
+
+empty_depth : (bounds : List ℤ) → depth_of (Arr (empty_array false bounds)) ≡ 1
+empty_depth bounds =
+    fold-Arr ℕ ℕ value_depth array_depth (empty_array false bounds) ∙ ap (λ n. 1 + n) (none_deep (item_count bounds))
+
+module _ (place : Place) (bounds : List ℤ) (old : Value) (world : World)
+    (there : read_of place world.heap ≡ Ok old) where
+  -- one that weighs too much
+  pub into_heavy : 524288 ≤ min (item_count bounds) (2 ^ 64 - 1) → length place.steps < 64
+      → array_into place bounds world ≡ Ends (stop.Limit Data None) world
+  into_heavy heavy flat =
+      let array = Arr (empty_array false bounds) in
+      let weight = empty_array_weight false bounds in
+      let deep : is_too_deep (length place.steps) array ≡ false = rw (empty_depth bounds) (grind (arith, nat_tests)) in
+      ap (λ answer. heap_answer answer (with_heap (with_stored place array) world) world)
+      (refused_heavy world.heap place old array there (omega arith) deep)
+
+  -- one that would lie too deep
+  pub into_deep : 64 ≤ length place.steps → array_into place bounds world ≡ Ends (stop.Limit Nest None) world
+  into_deep below =
+      let array = Arr (empty_array false bounds) in
+      let deep : is_too_deep (length place.steps) array ≡ true = rw (empty_depth bounds) (grind (arith, nat_tests)) in
+      ap (λ answer. heap_answer answer (with_heap (with_stored place array) world) world)
+      (refused_deep world.heap place old array there deep)
