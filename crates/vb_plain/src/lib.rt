@@ -4,7 +4,9 @@
 pub mod blocks;
 pub mod conditions;
 pub mod heads;
+pub mod making;
 pub mod names;
+pub mod page_members;
 pub mod reading;
 pub mod releases;
 pub mod rules;

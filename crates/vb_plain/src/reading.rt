@@ -214,7 +214,7 @@ impl<
     }
 
     /// What one access reaches from what is reached.
-    fn access(
+    pub fn access(
         &self,
         p: &Program,
         playing: &mut Playing<'_>,

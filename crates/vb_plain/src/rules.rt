@@ -71,13 +71,28 @@ impl<
         p: &Program,
         playing: &mut Playing<'_>,
         env: &mut I,
+        expressions: &[Expression],
+    ) -> Result<List<Value>, Stop>
+        requires { Evaluates I (host I.asked I.answered) self.now.levels (V.pre self.now.value) (V.post self.now.value) }
+        ensures { Ran (reading.values I (inside I (host I.asked I.answered) p.now self.now.levels) [] expressions.now
+            (seen playing.old env.old)) result (seen playing.new env.new) }
+    {
+        self.values_behind(p, playing, env, List::new(self.alloc), expressions)
+    }
+
+    /// The values of expressions, from left to right, behind those so far.
+    pub fn values_behind(
+        &self,
+        p: &Program,
+        playing: &mut Playing<'_>,
+        env: &mut I,
+        mut values: List<Value>,
         mut expressions: &[Expression],
     ) -> Result<List<Value>, Stop>
         requires { Evaluates I (host I.asked I.answered) self.now.levels (V.pre self.now.value) (V.post self.now.value) }
-        ensures { Ran (reading.values I (inside I (host I.asked I.answered) p.now self.now.levels) [] expressions.entry.now
-            (seen playing.old env.old)) result (seen playing.new env.new) }
+        ensures { Ran (reading.values I (inside I (host I.asked I.answered) p.now self.now.levels) values
+            expressions.entry.now (seen playing.old env.old)) result (seen playing.new env.new) }
     {
-        let mut values = List::new(self.alloc);
         while let [first, others @ ..] = expressions {
             values.push(self.value(p, playing, env, first)?)?;
             expressions = others;
