@@ -1,6 +1,7 @@
 //! The rules of an evaluator of scripts, as far as they stand.
 #![tactic(auto)]
 
+pub mod assigning;
 pub mod blocks;
 pub mod conditions;
 pub mod heads;
