@@ -7,6 +7,7 @@ pub mod conditions;
 pub mod heads;
 pub mod making;
 pub mod names;
+pub mod page_end;
 pub mod page_members;
 pub mod reading;
 pub mod releases;

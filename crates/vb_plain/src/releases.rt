@@ -68,7 +68,7 @@ impl<
     /// Runs the terminator of an ending object, if its class has one, and ends the object. An error ends the terminator
     /// alone.
     #[tactic(auto, unfolding(vb_meaning::specs::Releases::terminate))]
-    fn terminate(
+    pub fn terminate(
         &self,
         p: &Program,
         playing: &mut Playing<'_>,
