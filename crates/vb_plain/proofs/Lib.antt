@@ -1,3 +1,4 @@
 pub mod Unknown
 pub mod Endings
 pub mod Groups
+pub mod TargetSteps

@@ -12,3 +12,4 @@ pub mod page_members;
 pub mod reading;
 pub mod releases;
 pub mod rules;
+pub mod targets;
