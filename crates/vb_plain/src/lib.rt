@@ -9,6 +9,7 @@ pub mod making;
 pub mod names;
 pub mod page_end;
 pub mod page_members;
+pub mod path_values;
 pub mod reading;
 pub mod releases;
 pub mod rules;
