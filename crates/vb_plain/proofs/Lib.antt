@@ -2,3 +2,4 @@ pub mod Unknown
 pub mod Endings
 pub mod Groups
 pub mod TargetSteps
+pub mod Turns

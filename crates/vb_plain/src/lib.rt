@@ -3,7 +3,9 @@
 
 pub mod assigning;
 pub mod blocks;
+pub mod calling;
 pub mod conditions;
+pub mod counted;
 pub mod heads;
 pub mod making;
 pub mod names;
@@ -12,5 +14,6 @@ pub mod page_members;
 pub mod path_values;
 pub mod reading;
 pub mod releases;
+pub mod repeating;
 pub mod rules;
 pub mod targets;

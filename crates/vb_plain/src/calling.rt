@@ -1,0 +1,209 @@
+//! Procedures: how they are entered with their arguments, and how they are left.
+ghost use Rattle.std.specs.Prelude.{◌≡◌, ◌<◌};
+ghost use Rattle.vb_meaning.specs.Calling as spec;
+ghost use Rattle.vb_meaning.specs.Meaning.{inside};
+ghost use Rattle.vb_meaning.specs.Releases as releases;
+ghost use Rattle.vb_meaning.specs.Releases.{in_world};
+ghost use Rattle.vb_meaning.specs.State.{State};
+ghost use Rattle.vb_meaning.specs.Step.{Step, Ran};
+ghost use Rattle.vb_meaning.specs.declared.world.Exit.{Exit as Left};
+ghost use Rattle.vb_plain.specs.Nests.{Executes, Enters};
+ghost use Rattle.vb_world.specs.Seen.{seen, host};
+
+use crate::rules::Rules;
+use std::alloc::Global;
+use std::mem;
+use vb_meaning::{Argument, Exit, Frame, Stop};
+use vb_syntax::Intrinsics;
+use vb_syntax::program::{Procedure, Program, Statement};
+use vb_value::{List, ObjNo, Value, VbError};
+use vb_world::entering::{begins, fresh_frame, leave, result_value};
+use vb_world::places::hold;
+use vb_world::playing::Playing;
+use vb_world::world::{depth_stop, tick};
+
+/// How many procedures may be open.
+const MOST_CALLS: u32 = 200;
+
+impl<
+    I: Intrinsics,
+    V,
+    A,
+    S,
+    C,
+    T: Fn(Global, u32, &Program, &mut Playing<'_>, &mut I, &Statement) -> Result<Exit, Stop>,
+    N: Fn(
+        Global,
+        u32,
+        &Program,
+        &mut Playing<'_>,
+        &mut I,
+        Option<(ObjNo, u32)>,
+        &Procedure,
+        List<Argument>,
+    ) -> Result<Value, Stop>,
+> Rules<I, V, A, S, C, T, N> {
+    /// A procedure that came to its end, or was left by an Exit: its value is held, its names go, and objects end.
+    fn returned(
+        &self,
+        p: &Program,
+        playing: &mut Playing<'_>,
+        env: &mut I,
+        caller: Frame,
+        calls: u32,
+    ) -> Result<Value, Stop>
+        requires enters { Enters I (host I.asked I.answered) self.now.levels (N.pre self.now.enter)
+            (N.post self.now.enter) }
+        ensures { Ran (spec.returned I (inside I (host I.asked I.answered) p.now self.now.levels)
+            (record playing.old.world { frame = caller; calls = calls }) (seen playing.old env.old)) result (seen playing.new env.new) }
+    {
+        let value = result_value(self.alloc, &playing.world)?;
+        hold(&mut playing.world, &value)?;
+        leave(&mut playing.world, caller, calls);
+        self.settle(p, playing, env)?;
+        Ok(value)
+    }
+
+    /// A procedure with an error in it: its names go, and objects end.
+    fn failed(
+        &self,
+        p: &Program,
+        playing: &mut Playing<'_>,
+        env: &mut I,
+        caller: Frame,
+        calls: u32,
+    ) -> Result<(), Stop>
+        requires enters { Enters I (host I.asked I.answered) self.now.levels (N.pre self.now.enter)
+            (N.post self.now.enter) }
+        ensures { Ran (releases.settle I (inside I (host I.asked I.answered) p.now self.now.levels)
+            (in_world I (spec.left (record playing.old.world { frame = caller; calls = calls }) playing.old.world) (seen playing.old env.old)))
+            result (seen playing.new env.new) }
+    {
+        leave(&mut playing.world, caller, calls);
+        self.settle(p, playing, env)
+    }
+
+    /// How a procedure is left, by how its own part ended. An error goes on as one of the caller's statement.
+    fn abandoned(
+        &self,
+        p: &Program,
+        playing: &mut Playing<'_>,
+        env: &mut I,
+        caller: Frame,
+        calls: u32,
+        gave: Result<Exit, Stop>,
+    ) -> Result<Value, Stop>
+        requires enters { Enters I (host I.asked I.answered) self.now.levels (N.pre self.now.enter)
+            (N.post self.now.enter) }
+        ensures { (step : Step (State I) Left) → Ran step gave (seen playing.old env.old)
+            → Ran (spec.abandoned I (inside I (host I.asked I.answered) p.now self.now.levels)
+            (record playing.old.world { frame = caller; calls = calls }) step) result (seen playing.new env.new) }
+    {
+        match gave {
+            Ok(_) => self.returned(p, playing, env, caller, calls),
+            Err(Stop::Error(cause, line)) => {
+                self.failed(p, playing, env, caller, calls)?;
+                Err(Stop::Error(cause, line))
+            }
+            Err(Stop::Page) => {
+                leave(&mut playing.world, caller, calls);
+                Err(Stop::Page)
+            }
+            Err(why) => Err(why),
+        }
+    }
+
+    /// The procedure's own part.
+    fn runs(
+        &self,
+        p: &Program,
+        playing: &mut Playing<'_>,
+        env: &mut I,
+        procedure: &Procedure,
+        arguments: List<Argument>,
+    ) -> Result<Exit, Stop>
+        requires executes { Executes I (host I.asked I.answered) self.now.levels (T.pre self.now.statement)
+            (T.post self.now.statement) }
+        ensures { Ran (spec.runs I (inside I (host I.asked I.answered) p.now self.now.levels) procedure.now arguments (seen playing.old env.old))
+            result (seen playing.new env.new) }
+    {
+        begins(self.alloc, &mut playing.world, procedure, arguments)?;
+        self.block(p, playing, env, procedure.body.as_slice())
+    }
+
+    /// A procedure from its first name to its last.
+    fn entered(
+        &self,
+        p: &Program,
+        playing: &mut Playing<'_>,
+        env: &mut I,
+        owner: Option<(ObjNo, u32)>,
+        procedure: &Procedure,
+        arguments: List<Argument>,
+    ) -> Result<Value, Stop>
+        requires few { playing.old.world.calls < 200 }
+        requires executes { Executes I (host I.asked I.answered) self.now.levels (T.pre self.now.statement)
+            (T.post self.now.statement) }
+        requires enters { Enters I (host I.asked I.answered) self.now.levels (N.pre self.now.enter)
+            (N.post self.now.enter) }
+        ensures { Ran (spec.abandoned I (inside I (host I.asked I.answered) p.now self.now.levels) playing.old.world
+            (spec.runs I (inside I (host I.asked I.answered) p.now self.now.levels) procedure.now arguments
+            (in_world I (spec.entered owner playing.old.world) (seen playing.old env.old))))
+            result (seen playing.new env.new) }
+    {
+        let calls = playing.world.calls;
+        let caller = mem::replace(&mut playing.world.frame, fresh_frame(self.alloc, owner));
+        playing.world.calls = calls + 1;
+        let gave = self.runs(p, playing, env, procedure, arguments);
+        self.abandoned(p, playing, env, caller, calls, gave)
+    }
+
+    /// One more call, while not too many are open.
+    #[tactic(auto, unfolding(vb_meaning::specs::Errors::tick))]
+    fn opened(
+        &self,
+        p: &Program,
+        playing: &mut Playing<'_>,
+        env: &mut I,
+        owner: Option<(ObjNo, u32)>,
+        procedure: &Procedure,
+        arguments: List<Argument>,
+    ) -> Result<Value, Stop>
+        requires executes { Executes I (host I.asked I.answered) self.now.levels (T.pre self.now.statement)
+            (T.post self.now.statement) }
+        requires enters { Enters I (host I.asked I.answered) self.now.levels (N.pre self.now.enter)
+            (N.post self.now.enter) }
+        ensures { Ran (spec.opened I (inside I (host I.asked I.answered) p.now self.now.levels) owner procedure.now arguments (seen playing.old env.old))
+            result (seen playing.new env.new) }
+    {
+        if playing.world.calls >= MOST_CALLS {
+            return Err(depth_stop(&playing.world));
+        }
+        tick(&mut playing.world)?;
+        self.entered(p, playing, env, owner, procedure, arguments)
+    }
+
+    /// A procedure with its arguments: what it gives. Error 450 for another number of arguments comes first.
+    #[tactic(auto, unfolding(vb_meaning::specs::Calling::enter_of))]
+    pub fn enter_of(
+        &self,
+        p: &Program,
+        playing: &mut Playing<'_>,
+        env: &mut I,
+        owner: Option<(ObjNo, u32)>,
+        procedure: &Procedure,
+        arguments: List<Argument>,
+    ) -> Result<Value, Stop>
+        requires executes { Executes I (host I.asked I.answered) self.now.levels (T.pre self.now.statement)
+            (T.post self.now.statement) }
+        requires enters { Enters I (host I.asked I.answered) self.now.levels (N.pre self.now.enter)
+            (N.post self.now.enter) }
+        ensures { Ran (spec.enter_of I (inside I (host I.asked I.answered) p.now self.now.levels) owner procedure.now arguments (seen playing.old env.old))
+            result (seen playing.new env.new) }
+    {
+        if arguments.len() != procedure.by_value.len() {
+            return Err(Stop::from(VbError::WRONG_NUMBER));
+        }
+        self.opened(p, playing, env, owner, procedure, arguments)
+    }
+}
