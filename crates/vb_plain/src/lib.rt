@@ -4,8 +4,10 @@
 pub mod assigning;
 pub mod blocks;
 pub mod calling;
+pub mod calls;
 pub mod conditions;
 pub mod counted;
+pub mod expressions;
 pub mod heads;
 pub mod making;
 pub mod names;
@@ -16,4 +18,5 @@ pub mod reading;
 pub mod releases;
 pub mod repeating;
 pub mod rules;
+pub mod target_paths;
 pub mod targets;
