@@ -6,7 +6,6 @@ use Rattle.vb_heap.specs.declared.object.Object.{Object}
 use Rattle.vb_heap.specs.Releases.{oldest_loose, oldest_live, ending, objects_ending, with_ending}
 use Rattle.vb_heap.specs.Store.{numbered, replaced}
 use Rattle.vb_meaning.specs.declared.world.World.{World}
-use Rattle.vb_meaning.specs.Errors.{in_line}
 use Rattle.vb_meaning.specs.Inner.{Inner}
 use Rattle.vb_meaning.specs.Releases.{settle_times, released_one, settle_last, settle_last_times, end_times, end_one}
 use Rattle.vb_meaning.specs.Releases.{class_number, line_of, terminate, without_page_stop, in_world, terminator_line}
@@ -14,8 +13,9 @@ use Rattle.vb_meaning.specs.Releases.{terminator_in}
 use Rattle.vb_meaning.specs.Objects.{class_at}
 use Rattle.vb_meaning.specs.State.{State, Does, with_heap}
 use Rattle.vb_meaning.specs.Step.{Gives, and_then, ◌>>◌}
+use Rattle.vb_plain.specs.Ends.{ends_last}
 
-pub deeper : {X : Type 0} (f : ℕ → X) (n : ℕ) → 0 < n → f n ≡ f (suc (n - 1))
+deeper : {X : Type 0} (f : ℕ → X) (n : ℕ) → 0 < n → f n ≡ f (suc (n - 1))
 deeper f n some = let e : n ≡ suc (n - 1) = omega arith in ap f e
 
 found_again : (number : ℕ) (thing old : Object) (things : List (ℕ × Object)) → numbered number things ≡ Some old
@@ -35,7 +35,7 @@ module _ (E : Type 0) (m : Inner E) where
   line_kept : (object : ℕ) (s : State E)
       → line_of E m object (with_heap (with_ending (Some object)) s.world) ≡ line_of E m object s.world
   line_kept object s =
-      ap (λ class. terminator_line (terminator_in (class_at m.program class)))
+      ap (λ class. terminator_line E m (terminator_in (class_at m.program class)))
       (class_kept object s.world.heap.objects (numbered object s.world.heap.objects) refl)
 
   pub settle_none : (n : ℕ) (s : State E) → n ≡ 0 → settle_times E m n s ≡ Gives tt s
@@ -47,8 +47,7 @@ module _ (E : Type 0) (m : Inner E) where
 
   -- an ending object ends, and more do
   abbrev pub goes : Does E (Unit {0}) → ℕ → Does E (Unit {0})
-  goes more object s = and_then (in_line (line_of E m object s.world)
-      (without_page_stop E (terminate E m object s))) (λ _. more)
+  goes more object s = and_then (ends_last E m object s) (λ _. more)
 
   abbrev pub goes_if : Does E (Unit {0}) → Option ℕ → Does E (Unit {0})
   goes_if more (Some object) s = goes more object (in_world E (with_heap (with_ending (Some object)) s.world) s)
@@ -56,6 +55,7 @@ module _ (E : Type 0) (m : Inner E) where
 
   end_found : (more : Does E (Unit {0})) (found : Option ℕ) (s : State E)
       → end_one E m more found s ≡ goes_if more found s
+  unfolding ends_last
   end_found more (Some object) s = rw (line_kept object s) refl
   end_found more None s = refl
 

@@ -1,9 +1,9 @@
 //! The end of the page: each object that is left ends.
 ghost use Rattle.std.specs.Prelude.{◌≡◌};
-ghost use Rattle.vb_meaning.specs.Errors as errors;
 ghost use Rattle.vb_meaning.specs.Meaning.{inside};
 ghost use Rattle.vb_meaning.specs.Releases as spec;
 ghost use Rattle.vb_meaning.specs.Step.{Ran};
+ghost use Rattle.vb_plain.specs.Ends.{ends_last};
 ghost use Rattle.vb_plain.specs.Nests.{Enters};
 ghost use Rattle.vb_world.specs.Seen.{seen, host};
 
@@ -48,6 +48,7 @@ impl<
 
     /// Ends an object where no statement does, so that its terminator is entered in its own line. A page stop in a
     /// terminator ends that terminator alone.
+    #[tactic(auto, unfolding(crate::specs::Ends::ends_last))]
     fn end_one(
         &self,
         p: &Program,
@@ -56,10 +57,8 @@ impl<
         object: ObjNo,
     ) -> Result<(), Stop>
         requires { Enters I (host I.asked I.answered) self.now.levels (N.pre self.now.enter) (N.post self.now.enter) }
-        ensures { Ran (errors.in_line (spec.line_of I (inside I (host I.asked I.answered) p.now self.now.levels) object.0
-            playing.old.world) (spec.without_page_stop I (spec.terminate I
-            (inside I (host I.asked I.answered) p.now self.now.levels) object.0 (seen playing.old env.old)))) result
-            (seen playing.new env.new) }
+        ensures { Ran (ends_last I (inside I (host I.asked I.answered) p.now self.now.levels) object.0
+            (seen playing.old env.old)) result (seen playing.new env.new) }
     {
         let line = self.line_of(p, playing, object);
         match self.terminate(p, playing, env, object) {
