@@ -8,7 +8,7 @@ use Rattle.vb_heap.specs.Store.{numbered, replaced}
 use Rattle.vb_meaning.specs.declared.world.World.{World}
 use Rattle.vb_meaning.specs.Inner.{Inner}
 use Rattle.vb_meaning.specs.Releases.{settle_times, released_one, settle_last, settle_last_times, end_times, end_one}
-use Rattle.vb_meaning.specs.Releases.{class_number, line_of, terminate, without_page_stop, in_world, terminator_line}
+use Rattle.vb_meaning.specs.Releases.{class_number, line_of, in_world, terminator_line}
 use Rattle.vb_meaning.specs.Releases.{terminator_in}
 use Rattle.vb_meaning.specs.Objects.{class_at}
 use Rattle.vb_meaning.specs.State.{State, Does, with_heap}

@@ -18,5 +18,6 @@ pub mod reading;
 pub mod releases;
 pub mod repeating;
 pub mod rules;
+pub mod selecting;
 pub mod target_paths;
 pub mod targets;
