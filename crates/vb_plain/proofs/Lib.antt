@@ -1,6 +1,5 @@
 pub mod Unknown
 pub mod Endings
 pub mod Groups
-pub mod TargetSteps
 pub mod Turns
 pub mod CallSteps

@@ -1,7 +1,6 @@
 //! The rules of an evaluator of scripts, as far as they stand.
 #![tactic(auto)]
 
-pub mod assigning;
 pub mod blocks;
 pub mod calling;
 pub mod calls;
@@ -19,5 +18,3 @@ pub mod releases;
 pub mod repeating;
 pub mod rules;
 pub mod selecting;
-pub mod target_paths;
-pub mod targets;
