@@ -3,3 +3,4 @@ pub mod Endings
 pub mod Groups
 pub mod Turns
 pub mod CallSteps
+pub mod AfterTurns

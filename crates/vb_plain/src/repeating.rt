@@ -14,10 +14,10 @@ ghost use Rattle.vb_world.specs.Seen.{seen, host};
 use crate::rules::Rules;
 use std::alloc::Global;
 use vb_meaning::{Argument, Exit, Stop};
-use vb_syntax::program::{Condition, Expression, Procedure, Program, Statement};
+use vb_syntax::program::{Condition, Expression, Procedure, Program, Repetition, Statement};
 use vb_syntax::{ExitKind, Intrinsics};
 use vb_value::{LimitKind, List, ObjNo, Value};
-use vb_world::playing::Playing;
+use vb_world::playing::{Playing, in_line};
 use vb_world::world::tick;
 
 /// How a Do ends that an Exit in it leaves: an Exit Do goes on behind it.
@@ -87,7 +87,7 @@ impl<
 
     /// A Do without a condition.
     #[tactic(auto, using(crate::proofs::Turns::before_more, crate::proofs::Turns::before_none))]
-    pub fn do_endless(
+    fn do_endless(
         &self,
         p: &Program,
         playing: &mut Playing<'_>,
@@ -112,7 +112,7 @@ impl<
 
     /// A Do whose condition stands before each turn.
     #[tactic(auto, using(crate::proofs::Turns::before_more, crate::proofs::Turns::before_none))]
-    pub fn do_before(
+    fn do_before(
         &self,
         p: &Program,
         playing: &mut Playing<'_>,
@@ -141,6 +141,90 @@ impl<
             }
         }
         Err(Stop::Limit(LimitKind::Ticks, None))
+    }
+
+    /// Whether a Do goes on whose condition has a line of its own.
+    fn goes_on_in(
+        &self,
+        p: &Program,
+        playing: &mut Playing<'_>,
+        env: &mut I,
+        line: u32,
+        asked: &Condition,
+    ) -> Result<bool, Stop>
+        requires evaluates { Evaluates I (host I.asked I.answered) self.now.levels (V.pre self.now.value)
+            (V.post self.now.value) }
+        requires enters { Enters I (host I.asked I.answered) self.now.levels (N.pre self.now.enter)
+            (N.post self.now.enter) }
+        ensures { Ran (errors.in_line line (spec.goes_on I (inside I (host I.asked I.answered) p.now self.now.levels) asked.now
+            (seen playing.old env.old))) result (seen playing.new env.new) }
+    {
+        let gave = self.goes_on(p, playing, env, asked);
+        in_line(line, playing, env, gave)
+    }
+
+    /// A Do whose condition stands after each turn.
+    #[tactic(auto, using(crate::proofs::AfterTurns::after_more, crate::proofs::AfterTurns::after_none))]
+    fn do_after(
+        &self,
+        p: &Program,
+        playing: &mut Playing<'_>,
+        env: &mut I,
+        line: u32,
+        asked: &Condition,
+        body: &[Statement],
+    ) -> Result<Exit, Stop>
+        requires evaluates { Evaluates I (host I.asked I.answered) self.now.levels (V.pre self.now.value)
+            (V.post self.now.value) }
+        requires executes { Executes I (host I.asked I.answered) self.now.levels (T.pre self.now.statement)
+            (T.post self.now.statement) }
+        requires enters { Enters I (host I.asked I.answered) self.now.levels (N.pre self.now.enter)
+            (N.post self.now.enter) }
+        ensures { Ran (spec.do_turns I (inside I (host I.asked I.answered) p.now self.now.levels)
+            (playing.old.world.ticks + 1) (repetition.After line asked.now) body.now (seen playing.old env.old))
+            result (seen playing.new env.new) }
+    {
+        let mut most = u64::from(playing.world.ticks) + 1;
+        while most > 0 {
+            most -= 1;
+            match self.turn(p, playing, env, body)? {
+                Exit::Next => {
+                    if !self.goes_on_in(p, playing, env, line, asked)? {
+                        return Ok(Exit::Next);
+                    }
+                }
+                Exit::Leave(kind) => return Ok(behind_do(kind)),
+            }
+        }
+        Err(Stop::Limit(LimitKind::Ticks, None))
+    }
+
+    /// `Do` .. `Loop`
+    #[tactic(auto, unfolding(vb_meaning::specs::Loops::do_statement))]
+    pub fn do_statement(
+        &self,
+        p: &Program,
+        playing: &mut Playing<'_>,
+        env: &mut I,
+        repeated: &Repetition,
+        body: &[Statement],
+    ) -> Result<Exit, Stop>
+        requires evaluates { Evaluates I (host I.asked I.answered) self.now.levels (V.pre self.now.value)
+            (V.post self.now.value) }
+        requires executes { Executes I (host I.asked I.answered) self.now.levels (T.pre self.now.statement)
+            (T.post self.now.statement) }
+        requires enters { Enters I (host I.asked I.answered) self.now.levels (N.pre self.now.enter)
+            (N.post self.now.enter) }
+        ensures { Ran (spec.do_statement I (inside I (host I.asked I.answered) p.now self.now.levels) repeated.now body.now (seen playing.old env.old))
+            result (seen playing.new env.new) }
+    {
+        match repeated {
+            Repetition::Endless => self.do_endless(p, playing, env, body),
+            Repetition::Before(asked) => self.do_before(p, playing, env, asked, body),
+            Repetition::After { line, condition } => {
+                self.do_after(p, playing, env, *line, condition, body)
+            }
+        }
     }
 
     /// `While` .. `Wend`. No Exit ends it alone.

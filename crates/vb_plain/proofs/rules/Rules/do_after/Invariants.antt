@@ -1,0 +1,18 @@
+use Rattle.std.proofs.Common.{◌≡◌, ◌+◌}
+use Rattle.vb_syntax.specs.declared.program.statement.Repetition.TheVariants as repetition
+use Rattle.vb_meaning.specs.Errors.{in_line}
+use Rattle.vb_meaning.specs.Loops.{do_turns, after_turns, goes_on}
+use Rattle.vb_meaning.specs.Meaning.{inside}
+use Rattle.vb_world.specs.Seen.{seen, host}
+use Rattle.vb_plain.proofs.rules.Rules.do_after.Given as goal
+
+abbrev pub invariant-loop-most : goal.invariant-loop-most
+invariant-loop-most g l =
+    do_turns (g.row.I.Denot) (inside (g.row.I.Denot) (host g.I.Intrinsics.asked g.I.Intrinsics.answered) l.p l.self.levels)
+    (l.fn.playing.world.ticks + 1) (repetition.After l.line l.asked) l.body (seen l.fn.playing l.fn.env)
+    ≡ after_turns (g.row.I.Denot) (inside (g.row.I.Denot) (host g.I.Intrinsics.asked g.I.Intrinsics.answered) l.p l.self.levels)
+    l.most (λ s. in_line l.line (goes_on (g.row.I.Denot) (inside (g.row.I.Denot) (host g.I.Intrinsics.asked g.I.Intrinsics.answered) l.p l.self.levels) l.asked s))
+    l.body (seen l.playing l.env)
+
+abbrev pub decreases-loop-most : goal.decreases-loop-most
+decreases-loop-most g l = l.most
