@@ -15,7 +15,7 @@ use Rattle.vb_meaning.specs.State.{State, Does, with_heap}
 use Rattle.vb_meaning.specs.Step.{Gives, and_then, ◌>>◌}
 use Rattle.vb_plain.specs.Ends.{ends_last}
 
-deeper : {X : Type 0} (f : ℕ → X) (n : ℕ) → 0 < n → f n ≡ f (suc (n - 1))
+pub deeper : {X : Type 0} (f : ℕ → X) (n : ℕ) → 0 < n → f n ≡ f (suc (n - 1))
 deeper f n some = let e : n ≡ suc (n - 1) = omega arith in ap f e
 
 found_again : (number : ℕ) (thing old : Object) (things : List (ℕ × Object)) → numbered number things ≡ Some old
