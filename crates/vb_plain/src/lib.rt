@@ -18,3 +18,4 @@ pub mod releases;
 pub mod repeating;
 pub mod rules;
 pub mod selecting;
+pub mod statements;
