@@ -28,5 +28,5 @@ call_more E m (head.Named named.Err) first more s = refl
 call_more E m (head.Named named.Unknown) first more s = refl
 call_more E m head.Me first more s = refl
 call_more E m (head.With name) first more s = refl
-call_more E m (head.Err member) first more s = refl
-call_more E m (head.Member member groups takes) first more s = refl
+call_more E m (head.Err asked) first more s = refl
+call_more E m (head.Member asked groups takes) first more s = refl

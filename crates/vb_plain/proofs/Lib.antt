@@ -4,3 +4,5 @@ pub mod Groups
 pub mod Turns
 pub mod CallSteps
 pub mod AfterTurns
+pub mod TargetSteps
+pub mod AssignSteps

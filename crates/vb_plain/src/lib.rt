@@ -1,6 +1,7 @@
 //! The rules of an evaluator of scripts, as far as they stand.
 #![tactic(auto)]
 
+pub mod assigning;
 pub mod blocks;
 pub mod calling;
 pub mod calls;
@@ -19,3 +20,5 @@ pub mod repeating;
 pub mod rules;
 pub mod selecting;
 pub mod statements;
+pub mod target_paths;
+pub mod targets;
