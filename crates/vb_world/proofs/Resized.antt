@@ -1,6 +1,6 @@
 -- Arrays in the place of what a variable held: what is refused because it weighs too much, before it is made whole.
 use Rattle.std.proofs.Common.{◌≡◌, ℕ, zero, suc, ◌+◌, ◌*◌, ◌-◌, ◌^◌, ◌<◌, ◌≤◌, min, max, nat_lt, Bool, true, false, List, [], ◌∷◌}
-use Rattle.std.proofs.Common.{◌++◌, map, fold, take, length, replicate, sum_by, refl, sym, ap, ◌∙◌, arith, ℤ, Option, Some, None}
+use Rattle.std.proofs.Common.{◌++◌, map, fold, take, length, replicate, sum_by, refl, sym, subst, ap, ◌∙◌, arith, ℤ, Option, Some, None}
 use Rattle.std.proofs.Common.{Result, Ok, Err, nat_le, cond}
 use Rattle.std.specs.Map.{values_of}
 use Rattle.std.proofs.lemmas.List.{take_all, map-append, append-nil}
@@ -30,9 +30,11 @@ use Rattle.vb_heap.proofs.ValueWeights.{weight_arr, empty_weight, part_within}
 use Rattle.vb_meaning.specs.declared.world.World.{World}
 use Rattle.vb_meaning.specs.State.{on_heap, heap_answer, with_heap}
 use Rattle.vb_meaning.specs.Statements.{array_into, items_kept, preserved}
-use Rattle.vb_meaning.specs.Step.{Step, Ends}
+use Rattle.vb_meaning.specs.Step.{Step, Ends, Ran}
+use Rattle.vb_meaning.specs.declared.stop.Stop.{Stop}
 use Rattle.vb_meaning.specs.Values.{empty_array}
 use Rattle.vb_meaning.specs.declared.stop.Stop.TheVariants as stop
+use Rattle.vb_world.specs.Kept.{kept, most_kept}
 use Rattle.vb_world.proofs.EmptyArrays.{empty_array_weight, none_deep, empty_depth as empty_value_depth}
 
 -- fewer items than there were, and more
@@ -100,3 +102,81 @@ module _ (place : Place) (bounds : List ℤ) (old : Value) (world : World)
       let deep : is_too_deep (length place.steps) array ≡ true = rw (empty_depth bounds) (grind (arith, nat_tests)) in
       ap (λ answer. heap_answer answer (with_heap (with_stored place array) world) world)
       (refused_deep world.heap place old array there deep)
+
+-- ---- an array with the items that were there
+
+heavy_kept : (array : Array) (bounds : List ℤ) (count : ℕ) → length array.items + 524288 ≤ count
+    → 16777216 < weight_of (Arr (kept array bounds count))
+heavy_kept array bounds count many =
+    let more = count - length array.items in
+    let whole = weight_arr (kept array bounds count) in
+    let parts = ap (sum_by weight_of) (kept_all array.items count (omega arith))
+    ∙ sum_by-append weight_of array.items (replicate more Empty) in
+    let added = sum_by-replicate weight_of more Empty ∙ ap (λ n. more * n) empty_weight in
+    omega arith
+
+no_deeper : (depth count : ℕ) → fold max depth (map depth_of (replicate count Empty)) ≡ depth
+no_deeper depth zero = refl
+no_deeper depth (suc count) =
+    let same : max depth (depth_of Empty) ≡ depth = rw empty_value_depth (omega arith) in
+    ap (λ d. fold max d (map depth_of (replicate count Empty))) same ∙ no_deeper depth count
+
+deepest_kept : (items : List Value) (count : ℕ) → length items < count
+    → greatest (map depth_of (items_kept items count)) ≡ greatest (map depth_of items)
+deepest_kept items count more =
+    let added = replicate (count - length items) Empty in
+    ap (λ all. greatest (map depth_of all)) (kept_all items count more)
+    ∙ (ap greatest (map-append depth_of items added)
+    ∙ (fold-append max 0 (map depth_of items) (map depth_of added)
+    ∙ no_deeper (greatest (map depth_of items)) (count - length items)))
+
+depth_kept : (array : Array) (bounds : List ℤ) (count : ℕ) → length array.items < count
+    → depth_of (Arr (kept array bounds count)) ≡ 1 + greatest (map depth_of array.items)
+depth_kept array bounds count more =
+    fold-Arr ℕ ℕ value_depth array_depth (kept array bounds count)
+    ∙ ap (λ n. 1 + n) (deepest_kept array.items count more)
+
+module _ (place : Place) (array : Array) (bounds : List ℤ) (old : Value) (world : World)
+    (there : read_of place world.heap ≡ Ok old) where
+  -- the array of so many items in its place
+  abbrev pub into_kept : ℕ → Step World (Unit {0})
+  into_kept count = on_heap (store_of place (Arr (kept array bounds count)))
+      (with_stored place (Arr (kept array bounds count))) world
+
+  refused_kept : (count : ℕ) → length array.items + 524288 ≤ count → (deep : Bool)
+      → nat_lt 64 (length place.steps + (1 + greatest (map depth_of array.items))) ≡ deep
+      → into_kept count ≡ cond deep (Ends (stop.Limit Nest None) world) (Ends (stop.Limit Data None) world)
+  refused_kept count many true is =
+      let depth = depth_kept array bounds count (omega arith) in
+      ap (λ answer. heap_answer answer (with_heap (with_stored place (Arr (kept array bounds count))) world) world)
+      (refused_deep world.heap place old (Arr (kept array bounds count)) there (rw depth is))
+  refused_kept count many false is =
+      let depth = depth_kept array bounds count (omega arith) in
+      ap (λ answer. heap_answer answer (with_heap (with_stored place (Arr (kept array bounds count))) world) world)
+      (refused_heavy world.heap place old (Arr (kept array bounds count)) there (heavy_kept array bounds count many)
+      (rw depth is))
+
+  kept_alike : (few : Bool) → nat_le (item_count bounds) (length array.items + 524288) ≡ few
+      → into_kept (most_kept array bounds) ≡ into_kept (item_count bounds)
+  kept_alike true is =
+      let same : most_kept array bounds ≡ item_count bounds = grind (arith, nat_tests) in ap into_kept same
+  kept_alike false is =
+      let deep = nat_lt 64 (length place.steps + (1 + greatest (map depth_of array.items))) in
+      let many : length array.items + 524288 ≤ item_count bounds = grind (arith, nat_tests) in
+      refused_kept (most_kept array bounds) (omega arith) deep refl
+      ∙ sym (refused_kept (item_count bounds) many deep refl)
+
+  -- no more items need be made than make it too heavy
+  into_preserved : into_kept (most_kept array bounds) ≡ on_heap (store_of place (Arr (preserved array bounds)))
+      (with_stored place (Arr (preserved array bounds))) world
+  into_preserved = kept_alike (nat_le (item_count bounds) (length array.items + 524288)) refl
+
+-- what the array that is made shows, the whole array shows
+pub kept_shown : (place : Place) (array : Array) (bounds : List ℤ) (old : Value) (world : World)
+    → read_of place world.heap ≡ Ok old → (result : Result (Unit {0}) Stop) (new : World)
+    → Ran (on_heap (store_of place (Arr (kept array bounds (most_kept array bounds))))
+    (with_stored place (Arr (kept array bounds (most_kept array bounds)))) world) result new
+    → Ran (on_heap (store_of place (Arr (preserved array bounds))) (with_stored place (Arr (preserved array bounds)))
+    world) result new
+kept_shown place array bounds old world there result new ran =
+    subst (λ step. Ran step result new) (into_preserved place array bounds old world there) ran

@@ -1,5 +1,5 @@
 //! ReDim and Erase: arrays in the place of what a variable held.
-ghost use Rattle.std.specs.Prelude.{◌≡◌, true};
+ghost use Rattle.std.specs.Prelude.{◌==◌, length, ◌≡◌, true};
 ghost use Rattle.vb_value.specs.Outcome.{Answers, Gives};
 ghost use Rattle.vb_heap.specs.Cells.{store_of, with_stored};
 ghost use Rattle.vb_value.specs.declared.value.Value.{out-Value};
@@ -9,6 +9,7 @@ ghost use Rattle.vb_meaning.specs.Places.{held_at};
 ghost use Rattle.vb_meaning.specs.State.{on_heap};
 ghost use Rattle.vb_meaning.specs.Statements as spec;
 ghost use Rattle.vb_meaning.specs.Step.{Ran, and_then, given, raising};
+ghost use Rattle.vb_world.specs.Kept.{kept, most_kept};
 
 use crate::arrays::{empty_array, empty_items, has_bad_bound, item_count};
 use crate::places::{indices_of, variable};
@@ -79,15 +80,13 @@ fn items_kept(alloc: Global, items: &[Value], count: usize) -> Result<List<Value
 /// So many items weigh too much for any page.
 const TOO_MANY: u64 = 524_288;
 
-/// An array with other bounds, and the items that it still has a place for. One that grows past any page is refused as
-/// out of memory.
+/// An array of these bounds, with the items that it still has a place for. Of more items than any page has room for only
+/// so many are made.
 fn preserved(alloc: Global, array: &Array, bounds: List<i32>) -> Result<Array, Memory>
-    ensures { Gives result (spec.preserved array.now bounds) }
+    ensures { Gives result (kept array.now bounds (most_kept array.now bounds)) }
 {
-    let count = item_count(bounds.as_slice());
-    if TOO_MANY <= count {
-        return Err(Memory);
-    }
+    let most = (array.items.len() as u64).saturating_add(TOO_MANY);
+    let count = item_count(bounds.as_slice()).min(most);
     Ok(Array {
         bounds,
         fixed: false,
@@ -116,8 +115,24 @@ fn array_into(
     Ok(world.heap.store(place, Value::Arr(array))?)
 }
 
+/// Whether an array is one to be sized later.
+fn has_no_dimension(array: &Array) -> bool
+    ensures { result ≡ (length array.now.bounds == 0) }
+{
+    array.bounds.len() == 0
+}
+
+/// Puts an array into a place.
+fn put_array(world: &mut World, place: &Place, array: Array) -> Result<(), Stop>
+    ensures { Ran (on_heap (store_of place.now (Arr array)) (with_stored place.now (Arr array)) world.old) result
+        world.new }
+{
+    Ok(world.heap.store(place, Value::Arr(array))?)
+}
+
 /// Puts an array with other bounds into a place, with the items that it still has a place for. Error 13 where there is
 /// no array, and 9 where more than the last bound is another.
+#[tactic(auto, using(crate::proofs::Resized::kept_shown))]
 fn preserve_into(
     alloc: Global,
     world: &mut World,
@@ -130,14 +145,14 @@ fn preserve_into(
 {
     match world.heap.look(place)? {
         Value::Arr(array) => {
-            if array.bounds.is_empty() {
+            if has_no_dimension(array) {
                 return array_into(alloc, world, place, bounds);
             }
             if !may_preserve(array.bounds.as_slice(), bounds.as_slice()) {
                 return Err(Stop::from(VbError::OUT_OF_RANGE));
             }
             let kept = preserved(alloc, array, bounds)?;
-            Ok(world.heap.store(place, Value::Arr(kept))?)
+            put_array(world, place, kept)
         }
         _ => Err(Stop::from(VbError::TYPE_MISMATCH)),
     }
