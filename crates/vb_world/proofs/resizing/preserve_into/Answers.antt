@@ -15,22 +15,22 @@ pub returns-in_ok-kept-in-Arr : goal.returns-in_ok-kept-in-Arr
 returns-in_ok-kept-in-Arr c =
     let there : read_of c.args.place.now c.args.world.now.heap ≡ Ok c.in_ok-array.field-0.now = search rules in
     let made : c.in_ok-kept-in-Arr.kept ≡ kept c.in-Arr.array c.args.bounds (most_kept c.in-Arr.array c.args.bounds)
-        = search rules in
+    = search rules in
     let shape : out-Value c.in_ok-array.field-0.now ≡ Value-F.Arr c.in-Arr.array =
-        ap out-Value c.in-Arr.is ∙ outs-Arr c.in-Arr.array in
+    ap out-Value c.in-Arr.is ∙ outs-Arr c.in-Arr.array in
     let some : (length c.in-Arr.array.bounds == 0) ≡ false = search rules in
     let may : spec.may_preserve c.in-Arr.array.bounds c.args.bounds ≡ true = search rules in
     let held : held_at c.args.place.now c.args.world.now ≡ Gives c.in_ok-array.field-0.now c.args.world.now =
-        rw there refl in
+    rw there refl in
     let whole : and_then (held_at c.args.place.now c.args.world.now) (λ old w. and_then
-        (given (spec.resized_array true (out-Value old) c.args.bounds) w) (λ array. on_heap
-        (store_of c.args.place.now (Arr array)) (with_stored c.args.place.now (Arr array))))
-        ≡ on_heap (store_of c.args.place.now (Arr (spec.preserved c.in-Arr.array c.args.bounds)))
-        (with_stored c.args.place.now (Arr (spec.preserved c.in-Arr.array c.args.bounds))) c.args.world.now
-        = ap (λ step. and_then step (λ old w. and_then
-        (given (spec.resized_array true (out-Value old) c.args.bounds) w) (λ array. on_heap
-        (store_of c.args.place.now (Arr array)) (with_stored c.args.place.now (Arr array))))) held
-        ∙ rw (shape, some, may) refl in
+    (given (spec.resized_array true (out-Value old) c.args.bounds) w) (λ array. on_heap
+    (store_of c.args.place.now (Arr array)) (with_stored c.args.place.now (Arr array))))
+    ≡ on_heap (store_of c.args.place.now (Arr (spec.preserved c.in-Arr.array c.args.bounds)))
+    (with_stored c.args.place.now (Arr (spec.preserved c.in-Arr.array c.args.bounds))) c.args.world.now
+    = ap (λ step. and_then step (λ old w. and_then
+    (given (spec.resized_array true (out-Value old) c.args.bounds) w) (λ array. on_heap
+    (store_of c.args.place.now (Arr array)) (with_stored c.args.place.now (Arr array))))) held
+    ∙ rw (shape, some, may) refl in
     subst (λ step. Ran step c.put_array.result c.put_array.new.world) (sym whole)
     (kept_shown c.args.place.now c.in-Arr.array c.args.bounds c.in_ok-array.field-0.now c.args.world.now there
     c.put_array.result c.put_array.new.world (subst (λ array. Ran (on_heap (store_of c.args.place.now (Arr array))
