@@ -6,3 +6,4 @@ pub mod CallSteps
 pub mod AfterTurns
 pub mod TargetSteps
 pub mod AssignSteps
+pub mod Down

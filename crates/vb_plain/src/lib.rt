@@ -1,24 +1,31 @@
-//! The rules of an evaluator of scripts, as far as they stand.
+//! An evaluator of scripts: the rules of each construct, and the run of an act.
 #![tactic(auto)]
 
-pub mod assigning;
-pub mod blocks;
-pub mod calling;
-pub mod calls;
-pub mod conditions;
-pub mod counted;
-pub mod expressions;
-pub mod heads;
-pub mod making;
-pub mod names;
-pub mod page_end;
-pub mod page_members;
-pub mod path_values;
-pub mod reading;
-pub mod releases;
-pub mod repeating;
-pub mod rules;
-pub mod selecting;
-pub mod statements;
-pub mod target_paths;
-pub mod targets;
+mod acts;
+mod assigning;
+mod blocks;
+mod calling;
+mod calls;
+mod conditions;
+mod counted;
+mod executing;
+mod expressions;
+mod heads;
+mod making;
+mod names;
+mod page_end;
+mod page_members;
+mod path_values;
+mod plain;
+mod reading;
+mod releases;
+mod repeating;
+mod rules;
+mod run;
+mod selecting;
+mod statement;
+mod statements;
+mod target_paths;
+mod targets;
+
+pub use run::run_act;
