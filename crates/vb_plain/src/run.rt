@@ -20,8 +20,8 @@ const MOST_LEVELS: u32 = 2_000;
 /// Runs an act of a program from its beginning: what it asks goes to `env`, and each call of the Application object
 /// that it wants takes the next of `replies`.
 ///
-/// It ends, or wants the first call for which there is no reply. To go on with that reply it is run again, in an environment as it was, with
-/// all replies.
+/// It ends, or wants the first call for which there is no reply. To go on with that reply it is run again with all
+/// replies, in an environment as it was at first.
 #[tactic(auto, unfolding(vb_meaning::specs::Acts::act_of))]
 pub fn run_act<I: Intrinsics>(
     alloc: Global,
