@@ -6,7 +6,7 @@ use Rattle.vb_value.specs.declared.fault.VbError.{VbError}
 use Rattle.vb_value.specs.declared.value.ObjNo.{ObjNo}
 use Rattle.vb_value.specs.declared.value.Value.{Value, Obj, Nothing}
 use Rattle.vb_value.specs.Errors.{illegal_assignment, unsupported, object_not_set, object_required, type_mismatch}
-use Rattle.vb_value.specs.Errors.{wrong_number, undefined_variable}
+use Rattle.vb_value.specs.Errors.{wrong_number}
 use Rattle.vb_syntax.specs.declared.member.Member.{Member as PageMember}
 use Rattle.vb_syntax.specs.declared.member.Takes.{Takes}
 use Rattle.vb_syntax.specs.declared.program.expression.Expression.{Expression}
@@ -41,8 +41,8 @@ use Rattle.vb_meaning.specs.declared.reached.Kind.TheVariants as kind
 use Rattle.vb_meaning.specs.declared.reached.Reached.{Reached}
 use Rattle.vb_meaning.specs.declared.reached.Reached.TheVariants.{Place as AtPlace, Value as AtValue}
 use Rattle.vb_meaning.specs.Places.{variable, hold, held_at, store_place, element_place, indices_of}
-use Rattle.vb_meaning.specs.Reading.{values, arguments, access, field_place, from_name, from_page_member, group_values, is_taken}
-use Rattle.vb_meaning.specs.Reading.{subject, me_value}
+use Rattle.vb_meaning.specs.Reading.{values, arguments, access, field_place, from_name, from_page_member, group_values}
+use Rattle.vb_meaning.specs.Reading.{is_taken, subject, me_value, unknown}
 use Rattle.vb_meaning.specs.State.{Does, on_world}
 use Rattle.vb_meaning.specs.Step.{Run, ◌>>=◌, ◌>>◌, pure, given, fails}
 use Rattle.vb_meaning.specs.Values.{object_in}
@@ -184,10 +184,9 @@ module _ (E : Type 0) (m : Inner E) (how : Assigned) where
       property s.world.frame.owner (own_property number s.world) supplied value s
   into_own number more value s = into_called (named.Own number) more value s
 
-  -- a name that stands for nothing
+  -- A name that stands for nothing: the target fails as it does where it is read.
   abbrev pub into_unknown : List Access → Does E (Unit {0})
-  into_unknown [] = fails undefined_variable
-  into_unknown (first ∷ others) = fails type_mismatch
+  into_unknown more = unknown E m more >> pure tt
 
   -- a value into what a name and the accesses behind it come to
   abbrev pub into_name : Named → List Access → Value → Does E (Unit {0})

@@ -40,7 +40,7 @@ impl<
 > Rules<I, V, A, S, C, T, N> {
     /// A name that stands for nothing. A call of it is error 13, once its arguments are evaluated.
     #[tactic(auto, using(crate::proofs::Unknown::unknown_member))]
-    fn unknown(
+    pub fn unknown(
         &self,
         p: &Program,
         playing: &mut Playing<'_>,

@@ -237,7 +237,7 @@ impl<
         }
     }
 
-    /// A name that stands for nothing. Error 500, or 13 where something stands behind it.
+    /// A name that stands for nothing. Error 500, or 13 where arguments stand behind it, once they are evaluated.
     fn into_unknown(
         &self,
         p: &Program,
@@ -246,13 +246,13 @@ impl<
         how: Assigned,
         steps: &[Step],
     ) -> Result<(), Stop>
+        requires { Evaluates I (host I.asked I.answered) self.now.levels (V.pre self.now.value)
+            (V.post self.now.value) }
         ensures { Ran (spec.into_unknown I (inside I (host I.asked I.answered) p.now self.now.levels) how (accesses
             steps.now) (seen playing.old env.old)) result (seen playing.new env.new) }
     {
-        match first_access(steps) {
-            None => Err(Stop::from(VbError::UNDEFINED_VARIABLE)),
-            Some(_) => Err(Stop::from(VbError::TYPE_MISMATCH)),
-        }
+        self.unknown(p, playing, env, steps)?;
+        Ok(())
     }
 
     /// What a name and the steps behind it come to.
