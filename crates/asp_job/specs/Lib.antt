@@ -1,3 +1,4 @@
+pub mod Application
 pub mod Calls
 pub mod Running
 pub mod Session
