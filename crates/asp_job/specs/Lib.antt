@@ -1,6 +1,13 @@
 pub mod Application
 pub mod Calls
+pub mod History
+pub mod Journal
+pub mod Keys
+pub mod Output
+pub mod Rules
 pub mod Running
+pub mod Runs
 pub mod Session
 pub mod Size
 pub mod Told
+pub mod Turns

@@ -1,4 +1,4 @@
-//! Copies of requests, jobs and sessions.
+//! Copies of requests, jobs, sessions, calls and replies.
 ghost use Rattle.std.specs.Prelude.{◌≡◌};
 ghost use Rattle.vb_value.specs.Outcome.{Gives};
 
@@ -6,7 +6,7 @@ use crate::job::{Job, Work};
 use crate::request::{Header, Request};
 use crate::session::{Named, SessionState};
 use std::alloc::Global;
-use vb_value::{Copied, List, Memory, Pair, SessDict, copy};
+use vb_value::{AppCall, AppReply, Copied, List, Memory, Pair, SessDict, copy};
 
 impl Copied for Header {
     fn copy(&self) -> Result<Header, Memory> {
@@ -103,4 +103,39 @@ pub fn copy_session(alloc: Global, session: &SessionState) -> Result<SessionStat
         values: session.values.copy()?,
         dicts: copy_dictionaries(alloc, session.dicts.as_slice())?,
     })
+}
+
+/// The same call once more.
+pub fn copy_call(call: &AppCall) -> Result<AppCall, Memory>
+    ensures { Gives result call.now }
+{
+    match call {
+        AppCall::Get(name) => Ok(AppCall::Get(name.copy()?)),
+        AppCall::Put(name, value) => {
+            let value = copy(*name.allocator(), value)?;
+            Ok(AppCall::Put(name.copy()?, value))
+        }
+        AppCall::Remove(name) => Ok(AppCall::Remove(name.copy()?)),
+        AppCall::RemoveAll => Ok(AppCall::RemoveAll),
+        AppCall::Count => Ok(AppCall::Count),
+        AppCall::KeyAt(place) => Ok(AppCall::KeyAt(*place)),
+        AppCall::Names => Ok(AppCall::Names),
+        AppCall::Lock => Ok(AppCall::Lock),
+        AppCall::Unlock => Ok(AppCall::Unlock),
+    }
+}
+
+/// The same reply once more.
+pub fn copy_reply(alloc: Global, reply: &AppReply) -> Result<AppReply, Memory>
+    ensures { Gives result reply.now }
+{
+    match reply {
+        AppReply::Value(value) => Ok(AppReply::Value(copy(alloc, value)?)),
+        AppReply::Number(number) => Ok(AppReply::Number(*number)),
+        AppReply::Name(name) => Ok(AppReply::Name(name.copy()?)),
+        AppReply::NoName => Ok(AppReply::NoName),
+        AppReply::Names(names) => Ok(AppReply::Names(names.copy()?)),
+        AppReply::Done => Ok(AppReply::Done),
+        AppReply::Full => Ok(AppReply::Full),
+    }
 }
