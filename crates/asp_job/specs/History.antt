@@ -136,7 +136,8 @@ run_in _ = 0
 -- the call is let through by the lock, and its entry does not fit
 pub record HasNoRoom (past : List Entry) (lane run : ℕ) (call : AppCall) : Type 0 where
   pub free : blocker_of (held_by past) run call ≡ None
-  pub overfull : IsOverfull (load (call_entry past lane run call ∷ past)) (weight_load (call_entry past lane run call ∷ past))
+  pub overfull :
+      IsOverfull (load (call_entry past lane run call ∷ past)) (weight_load (call_entry past lane run call ∷ past))
 
 -- at some point since the run's last entry, the entry of this call did not fit
 abbrev pub HasNotFit : List Entry → ℕ → ℕ → AppCall → Type 0

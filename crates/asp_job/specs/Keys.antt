@@ -149,8 +149,8 @@ abbrev pub last_asked : List Entry → ℕ → ℕ
 last_asked [] k = 0
 last_asked (entry ∷ past) k = unwrap_or (asked_in k entry.what) (last_asked past k)
 
--- whether the key's session, if it has one, is over at the moment: no run of the key waits or is unfinished, and its last
--- job was admitted so many minutes ago
+-- whether the key's session, if it has one, is over at the moment: no run of the key waits or is unfinished, and its
+-- last job was admitted so many minutes ago
 abbrev pub is_due : Option SessionState → List Entry → ℕ → ℕ → Bool
 is_due None past moment k = false
 is_due (Some session) past moment k = not (is_busy past k) && nat_le (last_asked past k + session.timeout * 60) moment

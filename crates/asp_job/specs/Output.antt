@@ -34,7 +34,8 @@ answer_by rules past run kind.JournalFull = unavailable_in rules JournalFull (jo
 abbrev pub answer_of_run : Rules → List Entry → ℕ → Option Answer
 answer_of_run rules [] r = None
 answer_of_run rules (entry ∷ past) r = elim entry.what [
-  | End run kind status size made finished ↦ if run == r then answer_by rules past run kind else answer_of_run rules past r
+  | End run kind status size made finished ↦
+      if run == r then answer_by rules past run kind else answer_of_run rules past r
   | Refuse run job ↦ if run == r then unavailable_in rules TooManySessions job.work else answer_of_run rules past r
   | _ ↦ answer_of_run rules past r
 ]
@@ -65,6 +66,7 @@ counted kind.JournalFull n = 0
 
 -- the entry of a run's end
 abbrev pub end_of : Rules → List Entry → ℕ → EndKind → What
-end_of rules past run kind = End run kind (status_in (answer_by rules past run kind)) (length_in (answer_by rules past run kind))
+end_of rules past run kind = End run kind
+    (status_in (answer_by rules past run kind)) (length_in (answer_by rules past run kind))
     (counted kind (made_in (rules.meaning.does (told rules past run))))
     (counted kind (finished_in (rules.meaning.does (told rules past run))))

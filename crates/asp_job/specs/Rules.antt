@@ -10,8 +10,8 @@ pub data Cause : Type 0 where
   OutOfMemory : Cause
   JournalFull : Cause
 
--- What the runs of the site do, and which jobs have a session; the letters of each session key; the key that the session
--- cookie of a request names, by its letters; and the answers that stand in for a page's own.
+-- What the runs of the site do, and which jobs have a session; the letters of each session key; the key that the
+-- session cookie of a request names, by its letters; and the answers that stand in for a page's own.
 pub record Rules : Type 0 where
   pub meaning : Meaning
   pub letters : ℕ → List ℕ

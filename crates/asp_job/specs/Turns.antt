@@ -117,7 +117,8 @@ abbrev pub is_last_work : Work → Bool
 is_last_work work.Stop = true
 is_last_work _ = false
 
--- Run 1 begins first and ends before others begin; runs of one key go in order, one at a time; the last run begins alone.
+-- Run 1 begins first and ends before others begin; runs of one key go in order, one at a time; the last run begins
+-- alone.
 abbrev pub may_begin : List Entry → ℕ → Bool
 may_begin past r = is_waiting past r && (r == 1 || has_ended past 1) && not (is_behind past r)
     && not (is_last_work (job_of past r).work && has_company past r)
