@@ -38,29 +38,47 @@ drawn (entry ∷ past) = if draws entry.what then drawn past + 1 else drawn past
 abbrev pub queued_job : Work → Job
 queued_job work = record { work = work; moment = 0; asked = Fresh }
 
--- how a run was drawn: its job, its session key, 0 for none, and whether that key was made for it
+abbrev pub job_in : ℕ → What → Option Job
+job_in r (Queue run work key) = if run == r then Some (queued_job work) else None
+job_in r (Admit run key fresh job) = if run == r then Some job else None
+job_in r (Refuse run job) = if run == r then Some job else None
+job_in r _ = None
+
+-- the job of a run; of no run a Start
+abbrev pub job_of : List Entry → ℕ → Job
+job_of [] r = queued_job work.Start
+job_of (entry ∷ past) r = unwrap_or (job_in r entry.what) (job_of past r)
+
+abbrev pub key_in : ℕ → What → Option ℕ
+key_in r (Queue run work key) = if run == r then Some key else None
+key_in r (Admit run key fresh job) = if run == r then Some key else None
+key_in r (Refuse run job) = if run == r then Some 0 else None
+key_in r _ = None
+
+-- the session key of a run, 0 for none
+abbrev pub key_of : List Entry → ℕ → ℕ
+key_of [] r = 0
+key_of (entry ∷ past) r = unwrap_or (key_in r entry.what) (key_of past r)
+
+abbrev pub fresh_in : ℕ → What → Option Bool
+fresh_in r (Queue run work key) = if run == r then Some false else None
+fresh_in r (Admit run key fresh job) = if run == r then Some fresh else None
+fresh_in r (Refuse run job) = if run == r then Some false else None
+fresh_in r _ = None
+
+-- whether the key of a run was made for it
+abbrev pub is_fresh : List Entry → ℕ → Bool
+is_fresh [] r = false
+is_fresh (entry ∷ past) r = unwrap_or (fresh_in r entry.what) (is_fresh past r)
+
+-- how a run was drawn: its job, its key, and whether that was made for it
 pub record Draw : Type 0 where
   pub job : Job
   pub key : ℕ
   pub fresh : Bool
 
-abbrev pub draw_in : ℕ → What → Option Draw
-draw_in r (Queue run work key) =
-    if run == r then Some (record { job = queued_job work; key = key; fresh = false }) else None
-draw_in r (Admit run key fresh job) = if run == r then Some (record { job = job; key = key; fresh = fresh }) else None
-draw_in r (Refuse run job) = if run == r then Some (record { job = job; key = 0; fresh = false }) else None
-draw_in r _ = None
-
--- how a run was drawn; of no run a Start without a key
 abbrev pub draw_of : List Entry → ℕ → Draw
-draw_of [] r = record { job = queued_job work.Start; key = 0; fresh = false }
-draw_of (entry ∷ past) r = unwrap_or (draw_in r entry.what) (draw_of past r)
-
-abbrev pub job_of : List Entry → ℕ → Job
-job_of past r = (draw_of past r).job
-
-abbrev pub key_of : List Entry → ℕ → ℕ
-key_of past r = (draw_of past r).key
+draw_of past r = record { job = job_of past r; key = key_of past r; fresh = is_fresh past r }
 
 -- ---- where a run stands
 
