@@ -1,0 +1,5 @@
+pub mod Account
+pub mod Kept
+pub mod Letters
+pub mod Reading
+pub mod Steps

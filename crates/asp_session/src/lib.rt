@@ -1,0 +1,15 @@
+//! The sessions of a site: their keys, the runs that wait for them, and the letters by which clients know them.
+#![tactic(auto)]
+
+mod after;
+mod cookie;
+mod key;
+mod keys;
+mod sessions;
+mod stop;
+mod waiting;
+
+pub use after::After;
+pub use cookie::letters;
+pub use sessions::Sessions;
+pub use stop::KeyStop;
