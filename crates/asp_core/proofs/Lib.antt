@@ -1,0 +1,13 @@
+pub mod Past
+pub mod Numbers
+pub mod Others
+pub mod Right
+pub mod Least
+pub mod Kept
+pub mod Closing
+pub mod Waiting
+pub mod Starting
+pub mod Bounds
+pub mod Same
+pub mod Staying
+pub mod Locking

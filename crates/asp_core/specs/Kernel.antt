@@ -1,0 +1,253 @@
+-- What contracts see of a core, and of a run that was moved out of it. All of it is the profile's.
+use Rattle.std.specs.Prelude.{◌≡◌, ℕ, ◌+◌, ◌-◌, ◌*◌, ◌≤◌, ◌<◌, ◌==◌, ◌⊎◌, ◌++◌, ◌∷◌, Bool, true, false, if◌then◌else◌, nat_lt, min, ◌^◌}
+use Rattle.std.specs.Prelude.{List, [], length, reverse, slice_set, slice_index_or, All, Option, Some, None, IfSome, Result, Ok, Err, unwrap_or, is_some}
+use Rattle.vb_value.specs.declared.application.AppCall.{AppCall}
+use Rattle.vb_value.specs.declared.memory.Memory as memory
+use Rattle.asp_job.specs.declared.answer.Answer.{Answer}
+use Rattle.asp_job.specs.declared.answer.Finished.{Finished}
+use Rattle.asp_job.specs.declared.entry.EndKind.{EndKind}
+use Rattle.asp_job.specs.declared.entry.EndKind.TheVariants as kind
+use Rattle.asp_job.specs.declared.entry.Entry.{Entry}
+use Rattle.asp_job.specs.declared.entry.TheConstants.{MOST_ENTRIES, MOST_WEIGHT, MOST_UNFINISHED}
+use Rattle.asp_job.specs.declared.entry.What.{What}
+use Rattle.asp_job.specs.declared.entry.What.TheVariants.{Queue, Admit, Refuse, Tick, Begin, App, End, Take, Stop, Halt}
+use Rattle.asp_job.specs.declared.job.Job.{Job}
+use Rattle.asp_job.specs.declared.job.Work.{Work}
+use Rattle.asp_job.specs.declared.job.Work.TheVariants as work
+use Rattle.asp_job.specs.declared.request.Request.{Request}
+use Rattle.asp_job.specs.declared.request.Verb.{Verb}
+use Rattle.asp_job.specs.declared.request.Verb.TheVariants as verb
+use Rattle.asp_job.specs.declared.runner.Step.{Step}
+use Rattle.asp_job.specs.declared.runner.Step.TheVariants as step
+use Rattle.asp_job.specs.declared.session.SessionState.{SessionState}
+use Rattle.asp_job.specs.Application.{AppState, blocker_of}
+use Rattle.asp_job.specs.History.{held_by, load, weight_load, call_entry, with_lane, HasNotFit}
+use Rattle.asp_job.specs.Journal.{IsValidJournal, queue_entries, admit_entry, tick_entries, past_after, begin_entry}
+use Rattle.asp_job.specs.Keys.{session_of, told, made, opened, live, due_at}
+use Rattle.asp_job.specs.Output.{status_in, length_in, counted}
+use Rattle.asp_job.specs.Rules.{Rules, Cause, TooManySessions, OutOfMemory, JournalFull}
+use Rattle.asp_job.specs.Running.{Phase, Going, Wanting, Over, Dead, IsFinish, is_page}
+use Rattle.asp_job.specs.Runs.{unfinished, drawn, moment_of, is_halted, job_of}
+use Rattle.asp_job.specs.Session.{IsSession}
+use Rattle.asp_job.specs.Size.{IsSmall}
+use Rattle.asp_job.specs.Told.{Told, Outcome, Wants, Ends, Meaning}
+use Rattle.asp_job.specs.Turns.{IsRunning, IsNextRun, may_begin, closing_runs}
+use Rattle.asp_response.specs.declared.fixed.Unavailable.TheVariants as cause
+use Rattle.asp_response.specs.Fixed.{unavailable_of}
+use Rattle.asp_session.specs.Letters.{letters_of}
+use Rattle.asp_core.specs.Cookie.{cookie_key_in}
+use Rattle.asp_core.specs.declared.run.Progress.{Progress}
+use Rattle.asp_core.specs.declared.run.Progress.TheVariants as progress
+
+-- ---- what a journal is held against
+
+abbrev pub is_head : Verb → Bool
+is_head verb.Head = true
+is_head _ = false
+
+-- the answer that stands in for a page's own
+abbrev pub unavailable_by : Cause → Request → Answer
+unavailable_by TooManySessions request = unavailable_of cause.TooManySessions (is_head request.verb) request.close
+unavailable_by OutOfMemory request = unavailable_of cause.OutOfMemory (is_head request.verb) request.close
+unavailable_by JournalFull request = unavailable_of cause.JournalFull (is_head request.verb) request.close
+
+-- what the runs of a site do, and the letters of keys, with this seed
+abbrev pub rules_by : Meaning → List ℕ → Rules
+rules_by meaning seed = record {
+  meaning = meaning;
+  letters = letters_of seed;
+  cookie_key = cookie_key_in seed;
+  unavailable = unavailable_by;
+}
+
+-- ---- a core
+
+-- a core: its journal, oldest entry first, and the runner, the site and the seed that it was given
+pub record CoreView (R Site : Type 0) : Type 0 where
+  pub journal : List Entry
+  pub runner : R
+  pub site : Site
+  pub seed : List ℕ
+
+abbrev pub past_of : {R Site : Type 0} → CoreView R Site → List Entry
+past_of core = reverse core.journal
+
+-- what the core's journal is held against
+abbrev pub rules_of : {R Site : Type 0} → (R → Site → Meaning) → CoreView R Site → Rules
+rules_of meaning core = rules_by (meaning core.runner core.site) core.seed
+
+-- the core with these entries more
+abbrev pub grown : {R Site : Type 0} → CoreView R Site → List Entry → CoreView R Site
+grown core entries =
+    record { journal = core.journal ++ entries; runner = core.runner; site = core.site; seed = core.seed }
+
+-- the runner and the site are those that the core was given
+pub record IsHostOf {R Site : Type 0} (core : CoreView R Site) (runner : R) (site : Site) : Type 0 where
+  pub runner_is : runner ≡ core.runner
+  pub site_is : site ≡ core.site
+
+-- ---- what a core keeps
+
+-- the session of a key in a table whose first place is that of key 1
+abbrev pub session_at : List (Option SessionState) → ℕ → Option SessionState
+session_at table k = if k == 0 then None else slice_index_or table (k - 1) None
+
+-- the job of an entry is small
+abbrev pub HasSmallJob : What → Type 0
+HasSmallJob (Admit run key fresh job) = IsSmall job
+HasSmallJob (Refuse run job) = IsSmall job
+HasSmallJob _ = Unit {0}
+
+abbrev pub AreSmall : List Entry → Type 0
+AreSmall [] = Unit {0}
+AreSmall (entry ∷ past) = HasSmallJob entry.what × AreSmall past
+
+-- a session, if it is one, that may be
+abbrev pub IsSessionIn : Option SessionState → Type 0
+IsSessionIn session = IfSome session IsSession
+
+-- The journal is valid, and its jobs are small. The table of sessions, the count of those that were opened and the
+-- Application object are what it says, and the sessions are such as may be.
+pub record IsKept (rules : Rules) (past : List Entry) (table : List (Option SessionState)) (count : ℕ) (held : AppState) : Type 0 where
+  pub account : IsValidJournal rules past
+  pub sessions : session_at table ≡ session_of rules past
+  pub keys : length table ≡ made past
+  pub opened_is : count ≡ opened rules past
+  pub held_is : held ≡ held_by past
+  pub small : AreSmall past
+  pub valid : All IsSessionIn table
+
+-- it has at most so many entries, and weighs so much at most, with one End for each unfinished run
+pub record IsWithin (past : List Entry) : Type 0 where
+  pub few : load past ≤ MOST_ENTRIES
+  pub light : weight_load past ≤ MOST_WEIGHT
+
+-- there is room for so many entries with one End for each unfinished run
+abbrev pub HasRoom : List Entry → ℕ → Type 0
+HasRoom past capacity = length past + length (unfinished past) ≤ capacity
+
+-- there would be so many entries of that weight, too many or too heavy; 2^64 - 1 stands for a greater weight
+pub record IsTooMuch (past : List Entry) (entries weight : ℕ) : Type 0 where
+  pub entries_are : entries ≡ load past
+  pub weight_is : weight ≡ min (weight_load past) (2 ^ 64 - 1)
+  pub much : (MOST_ENTRIES < entries) ⊎ (MOST_WEIGHT < weight)
+
+-- a Halt stands, as many are unfinished as may be, or no run may begin
+abbrev pub IsIdle : List Entry → Type 0
+IsIdle past = (is_halted past ≡ true) ⊎ (MOST_UNFINISHED ≤ length (unfinished past))
+    ⊎ ((run : ℕ) → may_begin past run ≡ false)
+
+-- there would be too much with the Begin of the next run
+abbrev pub IsBeginTooMuch : Rules → List Entry → ℕ → ℕ → ℕ → Type 0
+IsBeginTooMuch rules past lane entries weight =
+    (run : ℕ) × IsNextRun past run × IsTooMuch (begin_entry rules past lane run ∷ past) entries weight
+
+-- ---- what events add, where these are the sessions of the keys
+
+abbrev pub due_by : List (Option SessionState) → List Entry → ℕ → List ℕ
+due_by table past moment = due_at (session_at table) past moment
+
+abbrev pub ticked : (ℕ → Option SessionState) → List Entry → ℕ → ℕ → List Entry
+ticked sessions past lane moment =
+    if nat_lt (moment_of past) moment then with_lane lane (Tick moment)
+    ∷ queue_entries lane (drawn past + 1) (closing_runs (due_at sessions past moment)) else []
+
+abbrev pub stopped_by : (ℕ → Option SessionState) → List Entry → ℕ → List Entry
+stopped_by sessions past lane =
+    with_lane lane Stop ∷ queue_entries lane (drawn past + 1) (closing_runs (live sessions past) ++ (work.Stop, 0) ∷ [])
+
+-- the entry of a job, after its Tick
+abbrev pub admitted : {R Site : Type 0} → (R → Site → Meaning) → CoreView R Site → ℕ → Job → Entry
+admitted meaning core lane job =
+    let rules = rules_of meaning core in
+    let past = past_of core in
+    admit_entry rules (past_after past (tick_entries rules past lane job.moment)) lane job
+
+-- the run, the key, whether it was refused, and the moment are those of the entry of a job
+abbrev pub TellsOf : What → ℕ → ℕ → Bool → ℕ → Type 0
+TellsOf (Admit number key fresh job) run k refused moment =
+    (run ≡ number) × (k ≡ key) × (refused ≡ false) × (moment ≡ job.moment)
+TellsOf (Refuse number job) run k refused moment = (run ≡ number) × (k ≡ 0) × (refused ≡ true) × (moment ≡ job.moment)
+TellsOf _ run k refused moment = ⊥
+
+-- ---- runs that were moved out
+
+-- a run that was moved out
+pub record RunView (State : Type 0) : Type 0 where
+  pub number : ℕ
+  pub progress : Progress
+  pub state : State
+
+-- the runner's state waits for what the progress says; one without memory for anything
+abbrev pub IsAtPhase : Progress → Phase → Type 0
+IsAtPhase progress.Going phase = phase ≡ Going
+IsAtPhase (progress.Wants call) phase = phase ≡ Wanting
+IsAtPhase progress.Ended phase = phase ≡ Over
+IsAtPhase progress.Dead phase = Unit {0}
+
+-- the call that it wants
+abbrev pub wanted_by : Progress → Option AppCall
+wanted_by (progress.Wants call) = Some call
+wanted_by _ = None
+
+-- the progress after a step; where memory ran out, the run can only be ended
+abbrev pub progress_of : Result Step memory.Memory → Progress
+progress_of (Ok step.More) = progress.Going
+progress_of (Ok (step.Wants call)) = progress.Wants call
+progress_of (Ok step.Ended) = progress.Ended
+progress_of (Err e) = progress.Dead
+
+-- the entry of the call that the run wants, and the run that keeps the call out
+abbrev pub called : {R Site State : Type 0} → CoreView R Site → ℕ → RunView State → List Entry
+called core lane run =
+    elim (wanted_by run.progress) [ Some call ↦ call_entry (past_of core) lane run.number call ∷ [] | None ↦ [] ]
+
+abbrev pub blocker : {R Site State : Type 0} → CoreView R Site → RunView State → Option ℕ
+blocker core run =
+    elim (wanted_by run.progress) [ Some call ↦ blocker_of (held_by (past_of core)) run.number call | None ↦ None ]
+
+-- A run that may go on has a state that stands, with the ticks that it has spent, and does next what its meaning has.
+abbrev pub StandsAt : Progress → (ℕ → Type 0) → Outcome → Type 0
+StandsAt progress.Going Stands outcome = (spent : ℕ) × Stands spent
+StandsAt (progress.Wants call) Stands outcome = ((spent : ℕ) × Stands spent) × (outcome ≡ Wants call)
+StandsAt progress.Ended Stands outcome = ((spent : ℕ) × Stands spent) × ((f : Finished) × (outcome ≡ Ends f))
+StandsAt progress.Dead Stands outcome = Unit {0}
+
+-- the run is one that was told this
+abbrev pub StandsFor : {State : Type 0} → (State → Told → ℕ → Type 0) → Meaning → RunView State → Told → Type 0
+StandsFor stands meaning run t = StandsAt run.progress (stands run.state t) (meaning.does t)
+
+-- whatever the run was told before, it was told still
+abbrev pub StandsAsBefore : {State : Type 0} → (State → Told → ℕ → Type 0) → Meaning → RunView State → RunView State → Type 0
+StandsAsBefore stands meaning old new = (t : Told) → StandsFor stands meaning old t → StandsFor stands meaning new t
+
+-- The run is one of the core's unfinished runs, of that lane, and was told what the journal says.
+pub record IsRunOf {R Site State : Type 0} (meaning : R → Site → Meaning) (stands : R → Site → State → Told → ℕ → Type 0)
+    (core : CoreView R Site) (lane : ℕ) (run : RunView State) : Type 0 where
+  pub running : IsRunning (past_of core) lane run.number
+  pub stands_for : StandsFor (stands core.runner core.site) (meaning core.runner core.site) run
+      (told (rules_of meaning core) (past_of core) run.number)
+
+-- ---- how a run ends
+
+-- what is left of the session, and the answer, where the runner told this
+abbrev pub left_by : Option Finished → Option SessionState
+left_by None = None
+left_by (Some finished) = finished.session
+
+abbrev pub answer_left : Option Finished → Option Answer
+answer_left None = None
+answer_left (Some finished) = finished.answer
+
+-- the table after an End of a run of the key
+abbrev pub table_after : List (Option SessionState) → EndKind → ℕ → Option SessionState → List (Option SessionState)
+table_after table kind.Done key session = if key == 0 then table else slice_set table (key - 1) session
+table_after table kind.Memory key session = table
+table_after table kind.JournalFull key session = table
+
+-- An End of this kind may come: the run has ended by itself, or at some point its call did not fit, or memory ran out.
+abbrev pub IsEndOf : {State : Type 0} → List Entry → ℕ → RunView State → EndKind → Type 0
+IsEndOf past lane run kind.Done = run.progress ≡ progress.Ended
+IsEndOf past lane run kind.Memory = Unit {0}
+IsEndOf past lane run kind.JournalFull =
+    (call : AppCall) × (wanted_by run.progress ≡ Some call) × HasNotFit past lane run.number call

@@ -1,0 +1,46 @@
+-- What stays while other entries come. All of it is the profile's.
+use Rattle.std.specs.Prelude.{◌≡◌, ◌≢◌, ℕ, ◌==◌, ◌&&◌, Bool, true, false, not, List, [], ◌∷◌}
+use Rattle.vb_value.specs.declared.application.AppCall.TheVariants.{Unlock}
+use Rattle.asp_job.specs.declared.entry.Entry.{Entry}
+use Rattle.asp_job.specs.declared.entry.What.{What}
+use Rattle.asp_job.specs.declared.entry.What.TheVariants.{App, End}
+use Rattle.asp_job.specs.Application.{is_guarded}
+use Rattle.asp_job.specs.Keys.{told}
+use Rattle.asp_job.specs.Rules.{Rules}
+use Rattle.asp_job.specs.Turns.{IsRunning}
+
+-- each entry bears another lane
+abbrev pub AreOfOthers : ℕ → List Entry → Type 0
+AreOfOthers lane [] = Unit {0}
+AreOfOthers lane (entry ∷ entries) = (entry.lane ≢ lane) × AreOfOthers lane entries
+
+-- the entry is a call or the End of the run
+abbrev pub is_step_of : ℕ → What → Bool
+is_step_of r (App run call reply) = run == r
+is_step_of r (End run kind status size made finished) = run == r
+is_step_of r _ = false
+
+-- no entry is a call or the End of the run
+abbrev pub AreNoSteps : ℕ → List Entry → Type 0
+AreNoSteps r [] = Unit {0}
+AreNoSteps r (entry ∷ entries) = (is_step_of r entry.what ≡ false) × AreNoSteps r entries
+
+-- an unfinished run of the lane is still one, and was told the same
+pub record RunStays (rules : Rules) (old new : List Entry) (lane r : ℕ) : Type 0 where
+  pub running : IsRunning new lane r
+  pub same : told rules new r ≡ told rules old r
+
+-- the entry lets the run's lock go: its Unlock, or its End
+abbrev pub is_release_of : ℕ → What → Bool
+is_release_of r (App run Unlock reply) = r == run
+is_release_of r (End run kind status size made finished) = r == run
+is_release_of r _ = false
+
+-- the entry is a call of another run that the run's lock keeps out
+abbrev pub is_kept_out : ℕ → What → Bool
+is_kept_out r (App run call reply) = is_guarded call && not (r == run)
+is_kept_out r _ = false
+
+abbrev pub NoneIs : (What → Bool) → List Entry → Type 0
+NoneIs test [] = Unit {0}
+NoneIs test (entry ∷ entries) = (test entry.what ≡ false) × NoneIs test entries

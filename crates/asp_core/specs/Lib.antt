@@ -1,0 +1,3 @@
+pub mod Cookie
+pub mod Kernel
+pub mod Laws

@@ -1,0 +1,89 @@
+//! The journal after an event.
+#![tactic(auto)]
+
+ghost use Rattle.std.specs.Prelude.{◌≡◌, ◌+◌, ◌-◌, ◌<◌, ◌≤◌, ◌^◌, ◌++◌, ◌∷◌, [], ℕ, List as Items, reverse, length, OnOk, OnErr, IfOk, IfErr, Err};
+ghost use Rattle.std.specs.Prelude.{vec_capacity, vec_len};
+ghost use Rattle.asp_job.specs.History as history;
+ghost use Rattle.asp_job.specs.Journal as journals;
+ghost use Rattle.asp_job.specs.Keys as spec;
+ghost use Rattle.asp_job.specs.declared.entry.TheConstants.{MOST_ENTRIES};
+ghost use Rattle.asp_core.specs.Kernel as kernel;
+
+use crate::entries::{stop_entries, tick_entries};
+use crate::room::{append, fit};
+use crate::stop::EventStop;
+use asp_job::{Entry, Runner, SessionState};
+use std::snapshot::Snapshot;
+
+/// The journal after a Tick. A refusal leaves it.
+#[tactic(auto, using(crate::proofs::Kept::ticked_is, crate::proofs::Kept::grown_past, crate::proofs::Past::take_first))]
+pub fn with_tick<R: Runner>(
+    runner: &Snapshot<R>,
+    site: &Snapshot<R::Site>,
+    seed: &[u8; 32],
+    journal: &mut Vec<Entry>,
+    table: &[Option<SessionState>],
+    lane: u32,
+    moment: u64,
+) -> Result<(), EventStop>
+    requires sessions { kernel.session_at table.now
+        ≡ spec.session_of (kernel.rules_by (R.meaning runner.now.value site.now.value) seed.now) (reverse journal.old.items) }
+    requires small { history.entries_in (reverse journal.old.items) ≤ MOST_ENTRIES }
+    ensures entries { OnOk result (journal.new.items ≡ journal.old.items
+        ++ journals.tick_entries (kernel.rules_by (R.meaning runner.now.value site.now.value) seed.now) (reverse journal.old.items) lane moment) }
+    ensures err { OnErr result (journal.new.items ≡ journal.old.items) }
+    ensures capacity { vec_capacity journal.old ≤ vec_capacity journal.new }
+    ensures within { OnOk result (kernel.IsWithin (reverse journal.new.items)) }
+    ensures room { OnOk result (kernel.HasRoom (reverse journal.new.items) (vec_capacity journal.new)) }
+    ensures full { (entries weight : ℕ) → result ≡ Err (EventStop.JournalFull entries weight) →
+        kernel.IsTooMuch (journals.past_after (reverse journal.old.items)
+        (journals.tick_entries (kernel.rules_by (R.meaning runner.now.value site.now.value) seed.now) (reverse journal.old.items) lane moment))
+        entries weight }
+{
+    let first = journal.len();
+    let alloc = *journal.allocator();
+    let more = match tick_entries(alloc, journal.as_slice(), table, lane, moment) {
+        Ok(more) => more,
+        Err(_) => return Err(EventStop::Memory),
+    };
+    if append(journal, more).is_err() {
+        return Err(EventStop::Memory);
+    }
+    fit(journal, first)
+}
+
+/// The journal after a Stop. A refusal leaves it.
+#[tactic(auto, using(crate::proofs::Kept::stop_made, crate::proofs::Past::take_first))]
+pub fn with_stop<R: Runner>(
+    runner: &Snapshot<R>,
+    site: &Snapshot<R::Site>,
+    seed: &[u8; 32],
+    journal: &mut Vec<Entry>,
+    table: &[Option<SessionState>],
+    lane: u32,
+) -> Result<(), EventStop>
+    requires sessions { kernel.session_at table.now
+        ≡ spec.session_of (kernel.rules_by (R.meaning runner.now.value site.now.value) seed.now) (reverse journal.old.items) }
+    requires small { history.entries_in (reverse journal.old.items) ≤ MOST_ENTRIES }
+    ensures entries { OnOk result (journal.new.items ≡ journal.old.items
+        ++ journals.stop_entries (kernel.rules_by (R.meaning runner.now.value site.now.value) seed.now) (reverse journal.old.items) lane) }
+    ensures err { OnErr result (journal.new.items ≡ journal.old.items) }
+    ensures capacity { vec_capacity journal.old ≤ vec_capacity journal.new }
+    ensures within { OnOk result (kernel.IsWithin (reverse journal.new.items)) }
+    ensures room { OnOk result (kernel.HasRoom (reverse journal.new.items) (vec_capacity journal.new)) }
+    ensures full { (entries weight : ℕ) → result ≡ Err (EventStop.JournalFull entries weight) →
+        kernel.IsTooMuch (journals.past_after (reverse journal.old.items)
+        (journals.stop_entries (kernel.rules_by (R.meaning runner.now.value site.now.value) seed.now) (reverse journal.old.items) lane))
+        entries weight }
+{
+    let first = journal.len();
+    let alloc = *journal.allocator();
+    let more = match stop_entries(alloc, journal.as_slice(), table, lane) {
+        Ok(more) => more,
+        Err(_) => return Err(EventStop::Memory),
+    };
+    if append(journal, more).is_err() {
+        return Err(EventStop::Memory);
+    }
+    fit(journal, first)
+}

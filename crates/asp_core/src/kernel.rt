@@ -1,0 +1,186 @@
+//! The core: it keeps the journal, and tables of what the journal says.
+#![tactic(auto)]
+
+ghost use Rattle.std.specs.Prelude.{◌≡◌, ◌+◌, ◌-◌, ◌<◌, ◌≤◌, ◌++◌, ◌∷◌, [], ℕ, List as Items, reverse, length, OnOk, OnErr, IfOk, IfErr, IsOk};
+ghost use Rattle.std.specs.Prelude.{Some, None, Err, true, false, ◌↔◌, ◌≢◌, IsSome, vec_capacity};
+ghost use Rattle.asp_job.specs.History as history;
+ghost use Rattle.asp_job.specs.Journal as journals;
+ghost use Rattle.asp_job.specs.Runs as runs;
+ghost use Rattle.asp_core.specs.Kernel.{CoreView, RunView, past_of, rules_of, grown, IsHostOf, IsTooMuch, IsWithin, IsRunOf, HasRoom};
+
+use crate::events::{with_stop, with_tick};
+use crate::keys::unfinished;
+use crate::room::make_room;
+use crate::scan::{entries_in, is_halted, is_stopping, moment_of};
+use crate::stop::EventStop;
+use asp_app::Application;
+use asp_job::{Entry, Runner, SessionState, What, Work};
+use std::alloc::Global;
+use std::marker::Model;
+use std::snapshot::Snapshot;
+use vb_value::Memory;
+
+/// The core of a host: the journal of the runs of a site.
+#[derive(Drop)]
+pub struct Core<R: Runner> {
+    pub(crate) journal: Vec<Entry>,
+    pub(crate) table: Vec<Option<SessionState>>,
+    pub(crate) opened: u32,
+    pub(crate) application: Application,
+    pub(crate) runner: Snapshot<R>,
+    pub(crate) site: Snapshot<R::Site>,
+    pub(crate) seed: [u8; 32],
+}
+
+impl<R: Runner> Model for Core<R> {
+    ghost use Rattle.std.specs.Prelude.{vec_capacity, reverse};
+    ghost use Rattle.std.specs.Coded.{codes};
+    ghost use Rattle.vb_value.specs.contracts.value.Value as contract;
+    ghost use Rattle.asp_core.specs.Kernel.{CoreView, IsKept, IsWithin, HasRoom, rules_by};
+
+    ghost Value = { CoreView R R.Site };
+
+    ghost coded = { Prim.hlevel (codes, contract.the_row.coded, R.code, R.Site.code) };
+
+    ghost view = { λ c. record { journal = c.journal.items; runner = c.runner.value; site = c.site.value; seed = c.seed } };
+
+    ghost invariant = { λ c.
+        IsKept (rules_by (R.meaning c.runner.value c.site.value) c.seed) (reverse c.journal.items) c.table.items c.opened c.application
+        × IsWithin (reverse c.journal.items) × HasRoom (reverse c.journal.items) (vec_capacity c.journal) };
+}
+
+fn first_journal(alloc: Global, lane: u32) -> Result<Vec<Entry>, Memory>
+    ensures items { IfOk result (λ journal. journal.items ≡ history.with_lane lane (What.Queue 1 Work.Start 0) ∷ []) }
+    ensures room { IfOk result (λ journal. HasRoom (reverse journal.items) (vec_capacity journal)) }
+{
+    let mut journal = Vec::new(alloc);
+    journal.push(Entry {
+        lane,
+        what: What::Queue {
+            run: 1,
+            work: Work::Start,
+            key: 0,
+        },
+    })?;
+    make_room(&mut journal)?;
+    Ok(journal)
+}
+
+impl<R: Runner> Core<R> {
+    /// A core whose journal queues the first run. Later calls take the same runner and site.
+    #[tactic(auto, using(crate::proofs::Starting::kept_start, crate::proofs::Starting::within_start))]
+    pub fn new(
+        alloc: Global,
+        lane: u32,
+        runner: &R,
+        site: &R::Site,
+        seed: [u8; 32],
+    ) -> Result<Core<R>, Memory>
+        ensures journal { IfOk result (λ core. core.journal ≡ history.with_lane lane (What.Queue 1 Work.Start 0) ∷ []) }
+        ensures host { IfOk result (λ core. IsHostOf core runner.now site.now) }
+        ensures seed { IfOk result (λ core. core.seed ≡ seed) }
+    {
+        let journal = first_journal(alloc, lane)?;
+        Ok(Core {
+            journal,
+            table: Vec::new(alloc),
+            opened: 0,
+            application: Application::new(alloc),
+            runner: Snapshot::of(runner),
+            site: Snapshot::of(site),
+            seed,
+        })
+    }
+
+    /// The journal, which is valid.
+    pub fn journal(&self) -> &[Entry]
+        ensures journal { result.now ≡ self.now.journal }
+        ensures valid { journals.IsValidJournal (rules_of R.meaning self.now) (past_of self.now) }
+        ensures within { IsWithin (past_of self.now) }
+    {
+        self.journal.as_slice()
+    }
+
+    /// The moment of the last Tick, 0 before the first: seconds since 1970.
+    pub fn moment(&self) -> u64
+        ensures { result ≡ runs.moment_of (past_of self.now) }
+    {
+        moment_of(self.journal.as_slice())
+    }
+
+    /// How many entries the journal has. Those of hand-outs and of a Halt do not count.
+    pub fn entries(&self) -> u64
+        ensures { result ≡ history.entries_in (past_of self.now) }
+    {
+        entries_in(self.journal.as_slice())
+    }
+
+    /// How many runs are unfinished.
+    pub fn unfinished(&self) -> u32
+        ensures { result ≡ length (runs.unfinished (past_of self.now)) }
+    {
+        unfinished(self.journal.as_slice()) as u32
+    }
+
+    /// Whether a Stop stands.
+    pub fn stopping(&self) -> bool
+        ensures { result ≡ runs.is_stopping (past_of self.now) }
+    {
+        is_stopping(self.journal.as_slice())
+    }
+
+    /// Whether a Halt stands.
+    pub fn halted(&self) -> bool
+        ensures { result ≡ runs.is_halted (past_of self.now) }
+    {
+        is_halted(self.journal.as_slice())
+    }
+
+    /// Time goes on to `moment`, in seconds since 1970, and sessions end. An earlier moment changes nothing and takes no
+    /// memory. A refusal changes nothing.
+    pub fn tick(&mut self, lane: u32, moment: u64) -> Result<(), EventStop>
+        ensures ok { OnOk result (self.new ≡ grown self.old
+            (journals.tick_entries (rules_of R.meaning self.old) (past_of self.old) lane moment)) }
+        ensures full { (entries weight : ℕ) → result ≡ Err (EventStop.JournalFull entries weight) →
+            IsTooMuch (journals.past_after (past_of self.old)
+            (journals.tick_entries (rules_of R.meaning self.old) (past_of self.old) lane moment)) entries weight }
+        ensures early { moment ≤ runs.moment_of (past_of self.old) → IsOk result }
+        ensures err { OnErr result (self.new ≡ self.old) }
+    {
+        if moment <= moment_of(self.journal.as_slice()) {
+            return Ok(());
+        }
+        with_tick(
+            &self.runner,
+            &self.site,
+            &self.seed,
+            &mut self.journal,
+            self.table.as_slice(),
+            lane,
+            moment,
+        )
+    }
+
+    /// No job is admitted from now on, and the sessions end. After a Stop it changes nothing. A refusal changes nothing.
+    pub fn stop(&mut self, lane: u32) -> Result<(), EventStop>
+        ensures ok { OnOk result (runs.is_stopping (past_of self.old) ≡ false → self.new ≡ grown self.old
+            (journals.stop_entries (rules_of R.meaning self.old) (past_of self.old) lane)) }
+        ensures again { runs.is_stopping (past_of self.old) ≡ true → IsOk result × (self.new ≡ self.old) }
+        ensures full { (entries weight : ℕ) → result ≡ Err (EventStop.JournalFull entries weight) →
+            IsTooMuch (journals.past_after (past_of self.old)
+            (journals.stop_entries (rules_of R.meaning self.old) (past_of self.old) lane)) entries weight }
+        ensures err { OnErr result (self.new ≡ self.old) }
+    {
+        if is_stopping(self.journal.as_slice()) {
+            return Ok(());
+        }
+        with_stop(
+            &self.runner,
+            &self.site,
+            &self.seed,
+            &mut self.journal,
+            self.table.as_slice(),
+            lane,
+        )
+    }
+}

@@ -1,0 +1,18 @@
+//! The core of a host: it keeps the journal of a site's runs, one event after another.
+#![tactic(auto)]
+
+mod entries;
+mod events;
+mod kernel;
+mod keys;
+mod laws;
+mod room;
+mod run;
+mod scan;
+mod stop;
+mod weighing;
+
+pub use kernel::Core;
+pub use laws::{lock_holds, runs_stay};
+pub use run::{Progress, Run};
+pub use stop::{AdmitStop, AppStepStop, BeginStop, EventStop};

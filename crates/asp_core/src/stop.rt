@@ -1,0 +1,75 @@
+//! Why calls of the core are refused.
+
+use vb_value::Memory;
+
+/// Why an event was refused.
+#[derive(Clone, Copy, Debug, PartialEq, Eq)]
+pub enum EventStop {
+    /// The journal would be too long or too heavy.
+    JournalFull {
+        /// How many entries it would have, with one end for each unfinished run.
+        entries: u64,
+        /// What they would weigh; 2^64 - 1 stands for a greater weight.
+        weight: u64,
+    },
+    /// Memory ran out.
+    Memory,
+}
+
+/// Why a job was not admitted.
+#[derive(Clone, Copy, Debug, PartialEq, Eq)]
+pub enum AdmitStop {
+    /// A Stop stands.
+    Stopping,
+    /// As many runs of pages wait as may.
+    WaitingFull,
+    /// The journal would be too long or too heavy.
+    JournalFull {
+        /// How many entries it would have, with one end for each unfinished run.
+        entries: u64,
+        /// What they would weigh; 2^64 - 1 stands for a greater weight.
+        weight: u64,
+    },
+    /// Memory ran out.
+    Memory,
+}
+
+/// Why no run was begun.
+#[derive(Clone, Copy, Debug, PartialEq, Eq)]
+pub enum BeginStop {
+    /// None may begin, as many are unfinished as may be, or a Halt stands.
+    Idle,
+    /// The journal would be too long or too heavy.
+    JournalFull {
+        /// How many entries it would have, with one end for each unfinished run.
+        entries: u64,
+        /// What they would weigh; 2^64 - 1 stands for a greater weight.
+        weight: u64,
+    },
+    /// Memory ran out.
+    Memory,
+}
+
+/// Why a call of the Application object was not made.
+#[derive(Clone, Copy, Debug, PartialEq, Eq)]
+pub enum AppStepStop {
+    /// The lock of this run keeps the call out.
+    Blocked {
+        holder: u32,
+    },
+    /// The journal would be too long or too heavy.
+    JournalFull {
+        /// How many entries it would have, with one end for each unfinished run.
+        entries: u64,
+        /// What they would weigh; 2^64 - 1 stands for a greater weight.
+        weight: u64,
+    },
+    /// Memory ran out.
+    Memory,
+}
+
+impl From<Memory> for EventStop {
+    fn from(_: Memory) -> EventStop {
+        EventStop::Memory
+    }
+}
