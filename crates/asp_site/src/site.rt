@@ -8,7 +8,7 @@ use vb_value::{List, SiteFile, Text};
 pub struct LineSpot {
     /// The path of the file, as the site has it.
     pub path: Text,
-    /// The line, counted from 1.
+    /// The line, counted from 1, or 0 for none of them.
     pub line: u32,
 }
 
@@ -19,9 +19,9 @@ pub struct Page {
     pub path: Text,
     /// Whether the page has sessions.
     pub session: bool,
-    /// What the page runs. Its lines are counted from 0, and are places in `lines`.
+    /// What the page runs. Its lines are places in `lines`: line n stands at the place n, counted from 0.
     pub program: Program,
-    /// The line of a file in which each line of the program stands.
+    /// The line of a file in which each line of the program stands. At the place 0 stands none, of the page's own path.
     pub lines: List<LineSpot>,
 }
 

@@ -1,8 +1,7 @@
 -- A text has one program or one fault, by the laws of its words, its grammar and its names.
 use Rattle.std.proofs.Common.{◌≡◌, ◌∙◌, ℕ, List, [], ◌∷◌, Option, Some, None, sym, ap, subst}
 use Rattle.vb_value.specs.declared.token.Token.{Token}
-use Rattle.vb_lex.specs.Tokens.{FaultsAt, Tokenizes}
-use Rattle.vb_lex.specs.declared.fault.LexFault.{LexFault}
+use Rattle.vb_lex.specs.Tokens.{Tokenizes}
 use Rattle.vb_syntax.specs.grammar.Units.{Derives}
 use Rattle.vb_syntax.specs.scope.Resolving.{IsFirstFault, Resolves}
 use Rattle.vb_syntax.specs.scope.Faults.{Faults, faults_of}
@@ -14,20 +13,9 @@ use Rattle.vb_parse.specs.declared.fault.ParseFault.{ParseFault}
 use Rattle.page_build.specs.declared.fault.ScriptFault.{ScriptFault}
 use Rattle.page_build.specs.declared.fault.ScriptFault.TheVariants.{Words, Grammar, Scope}
 use Rattle.page_build.specs.Script.{HasFault, IsProgramOf, IsScript}
+use Rattle.page_build.proofs.OneWords.{OneTokens, OneWordFault, TokensOrFault}
 
 -- ---- the laws of the steps
-
-abbrev pub OneTokens : Type 0
-OneTokens = (text : List ℕ) (tokens others : List Token) → Tokenizes text tokens → Tokenizes text others
-    → tokens ≡ others
-
-abbrev pub OneWordFault : Type 0
-OneWordFault = (text : List ℕ) (fault other : LexFault) (line number : ℕ) → FaultsAt text fault line
-    → FaultsAt text other number → (fault ≡ other) × (line ≡ number)
-
-abbrev pub TokensOrFault : Type 0
-TokensOrFault = (text : List ℕ) (tokens : List Token) (fault : LexFault) (line : ℕ) → Tokenizes text tokens
-    → FaultsAt text fault line → ⊥
 
 abbrev pub OneUnit : Type 0
 OneUnit = (tokens : List Token) (one other : Script) → Derives tokens one → Derives tokens other → one ≡ other
@@ -85,7 +73,7 @@ first_of_all [] = None
 first_of_all (fault ∷ later) = Some fault
 
 -- a list has one first fault
-one_first : (faults others : Faults) (kind other : ScopeFault) (line number : ℕ) (later more : Faults)
+pub one_first : (faults others : Faults) (kind other : ScopeFault) (line number : ℕ) (later more : Faults)
     → faults ≡ others → faults ≡ (kind, line) ∷ later → others ≡ (other, number) ∷ more
     → (kind ≡ other) × (line ≡ number)
 one_first faults others kind other line number later more same first one =

@@ -1,1 +1,4 @@
+pub mod Building
+pub mod Declaring
 pub mod Script
+pub mod Words
