@@ -87,6 +87,20 @@ impl Sessions {
         keys::live(alloc, &self.keys)
     }
 
+    /// How many keys were made.
+    pub fn made(&self) -> u32
+        ensures { result ≡ self.now.account.made }
+    {
+        self.made
+    }
+
+    /// How many sessions were opened.
+    pub fn opened(&self) -> u32
+        ensures { result ≡ self.now.account.opened }
+    {
+        self.opened
+    }
+
     /// Makes a key for a job that is admitted at the moment, in seconds since 1970.
     pub fn add_key(&mut self, moment: u64) -> Result<u32, KeyStop>
         requires few { self.old.account.made < 2147483647 }
