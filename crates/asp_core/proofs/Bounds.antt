@@ -1,6 +1,6 @@
 -- How many runs and keys a journal has at most.
-use Rattle.std.proofs.Common.{◌≡◌, ℕ, ◌+◌, ◌≤◌, Bool, true, false, if◌then◌else◌, List, [], ◌∷◌, arith}
-use Rattle.asp_job.specs.History.{entries_in, counts, with_lane}
+use Rattle.std.proofs.Common.{ℕ, ◌+◌, ◌≤◌, Bool, true, false, if◌then◌else◌, List, [], ◌∷◌, arith}
+use Rattle.asp_job.specs.History.{entries_in, with_lane}
 use Rattle.asp_job.specs.Keys.{made}
 use Rattle.asp_job.specs.Runs.{drawn}
 use Rattle.asp_job.specs.declared.entry.Entry.{Entry}

@@ -1,5 +1,5 @@
 -- Entries that queue runs, one after another.
-use Rattle.std.proofs.Common.{◌≡◌, ℕ, ◌+◌, ◌<◌, List, [], ◌∷◌, ◌++◌, length, get_or, take, drop, refl, ap, sym, ◌∙◌, arith, append_assoc, map, reverse, Option}
+use Rattle.std.proofs.Common.{◌≡◌, ℕ, ◌+◌, ◌<◌, List, [], ◌∷◌, ◌++◌, length, get_or, drop, ap, sym, ◌∙◌, arith, append_assoc, reverse, Option}
 use Rattle.std.proofs.lemmas.List.{drop_more}
 use Rattle.asp_job.specs.declared.job.Work.TheVariants as work
 use Rattle.asp_core.specs.Kernel.{stopped_by}

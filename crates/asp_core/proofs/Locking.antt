@@ -1,5 +1,5 @@
 -- While a run has the lock, no other run writes.
-use Rattle.std.proofs.Common.{◌≡◌, ℕ, ◌==◌, ◌&&◌, Bool, true, false, not, if◌then◌else◌, List, [], ◌∷◌, Option, Some, None, refl, ap, sym, ◌∙◌, arith, inl, inr}
+use Rattle.std.proofs.Common.{◌≡◌, ℕ, ◌==◌, Bool, true, false, not, if◌then◌else◌, List, [], ◌∷◌, Option, Some, None, refl, ap, sym, ◌∙◌, inl, inr}
 use Rattle.std.proofs.lemmas.Bool.{cases_Bool, eqb-true}
 use Rattle.vb_value.specs.declared.application.AppCall.{AppCall}
 use Rattle.vb_value.specs.declared.application.AppCall.TheVariants as call
@@ -9,7 +9,7 @@ use Rattle.vb_value.specs.declared.value.Value.{Value}
 use Rattle.asp_job.specs.declared.entry.What.{What}
 use Rattle.asp_job.specs.declared.entry.What.TheVariants.{Queue, Admit, Refuse, Tick, Begin, App, End, Take, Stop, Halt}
 use Rattle.asp_job.specs.declared.entry.Entry.{Entry}
-use Rattle.asp_job.specs.Application.{AppState, apply, blocker_of, freed, has_lock, is_full, with_value, without}
+use Rattle.asp_job.specs.Application.{AppState, apply, blocker_of, freed, has_lock, is_full, with_value}
 use Rattle.asp_job.specs.History.{held_by, with_lane}
 use Rattle.asp_job.specs.Journal.{IsRight, AreRight, past_after}
 use Rattle.asp_job.specs.Rules.{Rules}

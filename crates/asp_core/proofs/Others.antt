@@ -1,5 +1,5 @@
 -- An entry says nothing of other runs than its own.
-use Rattle.std.proofs.Common.{◌≡◌, ℕ, ◌+◌, ◌<◌, ◌≤◌, ◌==◌, Bool, true, false, List, [], ◌∷◌, ◌++◌, refl, ap, sym, ◌∙◌, append-nil, arith}
+use Rattle.std.proofs.Common.{◌≡◌, ℕ, ◌+◌, ◌≤◌, ◌==◌, true, false, List, ◌∷◌, refl, ap, append-nil, arith}
 use Rattle.asp_job.specs.History.{run_in, with_lane}
 use Rattle.asp_job.specs.Keys.{began_with, letters_of, told}
 use Rattle.asp_job.specs.Rules.{Rules}

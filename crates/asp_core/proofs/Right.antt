@@ -1,11 +1,11 @@
 -- What holds of the runs of a right journal.
-use Rattle.std.proofs.Common.{◌≡◌, ℕ, ◌+◌, ◌<◌, ◌≤◌, ◌==◌, ◌&&◌, ◌⊎◌, Bool, true, false, if◌then◌else◌, List, [], ◌∷◌, ◌++◌, Option, Some, None, unwrap_or, refl, ap, sym, ◌∙◌, append-nil, arith, inl, inr, subst}
+use Rattle.std.proofs.Common.{◌≡◌, ℕ, ◌+◌, ◌<◌, ◌≤◌, ◌==◌, ◌&&◌, Bool, true, false, if◌then◌else◌, List, [], ◌∷◌, ◌++◌, Some, None, unwrap_or, refl, ap, sym, ◌∙◌, append-nil, arith, inl, inr}
 use Rattle.std.proofs.lemmas.Bool.{cases_Bool, eqb-true, eq-eqb}
 use Rattle.asp_job.specs.History.{run_in, with_lane}
 use Rattle.asp_job.specs.Journal.{AreRight, IsRight}
 use Rattle.asp_job.specs.Keys.{given}
 use Rattle.asp_job.specs.Rules.{Rules}
-use Rattle.asp_job.specs.Runs.{drawn, draws, is_stage_unfinished, is_stage_waiting, replies_of, stage_of, unfinished}
+use Rattle.asp_job.specs.Runs.{drawn, draws, is_stage_unfinished, is_stage_waiting, replies_of, stage_of}
 use Rattle.asp_job.specs.Told.{begun}
 use Rattle.asp_job.specs.Turns.{IsBegin, IsRunning, MayFollow, may_begin, owed}
 use Rattle.asp_job.specs.declared.entry.EndKind.{EndKind}

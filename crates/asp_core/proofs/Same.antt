@@ -1,10 +1,9 @@
 -- What is kept after an event that may have been refused.
-use Rattle.std.proofs.Common.{◌≡◌, ℕ, ◌+◌, ◌≤◌, List, length, reverse, Option, Result, Ok, Err, OnOk, OnErr, refl, sym, subst, arith}
+use Rattle.std.proofs.Common.{◌≡◌, ℕ, ◌≤◌, List, reverse, Option, Result, Ok, Err, OnOk, OnErr, arith}
 use Rattle.asp_job.specs.declared.entry.Entry.{Entry}
 use Rattle.asp_job.specs.declared.session.SessionState.{SessionState}
 use Rattle.asp_job.specs.Application.{AppState}
 use Rattle.asp_job.specs.Rules.{Rules}
-use Rattle.asp_job.specs.Runs.{unfinished}
 use Rattle.asp_core.specs.Kernel.{CoreView, IsKept, IsWithin, HasRoom}
 
 -- all of it, in a journal with as much room or more

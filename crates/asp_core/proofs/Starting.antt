@@ -1,5 +1,5 @@
 -- A new core's journal.
-use Rattle.std.proofs.Common.{◌≡◌, ℕ, ◌+◌, ◌-◌, ◌==◌, Bool, true, false, if◌then◌else◌, List, [], ◌∷◌, ◌++◌, length, reverse, Option, None, get_or, refl, ap, sym, ◌∙◌, arith}
+use Rattle.std.proofs.Common.{◌≡◌, ℕ, ◌==◌, Bool, true, false, if◌then◌else◌, List, [], ◌∷◌, reverse, Option, None, refl, arith}
 use Rattle.std.proofs.Math.Path.{fun_ext}
 use Rattle.asp_job.specs.declared.job.Work.TheVariants as work
 use Rattle.std.proofs.lemmas.List.Elements.{All-nil}

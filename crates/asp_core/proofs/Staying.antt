@@ -1,11 +1,11 @@
 -- Runs stay as they are while other entries come.
-use Rattle.std.proofs.Common.{◌≡◌, ◌≢◌, ℕ, ◌+◌, ◌<◌, ◌≤◌, ◌==◌, Bool, true, false, if◌then◌else◌, nat_lt, List, [], ◌∷◌, ◌++◌, reverse, Option, Some, refl, ap, sym, ◌∙◌, subst, arith, inl, inr}
+use Rattle.std.proofs.Common.{◌≡◌, ◌≢◌, ℕ, ◌==◌, false, List, [], ◌∷◌, ◌++◌, reverse, refl, ap, ◌∙◌, subst, arith, inl, inr}
 use Rattle.std.proofs.lemmas.Bool.{cases_Bool, eqb-true}
 use Rattle.asp_core.specs.Laws.{AreNoSteps, AreOfOthers, RunStays, is_step_of}
 use Rattle.asp_job.specs.History.{run_in, with_lane}
 use Rattle.asp_job.specs.Journal.{AreRight, IsRight, past_after}
 use Rattle.asp_job.specs.Rules.{Rules}
-use Rattle.asp_job.specs.Runs.{is_stage_unfinished, lane_of, stage_of, unfinished}
+use Rattle.asp_job.specs.Runs.{is_stage_unfinished, lane_of, stage_of}
 use Rattle.asp_job.specs.Turns.{IsRunning, owed}
 use Rattle.asp_job.specs.declared.entry.Entry.{Entry}
 use Rattle.asp_job.specs.declared.entry.Stage.TheVariants.{Unfinished, Waiting}

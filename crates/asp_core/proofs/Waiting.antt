@@ -1,6 +1,5 @@
 -- A Tick leaves the page runs that wait as they are.
-use Rattle.std.proofs.Common.{◌≡◌, ℕ, ◌+◌, ◌<◌, ◌≤◌, ◌==◌, ◌&&◌, Bool, true, false, if◌then◌else◌, List, [], ◌∷◌, ◌++◌, length, reverse, refl, ap, sym, ◌∙◌, subst, arith, append-nil, nat_lt, inl, inr, filter}
-use Rattle.std.proofs.lemmas.Grind.{common_steps}
+use Rattle.std.proofs.Common.{◌≡◌, ℕ, ◌+◌, ◌&&◌, Bool, false, List, [], ◌∷◌, refl, ap, ◌∙◌, append-nil, inl, inr, filter}
 use Rattle.std.proofs.lemmas.Bool.{cases_lt}
 use Rattle.asp_job.specs.declared.job.Work.TheVariants as work
 use Rattle.asp_job.specs.History.{with_lane}

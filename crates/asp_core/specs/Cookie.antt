@@ -1,5 +1,6 @@
 -- The key that the session cookie of a request names (RFC 6265, section 4.2; its name and letters are the profile's).
-use Rattle.std.specs.Prelude.{ℕ, ◌==◌, ◌||◌, Bool, if◌then◌else◌, nat_eq, List, [], ◌∷◌, length, reverse, map, drop, codes, Option, Some, None}
+use Rattle.std.specs.Prelude.{ℕ, ◌==◌, ◌||◌, Bool, if◌then◌else◌, nat_eq, List, [], ◌∷◌, length, reverse, map, drop}
+use Rattle.std.specs.Prelude.{codes, Option, Some, None}
 use Rattle.std.specs.List.{flat_map, slice_split, starts_with, find}
 use Rattle.vb_value.specs.Folding.{same_name}
 use Rattle.asp_job.specs.declared.request.Header.{Header}

@@ -1,6 +1,8 @@
 -- What contracts see of a core, and of a run that was moved out of it. All of it is the profile's.
-use Rattle.std.specs.Prelude.{◌≡◌, ℕ, ◌+◌, ◌-◌, ◌*◌, ◌≤◌, ◌<◌, ◌==◌, ◌⊎◌, ◌++◌, ◌∷◌, Bool, true, false, if◌then◌else◌, nat_lt, min, ◌^◌}
-use Rattle.std.specs.Prelude.{List, [], length, reverse, slice_set, slice_index_or, All, Option, Some, None, IfSome, Result, Ok, Err, unwrap_or, is_some}
+use Rattle.std.specs.Prelude.{◌≡◌, ℕ, ◌+◌, ◌-◌, ◌≤◌, ◌<◌, ◌==◌, ◌⊎◌, ◌++◌, ◌∷◌, Bool, true, false, if◌then◌else◌}
+use Rattle.std.specs.Prelude.{nat_lt, min, ◌^◌}
+use Rattle.std.specs.Prelude.{List, [], length, reverse, slice_set, slice_index_or, All, Option, Some, None, IfSome}
+use Rattle.std.specs.Prelude.{Result, Ok, Err}
 use Rattle.vb_value.specs.declared.application.AppCall.{AppCall}
 use Rattle.vb_value.specs.declared.memory.Memory as memory
 use Rattle.asp_job.specs.declared.answer.Answer.{Answer}
@@ -10,9 +12,8 @@ use Rattle.asp_job.specs.declared.entry.EndKind.TheVariants as kind
 use Rattle.asp_job.specs.declared.entry.Entry.{Entry}
 use Rattle.asp_job.specs.declared.entry.TheConstants.{MOST_ENTRIES, MOST_WEIGHT, MOST_UNFINISHED}
 use Rattle.asp_job.specs.declared.entry.What.{What}
-use Rattle.asp_job.specs.declared.entry.What.TheVariants.{Queue, Admit, Refuse, Tick, Begin, App, End, Take, Stop, Halt}
+use Rattle.asp_job.specs.declared.entry.What.TheVariants.{Admit, Refuse, Tick, Stop}
 use Rattle.asp_job.specs.declared.job.Job.{Job}
-use Rattle.asp_job.specs.declared.job.Work.{Work}
 use Rattle.asp_job.specs.declared.job.Work.TheVariants as work
 use Rattle.asp_job.specs.declared.request.Request.{Request}
 use Rattle.asp_job.specs.declared.request.Verb.{Verb}
@@ -24,10 +25,9 @@ use Rattle.asp_job.specs.Application.{AppState, blocker_of}
 use Rattle.asp_job.specs.History.{held_by, load, weight_load, call_entry, with_lane, HasNotFit}
 use Rattle.asp_job.specs.Journal.{IsValidJournal, queue_entries, admit_entry, tick_entries, past_after, begin_entry}
 use Rattle.asp_job.specs.Keys.{session_of, told, made, opened, live, due_at}
-use Rattle.asp_job.specs.Output.{status_in, length_in, counted}
 use Rattle.asp_job.specs.Rules.{Rules, Cause, TooManySessions, OutOfMemory, JournalFull}
-use Rattle.asp_job.specs.Running.{Phase, Going, Wanting, Over, Dead, IsFinish, is_page}
-use Rattle.asp_job.specs.Runs.{unfinished, drawn, moment_of, is_halted, job_of}
+use Rattle.asp_job.specs.Running.{Phase, Going, Wanting, Over}
+use Rattle.asp_job.specs.Runs.{unfinished, drawn, moment_of, is_halted}
 use Rattle.asp_job.specs.Session.{IsSession}
 use Rattle.asp_job.specs.Size.{IsSmall}
 use Rattle.asp_job.specs.Told.{Told, Outcome, Wants, Ends, Meaning}
@@ -108,7 +108,8 @@ IsSessionIn session = IfSome session IsSession
 
 -- The journal is valid, and its jobs are small. The table of sessions, the count of those that were opened and the
 -- Application object are what it says, and the sessions are such as may be.
-pub record IsKept (rules : Rules) (past : List Entry) (table : List (Option SessionState)) (count : ℕ) (held : AppState) : Type 0 where
+pub record IsKept (rules : Rules) (past : List Entry) (table : List (Option SessionState)) (count : ℕ)
+    (held : AppState) : Type 0 where
   pub account : IsValidJournal rules past
   pub sessions : session_at table ≡ session_of rules past
   pub keys : length table ≡ made past
@@ -218,12 +219,13 @@ abbrev pub StandsFor : {State : Type 0} → (State → Told → ℕ → Type 0) 
 StandsFor stands meaning run t = StandsAt run.progress (stands run.state t) (meaning.does t)
 
 -- whatever the run was told before, it was told still
-abbrev pub StandsAsBefore : {State : Type 0} → (State → Told → ℕ → Type 0) → Meaning → RunView State → RunView State → Type 0
+abbrev pub StandsAsBefore : {State : Type 0} → (State → Told → ℕ → Type 0) → Meaning →
+    RunView State → RunView State → Type 0
 StandsAsBefore stands meaning old new = (t : Told) → StandsFor stands meaning old t → StandsFor stands meaning new t
 
 -- The run is one of the core's unfinished runs, of that lane, and was told what the journal says.
-pub record IsRunOf {R Site State : Type 0} (meaning : R → Site → Meaning) (stands : R → Site → State → Told → ℕ → Type 0)
-    (core : CoreView R Site) (lane : ℕ) (run : RunView State) : Type 0 where
+pub record IsRunOf {R Site State : Type 0} (meaning : R → Site → Meaning)
+    (stands : R → Site → State → Told → ℕ → Type 0) (core : CoreView R Site) (lane : ℕ) (run : RunView State) : Type 0 where
   pub running : IsRunning (past_of core) lane run.number
   pub stands_for : StandsFor (stands core.runner core.site) (meaning core.runner core.site) run
       (told (rules_of meaning core) (past_of core) run.number)

@@ -1,7 +1,8 @@
 //! The journal after an event.
 #![tactic(auto)]
 
-ghost use Rattle.std.specs.Prelude.{◌≡◌, ◌+◌, ◌-◌, ◌<◌, ◌≤◌, ◌^◌, ◌++◌, ◌∷◌, [], ℕ, List as Items, reverse, length, OnOk, OnErr, IfOk, IfErr, Err};
+ghost use Rattle.std.specs.Prelude.{◌≡◌, ◌+◌, ◌-◌, ◌<◌, ◌≤◌, ◌^◌, ◌++◌, ◌∷◌, [], ℕ, List as Items, reverse, length};
+ghost use Rattle.std.specs.Prelude.{OnOk, OnErr, IfOk, IfErr, Err};
 ghost use Rattle.std.specs.Prelude.{vec_capacity, vec_len};
 ghost use Rattle.asp_job.specs.History as history;
 ghost use Rattle.asp_job.specs.Journal as journals;
@@ -27,17 +28,20 @@ pub fn with_tick<R: Runner>(
     moment: u64,
 ) -> Result<(), EventStop>
     requires sessions { kernel.session_at table.now
-        ≡ spec.session_of (kernel.rules_by (R.meaning runner.now.value site.now.value) seed.now) (reverse journal.old.items) }
+        ≡ spec.session_of
+        (kernel.rules_by (R.meaning runner.now.value site.now.value) seed.now) (reverse journal.old.items) }
     requires small { history.entries_in (reverse journal.old.items) ≤ MOST_ENTRIES }
     ensures entries { OnOk result (journal.new.items ≡ journal.old.items
-        ++ journals.tick_entries (kernel.rules_by (R.meaning runner.now.value site.now.value) seed.now) (reverse journal.old.items) lane moment) }
+        ++ journals.tick_entries
+        (kernel.rules_by (R.meaning runner.now.value site.now.value) seed.now) (reverse journal.old.items) lane moment) }
     ensures err { OnErr result (journal.new.items ≡ journal.old.items) }
     ensures capacity { vec_capacity journal.old ≤ vec_capacity journal.new }
     ensures within { OnOk result (kernel.IsWithin (reverse journal.new.items)) }
     ensures room { OnOk result (kernel.HasRoom (reverse journal.new.items) (vec_capacity journal.new)) }
     ensures full { (entries weight : ℕ) → result ≡ Err (EventStop.JournalFull entries weight) →
         kernel.IsTooMuch (journals.past_after (reverse journal.old.items)
-        (journals.tick_entries (kernel.rules_by (R.meaning runner.now.value site.now.value) seed.now) (reverse journal.old.items) lane moment))
+        (journals.tick_entries
+        (kernel.rules_by (R.meaning runner.now.value site.now.value) seed.now) (reverse journal.old.items) lane moment))
         entries weight }
 {
     let first = journal.len();
@@ -63,17 +67,20 @@ pub fn with_stop<R: Runner>(
     lane: u32,
 ) -> Result<(), EventStop>
     requires sessions { kernel.session_at table.now
-        ≡ spec.session_of (kernel.rules_by (R.meaning runner.now.value site.now.value) seed.now) (reverse journal.old.items) }
+        ≡ spec.session_of
+        (kernel.rules_by (R.meaning runner.now.value site.now.value) seed.now) (reverse journal.old.items) }
     requires small { history.entries_in (reverse journal.old.items) ≤ MOST_ENTRIES }
     ensures entries { OnOk result (journal.new.items ≡ journal.old.items
-        ++ journals.stop_entries (kernel.rules_by (R.meaning runner.now.value site.now.value) seed.now) (reverse journal.old.items) lane) }
+        ++ journals.stop_entries
+        (kernel.rules_by (R.meaning runner.now.value site.now.value) seed.now) (reverse journal.old.items) lane) }
     ensures err { OnErr result (journal.new.items ≡ journal.old.items) }
     ensures capacity { vec_capacity journal.old ≤ vec_capacity journal.new }
     ensures within { OnOk result (kernel.IsWithin (reverse journal.new.items)) }
     ensures room { OnOk result (kernel.HasRoom (reverse journal.new.items) (vec_capacity journal.new)) }
     ensures full { (entries weight : ℕ) → result ≡ Err (EventStop.JournalFull entries weight) →
         kernel.IsTooMuch (journals.past_after (reverse journal.old.items)
-        (journals.stop_entries (kernel.rules_by (R.meaning runner.now.value site.now.value) seed.now) (reverse journal.old.items) lane))
+        (journals.stop_entries
+        (kernel.rules_by (R.meaning runner.now.value site.now.value) seed.now) (reverse journal.old.items) lane))
         entries weight }
 {
     let first = journal.len();

@@ -1,12 +1,14 @@
 //! The core: it keeps the journal, and tables of what the journal says.
 #![tactic(auto)]
 
-ghost use Rattle.std.specs.Prelude.{◌≡◌, ◌+◌, ◌-◌, ◌<◌, ◌≤◌, ◌++◌, ◌∷◌, [], ℕ, List as Items, reverse, length, OnOk, OnErr, IfOk, IfErr, IsOk};
+ghost use Rattle.std.specs.Prelude.{◌≡◌, ◌+◌, ◌-◌, ◌<◌, ◌≤◌, ◌++◌, ◌∷◌, [], ℕ, List as Items, reverse, length, OnOk};
+ghost use Rattle.std.specs.Prelude.{OnErr, IfOk, IfErr, IsOk};
 ghost use Rattle.std.specs.Prelude.{Some, None, Err, true, false, ◌↔◌, ◌≢◌, IsSome, vec_capacity};
 ghost use Rattle.asp_job.specs.History as history;
 ghost use Rattle.asp_job.specs.Journal as journals;
 ghost use Rattle.asp_job.specs.Runs as runs;
-ghost use Rattle.asp_core.specs.Kernel.{CoreView, RunView, past_of, rules_of, grown, IsHostOf, IsTooMuch, IsWithin, IsRunOf, HasRoom};
+ghost use Rattle.asp_core.specs.Kernel.{CoreView, RunView, past_of, rules_of, grown, IsHostOf, IsTooMuch, IsWithin};
+ghost use Rattle.asp_core.specs.Kernel.{IsRunOf, HasRoom};
 
 use crate::events::{with_stop, with_tick};
 use crate::keys::unfinished;
@@ -42,10 +44,12 @@ impl<R: Runner> Model for Core<R> {
 
     ghost coded = { Prim.hlevel (codes, contract.the_row.coded, R.code, R.Site.code) };
 
-    ghost view = { λ c. record { journal = c.journal.items; runner = c.runner.value; site = c.site.value; seed = c.seed } };
+    ghost view = { λ c.
+        record { journal = c.journal.items; runner = c.runner.value; site = c.site.value; seed = c.seed } };
 
     ghost invariant = { λ c.
-        IsKept (rules_by (R.meaning c.runner.value c.site.value) c.seed) (reverse c.journal.items) c.table.items c.opened c.application
+        IsKept (rules_by (R.meaning c.runner.value c.site.value) c.seed) (reverse c.journal.items)
+        c.table.items c.opened c.application
         × IsWithin (reverse c.journal.items) × HasRoom (reverse c.journal.items) (vec_capacity c.journal) };
 }
 
@@ -136,8 +140,8 @@ impl<R: Runner> Core<R> {
         is_halted(self.journal.as_slice())
     }
 
-    /// Time goes on to `moment`, in seconds since 1970, and sessions end. An earlier moment changes nothing and takes no
-    /// memory. A refusal changes nothing.
+    /// Time goes on to `moment`, in seconds since 1970, and sessions end. An earlier moment changes nothing and takes
+    /// no memory. A refusal changes nothing.
     pub fn tick(&mut self, lane: u32, moment: u64) -> Result<(), EventStop>
         ensures ok { OnOk result (self.new ≡ grown self.old
             (journals.tick_entries (rules_of R.meaning self.old) (past_of self.old) lane moment)) }
@@ -161,7 +165,8 @@ impl<R: Runner> Core<R> {
         )
     }
 
-    /// No job is admitted from now on, and the sessions end. After a Stop it changes nothing. A refusal changes nothing.
+    /// No job is admitted from now on, and the sessions end. After a Stop it changes nothing. A refusal changes
+    /// nothing.
     pub fn stop(&mut self, lane: u32) -> Result<(), EventStop>
         ensures ok { OnOk result (runs.is_stopping (past_of self.old) ≡ false → self.new ≡ grown self.old
             (journals.stop_entries (rules_of R.meaning self.old) (past_of self.old) lane)) }

@@ -1,7 +1,8 @@
 //! What a journal and the sessions tell of runs and keys.
 #![tactic(auto, using(crate::proofs::Numbers::any_more, crate::proofs::Numbers::filter_more))]
 
-ghost use Rattle.std.specs.Prelude.{◌≡◌, ◌≤◌, ◌+◌, ◌-◌, ◌<◌, ◌^◌, ◌*◌, ◌==◌, ◌&&◌, Option, reverse, length, ℕ, false, true, List, filter, min};
+ghost use Rattle.std.specs.Prelude.{◌≡◌, ◌≤◌, ◌+◌, ◌-◌, ◌<◌, ◌^◌, ◌*◌, ◌==◌, ◌&&◌, Option, reverse, length, ℕ, false};
+ghost use Rattle.std.specs.Prelude.{true, List, filter, min};
 ghost use Rattle.std.specs.Prelude.{IfOk, IfNone, IfSome, OnSome};
 ghost use Rattle.std.specs.Option.{option_copied};
 ghost use Rattle.asp_job.specs.History as history;
@@ -13,10 +14,10 @@ ghost use Rattle.asp_job.specs.declared.session.SessionState.{SessionState};
 ghost use Rattle.asp_core.specs.Kernel as kernel;
 
 use crate::scan::{
-    drawn, entries_in, is_closing, is_halted, is_last_run, is_page_run, is_stopping, key_of,
-    last_asked, made, stage_of,
+    drawn, entries_in, is_closing, is_halted, is_stopping, key_of, last_asked, made, stage_of,
 };
 use crate::weighing::weight_in;
+use crate::works::{is_last_run, is_page_run};
 use asp_job::{Entry, MOST_LIVE, MOST_UNFINISHED, SessionState, Stage};
 use std::alloc::Global;
 use vb_value::{List, Memory};

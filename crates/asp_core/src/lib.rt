@@ -11,6 +11,7 @@ mod run;
 mod scan;
 mod stop;
 mod weighing;
+mod works;
 
 pub use kernel::Core;
 pub use laws::{lock_holds, runs_stay};

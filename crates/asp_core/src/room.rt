@@ -1,7 +1,8 @@
 //! Room in a journal.
 #![tactic(auto)]
 
-ghost use Rattle.std.specs.Prelude.{◌≡◌, ◌+◌, ◌<◌, ◌≤◌, ◌^◌, ◌++◌, ◌∷◌, [], ℕ, List as Items, reverse, length, take, OnOk, OnErr, IfNone, IfSome, IfErr, Err};
+ghost use Rattle.std.specs.Prelude.{◌≡◌, ◌+◌, ◌<◌, ◌≤◌, ◌^◌, ◌++◌, ◌∷◌, [], ℕ, List as Items, reverse, length, take};
+ghost use Rattle.std.specs.Prelude.{OnOk, OnErr, IfNone, IfSome, IfErr, Err};
 ghost use Rattle.std.specs.Prelude.{vec_capacity, vec_len};
 ghost use Rattle.vb_value.specs.Outcome.{Changes};
 ghost use Rattle.asp_job.specs.History.{load};
@@ -47,8 +48,8 @@ pub fn append(journal: &mut Vec<Entry>, more: List<Entry>) -> Result<(), Memory>
     Ok(journal.append(&mut more)?)
 }
 
-/// Keeps the journal if it is not too long or too heavy and there is room for the ends of all unfinished runs; else only
-/// its first entries.
+/// Keeps the journal if it is not too long or too heavy and there is room for the ends of all unfinished runs; else
+/// only its first entries.
 pub fn fit(journal: &mut Vec<Entry>, first: usize) -> Result<(), EventStop>
     requires { first ≤ length journal.old.items }
     ensures ok { OnOk result (journal.new.items ≡ journal.old.items) }

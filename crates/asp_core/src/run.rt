@@ -68,14 +68,15 @@ impl<R: Runner> Run<R> {
         self.number
     }
 
-    /// Goes on until the run wants a call, has ended, or has spent `quantum` ticks and has more to do. Without memory the
-    /// run can only be ended.
+    /// Goes on until the run wants a call, has ended, or has spent `quantum` ticks and has more to do. Without memory
+    /// the run can only be ended.
     pub fn go(&mut self, runner: &R, site: &R::Site, quantum: u32) -> Result<Step, Memory>
         requires going { self.old.progress ≡ Progress.Going }
         requires quantum { 1 ≤ quantum }
         ensures number { self.new.number ≡ self.old.number }
         ensures progress { self.new.progress ≡ kernel.progress_of result }
-        ensures stands { kernel.StandsAsBefore (R.stands runner.now site.now) (R.meaning runner.now site.now) self.old self.new }
+        ensures stands { kernel.StandsAsBefore
+            (R.stands runner.now site.now) (R.meaning runner.now site.now) self.old self.new }
     {
         match runner.go(site, &mut self.state, quantum) {
             Ok(step) => match progress_after(&step) {
@@ -113,7 +114,8 @@ impl<R: Runner> Run<R> {
         ensures call { result ≡ kernel.wanted_by self.old.progress }
         ensures number { self.new.number ≡ self.old.number }
         ensures going { self.new.progress ≡ Progress.Going }
-        ensures stands { (site : R.Site) (told : Told) (spent : ℕ) → R.stands runner.now site self.old.state told spent →
+        ensures stands { (site : R.Site) (told : Told) (spent : ℕ) →
+            R.stands runner.now site self.old.state told spent →
             R.stands runner.now site self.new.state (heard told reply) spent }
     {
         runner.feed(&mut self.state, reply);

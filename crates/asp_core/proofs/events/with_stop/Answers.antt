@@ -1,6 +1,5 @@
-use Rattle.std.proofs.Common.{rules, ◌≡◌, ◌+◌, ◌<◌, ◌≤◌, ◌++◌, ◌∷◌, [], ℕ, List, reverse, length, arith, ap, sym, ◌∙◌, subst, refl, Err}
+use Rattle.std.proofs.Common.{◌≡◌, ◌++◌, reverse, arith, subst}
 use Rattle.std.proofs.lemmas.Grind.{common_steps}
-use Rattle.asp_job.specs.Journal.{stop_entries, past_after}
 use Rattle.asp_core.specs.Kernel.{rules_by, IsTooMuch, stopped_by, session_at}
 use Rattle.asp_core.proofs.Kept.{stop_made}
 use Rattle.asp_core.proofs.events.with_stop.Goals as goal

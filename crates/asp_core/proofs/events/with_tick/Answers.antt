@@ -1,6 +1,6 @@
-use Rattle.std.proofs.Common.{rules, ◌≡◌, ◌+◌, ◌<◌, ◌≤◌, ◌++◌, ◌∷◌, [], ℕ, List, reverse, length, arith, ap, sym, ◌∙◌, subst, refl, Err}
+use Rattle.std.proofs.Common.{◌≡◌, ◌++◌, reverse, arith, subst}
 use Rattle.std.proofs.lemmas.Grind.{common_steps}
-use Rattle.asp_job.specs.Journal.{tick_entries, past_after}
+use Rattle.asp_job.specs.Journal.{tick_entries}
 use Rattle.asp_core.specs.Kernel.{rules_by, IsTooMuch}
 use Rattle.asp_core.proofs.Kept.{ticked_is, grown_past}
 use Rattle.asp_core.proofs.events.with_tick.Goals as goal

@@ -1,4 +1,4 @@
-use Rattle.std.proofs.Common.{◌≡◌, ◌≤◌, ◌<◌, ◌+◌, ◌-◌, ◌^◌, ℕ, false, min, sum_by, length, filter, reverse}
+use Rattle.std.proofs.Common.{◌≡◌, reverse}
 use Rattle.asp_job.specs.Runs as runs
 use Rattle.asp_job.specs.Turns as turns
 use Rattle.std.specs.List.{list_any}

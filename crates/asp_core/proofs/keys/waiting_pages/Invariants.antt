@@ -1,4 +1,4 @@
-use Rattle.std.proofs.Common.{◌≡◌, ◌≤◌, ◌<◌, ◌+◌, ◌-◌, ◌^◌, ℕ, false, min, sum_by, length, filter, reverse}
+use Rattle.std.proofs.Common.{◌≡◌, ◌≤◌, length, filter, reverse}
 use Rattle.asp_job.specs.Runs as runs
 use Rattle.asp_job.specs.Turns as turns
 use Rattle.asp_core.proofs.keys.waiting_pages.Given as goal

@@ -1,4 +1,4 @@
-use Rattle.std.proofs.Common.{◌≡◌, ◌≤◌, take, reverse}
+use Rattle.std.proofs.Common.{◌≡◌, take, reverse}
 use Rattle.asp_job.specs.Runs as runs
 use Rattle.asp_core.proofs.scan.is_stopping.Given as goal
 

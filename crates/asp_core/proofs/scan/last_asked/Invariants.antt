@@ -1,4 +1,4 @@
-use Rattle.std.proofs.Common.{◌≡◌, ◌≤◌, take, reverse}
+use Rattle.std.proofs.Common.{◌≡◌, take, reverse}
 use Rattle.asp_job.specs.Keys as keys
 use Rattle.asp_core.proofs.scan.last_asked.Given as goal
 

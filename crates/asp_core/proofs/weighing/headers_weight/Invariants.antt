@@ -1,4 +1,4 @@
-use Rattle.std.proofs.Common.{◌≡◌, ◌≤◌, ◌<◌, ◌+◌, ◌-◌, ◌^◌, ℕ, false, min, sum_by, length, filter, take, reverse}
+use Rattle.std.proofs.Common.{◌≡◌, ◌-◌, ◌^◌, min, sum_by, take}
 use Rattle.asp_job.specs.History as history
 use Rattle.asp_core.proofs.weighing.headers_weight.Given as goal
 

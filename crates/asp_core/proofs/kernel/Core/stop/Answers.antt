@@ -1,4 +1,4 @@
-use Rattle.std.proofs.Common.{rules, ◌≡◌, ◌≤◌, ◌++◌, reverse, arith, List, ap, sym, subst, ◌∙◌, false, vec_capacity}
+use Rattle.std.proofs.Common.{◌≡◌, ◌++◌, reverse, arith, ap, subst, ◌∙◌, false, vec_capacity}
 use Rattle.std.proofs.lemmas.Grind.{common_steps}
 use Rattle.asp_job.specs.Journal.{stop_entries, past_after}
 use Rattle.asp_job.specs.Runs.{is_stopping}

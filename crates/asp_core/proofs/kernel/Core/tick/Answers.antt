@@ -1,7 +1,5 @@
-use Rattle.std.proofs.Common.{rules, ◌≡◌, ◌≤◌, ◌++◌, reverse, arith, List, ap, sym, subst, ◌∙◌, false, vec_capacity}
-use Rattle.std.proofs.lemmas.Grind.{common_steps}
+use Rattle.std.proofs.Common.{◌≡◌, ◌++◌, reverse, ap, subst, ◌∙◌, vec_capacity}
 use Rattle.asp_job.specs.Journal.{tick_entries, past_after}
-use Rattle.asp_job.specs.Runs.{is_stopping}
 use Rattle.asp_core.specs.Kernel.{CoreView, rules_by, rules_of, past_of, grown, IsTooMuch, IsKept}
 use Rattle.asp_core.proofs.Kept.{kept_after_tick}
 use Rattle.asp_core.proofs.Same.{kept_either, on_ok, view_of}
