@@ -1,12 +1,6 @@
 mod CommandWords
 mod Literals
-mod PageTexts
-mod PageValues
-mod Picked
-mod ChosenPaths
 mod Causes
-mod Files
-mod ReadPaths
-mod Answering
-mod OneAnswer
 mod GetEnds
+mod Leaving
+mod Refused

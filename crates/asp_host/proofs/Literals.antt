@@ -10,6 +10,10 @@ use Rattle.vb_value.specs.declared.site_file.FaultKind.{FaultKind}
 use Rattle.vb_value.specs.declared.site_file.FaultKind.TheVariants as fault
 use Rattle.asp_host.specs.Status.{kind_text_of, place_text}
 
+pub global_characters : chars (codes "/global.asa") ≡ codes "/global.asa"
+unfolding chars
+global_characters = refl
+
 pub memory_characters : chars (codes "out of memory") ≡ codes "out of memory"
 unfolding chars
 memory_characters = refl

@@ -1,15 +1,17 @@
 -- How a command ends: for each, by its status, a statement of its own over what the outside tells.
-use Rattle.std.specs.Prelude.{List}
+use Rattle.std.specs.Prelude.{◌≡◌, List, []}
 use Rattle.asp_host.specs.declared.status.Status.{Status}
 use Rattle.asp_host.specs.declared.words.Command.{Command}
-use Rattle.asp_host.specs.declared.words.Command.TheVariants.{Get}
+use Rattle.asp_host.specs.declared.words.Command.TheVariants.{Get, Check}
 use Rattle.asp_host.specs.Around.{Around}
+use Rattle.asp_host.specs.Check.{CheckEnds}
 use Rattle.asp_host.specs.Get.{GetEnds}
 use Rattle.asp_host.specs.Journal.{Run}
 
--- the command, of which this is the journal, ends so
+-- the command, of which this is the journal, ends so; `check` runs nothing
 abbrev pub EndsWith : Command → List Run → Around → Status → Type 0
-EndsWith (Get site path query) journal around status = GetEnds path journal around status
+EndsWith (Get site path query) journal around status = GetEnds path query journal around status
+EndsWith (Check site) journal around status = (journal ≡ []) × CheckEnds around status
 
 -- the command ends so: there is a journal with which it does
 abbrev pub Ends : Command → Around → Status → Type 0

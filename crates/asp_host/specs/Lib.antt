@@ -1,10 +1,11 @@
 pub mod Words
+pub mod Saying
 pub mod Status
-pub mod Page
-pub mod Site
-pub mod Picking
-pub mod Reading
 pub mod Around
+pub mod Answer
 pub mod Journal
+pub mod Refusing
 pub mod Get
+pub mod Check
 pub mod Host
+pub mod Stopping

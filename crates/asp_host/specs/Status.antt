@@ -4,16 +4,22 @@ use Rattle.std.specs.Fmt.{decimal}
 use Rattle.vb_value.specs.declared.site_file.SiteFault.{SiteFault}
 use Rattle.vb_value.specs.declared.site_file.FaultKind.{FaultKind}
 use Rattle.vb_value.specs.declared.site_file.FaultKind.TheVariants as fault
-use Rattle.asp_host.specs.declared.load.LoadStop.{LoadStop}
-use Rattle.asp_host.specs.declared.load.LoadStop.TheVariants.{Refused, ReadFault as FolderFault, Memory as NoMemory}
+use Rattle.site_load.specs.declared.stop.LoadStop.{LoadStop}
+use Rattle.site_load.specs.declared.stop.LoadStop.TheVariants.{Refused, ReadFault as FolderFault, Memory as NoMemory}
 use Rattle.asp_host.specs.declared.status.Status.{Status}
 use Rattle.asp_host.specs.declared.status.Status.TheVariants.{Ok, Memory, Usage, SiteRefused, ReadFault, WriteFault}
 
--- how a command ends where the folder gives no answer
+-- how a command ends where the folder is no site
 abbrev pub status_of : LoadStop → Status
-status_of (Refused path) = SiteRefused (record { path = path; line = 0; kind = fault.NotYet })
+status_of (Refused refused) = SiteRefused refused
 status_of FolderFault = ReadFault
 status_of NoMemory = Memory
+
+-- how words end that say no command: they are told so, unless memory ran out
+abbrev pub IsUnsaid : Status → Type 0
+IsUnsaid Usage = Unit {0}
+IsUnsaid Memory = Unit {0}
+IsUnsaid _ = ⊥
 
 -- the exit status of the program
 abbrev pub code_of : Status → ℕ

@@ -1,12 +1,14 @@
 //! The host as one call.
-ghost use Rattle.std.specs.Prelude.{◌≡◌, ◌↔◌, map};
+ghost use Rattle.std.specs.Prelude.{◌≡◌, map};
 ghost use Rattle.std.specs.String.{string_bytes};
 ghost use Rattle.asp_io.specs.Faults.{HasRisen};
 ghost use Rattle.asp_host.specs.declared.words.Command.{Command as Said};
 ghost use Rattle.asp_host.specs.Around.{IsLeft};
 ghost use Rattle.asp_host.specs.Host.{Ends};
+ghost use Rattle.asp_host.specs.Status.{IsUnsaid};
 ghost use Rattle.asp_host.specs.Words.{IsCommand, SaysNoCommand};
 
+use crate::check::check;
 use crate::get::get;
 use crate::status::Status;
 use crate::words::{Command, WordStop, read_words};
@@ -45,9 +47,10 @@ where
           sink = record { before = K.held sink.old; after = K.held sink.new };
         }) result }
 
-    // Words that say no command are told so, and nothing is written.
-    ensures usage { (result ≡ Status.Usage) ↔ SaysNoCommand (map string_bytes words.now) }
-    ensures unsaid { result ≡ Status.Usage → K.held sink.new ≡ K.held sink.old }
+    // Words that say no command are told so, unless memory ran out, and nothing is written.
+    ensures usage { result ≡ Status.Usage → SaysNoCommand (map string_bytes words.now) }
+    ensures no_command { SaysNoCommand (map string_bytes words.now)
+        → IsUnsaid result × (K.held sink.new ≡ K.held sink.old) }
 
     // A fault has a cause. Out of memory alone has none.
     ensures read_fault { result ≡ Status.ReadFault → HasRisen (F.faults folder.old) (F.faults folder.new) }
@@ -61,9 +64,10 @@ where
             Command::Get {
                 site: _,
                 path,
-                query: _,
+                query,
             },
-        ) => get(alloc, &path, folder, sink),
+        ) => get(alloc, &path, &query, folder, sink),
+        Ok(Command::Check { site: _ }) => check(alloc, folder, sink),
         Err(WordStop::Usage) => Status::Usage,
         Err(WordStop::Memory) => Status::Memory,
     }

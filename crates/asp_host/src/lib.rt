@@ -1,16 +1,16 @@
 //! The host as one call: a command is read from words, runs over a folder, and its output goes to a sink.
 #![tactic(auto)]
 
+mod answer;
+mod check;
 mod get;
 mod host;
 mod laws;
-mod load;
-mod page;
-mod site;
+mod refusing;
 mod status;
 mod words;
 
 pub use host::run_host;
-pub use laws::{answer_or_refusal, one_answer, one_command, one_refusal};
+pub use laws::one_command;
 pub use status::{Status, status_code, status_text};
 pub use words::{Command, WordStop, read_words};

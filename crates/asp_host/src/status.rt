@@ -4,11 +4,11 @@ ghost use Rattle.std.specs.String.{string_bytes};
 ghost use Rattle.vb_value.specs.Outcome.{Gives};
 ghost use Rattle.asp_host.specs.Status.{code_of, fault_text_of, kind_text_of, place_text, text_of};
 
-use crate::load::LoadStop;
+use site_load::LoadStop;
 use std::alloc::Global;
 use vb_value::{Copied, FaultKind, Memory, SiteFault, Text};
 
-/// The commands. Those but `get` are not run yet.
+/// The commands. Those but `get` and `check` are not run yet.
 const USAGE: &str = "usage: get SITE PATH, check SITE, replay SITE, serve SITE --requests N, gen N";
 
 /// How a command ended.
@@ -20,7 +20,7 @@ pub enum Status {
     Memory,
     /// The words are those of no command.
     Usage,
-    /// The folder is no site that this host runs, for this fault.
+    /// The folder is no site, or none that this host runs, for this fault.
     SiteRefused(SiteFault),
     /// The folder failed.
     ReadFault,
@@ -35,11 +35,7 @@ impl From<LoadStop> for Status {
 
     fn from(stop: LoadStop) -> Status {
         match stop {
-            LoadStop::Refused(path) => Status::SiteRefused(SiteFault {
-                path,
-                line: 0,
-                kind: FaultKind::NotYet,
-            }),
+            LoadStop::Refused(fault) => Status::SiteRefused(fault),
             LoadStop::ReadFault => Status::ReadFault,
             LoadStop::Memory => Status::Memory,
         }

@@ -1,31 +1,35 @@
 //! The words of a command line.
-ghost use Rattle.std.specs.Prelude.{◌≡◌, ◌↔◌, [], Err, IfOk, IsTrue, MatchOption, chars, map, slice_index};
+ghost use Rattle.std.specs.Prelude.{◌≡◌, ◌↔◌, ◌+◌, ◌^◌, ◌<◌, Err, IfOk, IsTrue, MatchOption, chars, length, map};
 ghost use Rattle.std.specs.String.{string_bytes};
-ghost use Rattle.vb_value.specs.Outcome.{Gives};
 ghost use Rattle.asp_host.specs.declared.words.WordStop.TheVariants.{Usage};
 ghost use Rattle.asp_host.specs.Words as spec;
+ghost use Rattle.asp_host.specs.Saying.{AreCheckWords, AreGetWords, AreNoCheck, AreNoGet, IsGetOf, IsTargetPath};
+ghost use Rattle.vb_value.specs.Outcome.{Gives};
 
+use http_front::{path_of, query_of};
 use std::alloc::Global;
 use thiserror::Error;
-use vb_value::{Bytes, Memory, Text};
+use vb_value::{Bytes, List, Memory, Text};
 
-/// What the path of a page ends in, in any ASCII case.
-const ENDING: &[u8; 4] = b".asp";
-
-/// A path has fewer bytes than this.
-const PATH_LIMIT: usize = 1 << 24;
+/// A path and its query have fewer characters and bytes than this, together.
+const TARGET_LIMIT: usize = 1 << 24;
 
 /// A command.
 #[derive(Debug, Drop)]
 pub enum Command {
-    /// Runs one request for a page and writes the body of its answer.
+    /// Runs one request and writes the body of its answer.
     Get {
         /// The folder of the site. It may be any word.
         site: Text,
-        /// The path of the page below the site's root.
+        /// The normal path that is asked for.
         path: Text,
-        /// What stands behind the first `?` of the path, empty without one.
+        /// What stands behind the first `?` of the path's word, as it is written; empty without one.
         query: Bytes,
+    },
+    /// Reads all of a site, and writes how many pages and files it has.
+    Check {
+        /// The folder of the site. It may be any word.
+        site: Text,
     },
 }
 
@@ -50,89 +54,83 @@ impl From<Memory> for WordStop {
     }
 }
 
-/// The command that the words say, without the program's own name.
+/// The command that the words say, without the program's own name. A path is decoded before it is judged, which takes
+/// memory.
 pub fn read_words(alloc: Global, words: &[String]) -> Result<Command, WordStop>
     ensures ok { IfOk result (spec.IsCommand (map string_bytes words.now)) }
-    ensures usage { (result ≡ Err Usage) ↔ spec.SaysNoCommand (map string_bytes words.now) }
+    ensures usage { result ≡ Err Usage → spec.SaysNoCommand (map string_bytes words.now) }
 {
-    let Some((site, path)) = get_words(words) else {
-        return Err(WordStop::Usage);
-    };
-    Ok(get_command(alloc, site, path)?)
+    if let Some((site, target)) = get_words(words) {
+        return get_command(alloc, site, target);
+    }
+    match check_word(words) {
+        Some(site) => Ok(check_command(alloc, site)?),
+        None => Err(WordStop::Usage),
+    }
 }
 
-/// The command `get` for this word and this path.
-fn get_command(alloc: Global, site: &str, path: &str) -> Result<Command, Memory>
-    ensures { Gives result (Command.Get (chars site.now) (chars path.now) []) }
-{
-    let site = Text::from_str(alloc, site)?;
-    let path = Text::from_str(alloc, path)?;
-    let query = Bytes::new(alloc);
-    Ok(Command::Get { site, path, query })
-}
-
-/// The word for the site and the path, where the words are those of `get`.
+/// The words for the site and the target, where the words are those of `get`.
 fn get_words(words: &[String]) -> Option<(&str, &str)>
-    ensures { MatchOption result (spec.SaysNoCommand (map string_bytes words.now))
-        (λ said. spec.SaysGet (map string_bytes words.now) (chars said.0.now) (chars said.1.now) []) }
+    ensures { MatchOption result (AreNoGet (map string_bytes words.now))
+        (λ said. AreGetWords (map string_bytes words.now) said.0.now said.1.now) }
 {
     match words {
-        [get, site, path] if get.as_str() == "get" && is_page_path(path.as_bytes()) => {
-            Some((site.as_str(), path.as_str()))
-        }
+        [get, site, target] if get.as_str() == "get" => Some((site.as_str(), target.as_str())),
         _ => None,
     }
 }
 
-/// Whether this is the path of a page as a command names it.
-fn is_page_path(path: &[u8]) -> bool
-    ensures { IsTrue result ↔ spec.IsPagePath path.now }
+/// The word for the site, where the words are those of `check`.
+fn check_word(words: &[String]) -> Option<&str>
+    ensures { MatchOption result (AreNoCheck (map string_bytes words.now))
+        (λ site. AreCheckWords (map string_bytes words.now) site.now) }
 {
-    if path.len() < ENDING.len() || path.len() >= PATH_LIMIT {
-        return false;
-    }
-    let (stem, ending) = path.split_at(path.len() - ENDING.len());
-    if !ending.eq_ignore_ascii_case(ENDING) {
-        return false;
-    }
-    is_stem(stem)
-}
-
-/// Whether these are names, each with a slash before it.
-fn is_stem(stem: &[u8]) -> bool
-    ensures { IsTrue result ↔ spec.IsStem stem.now }
-{
-    if stem.first() != Some(&b'/') {
-        return false;
-    }
-    for at in 0..stem.len() {
-        if !is_path_place(stem[at], byte_at(stem, at + 1)) {
-            return false;
-        }
-    }
-    true
-}
-
-/// The byte at this place, or 0 past the end.
-fn byte_at(bytes: &[u8], at: usize) -> u8
-    ensures { result ≡ slice_index bytes.now at }
-{
-    match bytes.get(at) {
-        Some(byte) => *byte,
-        None => 0,
+    match words {
+        [check, site] if check.as_str() == "check" => Some(site.as_str()),
+        _ => None,
     }
 }
 
-/// Whether this byte may stand in a path before the next.
-fn is_path_place(byte: u8, next: u8) -> bool
-    ensures { result ≡ spec.is_path_place byte next }
+/// The command `check` for this word.
+fn check_command(alloc: Global, site: &str) -> Result<Command, Memory>
+    ensures { Gives result (Command.Check (chars site.now)) }
 {
-    is_name_byte(byte) || (byte == b'/' && is_name_byte(next))
+    Ok(Command::Check {
+        site: Text::from_str(alloc, site)?,
+    })
 }
 
-/// Whether the byte may stand in a name.
-fn is_name_byte(byte: u8) -> bool
-    ensures { result ≡ spec.is_name_character byte }
+/// The command `get` for this word and the path that this one names.
+fn get_command(alloc: Global, site: &str, target: &str) -> Result<Command, WordStop>
+    ensures ok { IfOk result (IsGetOf site.now target.now) }
+    ensures usage { result ≡ Err Usage → spec.IsNoTarget target.now }
 {
-    byte.is_ascii_alphanumeric() || byte == b'-' || byte == b'_'
+    let Some(path) = target_path(alloc, target.as_bytes())? else {
+        return Err(WordStop::Usage);
+    };
+    Ok(Command::Get {
+        site: Text::from_str(alloc, site)?,
+        path,
+        query: List::from_slice(alloc, query_of(target.as_bytes()))?,
+    })
+}
+
+/// The normal path that the word names, if it is the target of a request from its path on.
+fn target_path(alloc: Global, target: &[u8]) -> Result<Option<Text>, Memory>
+    ensures { IfOk result (IsTargetPath target.now) }
+{
+    if target.first() != Some(&b'/') {
+        return Ok(None);
+    }
+    match path_of(alloc, target)? {
+        Some(path) if is_short(&path, query_of(target)) => Ok(Some(path)),
+        _ => Ok(None),
+    }
+}
+
+/// Whether a request may have this path and this query.
+fn is_short(path: &Text, query: &[u8]) -> bool
+    ensures { IsTrue result ↔ (length path.now + length query.now < 2 ^ 24) }
+{
+    path.len().saturating_add(query.len()) < TARGET_LIMIT
 }

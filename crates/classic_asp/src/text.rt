@@ -7,12 +7,12 @@ use vb_value::Text;
 pub const HELP: &str = "Runs classic ASP pages.
 
 usage:
-  classic_asp get SITE PATH   writes what the page at PATH of the folder SITE shows
+  classic_asp check SITE      reads all of a site, and writes how many pages and files it has or its first fault
+  classic_asp get SITE PATH   runs a request for PATH, and writes the body of its answer
   classic_asp --help          writes this text
   classic_asp --version       writes the program's name and version
 
-SITE is a folder. PATH is a slash and then names of letters, digits, - and _, with a slash between each two and .asp at
-the end, as /p.asp or /about/boxes.asp.
+SITE is a folder. PATH is the target of a request, as /p.asp, /about/ or /find.asp?name=cup.
 
 exit status: 0 done, 1 out of memory, 2 usage, 3 the site is refused, 4 read fault, 5 write fault";
 

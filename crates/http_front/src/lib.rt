@@ -16,3 +16,4 @@ mod target;
 pub use crate::laws::{front_by_shortest, front_stays, one_front, one_stream, stream_of_join};
 pub use crate::reader::{Next, Reader};
 pub use crate::stream::{End, read_pieces, take_requests};
+pub use crate::target::{path_of, query_of};

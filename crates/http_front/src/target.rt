@@ -84,9 +84,9 @@ fn normal_front(alloc: Global, bytes: &[u8]) -> Result<Option<Text>, Memory>
     }
 }
 
-/// The normal path that the target names, if it names one.
+/// The normal path that the target of a request names, if it names one (RFC 9112, section 3.2).
 #[tactic(auto, unfolding(crate::specs::Target::path_of))]
-pub(crate) fn path_of(alloc: Global, target: &[u8]) -> Result<Option<Text>, Memory>
+pub fn path_of(alloc: Global, target: &[u8]) -> Result<Option<Text>, Memory>
     ensures { Gives result (spec.path_of target.now) }
 {
     if target.contains(&b'#') {
@@ -98,9 +98,9 @@ pub(crate) fn path_of(alloc: Global, target: &[u8]) -> Result<Option<Text>, Memo
     }
 }
 
-/// What stands behind the first `?` of the target.
+/// What stands behind the first `?` of the target, as it is written; nothing where none stands there.
 #[tactic(auto, unfolding(crate::specs::Target::query_of))]
-pub(crate) fn query_of(target: &[u8]) -> &[u8]
+pub fn query_of(target: &[u8]) -> &[u8]
     ensures { result.now ≡ spec.query_of target.now }
 {
     match from_path_on(target) {

@@ -24,7 +24,11 @@ impl Subject for CommandWords {
             Ok(Command::Get { site, path, query }) => {
                 let (site, path) = (site.to_string(alloc)?, path.to_string(alloc)?);
                 let count = query.len();
-                Ok(format!(in alloc; "get the page {path} of {site}, query of {count} bytes")?)
+                Ok(format!(in alloc; "get {path} of {site}, query of {count} bytes")?)
+            }
+            Ok(Command::Check { site }) => {
+                let site = site.to_string(alloc)?;
+                Ok(format!(in alloc; "check {site}")?)
             }
             Err(WordStop::Usage) => Ok(String::from_str(alloc, "usage")?),
             Err(WordStop::Memory) => Err(CaseStop::Memory),

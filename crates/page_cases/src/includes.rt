@@ -22,18 +22,26 @@ impl Subject for Includes {
         }
         match expand(alloc, &files, &Text::from_str(alloc, path)?) {
             Ok(parts) => parts_text(alloc, parts.as_slice()),
-            Err(SiteStop::Fault(fault)) => {
-                let path = fault.path.to_string(alloc)?;
-                let line = fault.line;
-                let kind = fault.kind;
-                Ok(format!(in alloc; "{path}:{line}: {kind:?}")?)
-            }
-            Err(SiteStop::Memory) => Err(CaseStop::Memory),
+            Err(stop) => fault_text(alloc, stop),
         }
     }
 }
 
-fn are_short(files: &[SiteFile]) -> bool
+/// The file, the line and the kind of a fault.
+pub fn fault_text(alloc: Global, stop: SiteStop) -> Result<String, CaseStop> {
+    match stop {
+        SiteStop::Fault(fault) => {
+            let path = fault.path.to_string(alloc)?;
+            let line = fault.line;
+            let kind = fault.kind;
+            Ok(format!(in alloc; "{path}:{line}: {kind:?}")?)
+        }
+        SiteStop::Memory => Err(CaseStop::Memory),
+    }
+}
+
+/// Whether each file is one that a site may have.
+pub fn are_short(files: &[SiteFile]) -> bool
     ensures { IsTrue result → All IsShort files.now }
 {
     files.iter().all(|file| file.bytes.len() <= MOST_BYTES)

@@ -1,6 +1,7 @@
-//! Tries the cases of data/: page files with their pieces, sums, and commands over sites.
+//! Tries the cases of data/: page files with their pieces, pages with their lines, and commands over sites.
 #![tactic(auto)]
 
+mod builds;
 mod commands;
 mod folders;
 mod hexadecimal;
@@ -9,11 +10,12 @@ mod pages;
 mod sites;
 mod web;
 
+use builds::Builds;
 use case_files::try_file;
 use commands::{CommandWords, try_commands};
 use folders::Folders;
 use includes::Includes;
-use pages::{PageBytes, Pages, Sums};
+use pages::{PageBytes, Pages};
 use std::io;
 use std::io::ErrorKind;
 use web::Web;
@@ -22,12 +24,12 @@ fn main(rt: HostRuntime) -> io::Result<()> {
     let pages = try_file(&rt, "pages.txt", &Pages)?;
     let bytes = try_file(&rt, "bytes.txt", &PageBytes)?;
     let includes = try_file(&rt, "includes.txt", &Includes)?;
-    let sums = try_file(&rt, "sums.txt", &Sums)?;
+    let builds = try_file(&rt, "builds.txt", &Builds)?;
     let words = try_file(&rt, "words.txt", &CommandWords)?;
     let sites = try_commands(&rt, "sites.txt")?;
     let folders = try_file(&rt, "folders.txt", &Folders)?;
     let web = try_file(&rt, "web.txt", &Web)?;
-    if pages && bytes && includes && sums && words && sites && folders && web {
+    if pages && bytes && includes && builds && words && sites && folders && web {
         Ok(())
     } else {
         Err(ErrorKind::InvalidData.into())

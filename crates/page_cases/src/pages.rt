@@ -1,8 +1,8 @@
-//! What page files and sums are made of.
+//! What page files are made of.
 
 use crate::hexadecimal::read_bytes;
 use case_files::{CaseStop, Subject, read_text};
-use page_read::{Fragment, PageStop, SumStop, fragments, sum_numbers};
+use page_read::{Fragment, PageStop, fragments};
 use std::alloc::Global;
 use vb_value::{Memory, Text};
 
@@ -15,9 +15,6 @@ pub struct Pages;
 /// Page files by their bytes in hexadecimal.
 pub struct PageBytes;
 
-/// Sums, each with its numbers.
-pub struct Sums;
-
 impl Subject for Pages {
     fn answer(&self, alloc: Global, case: &str) -> Result<String, CaseStop> {
         pieces_text(alloc, read_text(alloc, case)?.as_str().as_bytes())
@@ -27,25 +24,6 @@ impl Subject for Pages {
 impl Subject for PageBytes {
     fn answer(&self, alloc: Global, case: &str) -> Result<String, CaseStop> {
         pieces_text(alloc, read_bytes(alloc, case)?.as_slice())
-    }
-}
-
-impl Subject for Sums {
-    fn answer(&self, alloc: Global, case: &str) -> Result<String, CaseStop> {
-        let text = Text::from_str(alloc, read_text(alloc, case)?.as_str())?;
-        let numbers = match sum_numbers(alloc, text.as_slice()) {
-            Ok(numbers) => numbers,
-            Err(SumStop::NoSum) => return Ok(String::from_str(alloc, "no sum")?),
-            Err(SumStop::Memory) => return Err(CaseStop::Memory),
-        };
-        let mut out = String::new(alloc);
-        for number in numbers.as_slice() {
-            if !out.is_empty() {
-                out.push(' ')?;
-            }
-            out.push_str(number.to_string(alloc)?.as_str())?;
-        }
-        Ok(out)
     }
 }
 

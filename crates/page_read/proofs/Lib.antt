@@ -1,4 +1,3 @@
-pub mod Terms
 pub mod Fronts
 pub mod Marks
 pub mod Attributes

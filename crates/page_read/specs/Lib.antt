@@ -1,5 +1,3 @@
-pub mod Sum
-pub mod Front
 pub mod Marks
 pub mod Attributes
 pub mod Forms

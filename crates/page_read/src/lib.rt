@@ -1,5 +1,5 @@
 //! Page files: a page is read into its pieces: its directive, text, script, values that it writes, script elements and
-//! includes. Of the values the sums of the first page are read into their numbers.
+//! includes.
 #![tactic(auto)]
 
 mod attribute;
@@ -11,7 +11,6 @@ mod located;
 mod mark;
 mod opened;
 mod piece;
-mod sum;
 mod tag;
 
 pub use expansion::{expand, one_outcome};
@@ -21,4 +20,3 @@ pub use fragment::{
 };
 pub use located::{Located, SiteStop};
 pub use mark::place_of;
-pub use sum::{SumStop, sum_numbers, sum_unique};

@@ -4,7 +4,7 @@ ghost use Rattle.std.specs.Option.{ForSome};
 ghost use Rattle.asp_io.specs.Faults.{HasCause};
 ghost use Rattle.asp_io.specs.Folder.{HasFile, path_of};
 ghost use Rattle.site_load.specs.Chosen.{AreChosen};
-ghost use Rattle.site_load.specs.Files.{IsSiteOf, most_of_site};
+ghost use Rattle.site_load.specs.Files.{AreSmall, IsSiteOf, most_of_site};
 ghost use Rattle.site_load.specs.Reading.{HasRoom, IsReadAt, IsTooLargeStop, StopsLoading};
 
 use crate::chosen::chosen_paths;
@@ -29,6 +29,7 @@ const MOST_OF_SITE: usize = 67_108_864;
 /// case, the one whose path comes first. A file that is too large, and the one by which the site is, is refused.
 pub fn site_files<F: Folder>(alloc: Global, folder: &mut F) -> Result<List<SiteFile>, LoadStop>
     ensures ok { IfOk result (λ files. IfSome (F.files folder.old) (λ all. IsSiteOf all files)) }
+    ensures small { IfOk result AreSmall }
     ensures refused { IfErr result (StopsLoading (F.files folder.old)) }
     ensures same { F.files folder.new ≡ F.files folder.old }
     ensures cause { HasCause LoadStop.ReadFault (F.faults folder.old) (F.faults folder.new) result }
@@ -55,6 +56,7 @@ fn read_files<F: Folder>(
 ) -> Result<List<SiteFile>, LoadStop>
     requires { ForSome (F.files folder.old) (λ all. AreChosen (map path_of all) paths.now) }
     ensures ok { IfOk result (λ files. IfSome (F.files folder.old) (λ all. IsSiteOf all files)) }
+    ensures small { IfOk result AreSmall }
     ensures refused { IfErr result (StopsLoading (F.files folder.old)) }
     ensures same { F.files folder.new ≡ F.files folder.old }
     ensures cause { HasCause LoadStop.ReadFault (F.faults folder.old) (F.faults folder.new) result }

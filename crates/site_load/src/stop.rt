@@ -2,6 +2,7 @@
 ghost use Rattle.std.specs.Prelude.{◌≡◌};
 
 use asp_io::IoStop;
+use page_read::SiteStop;
 use std::error::Error;
 use std::fmt;
 use vb_value::{Memory, SiteFault};
@@ -37,6 +38,19 @@ impl From<Memory> for LoadStop {
 
     fn from(_: Memory) -> LoadStop {
         LoadStop::Memory
+    }
+}
+
+impl From<SiteStop> for LoadStop {
+    ghost use Rattle.site_load.specs.Stopping.{stop_of_page};
+
+    ghost from_gives = { λ stop gives. gives ≡ stop_of_page stop };
+
+    fn from(stop: SiteStop) -> LoadStop {
+        match stop {
+            SiteStop::Fault(fault) => LoadStop::Refused(fault),
+            SiteStop::Memory => LoadStop::Memory,
+        }
     }
 }
 

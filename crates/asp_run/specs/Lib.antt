@@ -1,0 +1,6 @@
+pub mod Failures
+pub mod Lines
+pub mod Pages
+pub mod Running
+pub mod Stands
+pub mod Ticks
