@@ -6,14 +6,14 @@
 <body>
 <h1>Boxes</h1>
 <%
-Dim basket, name
-Set basket = New Basket
-basket.Add "bottles", 12
-basket.Add "lamps", 2
-basket.Add "bottles", 6
+Dim order, name
+Set order = New Basket
+order.Add "bottles", 12
+order.Add "lamps", 2
+order.Add "bottles", 6
 %><ul>
-<% For Each name In basket.Names %><li><%= basket.Count(name) %> <%= name %></li>
+<% For Each name In order.Names %><li><%= order.Count(name) %> <%= name %></li>
 <% Next %></ul>
-<p><%= basket.Total %> pieces in all.</p>
+<p><%= order.Total %> pieces in all.</p>
 </body>
 </html>
