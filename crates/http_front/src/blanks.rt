@@ -23,7 +23,7 @@ fn skip_blanks(bytes: &[u8]) -> &[u8]
 
 /// The bytes without the blanks at both ends.
 #[tactic(auto, using(crate::proofs::Trimming::one_back, crate::proofs::Trimming::none_back, crate::proofs::Trimming::nothing_back), unfolding(httparse::specs::Grammar::trim_ows))]
-pub(crate) fn trim_blanks(bytes: &[u8]) -> &[u8]
+pub fn trim_blanks(bytes: &[u8]) -> &[u8]
     ensures { result.now ≡ trim_ows bytes.now }
 {
     let mut rest = skip_blanks(bytes);
