@@ -1,0 +1,22 @@
+//! Laws of an act and of the replies that it is given. The functions do nothing: their contracts are the laws.
+ghost use Rattle.act_laws.specs.Laws.{CallsInOrder, CallsStay, NotesChangeNothing, RepliesBeyond};
+
+/// An act that has ended takes no account of more replies.
+pub fn replies_beyond<E>()
+    ensures { RepliesBeyond E }
+{}
+
+/// With the first of its replies an act wants the call that it makes next with all of them.
+pub fn calls_in_order<E>()
+    ensures { CallsInOrder E }
+{}
+
+/// The calls that an act has made stay as they are where more replies come.
+pub fn calls_stay<E>()
+    ensures { CallsStay E }
+{}
+
+/// That its calls are noted changes nothing of an act.
+pub fn notes_change_nothing<E>()
+    ensures { NotesChangeNothing E }
+{}
