@@ -16,3 +16,4 @@ pub mod Acting
 pub mod Getting
 pub mod Links
 pub mod Replies
+pub mod Wanting

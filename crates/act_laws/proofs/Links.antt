@@ -25,11 +25,11 @@ one_more_noted calls call n is = grind (arith, length-append)
 
 -- ---- why an environment gave nothing
 
-abbrev ended_for : {E : Type 0} → AskStop → World → E → List AppReply → Step (State E) Value
+abbrev pub ended_for : {E : Type 0} → AskStop → World → E → List AppReply → Step (State E) Value
 ended_for reason world env replies =
     Ends (ask_stop reason) (record { world = world; env = env; replies = replies })
 
-ends_for : (l : Link) (reason : AskStop) (world : World) (env : l.E) (replies : List AppReply) (other_env : l.F)
+pub ends_for : (l : Link) (reason : AskStop) (world : World) (env : l.E) (replies : List AppReply) (other_env : l.F)
     (others : List AppReply) → l.now env replies other_env others
     → Alike l (ended_for reason world env replies) (ended_for reason world other_env others)
 ends_for l (why.Error number) world env replies other_env others now =

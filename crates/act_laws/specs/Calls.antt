@@ -1,5 +1,5 @@
 -- The calls of the Application object that an act makes.
-use Rattle.std.specs.Prelude.{List, [], ◌∷◌, ◌++◌, Option, Some, None, Ok, Err}
+use Rattle.std.specs.Prelude.{Bool, IsTrue, List, [], ◌∷◌, ◌++◌, Option, Some, None, Ok, Err}
 use Rattle.vb_value.specs.declared.application.AppCall.{AppCall}
 use Rattle.vb_value.specs.declared.application.AppReply.{AppReply}
 use Rattle.vb_syntax.specs.declared.act.Act.{Act}
@@ -36,3 +36,10 @@ calls_of E host program which env replies = (act_of (Noting E) (noting host) pro
 abbrev pub wanted : Option PlainEnd → Option AppCall
 wanted (Some (Wants call)) = Some call
 wanted _ = None
+
+-- a call that the objects want passes a test, if they want one
+abbrev pub WantsOnly : {E : Type 0} → (AppCall → Bool) → Said E → Type 0
+WantsOnly test (Ok (given.Call call, env)) = IsTrue (test call)
+WantsOnly test (Ok (given.Value value, env)) = Unit {0}
+WantsOnly test (Ok (given.Names names, env)) = Unit {0}
+WantsOnly test (Err (why, env)) = Unit {0}

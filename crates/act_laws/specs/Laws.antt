@@ -1,12 +1,14 @@
 -- Laws of an act and of the replies that it is given, for the objects of a host whatever they do.
-use Rattle.std.specs.Prelude.{◌≡◌, List, [], ◌++◌, length, slice_get, None}
+use Rattle.std.specs.Prelude.{◌≡◌, Bool, IsTrue, List, [], ◌++◌, length, slice_get, Some, None}
 use Rattle.vb_value.specs.declared.application.AppCall.{AppCall}
 use Rattle.vb_value.specs.declared.application.AppReply.{AppReply}
+use Rattle.vb_value.specs.declared.value.Value.{Value}
 use Rattle.vb_syntax.specs.declared.act.Act.{Act}
+use Rattle.vb_syntax.specs.declared.member.Member.{Member}
 use Rattle.vb_syntax.specs.declared.program.Program.{Program}
 use Rattle.vb_meaning.specs.Acts.{act_of}
 use Rattle.vb_meaning.specs.Asking.{Host}
-use Rattle.act_laws.specs.Calls.{Noting, calls_of, noting, wanted}
+use Rattle.act_laws.specs.Calls.{Noting, WantsOnly, calls_of, noting, wanted}
 
 -- an act that wants no call ends the same, and leaves the same environment, where more replies stand behind
 abbrev pub RepliesBeyond : Type 0 → Type 0
@@ -34,3 +36,12 @@ NotesChangeNothing E = (host : Host E) (program : Program) (which : Act) (env : 
       (act_of E host program which env replies).0,
       ((act_of E host program which env replies).1, calls_of E host program which env replies),
     )
+
+-- An act wants only calls that the objects of the page want: where all of those pass a test, so does the act's.
+abbrev pub OnlyObjectsWant : Type 0 → Type 0
+OnlyObjectsWant E = (host : Host E) (test : AppCall → Bool)
+    → ((member : Member) (arguments : List Value) (env : E) → WantsOnly test (host.asked member arguments env))
+    → ((member : Member) (arguments : List Value) (reply : AppReply) (env : E)
+    → WantsOnly test (host.answered member arguments reply env))
+    → (program : Program) (which : Act) (env : E) (replies : List AppReply) (call : AppCall)
+    → wanted (act_of E host program which env replies).0 ≡ Some call → IsTrue (test call)

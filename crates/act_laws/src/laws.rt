@@ -1,5 +1,5 @@
 //! Laws of an act and of the replies that it is given. The functions do nothing: their contracts are the laws.
-ghost use Rattle.act_laws.specs.Laws.{CallsInOrder, CallsStay, NotesChangeNothing, RepliesBeyond};
+ghost use Rattle.act_laws.specs.Laws.{CallsInOrder, CallsStay, NotesChangeNothing, OnlyObjectsWant, RepliesBeyond};
 
 /// An act that has ended takes no account of more replies.
 pub fn replies_beyond<E>()
@@ -19,4 +19,9 @@ pub fn calls_stay<E>()
 /// That its calls are noted changes nothing of an act.
 pub fn notes_change_nothing<E>()
     ensures { NotesChangeNothing E }
+{}
+
+/// An act wants only calls that the objects of the page want.
+pub fn only_objects_want<E>()
+    ensures { OnlyObjectsWant E }
 {}

@@ -3,4 +3,6 @@
 
 mod laws;
 
-pub use laws::{calls_in_order, calls_stay, notes_change_nothing, replies_beyond};
+pub use laws::{
+    calls_in_order, calls_stay, notes_change_nothing, only_objects_want, replies_beyond,
+};
