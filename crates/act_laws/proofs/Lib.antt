@@ -17,3 +17,4 @@ pub mod Getting
 pub mod Links
 pub mod Replies
 pub mod Wanting
+pub mod Asking

@@ -43,3 +43,8 @@ WantsOnly test (Ok (given.Call call, env)) = IsTrue (test call)
 WantsOnly test (Ok (given.Value value, env)) = Unit {0}
 WantsOnly test (Ok (given.Names names, env)) = Unit {0}
 WantsOnly test (Err (why, env)) = Unit {0}
+
+-- what the objects are after a question passes a test
+abbrev pub LeavesOnly : {E : Type 0} → (E → Bool) → Said E → Type 0
+LeavesOnly test (Ok (what, env)) = IsTrue (test env)
+LeavesOnly test (Err (why, env)) = IsTrue (test env)

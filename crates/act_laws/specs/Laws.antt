@@ -8,7 +8,7 @@ use Rattle.vb_syntax.specs.declared.member.Member.{Member}
 use Rattle.vb_syntax.specs.declared.program.Program.{Program}
 use Rattle.vb_meaning.specs.Acts.{act_of}
 use Rattle.vb_meaning.specs.Asking.{Host}
-use Rattle.act_laws.specs.Calls.{Noting, WantsOnly, calls_of, noting, wanted}
+use Rattle.act_laws.specs.Calls.{LeavesOnly, Noting, WantsOnly, calls_of, noting, wanted}
 
 -- an act that wants no call ends the same, and leaves the same environment, where more replies stand behind
 abbrev pub RepliesBeyond : Type 0 → Type 0
@@ -45,3 +45,13 @@ OnlyObjectsWant E = (host : Host E) (test : AppCall → Bool)
     → WantsOnly test (host.answered member arguments reply env))
     → (program : Program) (which : Act) (env : E) (replies : List AppReply) (call : AppCall)
     → wanted (act_of E host program which env replies).0 ≡ Some call → IsTrue (test call)
+
+-- An act changes the objects of the page only by asking them: what each question keeps true of them is true at its end.
+abbrev pub OnlyAskingChanges : Type 0 → Type 0
+OnlyAskingChanges E = (host : Host E) (test : E → Bool)
+    → ((member : Member) (arguments : List Value) (env : E) → IsTrue (test env)
+    → LeavesOnly test (host.asked member arguments env))
+    → ((member : Member) (arguments : List Value) (reply : AppReply) (env : E) → IsTrue (test env)
+    → LeavesOnly test (host.answered member arguments reply env))
+    → (program : Program) (which : Act) (env : E) (replies : List AppReply) → IsTrue (test env)
+    → IsTrue (test (act_of E host program which env replies).1)

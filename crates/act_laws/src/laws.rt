@@ -1,5 +1,6 @@
 //! Laws of an act and of the replies that it is given. The functions do nothing: their contracts are the laws.
-ghost use Rattle.act_laws.specs.Laws.{CallsInOrder, CallsStay, NotesChangeNothing, OnlyObjectsWant, RepliesBeyond};
+ghost use Rattle.act_laws.specs.Laws.{CallsInOrder, CallsStay, NotesChangeNothing, OnlyAskingChanges};
+ghost use Rattle.act_laws.specs.Laws.{OnlyObjectsWant, RepliesBeyond};
 
 /// An act that has ended takes no account of more replies.
 pub fn replies_beyond<E>()
@@ -24,4 +25,9 @@ pub fn notes_change_nothing<E>()
 /// An act wants only calls that the objects of the page want.
 pub fn only_objects_want<E>()
     ensures { OnlyObjectsWant E }
+{}
+
+/// What each question to the objects of the page keeps true of them, an act keeps.
+pub fn only_asking_changes<E>()
+    ensures { OnlyAskingChanges E }
 {}

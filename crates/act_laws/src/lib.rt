@@ -4,5 +4,6 @@
 mod laws;
 
 pub use laws::{
-    calls_in_order, calls_stay, notes_change_nothing, only_objects_want, replies_beyond,
+    calls_in_order, calls_stay, notes_change_nothing, only_asking_changes, only_objects_want,
+    replies_beyond,
 };
