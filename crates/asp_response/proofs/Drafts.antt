@@ -142,8 +142,13 @@ moved true false answer new old made sound = either answer new old (made refl) s
 with_body : (draft : Draft) (body : List ℕ) (count : ℕ) (sent buffer : Bool) → SoundDraft draft
     → SoundDraft (record draft { body = body; flushed = count; sent = sent; buffer = buffer })
 with_body draft body count sent buffer sound = record {
-  status = sound.status; content_type = sound.content_type; charset = sound.charset; cache = sound.cache;
-  location = sound.location; cookies = sound.cookies; added = sound.added;
+  status = sound.status;
+  content_type = sound.content_type;
+  charset = sound.charset;
+  cache = sound.cache;
+  location = sound.location;
+  cookies = sound.cookies;
+  added = sound.added;
 }
 
 written_sound : (text : List ℕ) (draft : Draft) → SoundDraft draft → SoundDraft (written text draft)
@@ -164,56 +169,98 @@ after_sound Flush draft sound =
     (λ none. with_body draft draft.body (length draft.body) true draft.buffer sound)
 after_sound (Buffer on) draft sound = with_body draft draft.body draft.flushed draft.sent on sound
 after_sound (SetStatus text) draft sound = changed (is_some (status_in text)) draft.sent _ draft (λ fits. record {
-  status = status_printable text; content_type = sound.content_type; charset = sound.charset; cache = sound.cache;
-  location = sound.location; cookies = sound.cookies; added = sound.added;
+  status = status_printable text;
+  content_type = sound.content_type;
+  charset = sound.charset;
+  cache = sound.cache;
+  location = sound.location;
+  cookies = sound.cookies;
+  added = sound.added;
 }) sound
 after_sound (ContentType text) draft sound = changed (is_value text) draft.sent _ draft (λ fits. record {
-  status = sound.status; content_type = printable_of text fits; charset = sound.charset; cache = sound.cache;
-  location = sound.location; cookies = sound.cookies; added = sound.added;
+  status = sound.status;
+  content_type = printable_of text fits;
+  charset = sound.charset;
+  cache = sound.cache;
+  location = sound.location;
+  cookies = sound.cookies;
+  added = sound.added;
 }) sound
 after_sound (Charset text) draft sound = changed (is_value text) draft.sent _ draft (λ fits. record {
-  status = sound.status; content_type = sound.content_type; charset = printable_of text fits; cache = sound.cache;
-  location = sound.location; cookies = sound.cookies; added = sound.added;
+  status = sound.status;
+  content_type = sound.content_type;
+  charset = printable_of text fits;
+  cache = sound.cache;
+  location = sound.location;
+  cookies = sound.cookies;
+  added = sound.added;
 }) sound
 after_sound (Cache text) draft sound = changed (is_value text) draft.sent _ draft (λ fits. record {
-  status = sound.status; content_type = sound.content_type; charset = sound.charset; cache = printable_of text fits;
-  location = sound.location; cookies = sound.cookies; added = sound.added;
+  status = sound.status;
+  content_type = sound.content_type;
+  charset = sound.charset;
+  cache = printable_of text fits;
+  location = sound.location;
+  cookies = sound.cookies;
+  added = sound.added;
 }) sound
 after_sound (Field name text) draft sound =
     let named = is_token name && not (is_reserved name) in
     changed (named && is_value text) draft.sent (with_header name text draft) draft (λ fits. record {
-      status = sound.status; content_type = sound.content_type; charset = sound.charset; cache = sound.cache;
-      location = sound.location; cookies = sound.cookies;
+      status = sound.status;
+      content_type = sound.content_type;
+      charset = sound.charset;
+      cache = sound.cache;
+      location = sound.location;
+      cookies = sound.cookies;
       added = All-append IsSoundHeader draft.added (record { name = name; value = encode_utf8_all text } ∷ []) sound.added
-      (All-cons IsSoundHeader (record { name = name; value = encode_utf8_all text }) [] record {
-        name = token_printable name (left_true (is_token name) (not (is_reserved name)) (left_true named (is_value text) fits));
-        value = utf8_printable (printable_of text (right_true named (is_value text) fits));
-      } (All-nil IsSoundHeader));
+          (All-cons IsSoundHeader (record { name = name; value = encode_utf8_all text }) [] record {
+            name = token_printable name (left_true (is_token name) (not (is_reserved name)) (left_true named (is_value text) fits));
+            value = utf8_printable (printable_of text (right_true named (is_value text) fits));
+          } (All-nil IsSoundHeader));
     }) sound
 after_sound (SetCookie name key text) draft sound =
     changed true draft.sent (with_cookie_text name key text draft) draft (λ fits. record {
-      status = sound.status; content_type = sound.content_type; charset = sound.charset; cache = sound.cache;
-      location = sound.location; added = sound.added;
+      status = sound.status;
+      content_type = sound.content_type;
+      charset = sound.charset;
+      cache = sound.cache;
+      location = sound.location;
+      added = sound.added;
       cookies = put_sound (place_of name draft.cookies) (with_value key text) (new_cookie name) draft.cookies
-      (λ cookie was. record { path = was.path; domain = was.domain }) (new_sound name) sound.cookies;
+          (λ cookie was. record { path = was.path; domain = was.domain }) (new_sound name) sound.cookies;
     }) sound
 after_sound (Part name of text) draft sound =
     changed (fits_part of text) draft.sent (with_cookie_part name of text draft) draft (λ fits. record {
-      status = sound.status; content_type = sound.content_type; charset = sound.charset; cache = sound.cache;
-      location = sound.location; added = sound.added;
+      status = sound.status;
+      content_type = sound.content_type;
+      charset = sound.charset;
+      cache = sound.cache;
+      location = sound.location;
+      added = sound.added;
       cookies = put_sound (place_of name draft.cookies) (with_part of text) (new_cookie name) draft.cookies
-      (part_sound of text fits) (new_sound name) sound.cookies;
+          (part_sound of text fits) (new_sound name) sound.cookies;
     }) sound
 after_sound (Redirect url) draft sound =
     moved (is_value url) draft.sent _ (redirected url draft) draft (λ fits. record {
-      status = printable_of (codes "Object moved") refl; content_type = sound.content_type; charset = sound.charset;
-      cache = sound.cache; location = printable_of url fits; cookies = sound.cookies; added = sound.added;
+      status = printable_of (codes "Object moved") refl;
+      content_type = sound.content_type;
+      charset = sound.charset;
+      cache = sound.cache;
+      location = printable_of url fits;
+      cookies = sound.cookies;
+      added = sound.added;
     }) sound
 
 pub said_sound : (calls : List DraftCall) → SoundDraft (said_by calls)
 unfolding said_by
 said_sound [] = record {
-  status = tt; content_type = tt; charset = tt; cache = tt; location = tt;
-  cookies = All-nil SoundCookie; added = All-nil IsSoundHeader;
+  status = tt;
+  content_type = tt;
+  charset = tt;
+  cache = tt;
+  location = tt;
+  cookies = All-nil SoundCookie;
+  added = All-nil IsSoundHeader;
 }
 said_sound (call ∷ earlier) = after_sound call (said_by earlier) (said_sound earlier)

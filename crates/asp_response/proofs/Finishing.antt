@@ -110,7 +110,7 @@ headers_sound draft letters sound printable =
     one_sound (codes "Content-Type") (type_text draft) (printable_of (codes "Content-Type") refl) said in
     let cookies_sound : AreSound (map cookie_header draft.cookies) = record {
       each = All-map IsSoundHeader cookie_header draft.cookies
-      (All-weaker SoundCookie (λ cookie. IsSoundHeader (cookie_header cookie)) cookie_sound draft.cookies sound.cookies);
+          (All-weaker SoundCookie (λ cookie. IsSoundHeader (cookie_header cookie)) cookie_sound draft.cookies sound.cookies);
     } in
     let added_sound : AreSound draft.added = record { each = sound.added } in
     let cache_sound = one_sound (codes "Cache-control") (unwrap_or draft.cache (codes "private"))

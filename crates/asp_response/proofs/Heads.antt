@@ -24,7 +24,7 @@ status_whole : (answer : Answer) → IsSound answer → IsHeadLine (status_line 
 status_whole answer sound = record {
   some = grind arith;
   printable = both_printable (both_printable (both_printable (printable_of (codes "HTTP/1.1 ") refl)
-  (decimal_printable answer.status)) (printable_of (codes " ") refl)) (utf8_printable sound.reason);
+      (decimal_printable answer.status)) (printable_of (codes " ") refl)) (utf8_printable sound.reason);
 }
 
 close_whole : (close : Bool) (answer : Answer) → answer.close ≡ close → All IsHeadLine (close_lines answer)
