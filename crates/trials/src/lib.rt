@@ -13,4 +13,8 @@ mod longest;
 #[cfg(test)]
 mod memory;
 #[cfg(test)]
+mod records;
+#[cfg(test)]
+mod requests;
+#[cfg(test)]
 mod streams;

@@ -1,6 +1,6 @@
 //! Streams that fail or stop short in the middle.
 
-use asp_io::{Failed, IoStop, Sink, StdOut, read_start, write_all, write_start};
+use asp_io::{Failed, IoStop, Sink, Source, StdIn, StdOut, read_start, write_all, write_start};
 use std::cell::Cell;
 use std::fmt::Display;
 use std::io;
@@ -94,6 +94,27 @@ fn a_reader_that_fails_in_the_middle(rt: HostRuntime) -> Result<(), Fail> {
         assert_eq!(rt; read.map(|bytes| bytes.len()), want, "{fails} {kind:?}");
     }
     Ok(())
+}
+
+#[test]
+fn input_that_fails_in_the_middle(rt: HostRuntime) {
+    let cases = [
+        (2, ErrorKind::Other, Err(Failed), 1),
+        (2, ErrorKind::Interrupted, Ok(1), 0),
+    ];
+    for (fails, kind, want, faults) in cases {
+        let mut source = StdIn::new(Faulty {
+            calls: 0,
+            fails,
+            kind,
+        });
+        let mut buffer = [0u8; 3];
+        assert_eq!(rt; source.read(&mut buffer), Ok(1), "{kind:?}");
+        assert_eq!(rt; source.read(&mut buffer[1..]), want, "{kind:?}");
+        assert_eq!(rt; source.faults(), faults, "{kind:?}");
+        assert_eq!(rt; source.read(&mut []), Ok(0), "{kind:?}");
+        assert_eq!(rt; buffer[0], b'x', "{kind:?}");
+    }
 }
 
 #[test]

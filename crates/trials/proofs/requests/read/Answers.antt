@@ -1,0 +1,4 @@
+use Rattle.trials.proofs.requests.read.Goals as goal
+
+pub loop-piece-preserved : goal.loop-piece-preserved
+loop-piece-preserved c = (rw c.in-More.is at c.in_ok-take_requests.ensures).2.gives

@@ -1,0 +1,5 @@
+use Rattle.http_front.specs.Reader.{Wants}
+use Rattle.trials.proofs.requests.read.Given as goal
+
+abbrev pub invariant-loop-piece : goal.invariant-loop-piece
+invariant-loop-piece l = Wants l.reader
