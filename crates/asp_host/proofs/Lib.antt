@@ -1,6 +1,6 @@
 mod CommandWords
 mod Literals
 mod Causes
+mod Courses
 mod GetEnds
 mod Leaving
-mod Refused
