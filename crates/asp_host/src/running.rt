@@ -74,7 +74,7 @@ fn to_end(
     ensures { IfOk result (λ finished. (told : Told) → Stands site.now state told
         → Runs (meaning_of site.now) run told application.old finished application.new) }
 {
-    for _ in 0..u32::MAX {
+    'calls: for _ in 0..u32::MAX {
         match runner.go(site, &mut state, 1)? {
             Step::Ended => return left(runner, state),
             Step::Wants(call) => {

@@ -10,7 +10,11 @@ use Rattle.std.proofs.lemmas.List.{length-set}
 use Rattle.std.proofs.lemmas.List.Elements.{All-set, All-push, All-take, All-drop, All-append}
 use Rattle.std.proofs.lemmas.List.Quantifiers.{all_pairs_push, all_pairs_remove, position-Some}
 use Rattle.std.proofs.lemmas.List.Sums.{sum_by-set, sum_by_push, sum_by-remove, get_or-le-sum_by, fails_before_first}
+use Rattle.std.specs.Prelude.{Result, Ok, Err}
+use Rattle.vb_value.specs.declared.memory.Memory.{Memory}
 use Rattle.vb_value.specs.declared.value.Value.{Value}
+use Rattle.vb_value.specs.Outcome.{Changes}
+use Rattle.asp_job.specs.Calls.{IsName, IsShared}
 use Rattle.asp_job.specs.declared.session.Named.{Named}
 use Rattle.asp_job.specs.declared.session.SessionState.{SessionState}
 use Rattle.asp_job.specs.Session.{Differ, IsEntry, IsSession, entry_weight}
@@ -122,24 +126,33 @@ removed_differ (Some at) entries within pairs = all_pairs_remove Differ entries 
 
 -- ---- sessions
 
--- a session with an entry more that fits stays one that may be
-pub may_put : (session : SessionState) (name : List ℕ) (value : Value) (at : Option ℕ) (entries : List Named)
-    → IsSession session → at ≡ place_of name session.values → IsWithin at session.values
-    → IsEntry (record { name = name; value = value })
-    → entries ≡ put_at at (record { name = name; value = value }) session.values
+with_entries : (session : SessionState) (entries values : List Named) → entries ≡ values
+    → IsSession (record session { values = values }) → IsSession (record session { values = entries })
+with_entries session entries values same may =
+    subst (λ (values : List Named). IsSession (record session { values = values })) (sym same) may
+
+-- a session with an entry more that fits stays one that may be, and one that is as it was
+pub may_put : (session : SessionState) (name : List ℕ) (value : Value) (at : Option ℕ)
+    (result : Result (Unit {0}) Memory) (entries : List Named) → IsSession session
+    → at ≡ place_of name session.values → IsWithin at session.values → IsName name → IsShared value
+    → Changes result session.values entries (put_at at (record { name = name; value = value }) session.values)
     → weight_of_entries (put_at at (record { name = name; value = value }) session.values) ≤ 262144
     → IsSession (record session { values = entries })
-may_put session name value at entries may is within entry after light =
-    subst (λ (values : List Named). IsSession (record session { values = values })) (sym after) (record {
+may_put session name value at (Ok done) entries may is within named shared after light =
+    with_entries session entries (put_at at (record { name = name; value = value }) session.values) after (record {
       counted = may.counted;
       few = may.few;
       lasts = may.lasts;
       ends = may.ends;
-      entries = put_entries at _ session.values entry may.entries;
+      entries =
+          put_entries at (record { name = name; value = value }) session.values
+          (record { name = named; plain = shared.0; sound = shared.1 }) may.entries;
       differ = put_differ name value session.values at (sym is) within may.differ;
       light = light;
       bare = may.bare;
     })
+may_put session name value at (Err memory) entries may is within named shared after light =
+    with_entries session entries session.values after may
 
 -- a session without an entry
 pub may_remove : (session : SessionState) (at : Option ℕ) (entries : List Named) → IsSession session
@@ -147,7 +160,7 @@ pub may_remove : (session : SessionState) (at : Option ℕ) (entries : List Name
     → IsSession (record session { values = entries })
 may_remove session at entries may within after =
     let less = removed_weight at session.values within in
-    subst (λ (values : List Named). IsSession (record session { values = values })) (sym after) (record {
+    with_entries session entries (removed_at at session.values) after (record {
       counted = may.counted;
       few = may.few;
       lasts = may.lasts;

@@ -6,6 +6,8 @@ use Rattle.std.specs.Prelude.{◌↔◌, int_le}
 use Rattle.std.proofs.lemmas.Bool.{and_parts, leb-true}
 use Rattle.std.proofs.lemmas.Bool.Decides.{nat_tests}
 use Rattle.std.proofs.lemmas.Nat.{mul-le}
+use Rattle.std.proofs.lemmas.Str.Ascii.{lowercase-lowercase}
+use Rattle.vb_value.specs.Folding.{folded}
 use Rattle.std.proofs.lemmas.List.{length-map}
 use Rattle.std.proofs.lemmas.List.Folds.{list_all_more}
 use Rattle.vb_value.specs.declared.value.Array.{Array}
@@ -15,6 +17,13 @@ use Rattle.vb_value.specs.Sound.{IsSound, is_sound, array_sound, item_count, pla
 use Rattle.vb_value.proofs.Soundness.{sound-Arr}
 use Rattle.asp_job.specs.Calls.{IsShared}
 use Rattle.asp_objects.specs.Choosing.{has_shape, is_bound, is_shared}
+
+-- ---- names
+
+-- a name that was folded is folded
+pub folded_twice : (name : List ℕ) → folded (folded name) ≡ folded name
+folded_twice [] = refl
+folded_twice (c ∷ name) = λ i. lowercase-lowercase c i ∷ folded_twice name i
 
 -- ---- how many items
 

@@ -13,12 +13,16 @@ use Rattle.asp_objects.specs.declared.choosing.Chosen.{Chosen}
 use Rattle.asp_objects.specs.declared.choosing.Chosen.TheVariants as which
 use Rattle.asp_objects.specs.Given.{failed, and_then, text_in, long_in}
 
+-- the entry of the name that a value is made
+abbrev pub named : Value → Result Chosen AskStop
+named key = and_then (text_in key) (λ name. Ok (which.Name (folded name)))
+
 -- A number means the entry at that place; another value is made a text, and means the entry of that name, folded.
 abbrev pub chosen : Value → Result Chosen AskStop
 chosen (Int n) = and_then (long_in (Int n)) (λ place. Ok (which.Place place))
 chosen (Long n) = and_then (long_in (Long n)) (λ place. Ok (which.Place place))
 chosen (Cur n) = and_then (long_in (Cur n)) (λ place. Ok (which.Place place))
-chosen key = and_then (text_in key) (λ name. Ok (which.Name (folded name)))
+chosen key = named key
 
 -- a name that is meant is folded
 abbrev pub IsChosen : Chosen → Type 0

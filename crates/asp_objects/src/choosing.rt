@@ -20,6 +20,17 @@ pub enum Chosen {
     Place(i32),
 }
 
+/// The entry of the name that a value is made.
+#[tactic(auto, using(crate::proofs::Sharing::folded_twice))]
+fn named(alloc: Global, key: &Value) -> Result<Chosen, AskStop>
+    ensures named { Answers result AskStop.Memory (spec.named key.now) }
+    ensures folded { IfOk result spec.IsChosen }
+{
+    let name = text_in(alloc, key)?;
+    let name = fold(alloc, &name)?;
+    Ok(Chosen::Name(name))
+}
+
 /// The entry that a value means.
 pub(crate) fn choose(alloc: Global, key: &Value) -> Result<Chosen, AskStop>
     ensures chosen { Answers result AskStop.Memory (spec.chosen key.now) }
@@ -27,10 +38,13 @@ pub(crate) fn choose(alloc: Global, key: &Value) -> Result<Chosen, AskStop>
 {
     match key {
         Value::Int(_) | Value::Long(_) | Value::Cur(_) => Ok(Chosen::Place(long_in(key)?)),
-        _ => {
-            let name = text_in(alloc, key)?;
-            Ok(Chosen::Name(fold(alloc, &name)?))
-        }
+        Value::Empty
+        | Value::Null
+        | Value::Bool(_)
+        | Value::Str(_)
+        | Value::Arr(_)
+        | Value::Obj(_)
+        | Value::Nothing => named(alloc, key),
     }
 }
 

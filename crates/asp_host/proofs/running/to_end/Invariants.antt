@@ -5,8 +5,8 @@ use Rattle.asp_run.specs.Stands.{Stands, phase_at}
 use Rattle.asp_host.specs.OnTheWay.{IsOn}
 use Rattle.asp_host.proofs.running.to_end.Given as goal
 
-abbrev pub invariant-loop-_ : goal.invariant-loop-_
-invariant-loop-_ l = record {
+abbrev pub invariant-calls : goal.invariant-calls
+invariant-calls l = record {
   going : phase_at l.state.at ≡ Going;
   on :
       (told : Told) → Stands l.site l.fn.state told
