@@ -1,6 +1,6 @@
 -- The entries of a session stay such as a session may have, as they change.
 use Rattle.std.proofs.Common.{◌≡◌, ◌≢◌, ◌∙◌, ℕ, ◌+◌, ◌-◌, ◌^◌, ◌<◌, ◌≤◌, min, Bool, true, false, List, [], ◌∷◌, ◌++◌}
-use Rattle.std.proofs.Common.{length, get_or, Option, Some, None, suc, cond, nat_lt, refl, sym, ap, subst, arith}
+use Rattle.std.proofs.Common.{length, get_or, Option, Some, None, zero, suc, cond, nat_lt, refl, sym, ap, subst, arith}
 use Rattle.std.specs.List.{All, AllPairs, position, position_or_len, remove, sum_by}
 use Rattle.std.specs.Prelude.{slice_set}
 use Rattle.std.specs.Cmp.Lexicographic.{pointwise, bytes_decides}
@@ -68,7 +68,7 @@ put_entries (Some at) entry entries is all = All-set IsEntry entries at entry is
 removed_entries : (at : Option ℕ) (entries : List Named) → All IsEntry entries → All IsEntry (removed_at at entries)
 removed_entries None entries all = all
 removed_entries (Some at) entries all =
-    All-append IsEntry _ _ (All-take IsEntry at entries all) (All-drop IsEntry _ entries all)
+    All-append IsEntry _ _ (All-take IsEntry at entries all) (All-drop IsEntry (suc at) entries all)
 
 -- ---- names
 
@@ -77,9 +77,9 @@ names_stay : (entries : List Named) (at : ℕ) (entry : Named) (d : Named) → a
     → (get_or entries at d).name ≡ entry.name → (k : ℕ)
     → (get_or (slice_set entries at entry) k d).name ≡ (get_or entries k d).name
 names_stay [] at entry d within same k = absurd (omega arith)
-names_stay (first ∷ entries) 0 entry d within same 0 = sym same
-names_stay (first ∷ entries) 0 entry d within same (suc k) = refl
-names_stay (first ∷ entries) (suc at) entry d within same 0 = refl
+names_stay (first ∷ entries) zero entry d within same zero = sym same
+names_stay (first ∷ entries) zero entry d within same (suc k) = refl
+names_stay (first ∷ entries) (suc at) entry d within same zero = refl
 names_stay (first ∷ entries) (suc at) entry d within same (suc k) =
     names_stay entries at entry d (omega arith) same k
 
