@@ -81,11 +81,11 @@ pub sound_array : (array : Array) → is_sound (Arr array) ≡ (has_shape array 
 sound_array array =
     sound-Arr array
     ∙ ap (λ n. nat_le (length array.bounds) 60 && list_all is_bound array.bounds
-        && (n == item_count array.bounds) && list_all (λ sound. sound) (map is_sound array.items)) (length-map array.items is_sound)
+    && (n == item_count array.bounds) && list_all (λ sound. sound) (map is_sound array.items)) (length-map array.items is_sound)
     ∙ ap (λ all. nat_le (length array.bounds) 60 && list_all is_bound array.bounds
-        && (length array.items == item_count array.bounds) && all) (all_same array.items)
+    && (length array.items == item_count array.bounds) && all) (all_same array.items)
     ∙ grouped (nat_le (length array.bounds) 60) (list_all is_bound array.bounds)
-        (length array.items == item_count array.bounds) (list_all is_sound array.items)
+    (length array.items == item_count array.bounds) (list_all is_sound array.items)
 
 -- ---- plain and sound
 

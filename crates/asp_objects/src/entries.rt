@@ -14,7 +14,9 @@ pub(crate) fn place_of(entries: &[Named], name: &[char]) -> Option<usize>
     ensures place { result ≡ spec.place_of name.now entries.now }
     ensures within { spec.IsWithin result entries.now }
 {
-    entries.iter().position(|entry| entry.name.as_slice() == name)
+    entries
+        .iter()
+        .position(|entry| entry.name.as_slice() == name)
 }
 
 /// The value of a name: Empty where it is absent.

@@ -31,7 +31,6 @@ pub struct HeldSession {
 impl Model for HeldSession {
     ghost use Rattle.asp_job.specs.declared.session.SessionState.{SessionState};
     ghost use Rattle.asp_job.specs.Session.{IsSession};
-
     ghost use Rattle.std.specs.Coded.{codes};
     ghost use Rattle.asp_job.specs.contracts.session.SessionState as session;
 

@@ -97,12 +97,7 @@ impl HeldSession {
         }
     }
 
-    fn write_value(
-        &mut self,
-        alloc: Global,
-        which: Chosen,
-        what: &Value,
-    ) -> Result<Given, AskStop>
+    fn write_value(&mut self, alloc: Global, which: Chosen, what: &Value) -> Result<Given, AskStop>
         requires { choosing.IsChosen which }
         ensures { Runs result stops self.new (using_it (choosing.shared what.now) (λ kept.
             using_it (spec.name_in self.old.values which) (λ name. spec.stored name kept)) self.old) }
