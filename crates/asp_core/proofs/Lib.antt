@@ -11,3 +11,4 @@ pub mod Bounds
 pub mod Same
 pub mod Staying
 pub mod Locking
+pub mod Halting

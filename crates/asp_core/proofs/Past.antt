@@ -1,5 +1,5 @@
 -- A past that grows by one entry.
-use Rattle.std.proofs.Common.{◌≡◌, ℕ, ◌+◌, ◌<◌, List, [], ◌∷◌, ◌++◌, length, get_or, take, reverse, refl, ap, ◌∙◌, Option, Some, None, unwrap_or, sum_by}
+use Rattle.std.proofs.Common.{◌≡◌, ℕ, ◌+◌, ◌<◌, ◌≤◌, Bool, true, false, if◌then◌else◌, arith, List, [], ◌∷◌, ◌++◌, length, get_or, take, reverse, refl, ap, ◌∙◌, Option, Some, None, unwrap_or, sum_by}
 use Rattle.std.proofs.lemmas.List.{reverse-append, take_more, length-reverse}
 use Rattle.std.proofs.lemmas.List.Sums.{sum_by_push}
 use Rattle.std.proofs.Math.Seq.{take-append_seam}
@@ -7,6 +7,9 @@ use Rattle.std.specs.Option.{option_map}
 use Rattle.asp_job.specs.declared.job.Job.{Job}
 use Rattle.asp_job.specs.Running.{is_page}
 use Rattle.asp_job.specs.Turns.{is_last_work}
+use Rattle.asp_core.specs.Kernel.{halts_to_come}
+use Rattle.asp_job.specs.declared.entry.Entry.{Entry}
+use Rattle.asp_job.specs.Runs.{is_halted}
 
 -- the past of one entry more
 pub past_more : {A : Type 0} → (xs : List A) (i : ℕ) (d : A) → i < length xs → (get_or xs i d ≡ get_or xs i d) × (reverse (take (i + 1) xs) ≡ get_or xs i d ∷ reverse (take i xs))
@@ -33,3 +36,11 @@ last_more (Some job) before = refl
 -- the sum of one item more
 pub sum_more : {A : Type 0} → (f : A → ℕ) (xs : List A) (i : ℕ) (d : A) → i < length xs → sum_by f (take (i + 1) xs) ≡ sum_by f (take i xs) + f (get_or xs i d)
 sum_more f xs i d h = ap (sum_by f) (take_more xs i d h) ∙ sum_by_push f (take i xs) (get_or xs i d)
+
+one_at_most : (b : Bool) → (if b then 0 else 1) ≤ 1
+one_at_most true = omega arith
+one_at_most false = omega arith
+
+-- at most one Halt is to come
+pub halts_few : (past : List Entry) → halts_to_come past ≤ 1
+halts_few past = one_at_most (is_halted past)

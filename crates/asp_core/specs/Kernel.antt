@@ -1,5 +1,5 @@
 -- What contracts see of a core, and of a run that was moved out of it. All of it is the profile's.
-use Rattle.std.specs.Prelude.{◌≡◌, ℕ, ◌+◌, ◌-◌, ◌≤◌, ◌<◌, ◌==◌, ◌⊎◌, ◌++◌, ◌∷◌, Bool, true, false, if◌then◌else◌}
+use Rattle.std.specs.Prelude.{◌≡◌, ℕ, ◌+◌, ◌*◌, ◌-◌, ◌≤◌, ◌<◌, ◌==◌, ◌⊎◌, ◌++◌, ◌∷◌, Bool, true, false, if◌then◌else◌}
 use Rattle.std.specs.Prelude.{nat_lt, min, ◌^◌}
 use Rattle.std.specs.Prelude.{List, [], length, reverse, slice_set, slice_index_or, All, Option, Some, None, IfSome}
 use Rattle.std.specs.Prelude.{Result, Ok, Err}
@@ -16,18 +16,16 @@ use Rattle.asp_job.specs.declared.entry.What.TheVariants.{Admit, Refuse, Tick, S
 use Rattle.asp_job.specs.declared.job.Job.{Job}
 use Rattle.asp_job.specs.declared.job.Work.TheVariants as work
 use Rattle.asp_job.specs.declared.request.Request.{Request}
-use Rattle.asp_job.specs.declared.request.Verb.{Verb}
-use Rattle.asp_job.specs.declared.request.Verb.TheVariants as verb
 use Rattle.asp_job.specs.declared.runner.Step.{Step}
 use Rattle.asp_job.specs.declared.runner.Step.TheVariants as step
 use Rattle.asp_job.specs.declared.session.SessionState.{SessionState}
 use Rattle.asp_job.specs.Application.{AppState, blocker_of}
 use Rattle.asp_job.specs.History.{held_by, load, weight_load, call_entry, with_lane, HasNotFit}
-use Rattle.asp_job.specs.Journal.{IsValidJournal, queue_entries, admit_entry, tick_entries, past_after, begin_entry}
+use Rattle.asp_job.specs.Journal.{IsValidJournal, queue_entries, begin_entry}
 use Rattle.asp_job.specs.Keys.{session_of, told, made, opened, live, due_at}
 use Rattle.asp_job.specs.Rules.{Rules, Cause, TooManySessions, OutOfMemory, JournalFull}
 use Rattle.asp_job.specs.Running.{Phase, Going, Wanting, Over}
-use Rattle.asp_job.specs.Runs.{unfinished, drawn, moment_of, is_halted}
+use Rattle.asp_job.specs.Runs.{unfinished, drawn, moment_of, is_halted, job_of}
 use Rattle.asp_job.specs.Session.{IsSession}
 use Rattle.asp_job.specs.Size.{IsSmall}
 use Rattle.asp_job.specs.Told.{Told, Outcome, Wants, Ends, Meaning}
@@ -36,14 +34,14 @@ use Rattle.asp_response.specs.declared.fixed.Unavailable.TheVariants as cause
 use Rattle.asp_response.specs.Fixed.{unavailable_of}
 use Rattle.asp_session.specs.Letters.{letters_of}
 use Rattle.asp_core.specs.Cookie.{cookie_key_in}
+use Rattle.asp_core.specs.Standing.{is_head, stand_ins}
+use Rattle.asp_core.specs.Ready.{ready, IsAnswered, bodies_with_one}
+use Rattle.asp_core.specs.declared.ready.TheConstants.{MOST_BODIES}
 use Rattle.asp_core.specs.declared.run.Progress.{Progress}
 use Rattle.asp_core.specs.declared.run.Progress.TheVariants as progress
+use Rattle.asp_core.specs.declared.run.StandIns.{StandIns}
 
 -- ---- what a journal is held against
-
-abbrev pub is_head : Verb → Bool
-is_head verb.Head = true
-is_head _ = false
 
 -- the answer that stands in for a page's own
 abbrev pub unavailable_by : Cause → Request → Answer
@@ -92,6 +90,13 @@ pub record IsHostOf {R Site : Type 0} (core : CoreView R Site) (runner : R) (sit
 abbrev pub session_at : List (Option SessionState) → ℕ → Option SessionState
 session_at table k = if k == 0 then None else slice_index_or table (k - 1) None
 
+-- what is to come for sure: the End and the Take of each unfinished run, the Takes of so many answers, and a Halt
+abbrev pub halts_to_come : List Entry → ℕ
+halts_to_come past = if is_halted past then 0 else 1
+
+abbrev pub to_come : List Entry → ℕ → ℕ
+to_come past answers = 2 * length (unfinished past) + answers + halts_to_come past
+
 -- the job of an entry is small
 abbrev pub HasSmallJob : What → Type 0
 HasSmallJob (Admit run key fresh job) = IsSmall job
@@ -106,15 +111,17 @@ AreSmall (entry ∷ past) = HasSmallJob entry.what × AreSmall past
 abbrev pub IsSessionIn : Option SessionState → Type 0
 IsSessionIn session = IfSome session IsSession
 
--- The journal is valid, and its jobs are small. The table of sessions, the count of those that were opened and the
--- Application object are what it says, and the sessions are such as may be.
+-- The journal is valid, and its jobs are small. The table of sessions, the count of those that were opened, the
+-- Application object and the answers that wait are what it says, and the sessions are such as may be.
 pub record IsKept (rules : Rules) (past : List Entry) (table : List (Option SessionState)) (count : ℕ)
-    (held : AppState) : Type 0 where
+    (held : AppState) (answers : List (ℕ × Answer)) : Type 0 where
   pub account : IsValidJournal rules past
   pub sessions : session_at table ≡ session_of rules past
   pub keys : length table ≡ made past
   pub opened_is : count ≡ opened rules past
   pub held_is : held ≡ held_by past
+  pub answers_are : answers ≡ ready rules past
+  pub answered : IsAnswered rules past
   pub small : AreSmall past
   pub valid : All IsSessionIn table
 
@@ -123,9 +130,13 @@ pub record IsWithin (past : List Entry) : Type 0 where
   pub few : load past ≤ MOST_ENTRIES
   pub light : weight_load past ≤ MOST_WEIGHT
 
--- there is room for so many entries with one End for each unfinished run
-abbrev pub HasRoom : List Entry → ℕ → Type 0
-HasRoom past capacity = length past + length (unfinished past) ≤ capacity
+-- there is room for so many entries, and for all that is to come for sure where so many answers wait
+abbrev pub HasRoom : List Entry → ℕ → ℕ → Type 0
+HasRoom past answers capacity = length past + to_come past answers ≤ capacity
+
+-- there is room for so many answers, and for one of each unfinished run
+abbrev pub HasAnswerRoom : List Entry → ℕ → ℕ → Type 0
+HasAnswerRoom past answers capacity = answers + length (unfinished past) ≤ capacity
 
 -- there would be so many entries of that weight, too many or too heavy; 2^64 - 1 stands for a greater weight
 pub record IsTooMuch (past : List Entry) (entries weight : ℕ) : Type 0 where
@@ -134,9 +145,13 @@ pub record IsTooMuch (past : List Entry) (entries weight : ℕ) : Type 0 where
   pub much : (MOST_ENTRIES < entries) ⊎ (MOST_WEIGHT < weight)
 
 -- a Halt stands, as many are unfinished as may be, or no run may begin
-abbrev pub IsIdle : List Entry → Type 0
-IsIdle past = (is_halted past ≡ true) ⊎ (MOST_UNFINISHED ≤ length (unfinished past))
+abbrev pub NoneIsNext : List Entry → Type 0
+NoneIsNext past = (is_halted past ≡ true) ⊎ (MOST_UNFINISHED ≤ length (unfinished past))
     ⊎ ((run : ℕ) → may_begin past run ≡ false)
+
+-- no run is next, or there is no room for the body of one more
+abbrev pub IsIdle : Rules → List Entry → Type 0
+IsIdle rules past = NoneIsNext past ⊎ (MOST_BODIES < bodies_with_one (ready rules past) past)
 
 -- there would be too much with the Begin of the next run
 abbrev pub IsBeginTooMuch : Rules → List Entry → ℕ → ℕ → ℕ → Type 0
@@ -157,27 +172,14 @@ abbrev pub stopped_by : (ℕ → Option SessionState) → List Entry → ℕ →
 stopped_by sessions past lane =
     with_lane lane Stop ∷ queue_entries lane (drawn past + 1) (closing_runs (live sessions past) ++ (work.Stop, 0) ∷ [])
 
--- the entry of a job, after its Tick
-abbrev pub admitted : {R Site : Type 0} → (R → Site → Meaning) → CoreView R Site → ℕ → Job → Entry
-admitted meaning core lane job =
-    let rules = rules_of meaning core in
-    let past = past_of core in
-    admit_entry rules (past_after past (tick_entries rules past lane job.moment)) lane job
-
--- the run, the key, whether it was refused, and the moment are those of the entry of a job
-abbrev pub TellsOf : What → ℕ → ℕ → Bool → ℕ → Type 0
-TellsOf (Admit number key fresh job) run k refused moment =
-    (run ≡ number) × (k ≡ key) × (refused ≡ false) × (moment ≡ job.moment)
-TellsOf (Refuse number job) run k refused moment = (run ≡ number) × (k ≡ 0) × (refused ≡ true) × (moment ≡ job.moment)
-TellsOf _ run k refused moment = ⊥
-
 -- ---- runs that were moved out
 
--- a run that was moved out
+-- a run that was moved out, with the answers that stand in for its own
 pub record RunView (State : Type 0) : Type 0 where
   pub number : ℕ
   pub progress : Progress
   pub state : State
+  pub stand_ins : StandIns
 
 -- the runner's state waits for what the progress says; one without memory for anything
 abbrev pub IsAtPhase : Progress → Phase → Type 0
@@ -223,12 +225,14 @@ abbrev pub StandsAsBefore : {State : Type 0} → (State → Told → ℕ → Typ
     RunView State → RunView State → Type 0
 StandsAsBefore stands meaning old new = (t : Told) → StandsFor stands meaning old t → StandsFor stands meaning new t
 
--- The run is one of the core's unfinished runs, of that lane, and was told what the journal says.
+-- The run is one of the core's unfinished runs, of that lane, and was told what the journal says. The answers that stand
+-- in for its own are those of its work.
 pub record IsRunOf {R Site State : Type 0} (meaning : R → Site → Meaning)
     (stands : R → Site → State → Told → ℕ → Type 0) (core : CoreView R Site) (lane : ℕ) (run : RunView State) : Type 0 where
   pub running : IsRunning (past_of core) lane run.number
   pub stands_for : StandsFor (stands core.runner core.site) (meaning core.runner core.site) run
       (told (rules_of meaning core) (past_of core) run.number)
+  pub stand_ins_are : run.stand_ins ≡ stand_ins (job_of (past_of core) run.number).work
 
 -- ---- how a run ends
 

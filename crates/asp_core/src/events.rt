@@ -13,7 +13,7 @@ ghost use Rattle.asp_core.specs.Kernel as kernel;
 use crate::entries::{stop_entries, tick_entries};
 use crate::room::{append, fit};
 use crate::stop::EventStop;
-use asp_job::{Entry, Runner, SessionState};
+use asp_job::{Answer, Entry, Runner, SessionState};
 use std::snapshot::Snapshot;
 
 /// The journal after a Tick. A refusal leaves it.
@@ -23,6 +23,7 @@ pub fn with_tick<R: Runner>(
     site: &Snapshot<R::Site>,
     seed: &[u8; 32],
     journal: &mut Vec<Entry>,
+    answers: &mut Vec<(u32, Answer)>,
     table: &[Option<SessionState>],
     lane: u32,
     moment: u64,
@@ -35,9 +36,14 @@ pub fn with_tick<R: Runner>(
         ++ journals.tick_entries
         (kernel.rules_by (R.meaning runner.now.value site.now.value) seed.now) (reverse journal.old.items) lane moment) }
     ensures err { OnErr result (journal.new.items ≡ journal.old.items) }
+    ensures answers { answers.new.items ≡ answers.old.items }
     ensures capacity { vec_capacity journal.old ≤ vec_capacity journal.new }
+    ensures capacity_of_answers { vec_capacity answers.old ≤ vec_capacity answers.new }
     ensures within { OnOk result (kernel.IsWithin (reverse journal.new.items)) }
-    ensures room { OnOk result (kernel.HasRoom (reverse journal.new.items) (vec_capacity journal.new)) }
+    ensures room { OnOk result (kernel.HasRoom (reverse journal.new.items)
+        (length answers.old.items + 1) (vec_capacity journal.new)) }
+    ensures answer_room { OnOk result (kernel.HasAnswerRoom (reverse journal.new.items)
+        (length answers.old.items + 1) (vec_capacity answers.new)) }
     ensures full { (entries weight : ℕ) → result ≡ Err (EventStop.JournalFull entries weight) →
         kernel.IsTooMuch (journals.past_after (reverse journal.old.items)
         (journals.tick_entries
@@ -53,7 +59,7 @@ pub fn with_tick<R: Runner>(
     if append(journal, more).is_err() {
         return Err(EventStop::Memory);
     }
-    fit(journal, first)
+    fit(journal, answers, first)
 }
 
 /// The journal after a Stop. A refusal leaves it.
@@ -63,6 +69,7 @@ pub fn with_stop<R: Runner>(
     site: &Snapshot<R::Site>,
     seed: &[u8; 32],
     journal: &mut Vec<Entry>,
+    answers: &mut Vec<(u32, Answer)>,
     table: &[Option<SessionState>],
     lane: u32,
 ) -> Result<(), EventStop>
@@ -74,9 +81,14 @@ pub fn with_stop<R: Runner>(
         ++ journals.stop_entries
         (kernel.rules_by (R.meaning runner.now.value site.now.value) seed.now) (reverse journal.old.items) lane) }
     ensures err { OnErr result (journal.new.items ≡ journal.old.items) }
+    ensures answers { answers.new.items ≡ answers.old.items }
     ensures capacity { vec_capacity journal.old ≤ vec_capacity journal.new }
+    ensures capacity_of_answers { vec_capacity answers.old ≤ vec_capacity answers.new }
     ensures within { OnOk result (kernel.IsWithin (reverse journal.new.items)) }
-    ensures room { OnOk result (kernel.HasRoom (reverse journal.new.items) (vec_capacity journal.new)) }
+    ensures room { OnOk result (kernel.HasRoom (reverse journal.new.items)
+        (length answers.old.items + 1) (vec_capacity journal.new)) }
+    ensures answer_room { OnOk result (kernel.HasAnswerRoom (reverse journal.new.items)
+        (length answers.old.items + 1) (vec_capacity answers.new)) }
     ensures full { (entries weight : ℕ) → result ≡ Err (EventStop.JournalFull entries weight) →
         kernel.IsTooMuch (journals.past_after (reverse journal.old.items)
         (journals.stop_entries
@@ -92,5 +104,5 @@ pub fn with_stop<R: Runner>(
     if append(journal, more).is_err() {
         return Err(EventStop::Memory);
     }
-    fit(journal, first)
+    fit(journal, answers, first)
 }

@@ -8,7 +8,7 @@ ghost use Rattle.asp_job.specs.History as history;
 ghost use Rattle.asp_job.specs.Journal as journals;
 ghost use Rattle.asp_job.specs.Runs as runs;
 ghost use Rattle.asp_core.specs.Kernel.{CoreView, RunView, past_of, rules_of, grown, IsHostOf, IsTooMuch, IsWithin};
-ghost use Rattle.asp_core.specs.Kernel.{IsRunOf, HasRoom};
+ghost use Rattle.asp_core.specs.Kernel.{IsRunOf, HasRoom, HasAnswerRoom};
 
 use crate::events::{with_stop, with_tick};
 use crate::keys::unfinished;
@@ -16,7 +16,7 @@ use crate::room::make_room;
 use crate::scan::{entries_in, is_halted, is_stopping, moment_of};
 use crate::stop::EventStop;
 use asp_app::Application;
-use asp_job::{Entry, Runner, SessionState, What, Work};
+use asp_job::{Answer, Entry, Runner, SessionState, What, Work};
 use std::alloc::Global;
 use std::marker::Model;
 use std::snapshot::Snapshot;
@@ -29,16 +29,17 @@ pub struct Core<R: Runner> {
     pub(crate) table: Vec<Option<SessionState>>,
     pub(crate) opened: u32,
     pub(crate) application: Application,
+    pub(crate) answers: Vec<(u32, Answer)>,
     pub(crate) runner: Snapshot<R>,
     pub(crate) site: Snapshot<R::Site>,
     pub(crate) seed: [u8; 32],
 }
 
 impl<R: Runner> Model for Core<R> {
-    ghost use Rattle.std.specs.Prelude.{vec_capacity, reverse};
+    ghost use Rattle.std.specs.Prelude.{vec_capacity, reverse, length};
     ghost use Rattle.std.specs.Coded.{codes};
     ghost use Rattle.vb_value.specs.contracts.value.Value as contract;
-    ghost use Rattle.asp_core.specs.Kernel.{CoreView, IsKept, IsWithin, HasRoom, rules_by};
+    ghost use Rattle.asp_core.specs.Kernel.{CoreView, IsKept, IsWithin, HasRoom, HasAnswerRoom, rules_by};
 
     ghost Value = { CoreView R R.Site };
 
@@ -49,13 +50,23 @@ impl<R: Runner> Model for Core<R> {
 
     ghost invariant = { λ c.
         IsKept (rules_by (R.meaning c.runner.value c.site.value) c.seed) (reverse c.journal.items)
-        c.table.items c.opened c.application
-        × IsWithin (reverse c.journal.items) × HasRoom (reverse c.journal.items) (vec_capacity c.journal) };
+        c.table.items c.opened c.application c.answers.items
+        × IsWithin (reverse c.journal.items)
+        × HasRoom (reverse c.journal.items) (length c.answers.items) (vec_capacity c.journal)
+        × HasAnswerRoom (reverse c.journal.items) (length c.answers.items) (vec_capacity c.answers) };
 }
 
-fn first_journal(alloc: Global, lane: u32) -> Result<Vec<Entry>, Memory>
+fn first_journal(
+    alloc: Global,
+    lane: u32,
+    answers: &mut Vec<(u32, Answer)>,
+) -> Result<Vec<Entry>, Memory>
     ensures items { IfOk result (λ journal. journal.items ≡ history.with_lane lane (What.Queue 1 Work.Start 0) ∷ []) }
-    ensures room { IfOk result (λ journal. HasRoom (reverse journal.items) (vec_capacity journal)) }
+    ensures answers { answers.new.items ≡ answers.old.items }
+    ensures room { IfOk result (λ journal. HasRoom (reverse journal.items)
+        (length answers.old.items + 1) (vec_capacity journal)) }
+    ensures answer_room { IfOk result (λ journal. HasAnswerRoom (reverse journal.items)
+        (length answers.old.items + 1) (vec_capacity answers.new)) }
 {
     let mut journal = Vec::new(alloc);
     journal.push(Entry {
@@ -66,7 +77,7 @@ fn first_journal(alloc: Global, lane: u32) -> Result<Vec<Entry>, Memory>
             key: 0,
         },
     })?;
-    make_room(&mut journal)?;
+    make_room(&mut journal, answers)?;
     Ok(journal)
 }
 
@@ -84,12 +95,14 @@ impl<R: Runner> Core<R> {
         ensures host { IfOk result (λ core. IsHostOf core runner.now site.now) }
         ensures seed { IfOk result (λ core. core.seed ≡ seed) }
     {
-        let journal = first_journal(alloc, lane)?;
+        let mut answers = Vec::new(alloc);
+        let journal = first_journal(alloc, lane, &mut answers)?;
         Ok(Core {
             journal,
             table: Vec::new(alloc),
             opened: 0,
             application: Application::new(alloc),
+            answers,
             runner: Snapshot::of(runner),
             site: Snapshot::of(site),
             seed,
@@ -159,6 +172,7 @@ impl<R: Runner> Core<R> {
             &self.site,
             &self.seed,
             &mut self.journal,
+            &mut self.answers,
             self.table.as_slice(),
             lane,
             moment,
@@ -184,6 +198,7 @@ impl<R: Runner> Core<R> {
             &self.site,
             &self.seed,
             &mut self.journal,
+            &mut self.answers,
             self.table.as_slice(),
             lane,
         )

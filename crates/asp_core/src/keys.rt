@@ -275,7 +275,7 @@ pub fn next_run(journal: &[Entry]) -> Option<u64>
 pub fn least_run(journal: &[Entry]) -> Option<u64>
     requires { (run : ℕ) → turns.may_begin (reverse journal.now) run ≡ true →
         (0 < run) × (run ≤ runs.drawn (reverse journal.now)) }
-    ensures none { IfNone result (kernel.IsIdle (reverse journal.now)) }
+    ensures none { IfNone result (kernel.NoneIsNext (reverse journal.now)) }
     ensures next { IfSome result (λ run. turns.IsNextRun (reverse journal.now) run) }
     ensures within { IfSome result (λ run. run ≤ runs.drawn (reverse journal.now)) }
     ensures few { OnSome result (length (runs.unfinished (reverse journal.now)) < MOST_UNFINISHED) }

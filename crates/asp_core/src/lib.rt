@@ -3,9 +3,11 @@
 
 mod entries;
 mod events;
+mod hands;
 mod kernel;
 mod keys;
 mod laws;
+mod ready;
 mod room;
 mod run;
 mod scan;
@@ -15,5 +17,6 @@ mod works;
 
 pub use kernel::Core;
 pub use laws::{lock_holds, runs_stay};
-pub use run::{Progress, Run};
-pub use stop::{AdmitStop, AppStepStop, BeginStop, EventStop};
+pub use ready::{BODY_ROOM, MOST_BODIES};
+pub use run::{Progress, Run, StandIns};
+pub use stop::{AdmitStop, AppStepStop, BeginStop, CollectStop, EventStop};

@@ -9,7 +9,7 @@ ghost use Rattle.asp_job.specs.Running.{IsFinish, Over};
 ghost use Rattle.asp_job.specs.Told.{Told, heard};
 ghost use Rattle.asp_core.specs.Kernel as kernel;
 
-use asp_job::{Finished, Runner, Step, copy_call};
+use asp_job::{Answer, Finished, Runner, Step, copy_call};
 use std::marker::Model;
 use std::mem::replace;
 use vb_value::{AppCall, AppReply, Memory};
@@ -27,11 +27,19 @@ pub enum Progress {
     Dead,
 }
 
+/// The answers that stand in for that of a page: where memory ran out, and where the journal was full.
+#[derive(Debug, Drop)]
+pub struct StandIns {
+    pub memory: Option<Answer>,
+    pub full: Option<Answer>,
+}
+
 /// A run that was moved out of the core.
 pub struct Run<R: Runner> {
     pub(crate) number: u32,
     pub(crate) progress: Progress,
     pub(crate) state: R::State,
+    pub(crate) stand_ins: StandIns,
 }
 
 impl<R: Runner> Model for Run<R> {
@@ -45,7 +53,8 @@ impl<R: Runner> Model for Run<R> {
 
     ghost coded = { Prim.hlevel (codes, contract.the_row.coded, R.State.code) };
 
-    ghost view = { λ r. record { number = r.number; progress = r.progress; state = r.state } };
+    ghost view = { λ r.
+        record { number = r.number; progress = r.progress; state = r.state; stand_ins = r.stand_ins } };
 
     ghost invariant = { λ r. IsAtPhase r.progress (R.phase r.state) × IfSome (wanted_by r.progress) IsAppCall };
 }
@@ -74,6 +83,7 @@ impl<R: Runner> Run<R> {
         requires going { self.old.progress ≡ Progress.Going }
         requires quantum { 1 ≤ quantum }
         ensures number { self.new.number ≡ self.old.number }
+        ensures stand_ins { self.new.stand_ins ≡ self.old.stand_ins }
         ensures progress { self.new.progress ≡ kernel.progress_of result }
         ensures stands { kernel.StandsAsBefore
             (R.stands runner.now site.now) (R.meaning runner.now site.now) self.old self.new }
@@ -113,6 +123,7 @@ impl<R: Runner> Run<R> {
         requires reply { IsReply reply }
         ensures call { result ≡ kernel.wanted_by self.old.progress }
         ensures number { self.new.number ≡ self.old.number }
+        ensures stand_ins { self.new.stand_ins ≡ self.old.stand_ins }
         ensures going { self.new.progress ≡ Progress.Going }
         ensures stands { (site : R.Site) (told : Told) (spent : ℕ) →
             R.stands runner.now site self.old.state told spent →
@@ -125,9 +136,10 @@ impl<R: Runner> Run<R> {
         }
     }
 
-    /// What the runner leaves at the end, and its store.
-    pub(crate) fn finish(self, runner: &R) -> (Option<Finished>, R::Store)
-        ensures { self.progress ≡ Progress.Ended → (site : R.Site) (told : Told) (spent : ℕ) →
+    /// What the runner leaves at the end, its store, and the answers that stand in for the run's own.
+    pub(crate) fn finish(self, runner: &R) -> (Option<Finished>, R::Store, StandIns)
+        ensures stand_ins { result.2 ≡ self.stand_ins }
+        ensures finish { self.progress ≡ Progress.Ended → (site : R.Site) (told : Told) (spent : ℕ) →
             R.stands runner.now site self.state told spent →
             IsFinish Over result.0 told ((R.meaning runner.now site).does told) }
     {
@@ -135,7 +147,9 @@ impl<R: Runner> Run<R> {
             number: _,
             progress: _,
             state,
+            stand_ins,
         } = self;
-        runner.finish(state)
+        let (finished, store) = runner.finish(state);
+        (finished, store, stand_ins)
     }
 }

@@ -234,7 +234,8 @@ pub fn drawn(journal: &[Entry]) -> u64
     count_drawn(journal)
 }
 
-fn makes_key(what: &What) -> bool
+/// Whether an entry makes a key.
+pub fn makes_key(what: &What) -> bool
     ensures { result ≡ spec.makes_key what.now }
 {
     matches!(what, What::Admit { fresh: true, .. })
@@ -343,4 +344,32 @@ pub fn is_closing(journal: &[Entry], key: u64) -> bool
         }
     }
     found
+}
+
+fn asking_lane_in(run: u64, entry: &Entry) -> Option<u32>
+    ensures { result ≡ runs.asking_lane_in run entry.now.lane entry.now.what }
+{
+    match &entry.what {
+        What::Admit { run: about, .. } | What::Refuse { run: about, .. } => if *about as u64
+            == run
+        {
+            Some(entry.lane)
+        } else {
+            None
+        },
+        _ => None,
+    }
+}
+
+/// The lane that asked for a run.
+pub fn asking_lane_of(journal: &[Entry], run: u64) -> Option<u32>
+    ensures { result ≡ runs.asking_lane_of (reverse journal.now) run }
+{
+    let mut lane = None;
+    for entry in journal {
+        if let Some(found) = asking_lane_in(run, entry) {
+            lane = Some(found);
+        }
+    }
+    lane
 }

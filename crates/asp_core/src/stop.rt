@@ -73,3 +73,16 @@ impl From<Memory> for EventStop {
         EventStop::Memory
     }
 }
+
+/// Why an answer was not handed out.
+#[derive(Clone, Copy, Debug, PartialEq, Eq)]
+pub enum CollectStop {
+    /// Another lane asked for the run.
+    Foreign { lane: u32 },
+    /// The run has not ended.
+    NotEnded,
+    /// The run is not that of a page.
+    NoAnswer,
+    /// The answer was handed out before.
+    Taken,
+}

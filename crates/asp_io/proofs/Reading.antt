@@ -34,3 +34,8 @@ reads_from bytes left into new place count here is copied =
     subst (λ rest. Reads (Some left) (Some rest) into new count) rest (reads_start left into new count
     (is ∙ ap (λ from. moved (length from) (length into)) whole)
     (copied ∙ ap (λ from. take count from ++ drop count into) whole))
+
+-- the rest of a slice stays
+pub kept_rest : (left into new : List ℕ) (count : ℕ) → count ≡ moved (length left) (length into)
+    → new ≡ take count left ++ drop count into → new ≡ take count new ++ drop count into
+kept_rest left into new count is copied = (reads_start left into new count is copied).kept

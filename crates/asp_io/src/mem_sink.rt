@@ -1,6 +1,7 @@
 //! A sink in memory with room for so many bytes and with calls that fail.
-ghost use Rattle.std.specs.Prelude.{◌≡◌, ◌≤◌, Some, [], IfOk, OnErr};
+ghost use Rattle.std.specs.Prelude.{◌≡◌, ◌≤◌, ◌↔◌, Some, [], IfOk, IsErr, IsTrue, OnErr};
 ghost use Rattle.vb_value.specs.Outcome.{Gives};
+ghost use Rattle.asp_io.specs.FaultPlan.{after_call, fails_next};
 ghost use Rattle.asp_io.specs.Faults.{HasCause, failure};
 ghost use Rattle.asp_io.specs.MemSink.{after_write, write_answer};
 ghost use Rattle.asp_io.specs.Sink.{Writes};
@@ -53,6 +54,15 @@ impl MemSink {
             used: 0,
             plan: FaultPlan::new(fails),
         })
+    }
+
+    /// Counts a call, and a fault where that call is to fail.
+    pub(crate) fn next_call(&mut self) -> Result<(), Failed>
+        ensures fails { IsErr result ↔ IsTrue (fails_next self.old.plan) }
+        ensures after { self.new ≡ record self.old { plan = after_call self.old.plan } }
+        ensures cause { HasCause failure self.old.plan.faults self.new.plan.faults result }
+    {
+        self.plan.next_call()
     }
 
     /// The bytes that it holds.

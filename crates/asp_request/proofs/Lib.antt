@@ -1,4 +1,4 @@
 mod Chaining
 mod CookieKeeping
 mod Pairing
-mod Trimming
+mod Places

@@ -11,11 +11,11 @@ ghost use Rattle.asp_request.specs.Pairs.{Pair};
 ghost use Rattle.asp_request.specs.Request as spec;
 ghost use Rattle.form_urlencoded.specs.Form as form;
 
-use crate::blanks::trim_blanks;
 use crate::collection::Collection;
 use crate::place::place_of;
 use crate::text::decoded;
 use asp_job::Header;
+use http_front::trim_blanks;
 use std::alloc::Global;
 use std::collections::BTreeMap;
 use vb_value::{Bytes, Copied, Memory, Text, is_word};

@@ -5,11 +5,11 @@ ghost use Rattle.vb_value.specs.Folding.{same_name};
 ghost use Rattle.asp_request.specs.Collection.{Collects};
 ghost use Rattle.asp_request.specs.Request as spec;
 
-use crate::blanks::trim_blanks;
 use crate::collection::Collection;
 use crate::place::place_of;
 use crate::query::collect_query;
 use asp_job::{Header, Request, Verb};
+use http_front::trim_blanks;
 use std::alloc::Global;
 use vb_value::{Memory, is_word};
 

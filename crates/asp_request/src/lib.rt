@@ -1,7 +1,6 @@
 //! What pages see of a request: the collections of the Request object of ASP 3.0.
 #![tactic(auto)]
 
-mod blanks;
 mod collection;
 mod cookies;
 mod field;

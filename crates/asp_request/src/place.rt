@@ -9,7 +9,7 @@ fn first_place(bytes: &[u8], mark: u8) -> Option<usize>
 }
 
 /// The place of the first such byte, or the length where there is none.
-#[tactic(auto, using(crate::proofs::Trimming::place_or_length, crate::proofs::Trimming::place_within))]
+#[tactic(auto, using(crate::proofs::Places::place_or_length, crate::proofs::Places::place_within))]
 pub(crate) fn place_of(bytes: &[u8], mark: u8) -> usize
     ensures place { result ≡ position_or_len (λ b. b == mark) bytes.now }
     ensures within { result ≤ length bytes.now }

@@ -1,1 +1,7 @@
+mod Dates
+mod Drafts
+mod Finishing
+mod Heads
 mod Lines
+mod Printable
+mod Reasons

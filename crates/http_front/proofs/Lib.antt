@@ -1,4 +1,3 @@
-mod Blanks
 mod Cuts
 mod Finding
 mod Fronts
@@ -8,4 +7,5 @@ mod OpenTargets
 mod Shortest
 mod Streams
 mod Targets
+mod Trimming
 mod Utf8

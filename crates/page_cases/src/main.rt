@@ -27,9 +27,10 @@ fn main(rt: HostRuntime) -> io::Result<()> {
     let builds = try_file(&rt, "builds.txt", &Builds)?;
     let words = try_file(&rt, "words.txt", &CommandWords)?;
     let sites = try_commands(&rt, "sites.txt")?;
+    let members = try_commands(&rt, "members.txt")?;
     let folders = try_file(&rt, "folders.txt", &Folders)?;
     let web = try_file(&rt, "web.txt", &Web)?;
-    if pages && bytes && includes && builds && words && sites && folders && web {
+    if pages && bytes && includes && builds && words && sites && members && folders && web {
         Ok(())
     } else {
         Err(ErrorKind::InvalidData.into())

@@ -14,10 +14,10 @@ invariant_of-self g c =
     let past = reverse core.journal.items in
     let next = c.with_stop.new.journal.items in
     let going : is_stopping past ≡ false = grind (arith, common_steps) in
-    let kept = on_ok c.with_stop.result (next ≡ core.journal.items ++ stop_entries m past c.args.lane) (IsKept m (reverse next) core.table.items core.opened core.application)
-    (λ made. kept_after_stop m core.journal.items next core.table.items core.opened core.application c.args.lane c.self.invariant.0 going made) c.with_stop.ensures.entries in
-    kept_either c.with_stop.result m core.journal.items next core.table.items core.opened core.application (vec_capacity core.journal) (vec_capacity c.with_stop.new.journal)
-    c.self.invariant.0 c.self.invariant.1 c.self.invariant.2 kept c.with_stop.ensures.within c.with_stop.ensures.room c.with_stop.ensures.err c.with_stop.ensures.capacity
+    let kept = on_ok c.with_stop.result (next ≡ core.journal.items ++ stop_entries m past c.args.lane) (IsKept m (reverse next) core.table.items core.opened core.application core.answers.items)
+    (λ made. kept_after_stop m core.journal.items next core.table.items core.opened core.application core.answers.items c.args.lane c.self.invariant.0 going made) c.with_stop.ensures.entries in
+    kept_either c.with_stop.result m core.journal.items next core.table.items core.opened core.application core.answers.items c.with_stop.new.answers.items (vec_capacity core.journal) (vec_capacity c.with_stop.new.journal) (vec_capacity core.answers) (vec_capacity c.with_stop.new.answers)
+    c.self.invariant.0 c.self.invariant.1 c.self.invariant.2 c.self.invariant.3 kept c.with_stop.ensures.within c.with_stop.ensures.room c.with_stop.ensures.answer_room c.with_stop.ensures.err c.with_stop.ensures.capacity c.with_stop.ensures.capacity_of_answers c.with_stop.ensures.answers
 
 pub returns-clause-ok : goal.returns-clause-ok
 returns-clause-ok g c =

@@ -1,0 +1,78 @@
+-- An environment beside itself: what each question keeps true of it, an act keeps.
+use Rattle.std.proofs.Common.{◌≡◌, Bool, IsTrue, List, [], ◌∷◌, Option, Ok, Err, refl, sym, subst}
+use Rattle.vb_value.specs.declared.application.AppReply.{AppReply}
+use Rattle.vb_value.specs.declared.value.Value.{Value}
+use Rattle.vb_syntax.specs.declared.act.Given.TheVariants as given
+use Rattle.vb_syntax.specs.declared.member.Member.{Member}
+use Rattle.vb_heap.specs.DictionaryCalls.{array_of}
+use Rattle.vb_meaning.specs.declared.plain_end.PlainEnd.{PlainEnd}
+use Rattle.vb_meaning.specs.declared.stop.Stop.TheVariants as stop
+use Rattle.vb_meaning.specs.declared.world.World.{World}
+use Rattle.vb_meaning.specs.Acts.{act_of}
+use Rattle.vb_meaning.specs.Asking.{Host, Said, ask, heard, name_values}
+use Rattle.act_laws.specs.Calls.{LeavesOnly}
+use Rattle.act_laws.specs.Laws.{OnlyAskingChanges}
+use Rattle.act_laws.proofs.Acting.{ActsAlike, both_end, both_want, one_wants, acts_alike}
+use Rattle.act_laws.proofs.Linked.{Link, Fits, Alike, gives, ends}
+use Rattle.act_laws.proofs.Links.{ends_for}
+
+module _ (E : Type 0) (host : Host E) (test : E → Bool)
+    (asked : (member : Member) (arguments : List Value) (env : E) → IsTrue (test env)
+    → LeavesOnly test (host.asked member arguments env))
+    (answered : (member : Member) (arguments : List Value) (reply : AppReply) (env : E) → IsTrue (test env)
+    → LeavesOnly test (host.answered member arguments reply env)) where
+  abbrev beside_itself : Link
+  beside_itself = record {
+    E = E;
+    F = E;
+    host = host;
+    other = host;
+    now = λ env replies other others. (other ≡ env) × (others ≡ replies) × IsTrue (test env);
+    both_want = λ env replies other others. IsTrue (test env);
+    past = λ call other others. ⊥;
+  }
+
+  heard_alike : (member : Member) (arguments : List Value) (world : World) (replies : List AppReply) (said : Said E)
+      → LeavesOnly test said → Alike beside_itself (heard host member arguments world replies said)
+      (heard host member arguments world replies said)
+  heard_alike member arguments world replies (Ok (given.Value value, env)) holds =
+      gives value world env replies env replies (refl, refl, holds)
+  heard_alike member arguments world replies (Ok (given.Names names, env)) holds =
+      gives (array_of (name_values names)) world env replies env replies (refl, refl, holds)
+  heard_alike member arguments world [] (Ok (given.Call call, env)) holds =
+      ends (stop.Wants call) world env [] env [] holds
+  heard_alike member arguments world (reply ∷ replies) (Ok (given.Call call, env)) holds =
+      heard_alike member arguments world replies (host.answered member arguments reply env)
+      (answered member arguments reply env holds)
+  heard_alike member arguments world replies (Err (reason, env)) holds =
+      ends_for beside_itself reason world env replies env replies (refl, refl, holds)
+
+  asks_alike : (member : Member) (arguments : List Value)
+      → Fits beside_itself (ask host member arguments) (ask host member arguments)
+  unfolding ask
+  asks_alike member arguments = record {
+    alike = λ world env replies other others now.
+        let holds : IsTrue (test other) = subst (λ found. IsTrue (test found)) (sym now.0) now.2 in
+        subst (λ found. Alike beside_itself
+        (heard host member arguments world replies (host.asked member arguments found))
+        (heard host member arguments world others (host.asked member arguments other)))
+        now.0 (subst (λ left. Alike beside_itself
+        (heard host member arguments world replies (host.asked member arguments other))
+        (heard host member arguments world left (host.asked member arguments other)))
+        (sym now.1) (heard_alike member arguments world replies (host.asked member arguments other)
+        (asked member arguments other holds)));
+    goes_on = λ call world other others past. absurd past;
+  }
+
+  holds_after : (first : Option PlainEnd × E) (second : Option PlainEnd × E) → ActsAlike beside_itself first second
+      → IsTrue (test first.1)
+  holds_after _ _ (both_end how none env replies other others now) = now.2
+  holds_after _ _ (both_want call env replies other others holds) = holds
+  holds_after _ _ (one_wants call env other others past) = absurd past
+
+pub asking_alone : (E : Type 0) → OnlyAskingChanges E
+asking_alone E host test asked answered program which env replies holds =
+    holds_after E host test asked answered (act_of E host program which env replies)
+    (act_of E host program which env replies)
+    (acts_alike (beside_itself E host test asked answered) (asks_alike E host test asked answered) program which env
+    replies env replies (refl, refl, holds))

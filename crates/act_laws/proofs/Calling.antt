@@ -1,0 +1,111 @@
+-- Blocks and procedures, in two environments side by side.
+use Rattle.std.proofs.Common.{nat_lt, ◌==◌, List, [], ◌∷◌, length, if◌then◌else◌}
+use Rattle.vb_value.specs.declared.application.AppCall.{AppCall}
+use Rattle.vb_value.specs.declared.value.Value.{Value}
+use Rattle.vb_value.specs.Errors.{wrong_number}
+use Rattle.vb_syntax.specs.declared.program.statement.Statement.{Statement}
+use Rattle.vb_syntax.specs.declared.program.unit.Procedure.{Procedure}
+use Rattle.vb_meaning.specs.declared.reached.Argument.{Argument}
+use Rattle.vb_meaning.specs.declared.stop.Stop.TheVariants as stop
+use Rattle.vb_meaning.specs.declared.world.Exit.{Exit}
+use Rattle.vb_meaning.specs.declared.world.Exit.TheVariants.{Next, Leave}
+use Rattle.vb_meaning.specs.declared.world.World.{World}
+use Rattle.vb_meaning.specs.Blocks as blocks
+use Rattle.vb_meaning.specs.Calling as calling
+use Rattle.vb_meaning.specs.Errors.{tick, too_deep}
+use Rattle.vb_meaning.specs.Inner.{Owner}
+use Rattle.vb_meaning.specs.Releases.{in_world}
+use Rattle.vb_meaning.specs.State.{State, Does, on_world}
+use Rattle.vb_meaning.specs.Step.{Step, Gives, Ends, ◌>>◌}
+use Rattle.act_laws.proofs.Inside.{Inners, one, two, Same, seen_fits}
+use Rattle.act_laws.proofs.Linked.{Link, Fits, Alike, Past, Turns, gives, ends, gone, turned, then_fits, value_fits}
+use Rattle.act_laws.proofs.Linked.{fails_fit, error_fits, moved_fits, world_fits, choice_fits, either_fits}
+use Rattle.act_laws.proofs.Releasing.{settle_fits}
+use Rattle.act_laws.proofs.Wantless.{seeing_wantless, tick_wantless, deep_wantless}
+use Rattle.act_laws.proofs.WantlessPlaces.{hold_wantless}
+use Rattle.act_laws.proofs.WantlessScopes.{begins_wantless, result_wantless}
+
+module _ (l : Link) (i : Inners l) where
+  after_fits : {first : Does l.E Exit} {second : Does l.F Exit} → Fits l first second → (exit : Exit)
+      → Fits l (blocks.after l.E (one i) first exit) (blocks.after l.F (two i) second exit)
+  after_fits fit Next = fit
+  after_fits fit (Leave kind) = value_fits l (Leave kind)
+
+  pub block_fits : (statements : List Statement) → Same l i (λ E m. blocks.block E m statements)
+  block_fits [] = value_fits l Next
+  block_fits (first ∷ others) = then_fits (i.statement_fits first) (after_fits (block_fits others))
+
+  -- ---- how a procedure is left
+
+  returned_fits : (caller : World) → Same l i (λ E m. calling.returned E m caller)
+  returned_fits caller = then_fits
+      (world_fits l (seeing_wantless (λ world. calling.result_value world.frame.result)
+      (λ world. result_wantless world.frame.result))) (λ value.
+      then_fits (then_fits (then_fits (world_fits l (hold_wantless value))
+      (λ done. moved_fits (calling.left caller) (value_fits l tt)))
+      (λ done. settle_fits l i)) (λ done. value_fits l value))
+
+  abandoned_turns : (caller : World)
+      → Turns l (calling.abandoned l.E (one i) caller) (calling.abandoned l.F (two i) caller)
+  abandoned_turns caller = record { alike = alike; goes_on = goes_on }
+    where
+      goes_on : (call : AppCall) (second : Step (State l.F) Exit) → Past l call second
+          → Past l call (calling.abandoned l.F (two i) caller second)
+      goes_on call (Gives exit s) past = (returned_fits caller).goes_on call s.world s.env s.replies past
+      goes_on call (Ends (stop.Error what line) s) past =
+          (then_fits (settle_fits l i) (λ done. error_fits {A = Value} l what line)).goes_on
+          call (calling.left caller s.world) s.env s.replies past
+      goes_on call (Ends (stop.Limit kind line) s) past = past
+      goes_on call (Ends stop.Page s) past = past
+      goes_on call (Ends (stop.Wants other) s) past = past
+      goes_on call (Ends stop.Memory s) past = past
+
+      alike : (first : Step (State l.E) Exit) (second : Step (State l.F) Exit) → Alike l first second
+          → Alike l (calling.abandoned l.E (one i) caller first) (calling.abandoned l.F (two i) caller second)
+      alike _ _ (gives exit world env replies other_env others now) =
+          (returned_fits caller).alike world env replies other_env others now
+      alike _ _ (ends (stop.Error what line) world env replies other_env others now) =
+          (then_fits (settle_fits l i) (λ done. error_fits {A = Value} l what line)).alike
+          (calling.left caller world) env replies other_env others now
+      alike _ _ (ends (stop.Limit kind line) world env replies other_env others now) =
+          ends (stop.Limit kind line) world env replies other_env others now
+      alike _ _ (ends (stop.Wants call) world env replies other_env others want) =
+          ends (stop.Wants call) world env replies other_env others want
+      alike _ _ (ends stop.Page world env replies other_env others now) =
+          ends stop.Page (calling.left caller world) env replies other_env others now
+      alike _ _ (ends stop.Memory world env replies other_env others now) =
+          ends stop.Memory world env replies other_env others now
+      alike _ second (gone call s _ past) =
+          gone call s (calling.abandoned l.F (two i) caller second) (goes_on call second past)
+
+  -- ---- how it is entered
+
+  runs_fits : (procedure : Procedure) (arguments : List Argument)
+      → Same l i (λ E m. calling.runs E m procedure arguments)
+  runs_fits procedure arguments =
+      then_fits (world_fits l (begins_wantless procedure arguments)) (λ done. block_fits procedure.body)
+
+  inside_fits : (owner : Owner) (procedure : Procedure) (arguments : List Argument)
+      → Same l i (λ E m s. calling.abandoned E m s.world
+      (calling.runs E m procedure arguments (in_world E (calling.entered owner s.world) s)))
+  inside_fits owner procedure arguments = seen_fits l i
+      (λ E m world s. calling.abandoned E m world
+      (calling.runs E m procedure arguments (in_world E (calling.entered owner s.world) s)))
+      (λ world. turned (abandoned_turns world) (moved_fits (calling.entered owner) (runs_fits procedure arguments)))
+
+  opened_fits : (owner : Owner) (procedure : Procedure) (arguments : List Argument)
+      → Same l i (λ E m. calling.opened E m owner procedure arguments)
+  opened_fits owner procedure arguments = seen_fits l i
+      (λ E m world s. if nat_lt world.calls calling.most_calls
+      then (on_world tick >> (λ t. calling.abandoned E m t.world
+      (calling.runs E m procedure arguments (in_world E (calling.entered owner t.world) t)))) s
+      else on_world too_deep s)
+      (λ world. either_fits (nat_lt world.calls calling.most_calls)
+      (then_fits (world_fits l tick_wantless) (λ done. inside_fits owner procedure arguments))
+      (world_fits l deep_wantless))
+
+  pub enter_of_fits : (owner : Owner) (procedure : Procedure) (arguments : List Argument)
+      → Same l i (λ E m. calling.enter_of E m owner procedure arguments)
+  unfolding calling.enter_of
+  enter_of_fits owner procedure arguments = choice_fits (length arguments == length procedure.by_value)
+      (opened_fits owner procedure arguments) (fails_fit l wrong_number)

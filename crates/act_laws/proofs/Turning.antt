@@ -1,0 +1,168 @@
+-- What is made of steps, in two environments side by side: their lines, and what On Error makes of an error.
+use Rattle.std.proofs.Common.{ℕ, List, Bool, true, false, if◌then◌else◌, Option, Some, None}
+use Rattle.vb_value.specs.declared.application.AppCall.{AppCall}
+use Rattle.vb_value.specs.declared.application.AppReply.{AppReply}
+use Rattle.vb_value.specs.declared.value.Value.{Value}
+use Rattle.vb_meaning.specs.declared.cause.Cause.{Cause}
+use Rattle.vb_meaning.specs.declared.stop.Stop.TheVariants as stop
+use Rattle.vb_meaning.specs.declared.world.World.{World}
+use Rattle.vb_meaning.specs.Errors.{in_line, resumed, with_err, raised_by}
+use Rattle.vb_meaning.specs.Inner.{Inner}
+use Rattle.vb_meaning.specs.Releases.{terminated, ended, without_page_stop}
+use Rattle.vb_meaning.specs.State.{State}
+use Rattle.vb_meaning.specs.Statements.{out_of_with, with_subjects}
+use Rattle.vb_meaning.specs.Step.{Step, Gives, Ends}
+use Rattle.act_laws.proofs.Linked.{Link, Alike, gives, ends, gone, Past, Turns}
+
+-- a line
+pub line_turns : {A : Type 0} (l : Link) (line : ℕ) → Turns {A = A} l (in_line line) (in_line line)
+line_turns {A} l line = record { alike = alike; goes_on = goes_on }
+  where
+    goes_on : (call : AppCall) (second : Step (State l.F) A) → Past l call second → Past l call (in_line line second)
+    goes_on call (Gives value s) past = past
+    goes_on call (Ends why s) past = past
+
+    alike : (first : Step (State l.E) A) (second : Step (State l.F) A) → Alike l first second
+        → Alike l (in_line line first) (in_line line second)
+    alike _ _ (gives value world env replies other_env others now) = gives value world env replies other_env others now
+    alike _ _ (ends (stop.Error what None) world env replies other_env others now) =
+        ends (stop.Error what (Some line)) world env replies other_env others now
+    alike _ _ (ends (stop.Error what (Some at)) world env replies other_env others now) =
+        ends (stop.Error what (Some at)) world env replies other_env others now
+    alike _ _ (ends (stop.Limit kind None) world env replies other_env others now) =
+        ends (stop.Limit kind (Some line)) world env replies other_env others now
+    alike _ _ (ends (stop.Limit kind (Some at)) world env replies other_env others now) =
+        ends (stop.Limit kind (Some at)) world env replies other_env others now
+    alike _ _ (ends (stop.Wants call) world env replies other_env others want) =
+        ends (stop.Wants call) world env replies other_env others want
+    alike _ _ (ends stop.Page world env replies other_env others now) =
+        ends stop.Page world env replies other_env others now
+    alike _ _ (ends stop.Memory world env replies other_env others now) =
+        ends stop.Memory world env replies other_env others now
+    alike _ second (gone call s _ past) = gone call s (in_line line second) (goes_on call second past)
+
+-- On Error
+pub resumed_turns : {A : Type 0} (l : Link) (instead : A) → Turns {A = A} l (resumed instead) (resumed instead)
+resumed_turns {A} l instead = record { alike = alike; goes_on = goes_on }
+  where
+    past_error : (call : AppCall) (what : Cause) (line : Option ℕ) (s : State l.F) (resumes : Bool)
+        → l.past call s.env s.replies
+        → Past l call (if resumes then Gives instead (record s { world = with_err (raised_by what) s.world })
+        else Ends (stop.Error what line) s)
+    past_error call what line s true past = past
+    past_error call what line s false past = past
+
+    goes_on : (call : AppCall) (second : Step (State l.F) A) → Past l call second
+        → Past l call (resumed instead second)
+    goes_on call (Gives value s) past = past
+    goes_on call (Ends (stop.Error what line) s) past = past_error call what line s s.world.frame.resumes past
+    goes_on call (Ends (stop.Limit kind line) s) past = past
+    goes_on call (Ends stop.Page s) past = past
+    goes_on call (Ends (stop.Wants other) s) past = past
+    goes_on call (Ends stop.Memory s) past = past
+
+    errs : (what : Cause) (line : Option ℕ) (world : World) (env : l.E) (replies : List AppReply) (other_env : l.F)
+        (others : List AppReply) (resumes : Bool) → l.now env replies other_env others
+        → Alike l
+        (if resumes
+        then Gives instead (record { world = with_err (raised_by what) world; env = env; replies = replies })
+        else Ends (stop.Error what line) (record { world = world; env = env; replies = replies }))
+        (if resumes
+        then Gives instead (record { world = with_err (raised_by what) world; env = other_env; replies = others })
+        else Ends (stop.Error what line) (record { world = world; env = other_env; replies = others }))
+    errs what line world env replies other_env others true now =
+        gives instead (with_err (raised_by what) world) env replies other_env others now
+    errs what line world env replies other_env others false now =
+        ends (stop.Error what line) world env replies other_env others now
+
+    alike : (first : Step (State l.E) A) (second : Step (State l.F) A) → Alike l first second
+        → Alike l (resumed instead first) (resumed instead second)
+    alike _ _ (gives value world env replies other_env others now) = gives value world env replies other_env others now
+    alike _ _ (ends (stop.Error what line) world env replies other_env others now) =
+        errs what line world env replies other_env others world.frame.resumes now
+    alike _ _ (ends (stop.Limit kind line) world env replies other_env others now) =
+        ends (stop.Limit kind line) world env replies other_env others now
+    alike _ _ (ends (stop.Wants call) world env replies other_env others want) =
+        ends (stop.Wants call) world env replies other_env others want
+    alike _ _ (ends stop.Page world env replies other_env others now) =
+        ends stop.Page world env replies other_env others now
+    alike _ _ (ends stop.Memory world env replies other_env others now) =
+        ends stop.Memory world env replies other_env others now
+    alike _ second (gone call s _ past) = gone call s (resumed instead second) (goes_on call second past)
+
+-- the end of a terminator
+pub terminated_turns : (l : Link) (object : ℕ) (before : World)
+    → Turns l (terminated l.E object before) (terminated l.F object before)
+terminated_turns l object before = record { alike = alike; goes_on = goes_on }
+  where
+    goes_on : (call : AppCall) (second : Step (State l.F) Value) → Past l call second
+        → Past l call (terminated l.F object before second)
+    goes_on call (Gives value s) past = past
+    goes_on call (Ends (stop.Error what line) s) past = past
+    goes_on call (Ends (stop.Limit kind line) s) past = past
+    goes_on call (Ends stop.Page s) past = past
+    goes_on call (Ends (stop.Wants other) s) past = past
+    goes_on call (Ends stop.Memory s) past = past
+
+    alike : (first : Step (State l.E) Value) (second : Step (State l.F) Value) → Alike l first second
+        → Alike l (terminated l.E object before first) (terminated l.F object before second)
+    alike _ _ (gives value world env replies other_env others now) =
+        gives tt (ended object before world) env replies other_env others now
+    alike _ _ (ends (stop.Error what line) world env replies other_env others now) =
+        gives tt (ended object before world) env replies other_env others now
+    alike _ _ (ends (stop.Limit kind line) world env replies other_env others now) =
+        ends (stop.Limit kind line) world env replies other_env others now
+    alike _ _ (ends (stop.Wants call) world env replies other_env others want) =
+        ends (stop.Wants call) world env replies other_env others want
+    alike _ _ (ends stop.Page world env replies other_env others now) =
+        ends stop.Page (ended object before world) env replies other_env others now
+    alike _ _ (ends stop.Memory world env replies other_env others now) =
+        ends stop.Memory world env replies other_env others now
+    alike _ second (gone call s _ past) =
+        gone call s (terminated l.F object before second) (goes_on call second past)
+
+-- a page stop that goes no further
+pub without_stop_turns : (l : Link) → Turns l (without_page_stop l.E) (without_page_stop l.F)
+without_stop_turns l = record { alike = alike; goes_on = goes_on }
+  where
+    goes_on : (call : AppCall) (second : Step (State l.F) (Unit {0})) → Past l call second
+        → Past l call (without_page_stop l.F second)
+    goes_on call (Gives value s) past = past
+    goes_on call (Ends (stop.Error what line) s) past = past
+    goes_on call (Ends (stop.Limit kind line) s) past = past
+    goes_on call (Ends stop.Page s) past = past
+    goes_on call (Ends (stop.Wants other) s) past = past
+    goes_on call (Ends stop.Memory s) past = past
+
+    alike : (first : Step (State l.E) (Unit {0})) (second : Step (State l.F) (Unit {0})) → Alike l first second
+        → Alike l (without_page_stop l.E first) (without_page_stop l.F second)
+    alike _ _ (gives value world env replies other_env others now) = gives value world env replies other_env others now
+    alike _ _ (ends (stop.Error what line) world env replies other_env others now) =
+        ends (stop.Error what line) world env replies other_env others now
+    alike _ _ (ends (stop.Limit kind line) world env replies other_env others now) =
+        ends (stop.Limit kind line) world env replies other_env others now
+    alike _ _ (ends (stop.Wants call) world env replies other_env others want) =
+        ends (stop.Wants call) world env replies other_env others want
+    alike _ _ (ends stop.Page world env replies other_env others now) = gives tt world env replies other_env others now
+    alike _ _ (ends stop.Memory world env replies other_env others now) =
+        ends stop.Memory world env replies other_env others now
+    alike _ second (gone call s _ past) = gone call s (without_page_stop l.F second) (goes_on call second past)
+
+-- the end of a With
+pub with_turns : {A : Type 0} (l : Link) (m : Inner l.E) (other : Inner l.F) (subjects : List Value)
+    → Turns {A = A} l (out_of_with l.E m subjects) (out_of_with l.F other subjects)
+with_turns {A} l m other subjects = record { alike = alike; goes_on = goes_on }
+  where
+    goes_on : (call : AppCall) (second : Step (State l.F) A) → Past l call second
+        → Past l call (out_of_with l.F other subjects second)
+    goes_on call (Gives value s) past = past
+    goes_on call (Ends why s) past = past
+
+    alike : (first : Step (State l.E) A) (second : Step (State l.F) A) → Alike l first second
+        → Alike l (out_of_with l.E m subjects first) (out_of_with l.F other subjects second)
+    alike _ _ (gives value world env replies other_env others now) =
+        gives value (with_subjects l.E m subjects world) env replies other_env others now
+    alike _ _ (ends why world env replies other_env others same) =
+        ends why (with_subjects l.E m subjects world) env replies other_env others same
+    alike _ second (gone call s _ past) = gone call (record s { world = with_subjects l.E m subjects s.world })
+        (out_of_with l.F other subjects second) (goes_on call second past)

@@ -1,0 +1,79 @@
+-- An environment beside itself: an act wants only calls that the environment wants.
+use Rattle.std.proofs.Common.{◌≡◌, Bool, IsTrue, List, [], ◌∷◌, Option, Some, None, Ok, Err, refl, sym, subst, ◌∙◌}
+use Rattle.vb_value.specs.declared.application.AppCall.{AppCall}
+use Rattle.vb_value.specs.declared.application.AppReply.{AppReply}
+use Rattle.vb_value.specs.declared.value.Value.{Value}
+use Rattle.vb_syntax.specs.declared.act.Given.TheVariants as given
+use Rattle.vb_syntax.specs.declared.member.Member.{Member}
+use Rattle.vb_heap.specs.DictionaryCalls.{array_of}
+use Rattle.vb_meaning.specs.declared.plain_end.PlainEnd.{PlainEnd}
+use Rattle.vb_meaning.specs.declared.world.World.{World}
+use Rattle.vb_meaning.specs.Acts.{act_of}
+use Rattle.vb_meaning.specs.Asking.{Host, Said, ask, heard, name_values}
+use Rattle.act_laws.specs.Calls.{WantsOnly, wanted}
+use Rattle.act_laws.specs.Laws.{OnlyObjectsWant}
+use Rattle.act_laws.proofs.Acting.{ActsAlike, both_end, both_want, one_wants, acts_alike}
+use Rattle.act_laws.proofs.Linked.{Link, Fits, Alike, gives, gone}
+use Rattle.act_laws.proofs.Links.{ends_for}
+
+module _ (E : Type 0) (host : Host E) (test : AppCall → Bool)
+    (asked : (member : Member) (arguments : List Value) (env : E) → WantsOnly test (host.asked member arguments env))
+    (answered : (member : Member) (arguments : List Value) (reply : AppReply) (env : E)
+    → WantsOnly test (host.answered member arguments reply env)) where
+  abbrev beside_itself : Link
+  beside_itself = record {
+    E = E;
+    F = E;
+    host = host;
+    other = host;
+    now = λ env replies other others. (other ≡ env) × (others ≡ replies);
+    both_want = λ env replies other others. ⊥;
+    past = λ call other others. IsTrue (test call);
+  }
+
+  heard_alike : (member : Member) (arguments : List Value) (world : World) (replies : List AppReply) (said : Said E)
+      → WantsOnly test said → Alike beside_itself (heard host member arguments world replies said)
+      (heard host member arguments world replies said)
+  heard_alike member arguments world replies (Ok (given.Value value, env)) only =
+      gives value world env replies env replies (refl, refl)
+  heard_alike member arguments world replies (Ok (given.Names names, env)) only =
+      gives (array_of (name_values names)) world env replies env replies (refl, refl)
+  heard_alike member arguments world [] (Ok (given.Call call, env)) only =
+      gone call (record { world = world; env = env; replies = [] })
+      (heard host member arguments world [] (Ok (given.Call call, env))) only
+  heard_alike member arguments world (reply ∷ replies) (Ok (given.Call call, env)) only =
+      heard_alike member arguments world replies (host.answered member arguments reply env)
+      (answered member arguments reply env)
+  heard_alike member arguments world replies (Err (reason, env)) only =
+      ends_for beside_itself reason world env replies env replies (refl, refl)
+
+  asks_alike : (member : Member) (arguments : List Value)
+      → Fits beside_itself (ask host member arguments) (ask host member arguments)
+  unfolding ask
+  asks_alike member arguments = record {
+    alike = λ world env replies other others now.
+        subst (λ found. Alike beside_itself
+        (heard host member arguments world replies (host.asked member arguments found))
+        (heard host member arguments world others (host.asked member arguments other)))
+        now.0 (subst (λ left. Alike beside_itself
+        (heard host member arguments world replies (host.asked member arguments other))
+        (heard host member arguments world left (host.asked member arguments other)))
+        (sym now.1) (heard_alike member arguments world replies (host.asked member arguments other)
+        (asked member arguments other)));
+    goes_on = λ call world other others past. past;
+  }
+
+  passes : (first : Option PlainEnd × E) (second : Option PlainEnd × E) → ActsAlike beside_itself first second
+      → (call : AppCall) → wanted first.0 ≡ Some call → IsTrue (test call)
+  passes _ _ (both_end how none env replies other others now) call is =
+      let never : None ≡ Some call = sym none ∙ is in absurd (cc)
+  passes _ _ (both_want other_call env replies other others now) call is = absurd now
+  passes _ _ (one_wants found env other others past) call is =
+      let same : found ≡ call = cc in subst (λ x. IsTrue (test x)) same past
+
+pub objects_alone : (E : Type 0) → OnlyObjectsWant E
+objects_alone E host test asked answered program which env replies call =
+    passes E host test asked answered (act_of E host program which env replies)
+    (act_of E host program which env replies)
+    (acts_alike (beside_itself E host test asked answered) (asks_alike E host test asked answered) program which env
+    replies env replies (refl, refl)) call

@@ -1,0 +1,57 @@
+-- Laws of an act and of the replies that it is given, for the objects of a host whatever they do.
+use Rattle.std.specs.Prelude.{◌≡◌, Bool, IsTrue, List, [], ◌++◌, length, slice_get, Some, None}
+use Rattle.vb_value.specs.declared.application.AppCall.{AppCall}
+use Rattle.vb_value.specs.declared.application.AppReply.{AppReply}
+use Rattle.vb_value.specs.declared.value.Value.{Value}
+use Rattle.vb_syntax.specs.declared.act.Act.{Act}
+use Rattle.vb_syntax.specs.declared.member.Member.{Member}
+use Rattle.vb_syntax.specs.declared.program.Program.{Program}
+use Rattle.vb_meaning.specs.Acts.{act_of}
+use Rattle.vb_meaning.specs.Asking.{Host}
+use Rattle.act_laws.specs.Calls.{LeavesOnly, Noting, WantsOnly, calls_of, noting, wanted}
+
+-- an act that wants no call ends the same, and leaves the same environment, where more replies stand behind
+abbrev pub RepliesBeyond : Type 0 → Type 0
+RepliesBeyond E = (host : Host E) (program : Program) (which : Act) (env : E) (replies more : List AppReply)
+    → wanted (act_of E host program which env replies).0 ≡ None
+    → act_of E host program which env (replies ++ more) ≡ act_of E host program which env replies
+
+-- with the first of its replies an act wants the call that it makes next with all of them, and none if it makes no more
+abbrev pub CallsInOrder : Type 0 → Type 0
+CallsInOrder E = (host : Host E) (program : Program) (which : Act) (env : E) (first more : List AppReply)
+    → wanted (act_of E host program which env first).0
+    ≡ slice_get (calls_of E host program which env (first ++ more)) (length first)
+
+-- the calls that an act makes with more replies begin with those that it makes without them
+abbrev pub CallsStay : Type 0 → Type 0
+CallsStay E = (host : Host E) (program : Program) (which : Act) (env : E) (replies more : List AppReply)
+    → (rest : List AppCall) × (calls_of E host program which env (replies ++ more)
+    ≡ calls_of E host program which env replies ++ rest)
+
+-- that its calls are noted changes nothing of an act
+abbrev pub NotesChangeNothing : Type 0 → Type 0
+NotesChangeNothing E = (host : Host E) (program : Program) (which : Act) (env : E) (replies : List AppReply)
+    → act_of (Noting E) (noting host) program which (env, []) replies
+    ≡ (
+      (act_of E host program which env replies).0,
+      ((act_of E host program which env replies).1, calls_of E host program which env replies),
+    )
+
+-- An act wants only calls that the objects of the page want: where all of those pass a test, so does the act's.
+abbrev pub OnlyObjectsWant : Type 0 → Type 0
+OnlyObjectsWant E = (host : Host E) (test : AppCall → Bool)
+    → ((member : Member) (arguments : List Value) (env : E) → WantsOnly test (host.asked member arguments env))
+    → ((member : Member) (arguments : List Value) (reply : AppReply) (env : E)
+    → WantsOnly test (host.answered member arguments reply env))
+    → (program : Program) (which : Act) (env : E) (replies : List AppReply) (call : AppCall)
+    → wanted (act_of E host program which env replies).0 ≡ Some call → IsTrue (test call)
+
+-- An act changes the objects of the page only by asking them: what each question keeps true of them is true at its end.
+abbrev pub OnlyAskingChanges : Type 0 → Type 0
+OnlyAskingChanges E = (host : Host E) (test : E → Bool)
+    → ((member : Member) (arguments : List Value) (env : E) → IsTrue (test env)
+    → LeavesOnly test (host.asked member arguments env))
+    → ((member : Member) (arguments : List Value) (reply : AppReply) (env : E) → IsTrue (test env)
+    → LeavesOnly test (host.answered member arguments reply env))
+    → (program : Program) (which : Act) (env : E) (replies : List AppReply) → IsTrue (test env)
+    → IsTrue (test (act_of E host program which env replies).1)

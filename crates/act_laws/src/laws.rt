@@ -1,0 +1,33 @@
+//! Laws of an act and of the replies that it is given. The functions do nothing: their contracts are the laws.
+ghost use Rattle.act_laws.specs.Laws.{CallsInOrder, CallsStay, NotesChangeNothing, OnlyAskingChanges};
+ghost use Rattle.act_laws.specs.Laws.{OnlyObjectsWant, RepliesBeyond};
+
+/// An act that has ended takes no account of more replies.
+pub fn replies_beyond<E>()
+    ensures { RepliesBeyond E }
+{}
+
+/// With the first of its replies an act wants the call that it makes next with all of them.
+pub fn calls_in_order<E>()
+    ensures { CallsInOrder E }
+{}
+
+/// The calls that an act has made stay as they are where more replies come.
+pub fn calls_stay<E>()
+    ensures { CallsStay E }
+{}
+
+/// That its calls are noted changes nothing of an act.
+pub fn notes_change_nothing<E>()
+    ensures { NotesChangeNothing E }
+{}
+
+/// An act wants only calls that the objects of the page want.
+pub fn only_objects_want<E>()
+    ensures { OnlyObjectsWant E }
+{}
+
+/// What each question to the objects of the page keeps true of them, an act keeps.
+pub fn only_asking_changes<E>()
+    ensures { OnlyAskingChanges E }
+{}
