@@ -65,7 +65,13 @@ fn starts(alloc: Global, site: &Site, run: &PlainRun, course: Course) -> Result<
         return Ok(Way::On(course));
     }
     let replies = run.replies.as_slice();
-    event(alloc, replies, site.events.as_ref(), b"Session_OnStart", course)
+    event(
+        alloc,
+        replies,
+        site.events.as_ref(),
+        b"Session_OnStart",
+        course,
+    )
 }
 
 fn body(alloc: Global, run: &PlainRun, page: &Page, course: Course) -> Result<Way, Memory>

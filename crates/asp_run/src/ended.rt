@@ -17,7 +17,6 @@ impl Model for Ended {
     ghost use Rattle.std.specs.Prelude.{IfSome as WhereSome};
     ghost use Rattle.asp_job.specs.declared.answer.Finished.{Finished};
     ghost use Rattle.asp_job.specs.Session.{IsSession};
-
     ghost use Rattle.std.specs.Coded.{codes};
     ghost use Rattle.asp_job.specs.contracts.answer.Finished as row;
 
