@@ -4,7 +4,7 @@ use Rattle.std.specs.Option.{option_or}
 use Rattle.vb_value.specs.declared.application.AppReply.{AppReply}
 use Rattle.vb_value.specs.Folding.{same_name}
 use Rattle.vb_syntax.specs.declared.act.Act.{Act}
-use Rattle.vb_syntax.specs.declared.act.Act.TheVariants as act
+use Rattle.vb_syntax.specs.declared.act.Act.TheVariants as acts
 use Rattle.vb_syntax.specs.declared.act.ActDone.{ActDone}
 use Rattle.vb_syntax.specs.declared.act.ActEnd.{ActEnd}
 use Rattle.vb_syntax.specs.declared.act.ActEnd.TheVariants as end
@@ -74,7 +74,7 @@ abbrev pub number_of : List ℕ → List (List ℕ) → Option ℕ
 number_of word names = position (same_name word) names
 
 abbrev pub event_in : List AppReply → Page → Option ℕ → Course → Option Way
-event_in replies page (Some number) course = act replies page (act.Proc number) course
+event_in replies page (Some number) course = act replies page (acts.Proc number) course
 event_in replies page None course = Some (On course)
 
 -- the event of this name, if the site has it
@@ -89,7 +89,7 @@ starts site told course =
 
 -- the body of a page, unless Session_OnStart failed or stopped it
 abbrev pub body : Told → Page → Course → Option Way
-body told page course = if course.tally.goes_on then act told.replies page act.Body course else Some (On course)
+body told page course = if course.tally.goes_on then act told.replies page acts.Body course else Some (On course)
 
 -- what an answer says stays as it was
 abbrev pub quiet_course : Option (List ℕ) → Course → Course

@@ -1,5 +1,5 @@
 -- Events without a page: the beginning and the end of the application, and the end of a session.
-use Rattle.std.specs.Prelude.{ℕ, List, [], codes, Option, Some, None}
+use Rattle.std.specs.Prelude.{ℕ, false, List, [], codes, Option, Some, None}
 use Rattle.asp_job.specs.declared.answer.Finished.{Finished}
 use Rattle.asp_job.specs.declared.request.Request.{Request}
 use Rattle.asp_job.specs.declared.request.Verb.TheVariants.{Get}

@@ -28,7 +28,7 @@ use Rattle.asp_run.specs.declared.course.Way.{Way}
 use Rattle.asp_run.specs.declared.course.Way.TheVariants.{On}
 use Rattle.asp_run.specs.Acts.{course_of, number_of, starts, opens, outside}
 use Rattle.asp_run.specs.Events.{event_objects}
-use Rattle.asp_run.specs.Pages.{page_takes, page_begins}
+use Rattle.asp_run.specs.Pages.{page_takes, page_begins as course_of_page}
 
 -- the state that a step leaves
 abbrev pub left_by : {E : Type 0} → Step (State E) (Unit {0}) → State E
@@ -94,7 +94,7 @@ page_ticks site told page course = start_ticks site told course
 
 abbrev pub found_ticks : Site → Told → Request → Option Page → ℕ
 found_ticks site told request (Some page) =
-    if page_takes request.verb then page_ticks site told page (page_begins told request page) else 0
+    if page_takes request.verb then page_ticks site told page (course_of_page told request page) else 0
 found_ticks site told request None = 0
 
 abbrev pub end_ticks : Site → Told → Option SessionState → ℕ
