@@ -1,5 +1,5 @@
 -- Runs on their way.
-use Rattle.std.proofs.Common.{◌≡◌, ℕ, Bool, Option, None, List, subst}
+use Rattle.std.proofs.Common.{◌≡◌, ℕ, Bool, Option, None, subst}
 use Rattle.vb_value.specs.declared.application.AppCall.{AppCall}
 use Rattle.vb_value.specs.declared.application.AppReply.{AppReply}
 use Rattle.asp_job.specs.declared.answer.Finished.{Finished}
@@ -11,7 +11,7 @@ use Rattle.asp_run.specs.declared.run.PlainRun.{PlainRun}
 use Rattle.asp_run.specs.Running.{does, is_keyed, meaning_of}
 use Rattle.asp_run.specs.Stands.{Stands}
 use Rattle.asp_site.specs.declared.site.Site.{Site}
-use Rattle.asp_host.specs.Answer.{IsBody, RunsJob, Starts, begun_in, body_of, job_of, session_of}
+use Rattle.asp_host.specs.Answer.{begun_in, session_of}
 use Rattle.asp_host.specs.OnTheWay.{IsOn}
 use Rattle.asp_host.specs.Runs.{Runs}
 use Rattle.asp_host.proofs.Courses.{ends_here, hears}
@@ -48,19 +48,3 @@ pub told_first : (site : Site) (state : PlainRun) (job : Job) (session : Option 
 told_first site state job session keyed keyed_is session_is stands =
     subst (λ (one : Bool). Stands site state (begun_in job one)) keyed_is
     (subst (λ (one : Option SessionState). Stands site state (begun job one keyed None)) session_is stands)
-
--- the body that run 2 answers
-pub answers_body : (site : Site) (path query : List ℕ) (beginning : Finished) (state : AppState) (job : Job)
-    (finished : Finished) (last : AppState) (body : List ℕ) → job ≡ job_of path query
-    → RunsJob site 2 job state finished last → body ≡ body_of finished.answer → Starts site beginning state
-    → beginning.fail ≡ None → IsBody site path query body
-answers_body site path query beginning state job finished last body job_is runs body_is starts started = record {
-  beginning = beginning;
-  state = state;
-  starts = starts;
-  started = started;
-  finished = finished;
-  last = last;
-  runs = subst (λ (one : Job). RunsJob site 2 one state finished last) job_is runs;
-  body_is = body_is;
-}

@@ -17,7 +17,7 @@ returns c =
     let first = c.args.application.now in
     let last = c.to_end.new.application in
     let state = c.in-Ok.state in
-    let stands = told_first site state job c.new_session.result c.keyed.result c.keyed.ensures c.new_session.ensures.same
+    let stands = told_first site state job c.new_session-session.result c.keyed-keyed.result c.keyed-keyed.ensures c.new_session-session.ensures.same
     c.in-Ok.ensures.stands in
     IfOk-weaker c.to_end.result
     (λ (finished : Finished). (told : Told) → Stands site state told → Runs (meaning_of site) run told first finished last)
