@@ -12,8 +12,8 @@ use Rattle.asp_host.specs.Runs.{Runs}
 -- A run that was told this, and found the application so, was told more since; what it comes to from there it comes to
 -- from its beginning.
 pub record IsOn (site : Site) (run : ℕ) (told : Told) (first : AppState) (state : PlainRun) (now : AppState) : Type 0
-    where
-  pub since : Told
-  pub stands : Stands site state since
-  pub comes : (finished : Finished) (last : AppState) → Runs (meaning_of site) run since now finished last
-      → Runs (meaning_of site) run told first finished last
+  where
+    pub since : Told
+    pub stands : Stands site state since
+    pub comes : (finished : Finished) (last : AppState) → Runs (meaning_of site) run since now finished last
+        → Runs (meaning_of site) run told first finished last

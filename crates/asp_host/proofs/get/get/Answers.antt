@@ -44,7 +44,7 @@ returns-in-Err-body-clause-writes g c =
     c.in-Err-body.ensures.failed in (
       [],
       subst
-        (λ (status : Status). GetWrites path query [] files (record { before = held; after = held }) status)
-        (sym c.from-in-Err-body.ensures)
-        nothing,
+          (λ (status : Status). GetWrites path query [] files (record { before = held; after = held }) status)
+          (sym c.from-in-Err-body.ensures)
+          nothing,
     )

@@ -22,13 +22,13 @@ returns-in-Ended c =
     subst (λ (step : Step). phase_at next.at ≡ phase_of (Ok step)) c.in-Ended.is c.in_ok-go.ensures.phase in
     IfOk-weaker c.left.result
     (λ (finished : Finished). (site : Site) (told : Told) → Stands site next told → phase_at next.at ≡ Over
-        → does site told ≡ Ends finished)
+    → does site told ≡ Ends finished)
     (λ (finished : Finished). (told : Told) → Stands site c.args.state told
-        → Runs (meaning_of site) run told first finished now)
+    → Runs (meaning_of site) run told first finished now)
     (λ (finished : Finished) leaves. λ told stood.
-        let on = c.calls.invariant.on told stood in
-        ends_on site run told first c.calls.state now finished on
-            (leaves site on.since (c.in_ok-go.ensures.stands on.since 0 on.stands) over))
+    let on = c.calls.invariant.on told stood in
+    ends_on site run told first c.calls.state now finished on
+    (leaves site on.since (c.in_ok-go.ensures.stands on.since 0 on.stands) over))
     c.left.ensures
 
 pub calls-preserved : goal.calls-preserved
@@ -45,6 +45,6 @@ calls-preserved c =
           let wants = subst (λ (step : Step). IsStep Never (meaning_of site) on.since 0 1 step) c.in-Wants.is
           (c.in_ok-go.ensures.step on.since 0 on.stands) in
           hears_on site run told first c.calls.state c.feed.new.run now c.reply_to.new.application c.in-Wants.call reply
-              on wants.0 heard_of.reply heard_of.state
-              (c.feed.ensures.stands site on.since 0 (c.in_ok-go.ensures.stands on.since 0 on.stands));
+          on wants.0 heard_of.reply heard_of.state
+          (c.feed.ensures.stands site on.since 0 (c.in_ok-go.ensures.stands on.since 0 on.stands));
     }
