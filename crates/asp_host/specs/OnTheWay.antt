@@ -1,5 +1,5 @@
 -- This crate's own: a run on its way.
-use Rattle.std.specs.Prelude.{ℕ, List}
+use Rattle.std.specs.Prelude.{ℕ}
 use Rattle.asp_job.specs.declared.answer.Finished.{Finished}
 use Rattle.asp_job.specs.Application.{AppState}
 use Rattle.asp_job.specs.Told.{Told}

@@ -1,4 +1,3 @@
-use Rattle.std.proofs.Common.{◌≡◌, ℕ}
 use Rattle.std.proofs.lemmas.Result.{IfOk-weaker}
 use Rattle.asp_job.specs.declared.answer.Finished.{Finished}
 use Rattle.asp_job.specs.Told.{Told}

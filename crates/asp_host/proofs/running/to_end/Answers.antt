@@ -1,4 +1,4 @@
-use Rattle.std.proofs.Common.{◌≡◌, ℕ, Ok, subst}
+use Rattle.std.proofs.Common.{◌≡◌, Ok, subst}
 use Rattle.std.proofs.lemmas.Result.{IfOk-weaker}
 use Rattle.asp_job.specs.declared.answer.Finished.{Finished}
 use Rattle.asp_job.specs.declared.runner.Step.{Step}
