@@ -1,11 +1,11 @@
 -- What runs come to over the Application object.
-use Rattle.std.proofs.Common.{◌≡◌, ◌∙◌, ℕ, List, [], ◌∷◌, refl, sym, ap, subst}
+use Rattle.std.proofs.Common.{◌≡◌, ℕ, [], ◌∷◌, refl, subst}
 use Rattle.vb_value.specs.declared.application.AppCall.{AppCall}
 use Rattle.vb_value.specs.declared.application.AppReply.{AppReply}
 use Rattle.asp_job.specs.declared.answer.Finished.{Finished}
 use Rattle.asp_job.specs.Application.{AppState, apply}
 use Rattle.asp_job.specs.Told.{Ends, Meaning, Told, Wants, heard}
-use Rattle.asp_host.specs.Runs.{Comes, Runs}
+use Rattle.asp_host.specs.Runs.{Runs}
 
 -- a run that ends
 pub ends_here : (meaning : Meaning) (run : ℕ) (told : Told) (state : AppState) (finished : Finished)

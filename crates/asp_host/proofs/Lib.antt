@@ -4,3 +4,4 @@ mod Causes
 mod Courses
 mod GetEnds
 mod Leaving
+mod Underway

@@ -10,7 +10,7 @@ use Rattle.asp_job.specs.declared.request.Request.{Request}
 use Rattle.asp_job.specs.declared.request.Verb.TheVariants.{Get}
 use Rattle.asp_job.specs.declared.session.SessionState.{SessionState}
 use Rattle.asp_job.specs.Application.{AppState, first_state, freed}
-use Rattle.asp_job.specs.Told.{Meaning, Told, begun}
+use Rattle.asp_job.specs.Told.{Told, begun}
 use Rattle.asp_run.specs.Running.{meaning_of}
 use Rattle.asp_site.specs.declared.site.Site.{Site}
 use Rattle.asp_host.specs.Runs.{Runs}

@@ -1,5 +1,5 @@
 -- This crate's own: a run on its way.
-use Rattle.std.specs.Prelude.{ℕ, List}
+use Rattle.std.specs.Prelude.{ℕ}
 use Rattle.asp_job.specs.declared.answer.Finished.{Finished}
 use Rattle.asp_job.specs.Application.{AppState}
 use Rattle.asp_job.specs.Told.{Told}
@@ -9,11 +9,11 @@ use Rattle.asp_run.specs.Stands.{Stands}
 use Rattle.asp_site.specs.declared.site.Site.{Site}
 use Rattle.asp_host.specs.Runs.{Runs}
 
--- Of a run that began in this state, as it is told: it was told more since, and what it comes to from there it comes to
+-- A run that was told this, and found the application so, was told more since; what it comes to from there it comes to
 -- from its beginning.
-pub record IsOn (site : Site) (run : ℕ) (began : PlainRun) (first : AppState) (state : PlainRun) (now : AppState)
-    (told : Told) : Type 0 where
-  pub since : Told
-  pub stands : Stands site state since
-  pub comes : (finished : Finished) (last : AppState) → Runs (meaning_of site) run since now finished last
-      → Runs (meaning_of site) run told first finished last
+pub record IsOn (site : Site) (run : ℕ) (told : Told) (first : AppState) (state : PlainRun) (now : AppState) : Type 0
+  where
+    pub since : Told
+    pub stands : Stands site state since
+    pub comes : (finished : Finished) (last : AppState) → Runs (meaning_of site) run since now finished last
+        → Runs (meaning_of site) run told first finished last

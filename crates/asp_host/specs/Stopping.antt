@@ -1,6 +1,4 @@
 -- This crate's own: what a stop says of a folder, and of a site whose request was not run.
-use Rattle.std.specs.Prelude.{Option, IfSome, List}
-use Rattle.vb_value.specs.declared.site_file.SiteFile.{SiteFile}
 use Rattle.asp_site.specs.declared.site.Site.{Site}
 use Rattle.asp_host.specs.declared.stop.StartStop.{StartStop}
 use Rattle.asp_host.specs.declared.stop.StartStop.TheVariants.{Failed, Memory}

@@ -10,5 +10,5 @@ invariant-calls l = record {
   going : phase_at l.state.at ≡ Going;
   on :
       (told : Told) → Stands l.site l.fn.state told
-      → IsOn l.site l.run l.fn.state l.fn.application l.state l.application told;
+      → IsOn l.site l.run told l.fn.application l.state l.application;
 }
