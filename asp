@@ -1,8 +1,9 @@
 #!/usr/bin/env bash
 # Runs the program with the words given, in the folder where it is called, and ends with its status.
 #
-# `asp build` proves and builds the program. Before that, and once a source has changed since, the words run by the
-# toolchain's build that proves nothing, which one line on standard error says.
+# `asp build` proves and builds the program, unless that was done and no source has changed since. Before that, and once
+# a source has changed since, the words run by the toolchain's build that proves nothing, which one line on standard
+# error says.
 set -u
 unset CDPATH
 top=$(dirname "$(readlink -f "${BASH_SOURCE[0]}")")
@@ -142,7 +143,7 @@ run_unproved() {
 }
 
 if [ $# = 1 ] && [ "$1" = build ]; then
-  build
+  is_built || build
 elif is_built; then
   exec "$program" "$@"
 else
