@@ -1,6 +1,7 @@
 mod CommandWords
 mod Literals
 mod Causes
+mod Courses
 mod GetEnds
 mod Leaving
-mod Refused
+mod Underway

@@ -7,7 +7,8 @@ use Rattle.asp_io.specs.Sink.{with_bytes}
 use Rattle.asp_site.specs.declared.site.Site.{Site}
 use Rattle.site_load.specs.Accepted.{IsAccepted, IsFolderFault}
 use Rattle.asp_host.specs.declared.status.Status.{Status}
-use Rattle.asp_host.specs.declared.status.Status.TheVariants.{Ok, Memory, Usage, SiteRefused, ReadFault, WriteFault}
+use Rattle.asp_host.specs.declared.status.Status.TheVariants.{Ok, Memory, Usage, SiteRefused, StartFailed}
+use Rattle.asp_host.specs.declared.status.Status.TheVariants.{ReadFault, WriteFault}
 use Rattle.asp_host.specs.Around.{Around, Change, IsLeft}
 
 -- how many pages and how many static files a site has, as one line
@@ -29,6 +30,7 @@ CheckWrites files sink (SiteRefused fault) = IfSome files (λ all. IsFolderFault
 CheckWrites files sink ReadFault = IsLeft sink
 CheckWrites files sink Memory = IsLeft sink
 CheckWrites files sink Usage = ⊥
+CheckWrites files sink (StartFailed fail) = ⊥
 
 -- how `check` ends: its source is left as it was
 abbrev pub CheckEnds : Around → Status → Type 0

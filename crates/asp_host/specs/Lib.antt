@@ -4,7 +4,8 @@ pub mod Status
 pub mod Around
 pub mod Answer
 pub mod Journal
-pub mod Refusing
+pub mod OnTheWay
+pub mod Runs
 pub mod Get
 pub mod Check
 pub mod Host

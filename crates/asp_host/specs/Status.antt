@@ -1,19 +1,30 @@
 -- How a command ended, as the number and the text that the program gives for it.
-use Rattle.std.specs.Prelude.{ℕ, List, [], ◌++◌, codes}
+use Rattle.std.specs.Prelude.{ℕ, ◌+◌, ℤ, pos, negsuc, List, [], ◌++◌, codes}
 use Rattle.std.specs.Fmt.{decimal}
 use Rattle.vb_value.specs.declared.site_file.SiteFault.{SiteFault}
 use Rattle.vb_value.specs.declared.site_file.FaultKind.{FaultKind}
 use Rattle.vb_value.specs.declared.site_file.FaultKind.TheVariants as fault
+use Rattle.asp_job.specs.declared.answer.Fail.{Fail}
+use Rattle.asp_job.specs.declared.answer.Fail.TheVariants as fail
+use Rattle.asp_run.specs.Failures.{limit_name}
 use Rattle.site_load.specs.declared.stop.LoadStop.{LoadStop}
 use Rattle.site_load.specs.declared.stop.LoadStop.TheVariants.{Refused, ReadFault as FolderFault, Memory as NoMemory}
 use Rattle.asp_host.specs.declared.status.Status.{Status}
-use Rattle.asp_host.specs.declared.status.Status.TheVariants.{Ok, Memory, Usage, SiteRefused, ReadFault, WriteFault}
+use Rattle.asp_host.specs.declared.status.Status.TheVariants.{Ok, Memory, Usage, SiteRefused, StartFailed}
+use Rattle.asp_host.specs.declared.status.Status.TheVariants.{ReadFault, WriteFault}
+use Rattle.asp_host.specs.declared.stop.StartStop.{StartStop}
+use Rattle.asp_host.specs.declared.stop.StartStop.TheVariants as start
 
 -- how a command ends where the folder is no site
 abbrev pub status_of : LoadStop → Status
 status_of (Refused refused) = SiteRefused refused
 status_of FolderFault = ReadFault
 status_of NoMemory = Memory
+
+-- how a command ends where no request was run
+abbrev pub start_status_of : StartStop → Status
+start_status_of (start.Failed fail) = StartFailed fail
+start_status_of start.Memory = Memory
 
 -- how words end that say no command: they are told so, unless memory ran out
 abbrev pub IsUnsaid : Status → Type 0
@@ -29,6 +40,7 @@ code_of Usage = 2
 code_of (SiteRefused fault) = 3
 code_of ReadFault = 4
 code_of WriteFault = 5
+code_of (StartFailed fail) = 8
 
 -- the name of what is wrong with a file
 abbrev pub kind_text_of : FaultKind → List ℕ
@@ -69,11 +81,22 @@ place_text line kind = codes ":" ++ decimal line ++ codes ": " ++ kind_text_of k
 abbrev pub fault_text_of : SiteFault → List ℕ
 fault_text_of fault = fault.path ++ place_text fault.line fault.kind
 
+-- a number with its sign
+abbrev pub signed_text : ℤ → List ℕ
+signed_text (pos n) = decimal n
+signed_text (negsuc n) = codes "-" ++ decimal (n + 1)
+
+-- why an act failed, with its line in the file
+abbrev pub cause_text : Fail → List ℕ
+cause_text (fail.Error number line) = codes "error " ++ signed_text number ++ codes ", line " ++ decimal line
+cause_text (fail.Limit kind line) = codes "limit " ++ limit_name kind ++ codes ", line " ++ decimal line
+
 -- what the program says of the end, without a line end
 abbrev pub text_of : Status → List ℕ
 text_of Ok = []
 text_of Memory = codes "out of memory"
 text_of Usage = codes "usage: get SITE PATH, check SITE, replay SITE, serve SITE --requests N, gen N"
 text_of (SiteRefused fault) = fault_text_of fault
+text_of (StartFailed fail) = codes "Application_OnStart failed: " ++ cause_text fail
 text_of ReadFault = codes "read fault"
 text_of WriteFault = codes "write fault"

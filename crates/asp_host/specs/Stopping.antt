@@ -1,18 +1,10 @@
--- This crate's own: what a stop says of a folder whose requests are not run.
-use Rattle.std.specs.Prelude.{◌≡◌, Option, IfSome, List}
-use Rattle.vb_value.specs.declared.site_file.SiteFile.{SiteFile}
-use Rattle.site_load.specs.declared.stop.LoadStop.{LoadStop}
-use Rattle.site_load.specs.declared.stop.LoadStop.TheVariants.{Refused, ReadFault, Memory}
-use Rattle.asp_host.specs.Refusing.{IsRefusal, events_fault}
+-- This crate's own: what a stop says of a folder, and of a site whose request was not run.
+use Rattle.asp_site.specs.declared.site.Site.{Site}
+use Rattle.asp_host.specs.declared.stop.StartStop.{StartStop}
+use Rattle.asp_host.specs.declared.stop.StartStop.TheVariants.{Failed, Memory}
+use Rattle.asp_host.specs.Answer.{HasStartFail}
 
--- what a stop says of the folder with these files, where it says which it has
-abbrev pub Refuses : Option (List SiteFile) → LoadStop → Type 0
-Refuses files (Refused fault) = IfSome files (λ all. IsRefusal all fault)
-Refuses files ReadFault = Unit {0}
-Refuses files Memory = Unit {0}
-
--- the stop is that of a site with events
-abbrev pub IsEventsStop : LoadStop → Type 0
-IsEventsStop (Refused fault) = fault ≡ events_fault
-IsEventsStop ReadFault = ⊥
-IsEventsStop Memory = Unit {0}
+-- what a stop says of the site whose request was not run
+abbrev pub IsStartStop : Site → StartStop → Type 0
+IsStartStop site (Failed fail) = HasStartFail site fail
+IsStartStop site Memory = Unit {0}

@@ -1,15 +1,20 @@
 //! The command `get`.
-ghost use Rattle.std.specs.Prelude.{◌≡◌, ◌+◌, ◌^◌, ◌<◌, List, length};
+ghost use Rattle.std.specs.Prelude.{◌≡◌, ◌+◌, ◌^◌, ◌<◌, IfErr, IfOk, List, length};
 ghost use Rattle.asp_io.specs.Faults.{HasRisen};
+ghost use Rattle.asp_host.specs.Answer.{IsBody};
 ghost use Rattle.asp_host.specs.Get.{GetWrites};
 ghost use Rattle.asp_host.specs.Journal.{Run};
+ghost use Rattle.asp_host.specs.Stopping.{IsStartStop};
 
-use crate::answer::body;
-use crate::refusing::runnable_site;
+use crate::running::{answer, start};
 use crate::status::Status;
+use crate::stop::StartStop;
+use asp_app::Application;
 use asp_io::{Failed, Folder, Sink, write_all};
+use asp_site::Site;
+use site_load::load;
 use std::alloc::Global;
-use vb_value::{Bytes, Memory, Text};
+use vb_value::{Bytes, Text};
 
 /// Writes the body of the answer to a request for the path with the query. It waits for nothing, and starts no thread.
 pub fn get<F: Folder, K: Sink>(
@@ -25,16 +30,30 @@ pub fn get<F: Folder, K: Sink>(
     ensures read_fault { result ≡ Status.ReadFault → HasRisen (F.faults folder.old) (F.faults folder.new) }
     ensures write_fault { result ≡ Status.WriteFault → HasRisen (K.faults sink.old) (K.faults sink.new) }
 {
-    let site = match runnable_site(alloc, folder) {
+    let site = match load(alloc, folder) {
         Ok(site) => site,
         Err(stop) => return Status::from(stop),
     };
     let body = match body(alloc, &site, path, query) {
         Ok(body) => body,
-        Err(Memory) => return Status::Memory,
+        Err(stop) => return Status::from(stop),
     };
     match write_all(sink, body.as_slice()) {
         Ok(()) => Status::Ok,
         Err(Failed) => Status::WriteFault,
     }
+}
+
+/// The body of the answer, behind a beginning of the application that does not fail.
+fn body(alloc: Global, site: &Site, path: &Text, query: &Bytes) -> Result<Bytes, StartStop>
+    requires { length path.now + length query.now < 2 ^ 24 }
+    ensures ok { IfOk result (IsBody site.now path.now query.now) }
+    ensures failed { IfErr result (IsStartStop site.now) }
+{
+    let mut application = Application::new(alloc);
+    let beginning = start(alloc, site, &mut application)?;
+    if let Some(fail) = beginning.fail {
+        return Err(StartStop::Failed(fail));
+    }
+    Ok(answer(alloc, site, &mut application, path, query)?)
 }

@@ -1,13 +1,14 @@
 //! The host as one call: a command is read from words, runs over a folder, and its output goes to a sink.
 #![tactic(auto)]
 
-mod answer;
 mod check;
+mod fail_text;
 mod get;
 mod host;
 mod laws;
-mod refusing;
+mod running;
 mod status;
+mod stop;
 mod words;
 
 pub use host::run_host;

@@ -4,6 +4,9 @@ ghost use Rattle.std.specs.String.{string_bytes};
 ghost use Rattle.vb_value.specs.Outcome.{Gives};
 ghost use Rattle.asp_host.specs.Status.{code_of, fault_text_of, kind_text_of, place_text, text_of};
 
+use crate::fail_text::fail_text;
+use crate::stop::StartStop;
+use asp_job::Fail;
 use site_load::LoadStop;
 use std::alloc::Global;
 use vb_value::{Copied, FaultKind, Memory, SiteFault, Text};
@@ -22,6 +25,8 @@ pub enum Status {
     Usage,
     /// The folder is no site, or none that this host runs, for this fault.
     SiteRefused(SiteFault),
+    /// Application_OnStart failed, for this cause.
+    StartFailed(Fail),
     /// The folder failed.
     ReadFault,
     /// The sink failed.
@@ -42,6 +47,19 @@ impl From<LoadStop> for Status {
     }
 }
 
+impl From<StartStop> for Status {
+    ghost use Rattle.asp_host.specs.Status.{start_status_of};
+
+    ghost from_gives = { λ stop status. status ≡ start_status_of stop };
+
+    fn from(stop: StartStop) -> Status {
+        match stop {
+            StartStop::Failed(fail) => Status::StartFailed(fail),
+            StartStop::Memory => Status::Memory,
+        }
+    }
+}
+
 /// The exit status of the program, 0 where the command did all of its work.
 pub fn status_code(status: &Status) -> u8
     ensures { result ≡ code_of status.now }
@@ -53,6 +71,7 @@ pub fn status_code(status: &Status) -> u8
         Status::SiteRefused(_) => 3,
         Status::ReadFault => 4,
         Status::WriteFault => 5,
+        Status::StartFailed(_) => 8,
     }
 }
 
@@ -63,6 +82,7 @@ pub fn status_text(alloc: Global, status: &Status) -> Result<Text, Memory>
     match status {
         Status::Ok => Ok(Text::new(alloc)),
         Status::SiteRefused(fault) => fault_text(alloc, fault),
+        Status::StartFailed(fail) => fail_text(alloc, *fail),
         Status::Memory => Text::from_str(alloc, "out of memory"),
         Status::Usage => Text::from_str(alloc, USAGE),
         Status::ReadFault => Text::from_str(alloc, "read fault"),

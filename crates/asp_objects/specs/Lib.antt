@@ -1,3 +1,6 @@
+pub mod ApplicationMembers
+pub mod Choosing
+pub mod Entries
 pub mod Given
 pub mod MapPath
 pub mod Members
@@ -5,3 +8,4 @@ pub mod RequestMembers
 pub mod ResponseMembers
 pub mod Said
 pub mod ServerMembers
+pub mod SessionMembers

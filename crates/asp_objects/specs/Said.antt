@@ -11,21 +11,24 @@ use Rattle.asp_response.specs.Draft.{Done}
 use Rattle.asp_objects.specs.declared.objects.PageObjects.{PageObjects}
 use Rattle.asp_objects.specs.Given.{Answer}
 
+abbrev pub SaidOf : Type 0 → Type 0
+SaidOf E = Result (Given × E) (AskStop × E)
+
 abbrev pub Said : Type 0
-Said = Result (Given × PageObjects) (AskStop × PageObjects)
+Said = SaidOf PageObjects
 
 -- a member that changes nothing
-abbrev pub told : Answer → PageObjects → Said
+abbrev pub told : {E : Type 0} → Answer → E → SaidOf E
 told (Ok what) objects = Ok (what, objects)
 told (Err stop) objects = Err (stop, objects)
 
 -- what is done with an argument that was converted; a stop changes nothing
-abbrev pub using_it : {T : Type 0} → Result T AskStop → (T → PageObjects → Said) → PageObjects → Said
+abbrev pub using_it : {T E : Type 0} → Result T AskStop → (T → E → SaidOf E) → E → SaidOf E
 using_it (Ok value) next objects = next value objects
 using_it (Err stop) next objects = Err (stop, objects)
 
 -- nothing is given, and the objects are these
-abbrev pub became : PageObjects → Said
+abbrev pub became : {E : Type 0} → E → SaidOf E
 became objects = Ok (given.Value Empty, objects)
 
 -- why a call on the draft stops a member

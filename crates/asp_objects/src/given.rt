@@ -37,7 +37,7 @@ pub(crate) fn long_in(value: &Value) -> Result<i32, AskStop>
 }
 
 /// How many places stand before one that is counted from 1.
-fn before_place(place: i32) -> Result<usize, AskStop>
+pub(crate) fn before_place(place: i32) -> Result<usize, AskStop>
     ensures { result ≡ spec.before_place place }
 {
     if place < 1 {

@@ -1,3 +1,5 @@
+pub mod Acts
+pub mod Events
 pub mod Failures
 pub mod Lines
 pub mod Pages

@@ -1,21 +1,15 @@
 -- What a run answers a request: a page that it runs, a static file, or a fixed answer.
-use Rattle.std.specs.Prelude.{ℕ, Bool, true, false, if◌then◌else◌, List, [], ◌∷◌, codes, Option, Some, None}
-use Rattle.vb_value.specs.declared.application.AppReply.{AppReply}
+use Rattle.std.specs.Prelude.{ℕ, Bool, true, false, ◌&&◌, if◌then◌else◌, List, [], ◌∷◌, codes, Option, Some, None}
 use Rattle.vb_value.specs.declared.site_file.SiteFile.{SiteFile}
-use Rattle.vb_syntax.specs.declared.act.Act.TheVariants as act
-use Rattle.vb_syntax.specs.declared.act.ActDone.{ActDone}
-use Rattle.vb_meaning.specs.declared.plain_end.PlainEnd.{PlainEnd}
-use Rattle.vb_meaning.specs.declared.plain_end.PlainEnd.TheVariants.{Wants as WantsCall, Ends as Ended}
-use Rattle.vb_meaning.specs.Acts.{act_of}
-use Rattle.vb_world.specs.Seen.{host}
 use Rattle.asp_job.specs.declared.answer.Answer.{Answer}
 use Rattle.asp_job.specs.declared.answer.Finished.{Finished}
 use Rattle.asp_job.specs.declared.request.Request.{Request}
 use Rattle.asp_job.specs.declared.request.Verb.{Verb}
 use Rattle.asp_job.specs.declared.request.Verb.TheVariants as verb
-use Rattle.asp_job.specs.Told.{Told}
+use Rattle.asp_job.specs.declared.session.SessionState.{SessionState}
+use Rattle.asp_job.specs.Told.{Told, Outcome, Wants, Ends}
 use Rattle.asp_objects.specs.declared.objects.PageObjects.{PageObjects}
-use Rattle.asp_objects.specs.Members.{asked, answered, fresh_objects}
+use Rattle.asp_objects.specs.Members.{fresh_objects}
 use Rattle.asp_response.specs.declared.fixed.Unavailable.TheVariants.{OutOfMemory}
 use Rattle.asp_response.specs.Finish.{finished}
 use Rattle.asp_response.specs.Fixed.{status_answer_of, not_allowed_of, unavailable_of}
@@ -23,7 +17,10 @@ use Rattle.asp_site.specs.declared.site.Page.{Page}
 use Rattle.asp_site.specs.declared.site.Site.{Site}
 use Rattle.asp_site.specs.Endings.{media_type_of}
 use Rattle.asp_site.specs.Lookup.{page_at, static_at}
-use Rattle.asp_run.specs.Failures.{failure_text, fail_of}
+use Rattle.asp_run.specs.declared.course.Course.{Course}
+use Rattle.asp_run.specs.declared.course.Way.{Way}
+use Rattle.asp_run.specs.declared.course.Way.TheVariants.{Wants as WantsReply, On}
+use Rattle.asp_run.specs.Acts.{course_of, page_acts}
 
 -- whether the answer has no content
 abbrev pub is_head : Verb → Bool
@@ -60,42 +57,64 @@ file_work told request file = only_answers told (if file_takes request.verb then
 
 -- ---- pages
 
--- a page whose act has ended: its draft is finished, with what is said of a failure
-abbrev pub page_ended : Told → Request → Page → ActDone → PageObjects → Finished
-page_ended told request page done objects = record {
-  answer = Some (finished objects.draft told.cookie (failure_text page done.end) (is_head request.verb) request.close);
-  session = told.session;
-  fail = fail_of page done.end;
-  made = done.made;
-  finished = done.finished;
+-- whether a request of this method has a session on the page
+abbrev pub is_keyed_page : Verb → Option Page → Bool
+is_keyed_page verb (Some page) = page.session && page_takes verb
+is_keyed_page verb None = false
+
+-- the session that a page is given: none where the page has no sessions
+abbrev pub session_given : Page → Option SessionState → Option SessionState
+session_given page session = if page.session then session else None
+
+-- the session that the acts leave: none after Abandon
+abbrev pub session_kept : PageObjects → Option SessionState
+session_kept objects = if objects.is_abandoned then None else objects.session
+
+abbrev pub session_left : Page → Option SessionState → PageObjects → Option SessionState
+session_left page session objects = if page.session then session_kept objects else session
+
+-- the acts of a page begin so
+abbrev pub page_begins : Told → Request → Page → Course
+page_begins told request page = course_of (fresh_objects request page.path (session_given page told.session))
+
+-- a page whose acts have ended: its draft is finished, with what is said of a failure
+abbrev pub page_ended : Told → Request → Page → Course → Finished
+page_ended told request page course = record {
+  answer = Some (finished course.objects.draft told.cookie course.tally.failure (is_head request.verb) request.close);
+  session = session_left page told.session course.objects;
+  fail = course.tally.fail;
+  made = course.tally.made;
+  finished = course.tally.finished;
 }
 
--- What the act of a page comes to. The objects of a page want no call of the Application object and do not run out of
--- memory: what would, has the answer of a page that could not run.
-abbrev pub page_came : Told → Request → Page → Option PlainEnd × PageObjects → Finished
-page_came told request page (Some (Ended done), objects) = page_ended told request page done objects
-page_came told request page (Some (WantsCall call), objects) =
-    only_answers told (unavailable_of OutOfMemory (is_head request.verb) request.close)
-page_came told request page (None, objects) =
-    only_answers told (unavailable_of OutOfMemory (is_head request.verb) request.close)
+-- a page that could not run
+abbrev pub unavailable : Told → Request → Finished
+unavailable told request = only_answers told (unavailable_of OutOfMemory (is_head request.verb) request.close)
 
--- the acts of a page: its body
-abbrev pub page_run : Told → Request → Page → Finished
-page_run told request page = page_came told request page
-    (act_of PageObjects (host asked answered) page.program act.Body (fresh_objects request page.path) told.replies)
+-- What the acts of a page come to. Its objects do not run out of memory: a page whose objects would has the answer of one
+-- that could not run.
+abbrev pub page_came : Told → Request → Page → Option Way → Outcome
+page_came told request page (Some (On course)) = Ends (page_ended told request page course)
+page_came told request page (Some (WantsReply call)) = Wants call
+page_came told request page None = Ends (unavailable told request)
 
-abbrev pub page_work : Told → Request → Page → Finished
-page_work told request page = if page_takes request.verb then page_run told request page
-    else only_answers told (not_allowed_of true (is_head request.verb) request.close)
+abbrev pub page_run : Site → Told → Request → Page → Outcome
+page_run site told request page =
+    page_came told request page (page_acts site told page (page_begins told request page))
+
+abbrev pub page_work : Site → Told → Request → Page → Outcome
+page_work site told request page = if page_takes request.verb then page_run site told request page
+    else Ends (only_answers told (not_allowed_of true (is_head request.verb) request.close))
 
 -- ---- what stands at the path
 
-abbrev pub found_work : Told → Request → Option Page → Option SiteFile → Finished
-found_work told request (Some page) file = page_work told request page
-found_work told request None (Some file) = file_work told request file
-found_work told request None None = only_answers told (status_answer_of 404 (is_head request.verb) request.close)
+abbrev pub found_work : Site → Told → Request → Option Page → Option SiteFile → Outcome
+found_work site told request (Some page) file = page_work site told request page
+found_work site told request None (Some file) = Ends (file_work told request file)
+found_work site told request None None =
+    Ends (only_answers told (status_answer_of 404 (is_head request.verb) request.close))
 
 -- the answer to a request: of the page at its path, else of the static file there, else that nothing is there
-abbrev pub request_work : Site → Told → Request → Finished
+abbrev pub request_work : Site → Told → Request → Outcome
 request_work site told request =
-    found_work told request (page_at site request.path) (static_at site request.path)
+    found_work site told request (page_at site request.path) (static_at site request.path)

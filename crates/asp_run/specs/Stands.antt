@@ -1,14 +1,26 @@
 -- What a run on its way stands for.
 use Rattle.std.specs.Prelude.{◌≡◌, List, [], ◌∷◌, ◌++◌, Option, Some, None, IfSome}
 use Rattle.vb_value.specs.declared.application.AppReply.{AppReply}
-use Rattle.asp_job.specs.Running.{Phase, Going, Wanting, Over, Dead, IsLeft}
-use Rattle.asp_job.specs.Session.{IsSession}
-use Rattle.asp_job.specs.Told.{Told, Ends}
+use Rattle.asp_job.specs.Calls.{IsAppCall}
+use Rattle.asp_job.specs.Running.{IsBounded, Phase, Going, Wanting, Over, Dead, IsLeft}
+use Rattle.asp_job.specs.Told.{Told, Outcome, Wants, Ends}
 use Rattle.asp_site.specs.declared.site.Site.{Site}
+use Rattle.asp_run.specs.declared.ended.Came.{Came}
+use Rattle.asp_run.specs.declared.ended.Came.TheVariants as came
 use Rattle.asp_run.specs.declared.run.At.{At}
 use Rattle.asp_run.specs.declared.run.At.TheVariants as at
 use Rattle.asp_run.specs.declared.run.PlainRun.{PlainRun}
 use Rattle.asp_run.specs.Running.{does}
+
+-- how far a run came
+abbrev pub outcome_of : Came → Outcome
+outcome_of (came.Wants call) = Wants call
+outcome_of (came.Ends finished) = Ends finished
+
+-- what a run comes to may be told: a call that may be made, or a body that may be answered
+abbrev pub MayCome : Came → Type 0
+MayCome (came.Wants call) = IsAppCall call
+MayCome (came.Ends finished) = IfSome finished.answer IsBounded
 
 -- the replies that were kept, and the one that was heard last
 abbrev pub with_heard : List AppReply → Option AppReply → List AppReply
@@ -38,8 +50,7 @@ IsAt site run at.Wanting = run.heard ≡ None
 IsAt site run (at.Over finished) = (does site (told_of run) ≡ Ends finished) × IsLeft run.job.work finished
 IsAt site run _ = Unit {0}
 
--- the run was told this, and its session may be one
+-- the run was told this
 pub record Stands (site : Site) (run : PlainRun) (told : Told) : Type 0 where
   pub told_is : told ≡ told_of run
-  pub session_is : IfSome run.session IsSession
   pub at_is : IsAt site run run.at

@@ -3,15 +3,16 @@ ghost use Rattle.std.specs.Prelude.{◌≡◌, codes, true, false};
 ghost use Rattle.std.specs.Option.{option_copied};
 ghost use Rattle.asp_site.specs.Endings.{media_type_of};
 ghost use Rattle.vb_value.specs.Outcome.{Gives};
-ghost use Rattle.asp_response.specs.Fixed.{status_answer_of, not_allowed_of, unavailable_of};
-ghost use Rattle.asp_response.specs.declared.fixed.Unavailable.TheVariants.{OutOfMemory};
+ghost use Rattle.asp_response.specs.Fixed.{status_answer_of, not_allowed_of};
 ghost use Rattle.asp_run.specs.Pages as spec;
 ghost use Rattle.asp_run.specs.Stands.{told_of};
 
+use crate::ended::Ended;
 use crate::run::PlainRun;
 use crate::text::ascii;
-use asp_job::{Answer, Finished, Header, Request, SessionState, Verb, copy_session};
-use asp_response::{Unavailable, not_allowed_answer, status_answer, unavailable_answer};
+use asp_job::{Answer, Header, Request, Verb};
+use asp_objects::HeldSession;
+use asp_response::{not_allowed_answer, status_answer};
 use asp_site::media_type;
 use std::alloc::Global;
 use vb_value::{Bytes, Copied, List, Memory, SiteFile};
@@ -38,32 +39,22 @@ fn file_takes(verb: Verb) -> bool
 /// The session once more, if there is one.
 pub(crate) fn copy_kept(
     alloc: Global,
-    session: Option<&SessionState>,
-) -> Result<Option<SessionState>, Memory>
+    session: Option<&HeldSession>,
+) -> Result<Option<HeldSession>, Memory>
     ensures { Gives result (option_copied session.entry) }
 {
     match session {
-        Some(session) => Ok(Some(copy_session(alloc, session)?)),
+        Some(session) => Ok(Some(session.copy(alloc)?)),
         None => Ok(None),
     }
 }
 
 /// A run without acts that answers this.
-pub(crate) fn only_answers(
-    alloc: Global,
-    run: &PlainRun,
-    answer: Answer,
-) -> Result<Finished, Memory>
+pub(crate) fn only_answers(alloc: Global, run: &PlainRun, answer: Answer) -> Result<Ended, Memory>
     ensures { Gives result (spec.only_answers (told_of run.now) answer) }
 {
     let session = copy_kept(alloc, run.session.as_ref())?;
-    Ok(Finished {
-        answer: Some(answer),
-        session,
-        fail: None,
-        made: 0,
-        finished: 0,
-    })
+    Ok(Ended::of(Some(answer), session, None, 0, 0))
 }
 
 fn type_header(alloc: Global, file: &SiteFile) -> Result<Header, Memory>
@@ -92,7 +83,7 @@ pub(crate) fn file_work(
     run: &PlainRun,
     request: &Request,
     file: &SiteFile,
-) -> Result<Finished, Memory>
+) -> Result<Ended, Memory>
     ensures { Gives result (spec.file_work (told_of run.now) request.now file.now) }
 {
     if file_takes(request.verb) {
@@ -107,7 +98,7 @@ pub(crate) fn missing_work(
     alloc: Global,
     run: &PlainRun,
     request: &Request,
-) -> Result<Finished, Memory>
+) -> Result<Ended, Memory>
     ensures { Gives result (spec.only_answers (told_of run.now)
         (status_answer_of 404 (spec.is_head request.now.verb) request.now.close)) }
 {
@@ -120,24 +111,10 @@ pub(crate) fn refused_work(
     alloc: Global,
     run: &PlainRun,
     request: &Request,
-) -> Result<Finished, Memory>
+) -> Result<Ended, Memory>
     ensures { Gives result (spec.only_answers (told_of run.now)
         (not_allowed_of true (spec.is_head request.now.verb) request.now.close)) }
 {
     let answer = not_allowed_answer(alloc, true, is_head(request.verb), request.close)?;
-    only_answers(alloc, run, answer)
-}
-
-/// The run of a page that could not run.
-pub(crate) fn unavailable_work(
-    alloc: Global,
-    run: &PlainRun,
-    request: &Request,
-) -> Result<Finished, Memory>
-    ensures { Gives result (spec.only_answers (told_of run.now)
-        (unavailable_of OutOfMemory (spec.is_head request.now.verb) request.now.close)) }
-{
-    let cause = Unavailable::OutOfMemory;
-    let answer = unavailable_answer(alloc, cause, is_head(request.verb), request.close)?;
     only_answers(alloc, run, answer)
 }

@@ -1,6 +1,9 @@
 //! What a request's run does, and what runs it.
 #![tactic(auto)]
 
+mod acting;
+mod course;
+mod ended;
 mod failure;
 mod file;
 mod page;
@@ -9,5 +12,7 @@ mod run;
 mod text;
 mod work;
 
+pub use course::{Course, Tally, Way};
+pub use ended::{Came, Ended};
 pub use plain::{NoStore, PlainRunner};
 pub use run::{At, PlainRun};

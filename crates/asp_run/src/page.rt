@@ -1,22 +1,23 @@
 //! The run of a page.
-ghost use Rattle.std.specs.Prelude.{◌≡◌, None};
+ghost use Rattle.std.specs.Prelude.{◌≡◌, IfOk, None, Some, if◌then◌else◌};
+ghost use Rattle.std.specs.Option.{option_copied};
 ghost use Rattle.vb_value.specs.Outcome.{Gives};
 ghost use Rattle.asp_run.specs.Pages as spec;
-ghost use Rattle.asp_run.specs.Stands.{told_of};
+ghost use Rattle.asp_run.specs.Stands.{outcome_of, told_of};
 
-use crate::failure::{fail_of, failure_text};
-use crate::file::{copy_kept, is_head, refused_work, unavailable_work};
+use crate::acting::page_acts;
+use crate::course::{Course, Way, course_of};
+use crate::ended::{Came, Ended};
+use crate::file::{copy_kept, is_head, refused_work};
 use crate::run::PlainRun;
-use asp_job::{Finished, Request, Verb};
-use asp_objects::PageObjects;
-use asp_site::Page;
+use asp_job::{Request, Verb};
+use asp_objects::{HeldSession, PageObjects};
+use asp_site::{Page, Site};
 use std::alloc::Global;
-use vb_meaning::PlainEnd;
-use vb_plain::run_act;
-use vb_syntax::{Act, ActDone};
 use vb_value::{Copied, Memory};
 
-fn page_takes(verb: Verb) -> bool
+/// Whether pages take the method.
+pub(crate) fn page_takes(verb: Verb) -> bool
     ensures { result ≡ spec.page_takes verb }
 {
     match verb {
@@ -25,66 +26,132 @@ fn page_takes(verb: Verb) -> bool
     }
 }
 
-/// What a page leaves whose act has ended.
+fn session_given(
+    alloc: Global,
+    page: &Page,
+    session: Option<&HeldSession>,
+) -> Result<Option<HeldSession>, Memory>
+    ensures { Gives result (spec.session_given page.now (option_copied session.entry)) }
+{
+    if page.session {
+        copy_kept(alloc, session)
+    } else {
+        Ok(None)
+    }
+}
+
+fn session_kept(is_abandoned: bool, session: Option<HeldSession>) -> Option<HeldSession>
+    ensures { result ≡ (if is_abandoned then None else session) }
+{
+    if is_abandoned { None } else { session }
+}
+
+fn session_left(
+    alloc: Global,
+    page: &Page,
+    told: Option<&HeldSession>,
+    is_abandoned: bool,
+    session: Option<HeldSession>,
+) -> Result<Option<HeldSession>, Memory>
+    ensures { Gives result (if page.now.session then (if is_abandoned then None else session) else option_copied told.entry) }
+{
+    if page.session {
+        Ok(session_kept(is_abandoned, session))
+    } else {
+        copy_kept(alloc, told)
+    }
+}
+
+/// What a page leaves whose acts have ended.
 fn page_ended(
     alloc: Global,
     run: &PlainRun,
     request: &Request,
     page: &Page,
-    done: &ActDone,
-    objects: PageObjects,
-) -> Result<Finished, Memory>
-    ensures { Gives result (spec.page_ended (told_of run.now) request.now page.now done.now objects) }
+    course: Course,
+) -> Result<Ended, Memory>
+    ensures { Gives result (spec.page_ended (told_of run.now) request.now page.now course) }
 {
-    let session = copy_kept(alloc, run.session.as_ref())?;
-    let fail = fail_of(page, &done.end)?;
-    let failure = failure_text(alloc, page, &done.end)?;
-    let PageObjects { draft, .. } = objects;
+    let Course { objects, tally } = course;
+    let PageObjects {
+        draft,
+        session,
+        is_abandoned,
+        ..
+    } = objects;
+    let session = session_left(alloc, page, run.session.as_ref(), is_abandoned, session)?;
     let answer = draft.finish(
         run.cookie.as_ref(),
-        failure.as_ref(),
+        tally.failure.as_ref(),
         is_head(request.verb),
         request.close,
     )?;
-    Ok(Finished {
-        answer: Some(answer),
+    Ok(Ended::of(
+        Some(answer),
         session,
-        fail,
-        made: done.made,
-        finished: done.finished,
-    })
+        tally.fail,
+        tally.made,
+        tally.finished,
+    ))
 }
 
-fn page_run(
+fn page_came(
     alloc: Global,
     run: &PlainRun,
     request: &Request,
     page: &Page,
-) -> Result<Finished, Memory>
-    requires { run.now.heard ≡ None }
-    ensures { Gives result (spec.page_run (told_of run.now) request.now page.now) }
+    way: Way,
+) -> Result<Came, Memory>
+    ensures { IfOk result (λ came. outcome_of came ≡ spec.page_came (told_of run.now) request.now page.now (Some way)) }
 {
-    let mut objects = PageObjects::new(alloc, request.copy()?, page.path.copy()?)?;
-    let replies = run.replies.as_slice();
-    match run_act(alloc, &page.program, Act::Body, &mut objects, replies)? {
-        PlainEnd::Ends(done) => page_ended(alloc, run, request, page, &done, objects),
-        PlainEnd::Wants(_) => unavailable_work(alloc, run, request),
+    match way {
+        Way::Wants(call) => Ok(Came::Wants(call)),
+        Way::On(course) => Ok(Came::Ends(page_ended(alloc, run, request, page, course)?)),
     }
+}
+
+fn page_begins(
+    alloc: Global,
+    run: &PlainRun,
+    request: &Request,
+    page: &Page,
+) -> Result<Course, Memory>
+    ensures { Gives result (spec.page_begins (told_of run.now) request.now page.now) }
+{
+    let session = session_given(alloc, page, run.session.as_ref())?;
+    let objects = PageObjects::new(alloc, request.copy()?, page.path.copy()?, session)?;
+    Ok(course_of(objects))
+}
+
+fn page_run(
+    alloc: Global,
+    site: &Site,
+    run: &PlainRun,
+    request: &Request,
+    page: &Page,
+) -> Result<Came, Memory>
+    requires { run.now.heard ≡ None }
+    ensures { IfOk result (λ came. outcome_of came ≡ spec.page_run site.now (told_of run.now) request.now page.now) }
+{
+    let course = page_begins(alloc, run, request, page)?;
+    let way = page_acts(alloc, site, run, page, course)?;
+    page_came(alloc, run, request, page, way)
 }
 
 /// The run of a page that stands at the path of a request.
 pub(crate) fn page_work(
     alloc: Global,
+    site: &Site,
     run: &PlainRun,
     request: &Request,
     page: &Page,
-) -> Result<Finished, Memory>
+) -> Result<Came, Memory>
     requires { run.now.heard ≡ None }
-    ensures { Gives result (spec.page_work (told_of run.now) request.now page.now) }
+    ensures { IfOk result (λ came. outcome_of came ≡ spec.page_work site.now (told_of run.now) request.now page.now) }
 {
     if page_takes(request.verb) {
-        page_run(alloc, run, request, page)
+        page_run(alloc, site, run, request, page)
     } else {
-        refused_work(alloc, run, request)
+        Ok(Came::Ends(refused_work(alloc, run, request)?))
     }
 }

@@ -1,13 +1,16 @@
 //! The runner.
-ghost use Rattle.std.specs.Prelude.{◌≡◌, IsTrue, IfSome, IfOk, OnOk};
+ghost use Rattle.std.specs.Prelude.{◌≡◌, IsTrue, IfSome, IfOk, OnOk, None};
 ghost use Rattle.std.specs.Option.{option_copied};
 ghost use Rattle.asp_job.specs.Running.{IsBounded};
 ghost use Rattle.asp_run.specs.Running as spec;
-ghost use Rattle.asp_run.specs.Stands.{told_of};
+ghost use Rattle.asp_job.specs.Session.{IsSession};
+ghost use Rattle.asp_run.specs.Stands.{MayCome, outcome_of, told_of};
 
+use crate::ended::Came;
 use crate::run::{At, PlainRun, keep_heard};
-use crate::work::work_of;
+use crate::work::{is_keyed, work_of};
 use asp_job::{Answer, Finished, Job, Runner, SessionState, Step};
+use asp_objects::{HeldSession, may_call};
 use asp_site::Site;
 use std::alloc::Global;
 use vb_value::{AppReply, Copied, List, Memory, Text};
@@ -33,18 +36,39 @@ fn is_bounded(answer: Option<&Answer>) -> bool
     }
 }
 
-/// What a run leaves that goes on to its end.
-fn ended(alloc: Global, site: &Site, run: &mut PlainRun) -> Result<Finished, Memory>
+/// Whether what a run came to may be told: a body that may be answered, or a call that may be made.
+fn may_come(alloc: Global, came: &Came) -> Result<bool, Memory>
+    ensures { IfOk result (λ may. IsTrue may → MayCome came.now) }
+{
+    match came {
+        Came::Ends(ended) => Ok(is_bounded(ended.finished().answer.as_ref())),
+        Came::Wants(call) => may_call(alloc, call),
+    }
+}
+
+/// What a run comes to that goes on.
+fn goes(alloc: Global, site: &Site, run: &mut PlainRun) -> Result<Came, Memory>
     ensures told { OnOk result (told_of run.new ≡ told_of run.old) }
-    ensures work { IfOk result (λ finished. finished ≡ spec.work_of site.now (told_of run.new) run.new.job.work) }
-    ensures bounded { IfOk result (λ finished. IfSome finished.answer IsBounded) }
+    ensures none { OnOk result (run.new.heard ≡ None) }
+    ensures work { IfOk result (λ came. outcome_of came ≡ spec.work_of site.now (told_of run.new) run.new.job.work) }
+    ensures may { IfOk result MayCome }
 {
     keep_heard(run)?;
-    let finished = work_of(alloc, site, run)?;
-    if !is_bounded(finished.answer.as_ref()) {
+    let came = work_of(alloc, site, run)?;
+    if !may_come(alloc, &came)? {
         return Err(Memory);
     }
-    Ok(finished)
+    Ok(came)
+}
+
+fn held(session: Option<SessionState>) -> Option<HeldSession>
+    requires { IfSome session IsSession }
+    ensures { result ≡ session }
+{
+    match session {
+        Some(session) => Some(HeldSession::of(session)),
+        None => None,
+    }
 }
 
 impl Runner for PlainRunner {
@@ -70,8 +94,8 @@ impl Runner for PlainRunner {
         Ok(NoStore)
     }
 
-    fn keyed(&self, _site: &Site, _job: &Job) -> bool {
-        false
+    fn keyed(&self, site: &Site, job: &Job) -> bool {
+        is_keyed(site, job)
     }
 
     fn start(
@@ -86,7 +110,7 @@ impl Runner for PlainRunner {
         match job.copy() {
             Ok(job) => Ok(PlainRun {
                 job,
-                session,
+                session: held(session),
                 is_new,
                 cookie,
                 replies: List::new(self.alloc),
@@ -98,10 +122,14 @@ impl Runner for PlainRunner {
     }
 
     fn go(&self, site: &Site, run: &mut PlainRun, _quantum: u32) -> Result<Step, Memory> {
-        match ended(self.alloc, site, run) {
-            Ok(finished) => {
-                run.at = At::Over(finished);
+        match goes(self.alloc, site, run) {
+            Ok(Came::Ends(ended)) => {
+                run.at = At::Over(ended.into_finished());
                 Ok(Step::Ended)
+            }
+            Ok(Came::Wants(call)) => {
+                run.at = At::Wanting;
+                Ok(Step::Wants(call))
             }
             Err(memory) => {
                 run.at = At::Dead;

@@ -2,7 +2,8 @@
 ghost use Rattle.std.specs.Prelude.{◌≡◌, None, OnOk};
 ghost use Rattle.asp_run.specs.Stands.{told_of};
 
-use asp_job::{Finished, Job, SessionState};
+use asp_job::{Finished, Job};
+use asp_objects::HeldSession;
 use vb_value::{AppReply, List, Memory, Text};
 
 /// Where a run is.
@@ -22,7 +23,7 @@ pub enum At {
 #[derive(Debug, Drop)]
 pub struct PlainRun {
     pub job: Job,
-    pub session: Option<SessionState>,
+    pub session: Option<HeldSession>,
     pub is_new: bool,
     /// The letters of its key, where its job made that key.
     pub cookie: Option<Text>,

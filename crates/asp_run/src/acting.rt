@@ -1,0 +1,169 @@
+//! The acts of a page, with the events around it, and events alone.
+ghost use Rattle.std.specs.Prelude.{◌≡◌, Some, IfOk, None, codes};
+ghost use Rattle.std.specs.Option.{option_copied};
+ghost use Rattle.vb_value.specs.Outcome.{Gives};
+ghost use Rattle.asp_run.specs.Acts as spec;
+ghost use Rattle.asp_run.specs.Stands.{told_of};
+
+use crate::course::{Course, Way, act};
+use crate::run::PlainRun;
+use asp_site::{Page, Site};
+use std::alloc::Global;
+use vb_syntax::Act;
+use vb_value::{AppReply, Copied, Memory, Text, is_word};
+
+fn number_of(word: &[u8], names: &[Text]) -> Option<usize>
+    ensures { result ≡ spec.number_of word.now names.now }
+{
+    names.iter().position(|name| is_word(word, name.as_slice()))
+}
+
+fn event_in(
+    alloc: Global,
+    replies: &[AppReply],
+    page: &Page,
+    number: Option<usize>,
+    course: Course,
+) -> Result<Way, Memory>
+    ensures { IfOk result (λ way. spec.event_in replies.now page.now number course ≡ Some way) }
+{
+    match number {
+        Some(number) => {
+            if number > 4_294_967_295 {
+                return Err(Memory);
+            }
+            act(alloc, replies, page, Act::Proc(number as u32), course)
+        }
+        None => Ok(Way::On(course)),
+    }
+}
+
+/// The event of this name, if the site has it.
+pub(crate) fn event(
+    alloc: Global,
+    replies: &[AppReply],
+    events: Option<&Page>,
+    word: &[u8],
+    course: Course,
+) -> Result<Way, Memory>
+    ensures { IfOk result (λ way. spec.event replies.now (option_copied events.entry) word.now course ≡ Some way) }
+{
+    match events {
+        Some(page) => {
+            let number = number_of(word, page.program.procs.as_slice());
+            event_in(alloc, replies, page, number, course)
+        }
+        None => Ok(Way::On(course)),
+    }
+}
+
+fn starts(alloc: Global, site: &Site, run: &PlainRun, course: Course) -> Result<Way, Memory>
+    requires { run.now.heard ≡ None }
+    ensures { IfOk result (λ way. spec.starts site.now (told_of run.now) course ≡ Some way) }
+{
+    if !run.is_new {
+        return Ok(Way::On(course));
+    }
+    let replies = run.replies.as_slice();
+    event(
+        alloc,
+        replies,
+        site.events.as_ref(),
+        b"Session_OnStart",
+        course,
+    )
+}
+
+fn body(alloc: Global, run: &PlainRun, page: &Page, course: Course) -> Result<Way, Memory>
+    requires { run.now.heard ≡ None }
+    ensures { IfOk result (λ way. spec.body (told_of run.now) page.now course ≡ Some way) }
+{
+    if course.tally.goes_on {
+        act(alloc, run.replies.as_slice(), page, Act::Body, course)
+    } else {
+        Ok(Way::On(course))
+    }
+}
+
+fn outside(course: Course) -> Course
+    ensures { result ≡ spec.outside course }
+{
+    let Course { objects, tally } = course;
+    Course {
+        objects: objects.outside_page(),
+        tally,
+    }
+}
+
+fn quiet_course(failure: Option<Text>, course: Course) -> Course
+    ensures { result ≡ spec.quiet_course failure course }
+{
+    let mut quiet = course;
+    quiet.tally.failure = failure;
+    quiet
+}
+
+fn quiet(failure: Option<Text>, way: Way) -> Way
+    ensures { Some result ≡ spec.quiet failure (Some way) }
+{
+    match way {
+        Way::On(course) => Way::On(quiet_course(failure, course)),
+        Way::Wants(call) => Way::Wants(call),
+    }
+}
+
+fn closes(alloc: Global, site: &Site, run: &PlainRun, course: Course) -> Result<Way, Memory>
+    requires { run.now.heard ≡ None }
+    ensures { IfOk result (λ way. spec.closes site.now (told_of run.now) course ≡ Some way) }
+{
+    let failure = course.tally.failure.copy()?;
+    let replies = run.replies.as_slice();
+    let events = site.events.as_ref();
+    let way = event(alloc, replies, events, b"Session_OnEnd", outside(course))?;
+    Ok(quiet(failure, way))
+}
+
+fn leaves(alloc: Global, site: &Site, run: &PlainRun, course: Course) -> Result<Way, Memory>
+    requires { run.now.heard ≡ None }
+    ensures { IfOk result (λ way. spec.leaves site.now (told_of run.now) course ≡ Some way) }
+{
+    if course.objects.is_abandoned {
+        closes(alloc, site, run, course)
+    } else {
+        Ok(Way::On(course))
+    }
+}
+
+fn opens(
+    alloc: Global,
+    site: &Site,
+    run: &PlainRun,
+    page: &Page,
+    course: Course,
+) -> Result<Way, Memory>
+    requires { run.now.heard ≡ None }
+    ensures { IfOk result (λ way. spec.opens site.now (told_of run.now) page.now course ≡ Some way) }
+{
+    match starts(alloc, site, run, course)? {
+        Way::On(course) => body(alloc, run, page, course),
+        Way::Wants(call) => Ok(Way::Wants(call)),
+    }
+}
+
+/// The acts of a page.
+#[tactic(auto, unfolding(crate::specs::Acts::page_acts))]
+pub(crate) fn page_acts(
+    alloc: Global,
+    site: &Site,
+    run: &PlainRun,
+    page: &Page,
+    course: Course,
+) -> Result<Way, Memory>
+    requires { run.now.heard ≡ None }
+    ensures { IfOk result (λ way. spec.page_acts site.now (told_of run.now) page.now course ≡ Some way) }
+{
+    match opens(alloc, site, run, page, course)? {
+        Way::On(course) => leaves(alloc, site, run, course),
+        Way::Wants(call) => Ok(Way::Wants(call)),
+    }
+}

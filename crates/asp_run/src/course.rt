@@ -1,0 +1,136 @@
+//! The acts of a run, one after another.
+ghost use Rattle.std.specs.Prelude.{◌≡◌, Some, IfOk, drop};
+ghost use Rattle.std.specs.Option.{option_or};
+ghost use Rattle.vb_value.specs.Outcome.{Gives};
+ghost use Rattle.asp_run.specs.Acts as spec;
+
+use crate::failure::{fail_of, failure_text};
+use asp_job::Fail;
+use asp_objects::PageObjects;
+use asp_site::Page;
+use std::alloc::Global;
+use vb_meaning::PlainEnd;
+use vb_plain::run_act;
+use vb_syntax::{Act, ActDone, ActEnd};
+use vb_value::{AppCall, AppReply, Memory, Text};
+
+/// What the acts of a run came to, beside their objects.
+#[derive(Debug, Drop)]
+pub struct Tally {
+    /// Why the first failing act failed, if one did.
+    pub fail: Option<Fail>,
+    /// What the answer says of it.
+    pub failure: Option<Text>,
+    /// Whether the last act came to its end.
+    pub goes_on: bool,
+    /// How many objects the acts made.
+    pub made: u32,
+    /// How many objects the acts ended.
+    pub finished: u32,
+}
+
+/// What the acts of a run have come to so far.
+#[derive(Debug, Drop)]
+pub struct Course {
+    /// The objects: with the session, and with what was said of the answer.
+    pub objects: PageObjects,
+    pub tally: Tally,
+}
+
+/// How far the acts of a run came.
+#[derive(Debug, Drop)]
+pub enum Way {
+    /// The reply to this call is needed.
+    Wants(AppCall),
+    /// They came so far, and nothing is needed.
+    On(Course),
+}
+
+/// Before any act.
+pub(crate) fn course_of(objects: PageObjects) -> Course
+    ensures { result ≡ spec.course_of objects }
+{
+    Course {
+        objects,
+        tally: Tally {
+            fail: None,
+            failure: None,
+            goes_on: true,
+            made: 0,
+            finished: 0,
+        },
+    }
+}
+
+fn is_done(end: &ActEnd) -> bool
+    ensures { result ≡ spec.is_done end.now }
+{
+    match end {
+        ActEnd::Done => true,
+        ActEnd::Stopped | ActEnd::Error { .. } | ActEnd::Limit { .. } => false,
+    }
+}
+
+fn first<T: Drop>(one: Option<T>, next: Option<T>) -> Option<T>
+    ensures { result ≡ option_or one next }
+{
+    match one {
+        Some(value) => Some(value),
+        None => next,
+    }
+}
+
+/// After one act more.
+fn after(alloc: Global, page: &Page, done: &ActDone, tally: Tally) -> Result<Tally, Memory>
+    ensures { Gives result (spec.after page.now done.now tally) }
+{
+    let next_fail = fail_of(page, &done.end)?;
+    let next_failure = failure_text(alloc, page, &done.end)?;
+    let Tally {
+        fail,
+        failure,
+        goes_on: _goes_on,
+        made,
+        finished,
+    } = tally;
+    Ok(Tally {
+        fail: first(fail, next_fail),
+        failure: first(failure, next_failure),
+        goes_on: is_done(&done.end),
+        made: made.saturating_add(done.made),
+        finished: finished.saturating_add(done.finished),
+    })
+}
+
+/// The replies that are left once so many were heard.
+fn left_of(replies: &[AppReply], heard: usize) -> &[AppReply]
+    ensures { result.now ≡ drop heard replies.now }
+{
+    if heard < replies.len() {
+        &replies[heard..]
+    } else {
+        &[]
+    }
+}
+
+/// An act of a page's program.
+#[tactic(auto, unfolding(crate::specs::Acts::act))]
+pub(crate) fn act(
+    alloc: Global,
+    replies: &[AppReply],
+    page: &Page,
+    which: Act,
+    course: Course,
+) -> Result<Way, Memory>
+    ensures { IfOk result (λ way. spec.act replies.now page.now which course ≡ Some way) }
+{
+    let Course { mut objects, tally } = course;
+    let rest = left_of(replies, objects.heard);
+    match run_act(alloc, &page.program, which, &mut objects, rest)? {
+        PlainEnd::Wants(call) => Ok(Way::Wants(call)),
+        PlainEnd::Ends(done) => {
+            let tally = after(alloc, page, &done, tally)?;
+            Ok(Way::On(Course { objects, tally }))
+        }
+    }
+}

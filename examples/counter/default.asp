@@ -1,0 +1,1 @@
+<% Session("seen") = Session("seen") + 1 %><%= Application("title") %>: visitor <%= Application("visits") %>, page <%= Session("seen") %> of session <%= Session.SessionID %>.
