@@ -1,0 +1,57 @@
+//! Requests from bytes.
+ghost use Rattle.std.specs.Prelude.{◌≡◌, ◌-◌, ◌^◌, IfOk, IsTrue, min, sum_by};
+ghost use Rattle.asp_job.specs.Size as size;
+
+use asp_job::{Asked, Header, Job, Request, Work};
+use case_files::CaseStop;
+use http_front::{Reader, take_requests};
+use std::alloc::Global;
+use vb_value::List;
+
+/// How large the headers are: 2^64 - 1 stands for more.
+fn headers_size(headers: &[Header]) -> u64
+    ensures { result ≡ min (sum_by size.header_size headers.now) (2 ^ 64 - 1) }
+{
+    let mut total: u64 = 0;
+    for header in headers {
+        let name = header.name.len() as u64;
+        total = total.saturating_add(
+            name.saturating_add(header.value.len() as u64)
+                .saturating_add(1),
+        );
+    }
+    total
+}
+
+/// Whether a job of this request may be run.
+fn is_small(request: &Request) -> bool
+    ensures { IsTrue result → size.request_size request.now < 2 ^ 24 }
+{
+    let fixed = (request.path.len() as u64).saturating_add(request.query.len() as u64);
+    let content = headers_size(request.headers.as_slice()).saturating_add(
+        request.body.len() as u64,
+    );
+    fixed.saturating_add(content) < 1 << 24
+}
+
+/// The job of the one request that a text gives.
+pub fn read_job(alloc: Global, text: &str) -> Result<Job, CaseStop>
+    ensures { IfOk result size.IsSmall }
+{
+    let mut requests = List::new(alloc);
+    let bytes = text.as_bytes();
+    if bytes.len() > 65_536 {
+        return Err(CaseStop::Unreadable);
+    }
+    let mut reader = Reader::new(alloc);
+    reader.feed(bytes)?;
+    let _ = take_requests(&mut reader, &mut requests)?;
+    match requests.pop() {
+        Some(request) if is_small(&request) => Ok(Job {
+            work: Work::Page(request),
+            moment: 0,
+            asked: Asked::Fresh,
+        }),
+        _ => Err(CaseStop::Unreadable),
+    }
+}
