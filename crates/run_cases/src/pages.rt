@@ -3,7 +3,7 @@ ghost use Rattle.asp_job.specs.Size.{IsSmall};
 
 use crate::requests::read_job;
 use crate::site::site_of;
-use asp_job::{Answer, Finished, Runner, Step};
+use asp_job::{Answer, Finished, Job, Runner, Step};
 use asp_run::PlainRunner;
 use case_files::{CaseStop, Subject, read_text};
 use std::alloc::Global;
