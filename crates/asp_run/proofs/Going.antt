@@ -1,8 +1,8 @@
 -- What a run that goes on comes to.
-use Rattle.std.proofs.Common.{◌≡◌, ◌∙◌, refl, sym, ap, subst}
+use Rattle.std.proofs.Common.{◌≡◌, ◌∙◌, refl, sym, ap}
 use Rattle.std.specs.Prelude.{IfSome}
 use Rattle.asp_job.specs.declared.answer.Finished.{Finished}
-use Rattle.asp_job.specs.Running.{IsBounded, IsLeft, is_page}
+use Rattle.asp_job.specs.Running.{IsBounded, is_page}
 use Rattle.asp_job.specs.Session.{IsSession}
 use Rattle.asp_job.specs.Told.{Told, Outcome, Ends}
 use Rattle.asp_site.specs.declared.site.Site.{Site}

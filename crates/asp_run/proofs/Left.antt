@@ -1,5 +1,5 @@
 -- What a run leaves: an answer exactly for a request.
-use Rattle.std.proofs.Common.{◌≡◌, Bool, true, false, Option, Some, None, refl, ap}
+use Rattle.std.proofs.Common.{◌≡◌, Bool, true, false, Option, Some, None, refl}
 use Rattle.std.specs.Prelude.{is_some, cond}
 use Rattle.vb_value.specs.declared.site_file.SiteFile.{SiteFile}
 use Rattle.asp_job.specs.declared.job.Work.{Work}
@@ -14,11 +14,11 @@ use Rattle.asp_site.specs.Lookup.{page_at, static_at}
 use Rattle.asp_run.specs.declared.course.Way.{Way}
 use Rattle.asp_run.specs.declared.course.Way.TheVariants.{Wants as WantsReply, On}
 use Rattle.asp_run.specs.Events.{event_came, session_end}
-use Rattle.asp_run.specs.Pages.{page_takes, page_run, page_came, found_work}
+use Rattle.asp_run.specs.Pages.{page_takes, page_came, found_work}
 use Rattle.asp_run.specs.Running.{work_of}
 
 -- whether there is an answer; what has not ended counts as it should
-pub has_answer : Bool → Outcome → Bool
+abbrev pub has_answer : Bool → Outcome → Bool
 has_answer wanted (Wants call) = wanted
 has_answer wanted (Ends finished) = is_some finished.answer
 

@@ -106,10 +106,13 @@ outside course = record course { objects = outside_page course.objects }
 abbrev pub opens : Site → Told → Page → Course → Option Way
 opens site told page course = and_then (starts site told course) (body told page)
 
--- Session_OnEnd: no answer tells its error
+-- Session_OnEnd
+abbrev pub ending : Site → Told → Course → Option Way
+ending site told course = event told.replies site.events (codes "Session_OnEnd") (outside course)
+
+-- the same: no answer tells its error
 abbrev pub closes : Site → Told → Course → Option Way
-closes site told course =
-    quiet course.tally.failure (event told.replies site.events (codes "Session_OnEnd") (outside course))
+closes site told course = quiet course.tally.failure (ending site told course)
 
 -- the same, in a session that was abandoned
 abbrev pub leaves : Site → Told → Course → Option Way

@@ -3,10 +3,8 @@ use Rattle.std.specs.Prelude.{ℕ, ◌+◌, ◌-◌, List, codes, drop, if◌the
 use Rattle.vb_value.specs.declared.application.AppReply.{AppReply}
 use Rattle.vb_syntax.specs.declared.act.Act.{Act}
 use Rattle.vb_syntax.specs.declared.act.Act.TheVariants as act
-use Rattle.vb_syntax.specs.declared.program.Program.{Program}
 use Rattle.vb_meaning.specs.declared.stop.Stop.TheVariants as stop
 use Rattle.vb_meaning.specs.Acts.{most_ticks, fresh_world, page_begins, page_left, part}
-use Rattle.vb_meaning.specs.Asking.{Host}
 use Rattle.vb_meaning.specs.Inner.{Inner}
 use Rattle.vb_meaning.specs.Meaning.{inside, most_levels}
 use Rattle.vb_meaning.specs.Releases.{settle_last, end_all, in_world}

@@ -112,14 +112,21 @@ fn quiet(failure: Option<Text>, way: Way) -> Way
     }
 }
 
+fn ending(alloc: Global, site: &Site, run: &PlainRun, course: Course) -> Result<Way, Memory>
+    requires { run.now.heard ≡ None }
+    ensures { IfOk result (λ way. spec.ending site.now (told_of run.now) course ≡ Some way) }
+{
+    let replies = run.replies.as_slice();
+    let events = site.events.as_ref();
+    event(alloc, replies, events, b"Session_OnEnd", outside(course))
+}
+
 fn closes(alloc: Global, site: &Site, run: &PlainRun, course: Course) -> Result<Way, Memory>
     requires { run.now.heard ≡ None }
     ensures { IfOk result (λ way. spec.closes site.now (told_of run.now) course ≡ Some way) }
 {
     let failure = course.tally.failure.copy()?;
-    let replies = run.replies.as_slice();
-    let events = site.events.as_ref();
-    let way = event(alloc, replies, events, b"Session_OnEnd", outside(course))?;
+    let way = ending(alloc, site, run, course)?;
     Ok(quiet(failure, way))
 }
 

@@ -44,6 +44,9 @@ fn shown(alloc: Global, answer: &Answer) -> Result<String, CaseStop> {
 
 /// What a job leaves that wants nothing of the Application object.
 fn run<R: Runner>(runner: &R, site: &R::Site, job: &Job) -> Result<Option<Finished>, CaseStop>
+where
+    R::State: Drop,
+    R::Store: Drop,
     requires { IsSmall job.now }
 {
     let store = runner.store()?;

@@ -1,4 +1,5 @@
 //! The letters of a key.
+ghost use Rattle.std.specs.Prelude.{◌<◌, IfOk};
 
 use asp_session::letters;
 use case_files::{CaseStop, Subject, read_text};
@@ -7,24 +8,26 @@ use std::alloc::Global;
 /// A seed in hexadecimal and a key, with the key's letters.
 pub struct Letters;
 
-fn digit(c: u8) -> Result<u8, CaseStop> {
-    match c {
-        b'0'..=b'9' => Ok(c - b'0'),
-        b'a'..=b'f' => Ok(c - b'a' + 10),
+fn digit(digits: &[u8], place: usize) -> Result<u8, CaseStop>
+    ensures { IfOk result (λ digit. digit < 16) }
+{
+    match digits.get(place) {
+        Some(c @ b'0'..=b'9') => Ok(*c - b'0'),
+        Some(c @ b'a'..=b'f') => Ok(*c - b'a' + 10),
         _ => Err(CaseStop::Unreadable),
     }
 }
 
 /// The seed of 64 hexadecimal digits.
-pub fn seed(written: &str) -> Result<[u8; 32], CaseStop> {
+fn seed(written: &str) -> Result<[u8; 32], CaseStop> {
     let digits = written.as_bytes();
     if digits.len() != 64 {
         return Err(CaseStop::Unreadable);
     }
     let mut seed = [0; 32];
     for place in 0..32 {
-        let high = digit(digits[2 * place])?;
-        let low = digit(digits[2 * place + 1])?;
+        let high = digit(digits, 2 * place)?;
+        let low = digit(digits, 2 * place + 1)?;
         seed[place] = high * 16 + low;
     }
     Ok(seed)

@@ -14,7 +14,6 @@ use vb_value::List;
 pub struct Keys;
 
 /// A session without entries.
-#[tactic(auto, using(crate::proofs::Empty::may_be))]
 fn empty(alloc: Global, serial: u32, timeout: u32) -> SessionState
     requires counted { 1 ≤ serial }
     requires few { serial < 2 ^ 31 }
