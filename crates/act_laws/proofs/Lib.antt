@@ -1,8 +1,14 @@
 pub mod Wantless
 pub mod WantlessPlaces
 pub mod WantlessScopes
+pub mod Numbers
+pub mod Accounts
+pub mod Marks
+pub mod Keeping
+pub mod Joined
 pub mod Linked
 pub mod Turning
+pub mod Ending
 pub mod Inside
 pub mod Reading
 pub mod Expressions

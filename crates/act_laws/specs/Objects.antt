@@ -1,0 +1,61 @@
+-- The objects of an act, from when they are made to their end. An object is live at first. Then its terminator has
+-- begun, and then it has ended.
+use Rattle.std.specs.Prelude.{◌≡◌, ◌≢◌, ◌+◌, ◌<◌, ◌≤◌, ℕ, Bool, true, false, List, [], ◌∷◌, length, map, Some, None}
+use Rattle.vb_heap.specs.declared.object.Object.{Object}
+use Rattle.vb_heap.specs.Below.{EachBelow}
+use Rattle.vb_heap.specs.Limits.{most_objects}
+use Rattle.vb_heap.specs.Store.{numbered}
+use Rattle.vb_meaning.specs.declared.world.World.{World}
+
+-- what a world says of the objects of its act
+pub record Account : Type 0 where
+  -- those that have not ended, by their numbers, each with whether its terminator has begun
+  pub objects : List (ℕ × Bool)
+  -- how many were made
+  pub made : ℕ
+  -- how many have ended
+  pub finished : ℕ
+
+-- objects by their numbers, each with whether its terminator has begun
+abbrev pub marks : List (ℕ × Object) → List (ℕ × Bool)
+marks objects = map (λ object. (object.0, object.1.ending)) objects
+
+abbrev pub account_of : World → Account
+account_of world =
+    record { objects = marks world.heap.objects; made = world.heap.objects_made; finished = world.finished }
+
+-- an object is live
+abbrev pub IsLive : ℕ → Account → Type 0
+IsLive number account = numbered number account.objects ≡ Some false
+
+-- its terminator has begun, and it has not ended
+abbrev pub IsEnding : ℕ → Account → Type 0
+IsEnding number account = numbered number account.objects ≡ Some true
+
+-- an object was made, and is not live any more
+abbrev pub HasBegun : ℕ → Account → Type 0
+HasBegun number account = (number < account.made) × (numbered number account.objects ≢ Some false)
+
+-- an object was made, and is not there any more
+abbrev pub HasEnded : ℕ → Account → Type 0
+HasEnded number account = (number < account.made) × (numbered number account.objects ≡ None)
+
+-- each number stands once
+abbrev pub Differ : List (ℕ × Bool) → Type 0
+Differ [] = Unit {0}
+Differ (first ∷ others) = (numbered first.0 others ≡ None) × Differ others
+
+-- An account that adds up: the objects that are there and those that have ended are as many as were made.
+pub record AddsUp (account : Account) : Type 0 where
+  pub differ : Differ account.objects
+  pub below : EachBelow account.made account.objects
+  pub count : account.finished + length account.objects ≡ account.made
+  pub most : account.made ≤ most_objects
+
+-- From an account to a later one: it adds up again, an object whose terminator has begun is not live again, and one
+-- that has ended does not come back.
+pub record Onward (before after : Account) : Type 0 where
+  pub adds_up : AddsUp after
+  pub finished : before.finished ≤ after.finished
+  pub begun : (number : ℕ) → HasBegun number before → HasBegun number after
+  pub ended : (number : ℕ) → HasEnded number before → HasEnded number after
