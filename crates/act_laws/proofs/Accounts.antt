@@ -5,7 +5,7 @@ use Rattle.vb_heap.specs.Below.{AreBelow, EachBelow}
 use Rattle.vb_heap.specs.Limits.{most_objects}
 use Rattle.vb_heap.specs.Store.{is_number, numbered, replaced, without}
 use Rattle.vb_heap.proofs.Numbered.{below_more, below_less, below_other}
-use Rattle.act_laws.specs.Objects.{Account, IsLive, IsEnding, HasBegun, HasEnded, Differ, AddsUp, Onward}
+use Rattle.act_laws.specs.Objects.{Account, AddsUp, Differ, HasBegun, HasEnded, IsEnding, IsLive, Onward, Settled}
 use Rattle.std.proofs.lemmas.Bool.{cases_lt}
 use Rattle.act_laws.proofs.Numbers.{itself, compared, none_replaced, none_without, none_above, other_replaced}
 use Rattle.act_laws.proofs.Numbers.{other_without, with_one_more, there_replaced, length_replaced, length_without, differ}
@@ -28,12 +28,6 @@ onward_then {a} {b} {c} first second = record {
   begun = λ number has. second.begun number (first.begun number has);
   ended = λ number has. second.ended number (first.ended number has);
 }
-
--- Onward, and each object whose terminator had begun or has begun is in the midst of it before and after.
-pub record Settled (before after : Account) : Type 0 where
-  pub onward : Onward before after
-  pub stays : (number : ℕ) → IsEnding number before → IsEnding number after
-  pub stood : (number : ℕ) → IsEnding number after → IsEnding number before
 
 pub settled_still : (account : Account) → AddsUp account → Settled account account
 settled_still account right = record {
@@ -114,7 +108,7 @@ no_ending_newest account number right is = elim (compared number account.made) [
   | inr away ↦ sym (with_one_more account.objects account.made number false away.1) ∙ is
 ]
 
-there_below : (objects : List (ℕ × Bool)) (made number : ℕ) (mark : Bool) → EachBelow made objects
+pub there_below : (objects : List (ℕ × Bool)) (made number : ℕ) (mark : Bool) → EachBelow made objects
     → numbered number objects ≡ Some mark → number < made
 there_below objects made number mark below is = elim (cases_lt number made) [
   | inl before ↦ before

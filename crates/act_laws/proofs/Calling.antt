@@ -17,11 +17,10 @@ use Rattle.vb_meaning.specs.Inner.{Owner}
 use Rattle.vb_meaning.specs.Releases.{in_world, settle}
 use Rattle.vb_meaning.specs.State.{State, Does, on_world}
 use Rattle.vb_meaning.specs.Step.{Step, Gives, Ends, ◌>>◌, ends as step_ends}
-use Rattle.act_laws.proofs.Accounts.{Settled}
 use Rattle.act_laws.proofs.Inside.{Inners, one, two, Same, seen_fits}
-use Rattle.act_laws.specs.Objects.{Account, account_of}
+use Rattle.act_laws.specs.Objects.{Account, Kept, Settled, account_at, account_of}
 use Rattle.act_laws.proofs.Joined.{Link, Alike, JoinedTurn, Past, gives, ends, gone}
-use Rattle.act_laws.proofs.Keeping.{Kept, in_state, kept_from, kept_moved}
+use Rattle.act_laws.proofs.Keeping.{kept_from, kept_moved}
 use Rattle.act_laws.proofs.Linked.{Fits, Turns, turned, then_fits, value_fits}
 use Rattle.act_laws.proofs.Marks.{dropped_still}
 use Rattle.act_laws.proofs.Linked.{fails_fit, error_fits, moved_fits, world_fits, choice_fits, either_fits}
@@ -91,15 +90,15 @@ module _ (l : Link) (i : Inners l) where
       → Turns l (calling.abandoned l.E (one i) caller) (calling.abandoned l.F (two i) caller)
   abandoned_turns caller = record { joined = abandoned_joined caller; keeps = keeps }
     where
-      keeps : (before : Account) (step : Step (State l.F) Exit) → Kept in_state before step
-          → Kept in_state before (calling.abandoned l.F (two i) caller step)
-      keeps before (Gives exit s) kept = kept_from in_state kept (calling.returned l.F (two i) caller s)
+      keeps : (before : Account) (step : Step (State l.F) Exit) → Kept account_at before step
+          → Kept account_at before (calling.abandoned l.F (two i) caller step)
+      keeps before (Gives exit s) kept = kept_from account_at kept (calling.returned l.F (two i) caller s)
           ((returned_fits caller).keeps s kept.onward.adds_up)
       keeps before (Ends (stop.Error what line) s) kept =
           let t = in_world l.F (calling.left caller s.world) s in
           let after = (then_fits (settle_fits l i) (λ done. error_fits {A = Value} l what line)).keeps t in
-          kept_from in_state kept ((settle l.F (two i) >> step_ends (stop.Error what line)) t)
-          (kept_moved in_state (in_state s) (in_state t) (left_still caller s.world)
+          kept_from account_at kept ((settle l.F (two i) >> step_ends (stop.Error what line)) t)
+          (kept_moved account_at (account_at s) (account_at t) (left_still caller s.world)
           ((settle l.F (two i) >> step_ends (stop.Error what line)) t) after kept.onward.adds_up)
       keeps before (Ends stop.Page s) kept =
           subst (λ account. Settled before account) (sym (left_still caller s.world)) kept

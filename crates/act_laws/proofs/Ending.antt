@@ -15,14 +15,14 @@ use Rattle.vb_meaning.specs.Objects.{class_at}
 use Rattle.vb_meaning.specs.Releases as releases
 use Rattle.vb_meaning.specs.State.{State, Does, with_heap}
 use Rattle.vb_meaning.specs.Step.{Step, Gives, Ends, and_then, ◌>>◌}
-use Rattle.act_laws.specs.Objects.{Account, AddsUp, IsEnding, IsLive, Onward, account_of}
-use Rattle.act_laws.proofs.Accounts.{Settled, mark_onward, marked, onward_then, settled_one, settled_still, settled_then}
+use Rattle.act_laws.specs.Objects.{Account, AddsUp, IsEnding, IsLive, Kept, Onward, Settled, account_at, account_of}
+use Rattle.act_laws.proofs.Accounts.{mark_onward, marked, onward_then, settled_one, settled_still, settled_then}
 use Rattle.act_laws.proofs.Accounts.{with_end, with_mark}
-use Rattle.act_laws.proofs.Keeping.{Keeps, Kept, in_state, kept_from, still_gives}
+use Rattle.act_laws.proofs.Keeping.{Keeps, kept_from, still_gives}
 use Rattle.act_laws.proofs.Marks.{ended_gone, ending_marks, loose_is_live, none_is_left, oldest_is_live}
 
 -- from where a terminator has begun to where its object has ended
-record Ran (object : ℕ) (before after : Account) : Type 0 where
+pub record Ran (object : ℕ) (before after : Account) : Type 0 where
   pub last : Account
   pub settled : Settled before last
   pub is : after ≡ with_end object last
@@ -48,16 +48,16 @@ ran_later object before after right live ran = subst (λ account. Later before a
 
 module _ {E : Type 0} where
   -- what comes of a terminator
-  abbrev Outcome : ℕ → Account → Step (State E) (Unit {0}) → Type 0
-  Outcome object before (Gives done s) = Ran object before (in_state s)
-  Outcome object before (Ends stop.Page s) = Ran object before (in_state s)
+  abbrev pub Outcome : ℕ → Account → Step (State E) (Unit {0}) → Type 0
+  Outcome object before (Gives done s) = Ran object before (account_at s)
+  Outcome object before (Ends stop.Page s) = Ran object before (account_at s)
   Outcome object before (Ends (stop.Error what line) s) = ⊥
-  Outcome object before (Ends (stop.Limit kind line) s) = Onward before (in_state s)
-  Outcome object before (Ends (stop.Wants call) s) = Onward before (in_state s)
-  Outcome object before (Ends stop.Memory s) = Onward before (in_state s)
+  Outcome object before (Ends (stop.Limit kind line) s) = Onward before (account_at s)
+  Outcome object before (Ends (stop.Wants call) s) = Onward before (account_at s)
+  Outcome object before (Ends stop.Memory s) = Onward before (account_at s)
 
   terminated_out : (object : ℕ) (before : World) (a : Account) → IsEnding object a → (step : Step (State E) Value)
-      → Kept in_state a step → Outcome object a (releases.terminated E object before step)
+      → Kept account_at a step → Outcome object a (releases.terminated E object before step)
   terminated_out object before a ends (Gives value s) kept = ended_ran object before a s.world ends kept
   terminated_out object before a ends (Ends (stop.Error what line) s) kept =
       ended_ran object before a s.world ends kept
@@ -68,17 +68,17 @@ module _ {E : Type 0} where
 
   -- what comes of a live object that ends
   abbrev One : Account → Step (State E) (Unit {0}) → Type 0
-  One before (Gives done s) = Later before (in_state s)
-  One before (Ends stop.Page s) = Later before (in_state s)
+  One before (Gives done s) = Later before (account_at s)
+  One before (Ends stop.Page s) = Later before (account_at s)
   One before (Ends (stop.Error what line) s) = ⊥
-  One before (Ends (stop.Limit kind line) s) = Onward before (in_state s)
-  One before (Ends (stop.Wants call) s) = Onward before (in_state s)
-  One before (Ends stop.Memory s) = Onward before (in_state s)
+  One before (Ends (stop.Limit kind line) s) = Onward before (account_at s)
+  One before (Ends (stop.Wants call) s) = Onward before (account_at s)
+  One before (Ends stop.Memory s) = Onward before (account_at s)
 
   one_out : (object : ℕ) (before : Account) → AddsUp before → IsLive object before
       → (step : Step (State E) (Unit {0})) → Outcome object (with_mark object before) step → One before step
-  one_out object before right live (Gives done s) out = ran_later object before (in_state s) right live out
-  one_out object before right live (Ends stop.Page s) out = ran_later object before (in_state s) right live out
+  one_out object before right live (Gives done s) out = ran_later object before (account_at s) right live out
+  one_out object before right live (Ends stop.Page s) out = ran_later object before (account_at s) right live out
   one_out object before right live (Ends (stop.Error what line) s) out = out
   one_out object before right live (Ends (stop.Limit kind line) s) out =
       onward_then (mark_onward before object right live) out
@@ -88,10 +88,10 @@ module _ {E : Type 0} where
       onward_then (mark_onward before object right live) out
 
   -- what follows where one has ended
-  then_keeps : (more : Does E (Unit {0})) → Keeps in_state more → (before : Account)
-      → (step : Step (State E) (Unit {0})) → One before step → Kept in_state before (and_then step (λ done. more))
+  then_keeps : (more : Does E (Unit {0})) → Keeps account_at more → (before : Account)
+      → (step : Step (State E) (Unit {0})) → One before step → Kept account_at before (and_then step (λ done. more))
   then_keeps more keeps before (Gives done s) one =
-      kept_from in_state one.0 (more s) (keeps s one.0.onward.adds_up)
+      kept_from account_at one.0 (more s) (keeps s one.0.onward.adds_up)
   then_keeps more keeps before (Ends stop.Page s) one = one.0
   then_keeps more keeps before (Ends (stop.Error what line) s) one = absurd one
   then_keeps more keeps before (Ends (stop.Limit kind line) s) one = one
@@ -100,12 +100,21 @@ module _ {E : Type 0} where
 
   -- What comes of the page's end: no error and no page stop, and where it comes to its end a fact of the account.
   abbrev pub Closing : (Account → Type 0) → Account → Step (State E) (Unit {0}) → Type 0
-  Closing P before (Gives done s) = Settled before (in_state s) × P (in_state s)
+  Closing P before (Gives done s) = Settled before (account_at s) × P (account_at s)
   Closing P before (Ends stop.Page s) = ⊥
   Closing P before (Ends (stop.Error what line) s) = ⊥
-  Closing P before (Ends (stop.Limit kind line) s) = Onward before (in_state s)
-  Closing P before (Ends (stop.Wants call) s) = Onward before (in_state s)
-  Closing P before (Ends stop.Memory s) = Onward before (in_state s)
+  Closing P before (Ends (stop.Limit kind line) s) = Onward before (account_at s)
+  Closing P before (Ends (stop.Wants call) s) = Onward before (account_at s)
+  Closing P before (Ends stop.Memory s) = Onward before (account_at s)
+
+  pub closing_kept : (P : Account → Type 0) (before : Account) (step : Step (State E) (Unit {0}))
+      → Closing P before step → Kept account_at before step
+  closing_kept P before (Gives done s) closing = closing.0
+  closing_kept P before (Ends stop.Page s) closing = absurd closing
+  closing_kept P before (Ends (stop.Error what line) s) closing = absurd closing
+  closing_kept P before (Ends (stop.Limit kind line) s) closing = closing
+  closing_kept P before (Ends (stop.Wants call) s) closing = closing
+  closing_kept P before (Ends stop.Memory s) closing = closing
 
   closing_from : (P : Account → Type 0) {a b : Account} → Settled a b → (step : Step (State E) (Unit {0}))
       → Closing P b step → Closing P a step
@@ -119,7 +128,7 @@ module _ {E : Type 0} where
   -- one after the other
   closing_then : (P Q : Account → Type 0) (next : Does E (Unit {0})) (before : Account)
       (step : Step (State E) (Unit {0})) → Closing P before step
-      → ((s : State E) → Settled before (in_state s) → P (in_state s) → Closing Q (in_state s) (next s))
+      → ((s : State E) → Settled before (account_at s) → P (account_at s) → Closing Q (account_at s) (next s))
       → Closing Q before (and_then step (λ done. next))
   closing_then P Q next before (Gives done s) closing after =
       closing_from Q closing.0 (next s) (after s closing.0 closing.1)
@@ -151,20 +160,20 @@ no_length (first ∷ others) is = absurd (omega (arith, is))
 
 module _ (E : Type 0) (m : Inner E)
     (enter : (owner : Owner) (procedure : Procedure) (arguments : List Argument)
-    → Keeps in_state (m.enter owner procedure arguments)) where
+    → Keeps account_at (m.enter owner procedure arguments)) where
   terminator_keeps : (object : ℕ) (class : Option ℕ) (found : Option Procedure)
-      → Keeps in_state (releases.terminator E m object class found)
+      → Keeps account_at (releases.terminator E m object class found)
   terminator_keeps object (Some class) (Some procedure) = enter _ procedure []
-  terminator_keeps object (Some class) None = still_gives in_state Empty
-  terminator_keeps object None found = still_gives in_state Empty
+  terminator_keeps object (Some class) None = still_gives account_at Empty
+  terminator_keeps object None found = still_gives account_at Empty
 
-  terminate_out : (object : ℕ) (s : State E) → AddsUp (in_state s) → IsEnding object (in_state s)
-      → Outcome object (in_state s) (releases.terminate E m object s)
+  pub terminate_out : (object : ℕ) (s : State E) → AddsUp (account_at s) → IsEnding object (account_at s)
+      → Outcome object (account_at s) (releases.terminate E m object s)
   unfolding releases.terminate
   terminate_out object s right ends =
       let class = releases.class_number (numbered object s.world.heap.objects) in
       let t = releases.in_world E (releases.terminating s.world) s in
-      terminated_out object s.world (in_state s) ends (releases.terminator_of E m object class t)
+      terminated_out object s.world (account_at s) ends (releases.terminator_of E m object class t)
       (terminator_keeps object class (releases.terminator_in (class_at m.program class)) t right)
 
   -- a live object's terminator begins and is run
@@ -172,88 +181,88 @@ module _ (E : Type 0) (m : Inner E)
   ended_one object s = releases.terminate E m object
       (releases.in_world E (with_heap (with_ending (Some object)) s.world) s)
 
-  one_ends : (object : ℕ) (s : State E) → AddsUp (in_state s) → IsLive object (in_state s)
-      → One (in_state s) (ended_one object s)
+  one_ends : (object : ℕ) (s : State E) → AddsUp (account_at s) → IsLive object (account_at s)
+      → One (account_at s) (ended_one object s)
   one_ends object s right live =
       let t = releases.in_world E (with_heap (with_ending (Some object)) s.world) s in
-      let is : in_state t ≡ with_mark object (in_state s) =
+      let is : account_at t ≡ with_mark object (account_at s) =
       ending_marks s.world.heap object s.world.finished live in
-      let mid = mark_onward (in_state s) object right live in
-      one_out object (in_state s) right live (ended_one object s)
+      let mid = mark_onward (account_at s) object right live in
+      one_out object (account_at s) right live (ended_one object s)
       (subst (λ account. Outcome object account (ended_one object s)) is (terminate_out object t
       (subst AddsUp (sym is) mid.adds_up)
-      (subst (λ account. IsEnding object account) (sym is) (marked (in_state s) object right live))))
+      (subst (λ account. IsEnding object account) (sym is) (marked (account_at s) object right live))))
 
   -- ---- a release point
 
-  released_keeps : (more : Does E (Unit {0})) → Keeps in_state more → (found : Option ℕ) (s : State E)
-      → AddsUp (in_state s) → ((object : ℕ) → found ≡ Some object → IsLive object (in_state s))
-      → Kept in_state (in_state s) (releases.released_one E m more found s)
+  released_keeps : (more : Does E (Unit {0})) → Keeps account_at more → (found : Option ℕ) (s : State E)
+      → AddsUp (account_at s) → ((object : ℕ) → found ≡ Some object → IsLive object (account_at s))
+      → Kept account_at (account_at s) (releases.released_one E m more found s)
   released_keeps more keeps (Some object) s right live =
-      then_keeps more keeps (in_state s) (ended_one object s) (one_ends object s right (live object refl))
-  released_keeps more keeps None s right live = settled_still (in_state s) right
+      then_keeps more keeps (account_at s) (ended_one object s) (one_ends object s right (live object refl))
+  released_keeps more keeps None s right live = settled_still (account_at s) right
 
-  settle_times_keeps : (times : ℕ) → Keeps in_state (releases.settle_times E m times)
-  settle_times_keeps zero s right = settled_still (in_state s) right
+  settle_times_keeps : (times : ℕ) → Keeps account_at (releases.settle_times E m times)
+  settle_times_keeps zero s right = settled_still (account_at s) right
   settle_times_keeps (suc more) s right = released_keeps (releases.settle_times E m more) (settle_times_keeps more)
       (oldest_loose s.world.heap) s right
       (λ object is. loose_is_live s.world.heap object s.world.finished right.differ is)
 
-  pub settle_keeps : Keeps in_state (releases.settle E m)
+  pub settle_keeps : Keeps account_at (releases.settle E m)
   unfolding releases.settle
   settle_keeps s right = settle_times_keeps (most_objects - s.world.finished) s right
 
   -- ---- the page's end
 
   end_one_closes : (P : Account → Type 0) (more : Does E (Unit {0})) (found : Option ℕ) (s : State E)
-      → AddsUp (in_state s) → ((object : ℕ) → found ≡ Some object → IsLive object (in_state s))
-      → (found ≡ None → P (in_state s))
-      → ((t : State E) → Settled (in_state s) (in_state t) → s.world.finished < t.world.finished
-      → Closing P (in_state t) (more t))
-      → Closing P (in_state s) (releases.end_one E m more found s)
-  end_one_closes P more None s right live last after = (settled_still (in_state s) right, last refl)
+      → AddsUp (account_at s) → ((object : ℕ) → found ≡ Some object → IsLive object (account_at s))
+      → (found ≡ None → P (account_at s))
+      → ((t : State E) → Settled (account_at s) (account_at t) → s.world.finished < t.world.finished
+      → Closing P (account_at t) (more t))
+      → Closing P (account_at s) (releases.end_one E m more found s)
+  end_one_closes P more None s right live last after = (settled_still (account_at s) right, last refl)
   end_one_closes P more (Some object) s right live last after = closing_then
-      (λ account. s.world.finished < account.finished) P more (in_state s)
+      (λ account. s.world.finished < account.finished) P more (account_at s)
       (in_line (releases.line_of E m object s.world) (releases.without_page_stop E (ended_one object s)))
-      (one_closing (releases.line_of E m object s.world) (in_state s) (ended_one object s)
+      (one_closing (releases.line_of E m object s.world) (account_at s) (ended_one object s)
       (one_ends object s right (live object refl))) after
 
-  settle_last_times_closes : (times : ℕ) (s : State E) → AddsUp (in_state s)
-      → Closing (λ account. Unit {0}) (in_state s) (releases.settle_last_times E m times s)
-  settle_last_times_closes zero s right = (settled_still (in_state s) right, tt)
+  settle_last_times_closes : (times : ℕ) (s : State E) → AddsUp (account_at s)
+      → Closing (λ account. Unit {0}) (account_at s) (releases.settle_last_times E m times s)
+  settle_last_times_closes zero s right = (settled_still (account_at s) right, tt)
   settle_last_times_closes (suc more) s right = end_one_closes (λ account. Unit {0})
       (releases.settle_last_times E m more) (oldest_loose s.world.heap) s right
       (λ object is. loose_is_live s.world.heap object s.world.finished right.differ is) (λ none. tt)
       (λ t settled later. settle_last_times_closes more t settled.onward.adds_up)
 
-  pub settle_last_closes : (s : State E) → AddsUp (in_state s)
-      → Closing (λ account. Unit {0}) (in_state s) (releases.settle_last E m s)
+  pub settle_last_closes : (s : State E) → AddsUp (account_at s)
+      → Closing (λ account. Unit {0}) (account_at s) (releases.settle_last E m s)
   unfolding releases.settle_last
   settle_last_closes s right = settle_last_times_closes (most_objects - s.world.finished) s right
 
-  end_times_closes : (times : ℕ) (s : State E) → AddsUp (in_state s) → most_objects ≤ s.world.finished + times
-      → Closing Emptied (in_state s) (releases.end_times E m times s)
+  end_times_closes : (times : ℕ) (s : State E) → AddsUp (account_at s) → most_objects ≤ s.world.finished + times
+      → Closing Emptied (account_at s) (releases.end_times E m times s)
   end_times_closes zero s right enough = (
-    settled_still (in_state s) right,
-    λ none. no_length (in_state s).objects (omega (arith, right.count, right.most, enough)),
+    settled_still (account_at s) right,
+    λ none. no_length (account_at s).objects (omega (arith, right.count, right.most, enough)),
   )
   end_times_closes (suc more) s right enough = end_one_closes Emptied
       (releases.settle_last E m >> releases.end_times E m more) (oldest_live s.world.heap) s right
       (λ object is. oldest_is_live s.world.heap object s.world.finished right.differ is)
       (λ none. none_is_left s.world.heap.objects none)
-      (λ t settled later. closing_then (λ account. Unit {0}) Emptied (releases.end_times E m more) (in_state t)
+      (λ t settled later. closing_then (λ account. Unit {0}) Emptied (releases.end_times E m more) (account_at t)
       (releases.settle_last E m t) (settle_last_closes t settled.onward.adds_up) (λ u next done.
       end_times_closes more u next.onward.adds_up
       (let grown = next.onward.finished in omega (arith, enough, later, grown))))
 
-  pub end_all_closes : (s : State E) → AddsUp (in_state s)
-      → Closing Emptied (in_state s) (releases.end_all E m s)
+  pub end_all_closes : (s : State E) → AddsUp (account_at s)
+      → Closing Emptied (account_at s) (releases.end_all E m s)
   unfolding releases.end_all
   end_all_closes s right = end_times_closes (most_objects - s.world.finished) s right (omega arith)
 
   -- all that is done at the page's end
-  pub page_closes : (s : State E) → AddsUp (in_state s)
-      → Closing Emptied (in_state s) ((releases.settle_last E m >> releases.end_all E m) s)
-  page_closes s right = closing_then (λ account. Unit {0}) Emptied (releases.end_all E m) (in_state s)
+  pub page_closes : (s : State E) → AddsUp (account_at s)
+      → Closing Emptied (account_at s) ((releases.settle_last E m >> releases.end_all E m) s)
+  page_closes s right = closing_then (λ account. Unit {0}) Emptied (releases.end_all E m) (account_at s)
       (releases.settle_last E m s) (settle_last_closes s right)
       (λ t settled done. end_all_closes t settled.onward.adds_up)

@@ -13,30 +13,12 @@ use Rattle.vb_meaning.specs.Errors.{in_line, resumed, with_err, raised_by}
 use Rattle.vb_meaning.specs.State.{State, lifted}
 use Rattle.vb_meaning.specs.Step.{Step, Gives, Ends, Run, and_then}
 use Rattle.vb_meaning.specs.Stops.{ask_stop}
-use Rattle.act_laws.specs.Objects.{Account, AddsUp, Onward, account_of}
-use Rattle.act_laws.proofs.Accounts.{Settled, onward_still, onward_then, settled_still, settled_then}
-
--- how the account goes on where something ended for this reason: a limit, or a call that is wanted, leaves objects in
--- the midst of their end
-abbrev pub Goes : Stop → Account → Account → Type 0
-Goes (stop.Error what line) before after = Settled before after
-Goes stop.Page before after = Settled before after
-Goes (stop.Limit kind line) before after = Onward before after
-Goes (stop.Wants call) before after = Onward before after
-Goes stop.Memory before after = Onward before after
-
--- how it goes on where a step left its state
-abbrev pub Kept : {S A : Type 0} → (S → Account) → Account → Step S A → Type 0
-Kept of before (Gives value s) = Settled before (of s)
-Kept of before (Ends why s) = Goes why before (of s)
+use Rattle.act_laws.specs.Objects.{Account, AddsUp, Goes, Kept, Onward, Settled, account_at, account_of}
+use Rattle.act_laws.proofs.Accounts.{onward_still, onward_then, settled_still, settled_then}
 
 -- something that is done from any account that adds up
 abbrev pub Keeps : {S A : Type 0} → (S → Account) → Run S A → Type 0
 Keeps {S} of run = (s : S) → AddsUp (of s) → Kept of (of s) (run s)
-
--- the account of a state
-abbrev pub in_state : {E : Type 0} → State E → Account
-in_state s = account_of s.world
 
 -- ---- steps
 
@@ -98,14 +80,14 @@ line_keeps of line a (Ends stop.Memory s) kept = kept
 
 -- On Error
 resumed_error : {E A : Type 0} (instead : A) (a : Account) (what : Cause) (line : Option ℕ) (s : State E)
-    (resumes : Bool) → Settled a (in_state s) → Kept {S = State E} {A = A} in_state a
+    (resumes : Bool) → Settled a (account_at s) → Kept {S = State E} {A = A} account_at a
     (if resumes then Gives instead (record s { world = with_err (raised_by what) s.world })
     else Ends (stop.Error what line) s)
 resumed_error instead a what line s true kept = kept
 resumed_error instead a what line s false kept = kept
 
-pub resumed_keeps : {E A : Type 0} (instead : A) (a : Account) (step : Step (State E) A) → Kept in_state a step
-    → Kept in_state a (resumed instead step)
+pub resumed_keeps : {E A : Type 0} (instead : A) (a : Account) (step : Step (State E) A) → Kept account_at a step
+    → Kept account_at a (resumed instead step)
 resumed_keeps instead a (Gives value s) kept = kept
 resumed_keeps instead a (Ends (stop.Error what line) s) kept =
     resumed_error instead a what line s s.world.frame.resumes kept
@@ -116,7 +98,7 @@ resumed_keeps instead a (Ends stop.Memory s) kept = kept
 
 -- a step of the world, in a state
 pub lifted_keeps : {E A : Type 0} (env : E) (replies : List AppReply) (a : Account) (step : Step World A)
-    → Kept account_of a step → Kept in_state a (lifted env replies step)
+    → Kept account_of a step → Kept account_at a (lifted env replies step)
 lifted_keeps env replies a (Gives value world) kept = kept
 lifted_keeps env replies a (Ends why world) kept = kept
 
@@ -130,7 +112,7 @@ still_ends A of why s right = goes_settled why (settled_still (of s) right)
 
 heard_keeps : {E : Type 0} (host : Host E) (member : Member) (arguments : List Value) (world : World)
     (replies : List AppReply) (said : Said E) → AddsUp (account_of world)
-    → Kept in_state (account_of world) (heard host member arguments world replies said)
+    → Kept account_at (account_of world) (heard host member arguments world replies said)
 heard_keeps host member arguments world replies (Ok (given.Value value, env)) right =
     settled_still (account_of world) right
 heard_keeps host member arguments world replies (Ok (given.Names names, env)) right =
@@ -143,7 +125,7 @@ heard_keeps host member arguments world replies (Err (reason, env)) right =
 
 -- a question to the objects of the page
 pub ask_keeps : {E : Type 0} (host : Host E) (member : Member) (arguments : List Value)
-    → Keeps in_state (ask host member arguments)
+    → Keeps account_at (ask host member arguments)
 unfolding ask
 ask_keeps host member arguments s right =
     heard_keeps host member arguments s.world s.replies (host.asked member arguments s.env) right

@@ -19,6 +19,8 @@ pub mod Statements
 pub mod Looping
 pub mod Meaning
 pub mod Acting
+pub mod Finishing
+pub mod Once
 pub mod Getting
 pub mod Links
 pub mod Replies

@@ -9,16 +9,16 @@ use Rattle.vb_meaning.specs.declared.stop.Stop.TheVariants as stop
 use Rattle.vb_meaning.specs.declared.world.World.{World}
 use Rattle.vb_meaning.specs.State.{State, Does, on_world}
 use Rattle.vb_meaning.specs.Step.{Step, Gives, Ends, Run, and_then, ◌>>=◌, pure, ends as step_ends, given, fails}
-use Rattle.act_laws.specs.Objects.{Account, account_of}
+use Rattle.act_laws.specs.Objects.{Account, Kept, account_at, account_of}
 use Rattle.act_laws.proofs.Joined as joined
 use Rattle.act_laws.proofs.Joined.{Link, Joined, JoinedTurn}
-use Rattle.act_laws.proofs.Keeping.{Kept, Keeps, in_state, kept_moved, lifted_keeps, next_keeps, still_ends, still_gives}
+use Rattle.act_laws.proofs.Keeping.{Keeps, kept_moved, lifted_keeps, next_keeps, still_ends, still_gives}
 use Rattle.act_laws.proofs.Wantless.{Wantless}
 
 -- something that is done in the one as in the other, and keeps the account of objects
 pub record Fits {A : Type 0} (l : Link) (first : Does l.E A) (second : Does l.F A) : Type 0 where
   pub joined : Joined l first second
-  pub keeps : Keeps in_state second
+  pub keeps : Keeps account_at second
 
 -- ---- steps
 
@@ -26,8 +26,8 @@ pub record Fits {A : Type 0} (l : Link) (first : Does l.E A) (second : Does l.F 
 pub record Turns {A B : Type 0} (l : Link) (turn : Step (State l.E) A → Step (State l.E) B)
     (other : Step (State l.F) A → Step (State l.F) B) : Type 0 where
   pub joined : JoinedTurn l turn other
-  pub keeps : (before : Account) (step : Step (State l.F) A) → Kept in_state before step
-      → Kept in_state before (other step)
+  pub keeps : (before : Account) (step : Step (State l.F) A) → Kept account_at before step
+      → Kept account_at before (other step)
 
 -- what is done, and then something is made of the step
 pub turned : {A B : Type 0} {l : Link} {turn : Step (State l.E) A → Step (State l.E) B}
@@ -35,7 +35,7 @@ pub turned : {A B : Type 0} {l : Link} {turn : Step (State l.E) A → Step (Stat
     → Turns l turn other → Fits l first second → Fits l (λ s. turn (first s)) (λ s. other (second s))
 turned {second} turns fit = record {
   joined = joined.turn_joined turns.joined fit.joined;
-  keeps = λ s right. turns.keeps (in_state s) (second s) (fit.keeps s right);
+  keeps = λ s right. turns.keeps (account_at s) (second s) (fit.keeps s right);
 }
 
 -- what follows a step
@@ -44,7 +44,7 @@ pub next_turns : {A B : Type 0} {l : Link} {next : A → Does l.E B} {other : A 
     → Turns l (λ step. and_then step next) (λ step. and_then step other)
 next_turns {other} fit = record {
   joined = joined.next_turn (λ value. (fit value).joined);
-  keeps = next_keeps in_state other (λ value. (fit value).keeps);
+  keeps = next_keeps account_at other (λ value. (fit value).keeps);
 }
 
 -- ---- what is done
@@ -57,21 +57,21 @@ then_fits fit next = turned (next_turns next) fit
 
 -- a value, and no change
 pub value_fits : {A : Type 0} (l : Link) (value : A) → Fits l (pure value) (pure value)
-value_fits l value = record { joined = joined.value_joined l value; keeps = still_gives in_state value }
+value_fits l value = record { joined = joined.value_joined l value; keeps = still_gives account_at value }
 
 -- an end for another reason than a call
 pub error_fits : {A : Type 0} (l : Link) (what : Cause) (line : Option ℕ)
     → Fits {A = A} l (step_ends (stop.Error what line)) (step_ends (stop.Error what line))
 error_fits {A} l what line = record {
   joined = joined.error_joined l what line;
-  keeps = still_ends A in_state (stop.Error what line);
+  keeps = still_ends A account_at (stop.Error what line);
 }
 
 pub limit_fits : {A : Type 0} (l : Link) (kind : LimitKind) (line : Option ℕ)
     → Fits {A = A} l (step_ends (stop.Limit kind line)) (step_ends (stop.Limit kind line))
 limit_fits {A} l kind line = record {
   joined = joined.limit_joined l kind line;
-  keeps = still_ends A in_state (stop.Limit kind line);
+  keeps = still_ends A account_at (stop.Limit kind line);
 }
 
 -- an error of the language
@@ -88,7 +88,7 @@ pub world_fits : {A : Type 0} (l : Link) {change : Run World A} → Wantless cha
     → Fits l (on_world change) (on_world change)
 world_fits l {change} wantless = record {
   joined = joined.world_joined l wantless;
-  keeps = λ s right. lifted_keeps s.env s.replies (in_state s) (change s.world) (wantless.keeps s.world right);
+  keeps = λ s right. lifted_keeps s.env s.replies (account_at s) (change s.world) (wantless.keeps s.world right);
 }
 
 -- one of two
@@ -112,7 +112,7 @@ pub moved_fits : {A : Type 0} {l : Link} (change : World → World)
     → Fits l (λ s. first (record s { world = change s.world })) (λ s. second (record s { world = change s.world }))
 moved_fits change same {first} {second} fit = record {
   joined = joined.moved_joined change fit.joined;
-  keeps = λ s right. kept_moved in_state (account_of s.world) (account_of (change s.world)) (same s.world)
+  keeps = λ s right. kept_moved account_at (account_of s.world) (account_of (change s.world)) (same s.world)
       (second (record s { world = change s.world })) (fit.keeps (record s { world = change s.world })) right;
 }
 

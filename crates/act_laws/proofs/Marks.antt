@@ -26,8 +26,8 @@ use Rattle.vb_heap.specs.Releases.{ending, ends_now, finished as finished_object
 use Rattle.vb_heap.specs.Releases.{is_loose, oldest_loose, with_ending}
 use Rattle.vb_heap.specs.Store.{Store, is_number, numbered, replaced, without}
 use Rattle.vb_meaning.specs.Places.{cells_dropped}
-use Rattle.act_laws.specs.Objects.{Account, AddsUp, Differ, IsEnding, IsLive, marks}
-use Rattle.act_laws.proofs.Accounts.{Settled, made_live, with_mark}
+use Rattle.act_laws.specs.Objects.{Account, AddsUp, Differ, IsEnding, IsLive, Settled, marks}
+use Rattle.act_laws.proofs.Accounts.{made_live, with_mark}
 use Rattle.act_laws.proofs.Numbers.{compared, itself, same_replaced}
 
 -- the account of data of which so many objects have ended

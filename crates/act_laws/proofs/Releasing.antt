@@ -16,11 +16,11 @@ use Rattle.vb_meaning.specs.Releases as releases
 use Rattle.vb_meaning.specs.State.{State, Does, with_heap}
 use Rattle.vb_meaning.specs.Step.{Step, Gives, Ends, and_then, ◌>>◌, pure, ends as step_ends}
 use Rattle.act_laws.proofs.Inside.{Inners, one, two, Same}
-use Rattle.act_laws.specs.Objects.{Account}
+use Rattle.act_laws.specs.Objects.{Account, Kept, account_at}
 use Rattle.act_laws.proofs.Ending.{settle_keeps}
 use Rattle.act_laws.proofs.Joined.{Link, Alike, Joined, JoinedTurn, Past, gives, ends, gone, turn_joined, then_joined}
 use Rattle.act_laws.proofs.Joined.{moved_joined, seeing_joined, value_joined}
-use Rattle.act_laws.proofs.Keeping.{Kept, in_state, kept_from}
+use Rattle.act_laws.proofs.Keeping.{kept_from}
 use Rattle.act_laws.proofs.Linked.{Turns, then_fits, value_fits, error_fits}
 use Rattle.act_laws.proofs.Turning.{line_joined, terminated_joined, without_stop_joined}
 
@@ -115,15 +115,15 @@ module _ (l : Link) (i : Inners l) where
       → Turns {A = A} l (releases.release l.E (one i) mark) (releases.release l.F (two i) mark)
   release_turns {A} mark = record { joined = release_joined mark; keeps = keeps }
     where
-      keeps : (before : Account) (step : Step (State l.F) A) → Kept in_state before step
-          → Kept in_state before (releases.release l.F (two i) mark step)
+      keeps : (before : Account) (step : Step (State l.F) A) → Kept account_at before step
+          → Kept account_at before (releases.release l.F (two i) mark step)
       keeps before (Gives value s) kept =
           let t = releases.in_world l.F (let_go mark s.world) s in
-          kept_from in_state kept ((releases.settle l.F (two i) >> pure value) t)
+          kept_from account_at kept ((releases.settle l.F (two i) >> pure value) t)
           ((then_fits settle_fits (λ done. value_fits l value)).keeps t kept.onward.adds_up)
       keeps before (Ends (stop.Error what line) s) kept =
           let t = releases.in_world l.F (let_go mark s.world) s in
-          kept_from in_state kept ((releases.settle l.F (two i) >> step_ends (stop.Error what line)) t)
+          kept_from account_at kept ((releases.settle l.F (two i) >> step_ends (stop.Error what line)) t)
           ((then_fits settle_fits (λ done. error_fits {A = A} l what line)).keeps t kept.onward.adds_up)
       keeps before (Ends stop.Page s) kept = kept
       keeps before (Ends (stop.Limit kind line) s) kept = kept

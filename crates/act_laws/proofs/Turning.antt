@@ -13,9 +13,9 @@ use Rattle.vb_meaning.specs.State.{State}
 use Rattle.vb_meaning.specs.Statements.{out_of_with, with_subjects}
 use Rattle.vb_meaning.specs.Step.{Step, Gives, Ends}
 use Rattle.act_laws.proofs.Joined.{Link, Alike, gives, ends, gone, Past, JoinedTurn}
-use Rattle.act_laws.proofs.Keeping.{line_keeps, resumed_keeps, in_state, Kept}
+use Rattle.act_laws.proofs.Keeping.{line_keeps, resumed_keeps}
 use Rattle.act_laws.proofs.Linked.{Turns}
-use Rattle.act_laws.specs.Objects.{Account}
+use Rattle.act_laws.specs.Objects.{Account, Kept, account_at}
 
 -- a line
 pub line_joined : {A : Type 0} (l : Link) (line : ℕ) → JoinedTurn {A = A} l (in_line line) (in_line line)
@@ -45,7 +45,7 @@ line_joined {A} l line = record { alike = alike; goes_on = goes_on }
     alike _ second (gone call s _ past) = gone call s (in_line line second) (goes_on call second past)
 
 pub line_turns : {A : Type 0} (l : Link) (line : ℕ) → Turns {A = A} l (in_line line) (in_line line)
-line_turns l line = record { joined = line_joined l line; keeps = line_keeps in_state line }
+line_turns l line = record { joined = line_joined l line; keeps = line_keeps account_at line }
 
 -- On Error
 resumed_joined : {A : Type 0} (l : Link) (instead : A) → JoinedTurn {A = A} l (resumed instead) (resumed instead)
@@ -180,7 +180,7 @@ pub with_turns : {A : Type 0} (l : Link) (m : Inner l.E) (other : Inner l.F) (su
     → Turns {A = A} l (out_of_with l.E m subjects) (out_of_with l.F other subjects)
 with_turns {A} l m other subjects = record { joined = with_joined l m other subjects; keeps = keeps }
   where
-    keeps : (before : Account) (step : Step (State l.F) A) → Kept in_state before step
-        → Kept in_state before (out_of_with l.F other subjects step)
+    keeps : (before : Account) (step : Step (State l.F) A) → Kept account_at before step
+        → Kept account_at before (out_of_with l.F other subjects step)
     keeps before (Gives value s) kept = kept
     keeps before (Ends why s) kept = kept

@@ -16,9 +16,9 @@ use Rattle.vb_meaning.specs.Errors.{in_line, tick, too_deep, depth_stop}
 use Rattle.vb_meaning.specs.State.{on_heap, heap_answer, with_frame, with_heap}
 use Rattle.vb_meaning.specs.Step.{Step, Gives, Ends, Run, and_then, ◌>>=◌, pure, given, ends, fails}
 use Rattle.vb_meaning.specs.Stops.{heap_stop}
-use Rattle.act_laws.specs.Objects.{AddsUp, account_of}
-use Rattle.act_laws.proofs.Accounts.{Settled, onward_still, settled_still}
-use Rattle.act_laws.proofs.Keeping.{Kept, Keeps, goes_settled, kept_moved, line_keeps, next_keeps, still_ends}
+use Rattle.act_laws.specs.Objects.{AddsUp, Kept, Settled, account_of}
+use Rattle.act_laws.proofs.Accounts.{onward_still, settled_still}
+use Rattle.act_laws.proofs.Keeping.{Keeps, goes_settled, kept_moved, line_keeps, next_keeps, still_ends}
 use Rattle.act_laws.proofs.Keeping.{still_gives}
 use Rattle.act_laws.proofs.Marks.{account_in}
 

@@ -5,7 +5,11 @@ use Rattle.vb_heap.specs.declared.object.Object.{Object}
 use Rattle.vb_heap.specs.Below.{EachBelow}
 use Rattle.vb_heap.specs.Limits.{most_objects}
 use Rattle.vb_heap.specs.Store.{numbered}
+use Rattle.vb_meaning.specs.declared.stop.Stop.{Stop}
+use Rattle.vb_meaning.specs.declared.stop.Stop.TheVariants as stop
 use Rattle.vb_meaning.specs.declared.world.World.{World}
+use Rattle.vb_meaning.specs.State.{State}
+use Rattle.vb_meaning.specs.Step.{Step, Gives, Ends}
 
 -- what a world says of the objects of its act
 pub record Account : Type 0 where
@@ -59,3 +63,28 @@ pub record Onward (before after : Account) : Type 0 where
   pub finished : before.finished ≤ after.finished
   pub begun : (number : ℕ) → HasBegun number before → HasBegun number after
   pub ended : (number : ℕ) → HasEnded number before → HasEnded number after
+
+-- Onward, and the terminators that are being run are the same before and after: each that began on the way has come to
+-- its end on the way.
+pub record Settled (before after : Account) : Type 0 where
+  pub onward : Onward before after
+  pub stays : (number : ℕ) → IsEnding number before → IsEnding number after
+  pub stood : (number : ℕ) → IsEnding number after → IsEnding number before
+
+-- How the account goes on where something ended for this reason: a limit, and a call that is wanted, leave terminators
+-- that have not come to their end.
+abbrev pub Goes : Stop → Account → Account → Type 0
+Goes (stop.Error what line) before after = Settled before after
+Goes stop.Page before after = Settled before after
+Goes (stop.Limit kind line) before after = Onward before after
+Goes (stop.Wants call) before after = Onward before after
+Goes stop.Memory before after = Onward before after
+
+-- how it goes on where a step left its state
+abbrev pub Kept : {S A : Type 0} → (S → Account) → Account → Step S A → Type 0
+Kept of before (Gives value s) = Settled before (of s)
+Kept of before (Ends why s) = Goes why before (of s)
+
+-- the account of a state
+abbrev pub account_at : {E : Type 0} → State E → Account
+account_at s = account_of s.world
