@@ -28,7 +28,8 @@ use Rattle.act_laws.specs.Laws.{ObjectsEnd}
 use Rattle.act_laws.specs.Objects.{Account, AddsUp, IsEnding, Kept, Settled, account_at, account_of}
 use Rattle.act_laws.specs.Terminators.{HaveEnded}
 use Rattle.act_laws.proofs.Acting.{asks_fit, runs_fits}
-use Rattle.act_laws.proofs.Ending.{Closing, Emptied, page_closes}
+use Rattle.act_laws.proofs.Coming.{Comes}
+use Rattle.act_laws.proofs.Ending.{IsEmptied, page_comes}
 use Rattle.act_laws.proofs.Inside.{Inners}
 use Rattle.act_laws.proofs.Joined.{Joined, Link}
 use Rattle.act_laws.proofs.Keeping.{Keeps}
@@ -92,19 +93,19 @@ module _ (E : Type 0) (m : Inner E)
     (enter : (owner : Owner) (procedure : Procedure) (arguments : List Argument)
     → Keeps account_at (m.enter owner procedure arguments)) where
   closed_tells : (how : ActEnd) (before : Account) → ((number : ℕ) → IsEnding number before → ⊥)
-      → (step : Step (State E) (Unit {0})) → Closing Emptied before step → (done : ActDone)
+      → (step : Step (State E) (Unit {0})) → Comes ⊥ IsEmptied before step → (done : ActDone)
       → (acts.closed E m how step).0 ≡ Some (Ended done) → HaveEnded done.end done.made done.finished
-  closed_tells how before none (Gives left s) closing = told how s.world.heap.objects_made s.world.finished
+  closed_tells how before none (Gives left s) comes = told how s.world.heap.objects_made s.world.finished
       (all_ended how s.world.heap.objects_made s.world.finished
-      (none_left (account_at s) closing.0.onward.adds_up
-      (closing.1 (λ number ends. none number (closing.0.stood number ends)))))
-  closed_tells how before none (Ends (stop.Limit kind line) s) closing =
+      (none_left (account_at s) comes.0.onward.adds_up
+      (comes.1 (λ number ends. none number (comes.0.stood number ends)))))
+  closed_tells how before none (Ends (stop.Limit kind line) s) comes =
       told (end.Limit kind (acts.line_or_none line)) s.world.heap.objects_made s.world.finished
-      (no_more (account_at s) closing.adds_up)
-  closed_tells how before none (Ends (stop.Error what line) s) closing = absurd closing
-  closed_tells how before none (Ends stop.Page s) closing = absurd closing
-  closed_tells how before none (Ends (stop.Wants call) s) closing = λ done is. absurd (cc)
-  closed_tells how before none (Ends stop.Memory s) closing = λ done is. absurd (cc)
+      (no_more (account_at s) comes.adds_up)
+  closed_tells how before none (Ends (stop.Error what line) s) comes = absurd comes
+  closed_tells how before none (Ends stop.Page s) comes = absurd comes.0
+  closed_tells how before none (Ends (stop.Wants call) s) comes = λ done is. absurd (cc)
+  closed_tells how before none (Ends stop.Memory s) comes = λ done is. absurd (cc)
 
   page_tells : (how : ActEnd) (before : Account) → ((number : ℕ) → IsEnding number before → ⊥) → (s : State E)
       → Settled before (account_at s) → (done : ActDone)
@@ -115,7 +116,7 @@ module _ (E : Type 0) (m : Inner E)
       dropped_still s.world.page (let_go_to 0 s.world.heap) s.world.finished in
       let still : Settled before (account_at t) = subst (λ account. Settled before account) (sym same) settled in
       closed_tells how (account_at t) (λ number ends. none number (still.stood number ends))
-      ((settle_last E m >> end_all E m) t) (page_closes E m enter t still.onward.adds_up)
+      ((settle_last E m >> end_all E m) t) (page_comes E m enter t still.onward.adds_up)
 
   ends_tell : (before : Account) → ((number : ℕ) → IsEnding number before → ⊥) → (step : Step (State E) (Unit {0}))
       → Kept account_at before step → (done : ActDone)

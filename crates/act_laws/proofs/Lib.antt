@@ -8,6 +8,7 @@ pub mod Keeping
 pub mod Joined
 pub mod Linked
 pub mod Turning
+pub mod Coming
 pub mod Ending
 pub mod Inside
 pub mod Reading

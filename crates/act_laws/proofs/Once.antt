@@ -9,15 +9,16 @@ use Rattle.vb_meaning.specs.declared.stop.Stop.TheVariants as stop
 use Rattle.vb_meaning.specs.Asking.{Host}
 use Rattle.vb_meaning.specs.Inner.{Inner, Owner}
 use Rattle.vb_meaning.specs.Meaning.{inside}
-use Rattle.vb_meaning.specs.Releases.{end_all, settle_last, terminate}
+use Rattle.vb_meaning.specs.Releases.{end_all, settle, settle_last, terminate}
 use Rattle.vb_meaning.specs.State.{State, with_heap}
 use Rattle.vb_meaning.specs.Step.{Step, Gives, Ends, ◌>>◌}
 use Rattle.act_laws.specs.Laws.{TerminatorsRunOnce}
 use Rattle.act_laws.specs.Objects.{Account, AddsUp, HasBegun, HasEnded, IsEnding, IsLive, account_at, account_of}
-use Rattle.act_laws.specs.Terminators.{AllEnded, ComesOut, KeepsAll, RunsEach}
+use Rattle.act_laws.specs.Terminators.{AllEnded, ComesOut, KeepsAll, NoneLoose, RunsEach}
 use Rattle.act_laws.proofs.Accounts.{marked, not_there, there_below, with_mark}
-use Rattle.act_laws.proofs.Ending.{Closing, Emptied, Outcome, Ran, closing_kept, end_all_closes, page_closes}
-use Rattle.act_laws.proofs.Ending.{settle_keeps, settle_last_closes, terminate_out}
+use Rattle.act_laws.proofs.Coming.{Comes, Outcome, Ran, comes_kept}
+use Rattle.act_laws.proofs.Ending.{HasNoneLoose, IsEmptied, end_all_comes, page_comes, settle_comes, settle_keeps}
+use Rattle.act_laws.proofs.Ending.{settle_last_comes, terminate_out}
 use Rattle.act_laws.proofs.Finishing.{fresh_adds_up, levels_alone}
 use Rattle.act_laws.proofs.Keeping.{Keeps}
 use Rattle.act_laws.proofs.Marks.{ending_marks, loose_is_live, oldest_is_live}
@@ -49,13 +50,18 @@ comes_out object before right ends (Ends stop.Memory s) out =
     out.begun object (has_begun object before right ends)
 
 all_ended : {E : Type 0} (before : Account) → ((number : ℕ) → IsEnding number before → ⊥)
-    → (step : Step (State E) (Unit {0})) → Closing Emptied before step → AllEnded step
-all_ended before none (Gives done s) closing = λ number made. (
+    → (step : Step (State E) (Unit {0})) → Comes ⊥ IsEmptied before step → AllEnded step
+all_ended before none (Gives done s) comes = λ number made. (
   made,
   subst (λ objects. numbered number objects ≡ None)
-      (sym (closing.1 (λ other ends. none other (closing.0.stood other ends)))) refl,
+      (sym (comes.1 (λ other ends. none other (comes.0.stood other ends)))) refl,
 )
-all_ended before none (Ends why s) closing = tt
+all_ended before none (Ends why s) comes = tt
+
+leaves_none : {E : Type 0} (stops : Type 0) (before : Account) (step : Step (State E) (Unit {0}))
+    → Comes stops HasNoneLoose before step → NoneLoose step
+leaves_none stops before (Gives done s) comes = comes.1
+leaves_none stops before (Ends why s) comes = tt
 
 begins : {E : Type 0} (s : State E) (object : ℕ) → AddsUp (account_at s) → IsLive object (account_at s)
     → IsEnding object (account_of (with_heap (with_ending (Some object)) s.world))
@@ -72,7 +78,9 @@ module _ (E : Type 0) (m : Inner E)
     begins = λ object live. begins s object right live;
     ends = λ object ends. comes_out object (account_at s) right ends (terminate E m object s)
         (terminate_out E m enter object s right ends);
-    all = λ none. all_ended (account_at s) none ((settle_last E m >> end_all E m) s) (page_closes E m enter s right);
+    settles = leaves_none (Unit {0}) (account_at s) (settle E m s) (settle_comes E m enter s right);
+    settles_last = leaves_none ⊥ (account_at s) (settle_last E m s) (settle_last_comes E m enter s right);
+    all = λ none. all_ended (account_at s) none ((settle_last E m >> end_all E m) s) (page_comes E m enter s right);
   }
 
 pub run_once : (E : Type 0) → TerminatorsRunOnce E
@@ -84,9 +92,9 @@ run_once E = (fresh_adds_up, λ host program levels s right.
     λ owner procedure arguments. (i.enter_fits owner procedure arguments).keeps in
     (runs_each E m enter s right, record {
       settle = settle_keeps E m enter s right;
-      settle_last = closing_kept (λ account. Unit {0}) (account_at s) (settle_last E m s)
-          (settle_last_closes E m enter s right);
-      end_all = closing_kept Emptied (account_at s) (end_all E m s) (end_all_closes E m enter s right);
+      settle_last = comes_kept ⊥ HasNoneLoose (account_at s) (settle_last E m s)
+          (settle_last_comes E m enter s right);
+      end_all = comes_kept ⊥ IsEmptied (account_at s) (end_all E m s) (end_all_comes E m enter s right);
       value = λ x. (i.value_fits x).keeps s right;
       argument = λ x. (i.argument_fits x).keeps s right;
       assign = λ how path found. (i.assign_fits how path found).keeps s right;

@@ -1,5 +1,5 @@
 -- How terminators begin, are run, and come to their end.
-use Rattle.std.specs.Prelude.{◌≡◌, ◌<◌, ◌≤◌, ℕ, List, Option, Some}
+use Rattle.std.specs.Prelude.{◌≡◌, ◌<◌, ◌≤◌, ℕ, List, Option, Some, None}
 use Rattle.vb_value.specs.declared.value.Value.{Value}
 use Rattle.vb_syntax.specs.declared.act.ActEnd.{ActEnd}
 use Rattle.vb_syntax.specs.declared.act.ActEnd.TheVariants as end
@@ -38,19 +38,27 @@ ComesOut object (Ends (stop.Limit kind line) s) = HasBegun object (account_at s)
 ComesOut object (Ends (stop.Wants call) s) = HasBegun object (account_at s)
 ComesOut object (Ends stop.Memory s) = HasBegun object (account_at s)
 
+-- where a release point comes to its end, no live object is without references
+abbrev pub NoneLoose : {E : Type 0} → Step (State E) (Unit {0}) → Type 0
+NoneLoose (Gives done s) = oldest_loose s.world.heap ≡ None
+NoneLoose (Ends why s) = Unit {0}
+
 -- where the page's end comes to its end, each object that was made has ended
 abbrev pub AllEnded : {E : Type 0} → Step (State E) (Unit {0}) → Type 0
 AllEnded (Gives done s) = (number : ℕ) → number < s.world.heap.objects_made → HasEnded number (account_at s)
 AllEnded (Ends why s) = Unit {0}
 
 -- From a state, terminators are run so: an object whose terminator is to begin is live, and is live no more when it has
--- begun; when it has come to its end, so has the object; and the page's end leaves none that has not ended.
+-- begun; when it has come to its end, so has the object. A release point goes on until no live object is without
+-- references, and the page's end until each object has ended.
 pub record RunsEach (E : Type 0) (m : Inner E) (s : State E) : Type 0 where
   pub loose : (object : ℕ) → oldest_loose s.world.heap ≡ Some object → IsLive object (account_at s)
   pub last : (object : ℕ) → oldest_live s.world.heap ≡ Some object → IsLive object (account_at s)
   pub begins : (object : ℕ) → IsLive object (account_at s)
       → IsEnding object (account_of (with_heap (with_ending (Some object)) s.world))
   pub ends : (object : ℕ) → IsEnding object (account_at s) → ComesOut object (terminate E m object s)
+  pub settles : NoneLoose (settle E m s)
+  pub settles_last : NoneLoose (settle_last E m s)
   pub all : ((object : ℕ) → IsEnding object (account_at s) → ⊥) → AllEnded ((settle_last E m >> end_all E m) s)
 
 -- from a state, all that is done keeps the account of objects
