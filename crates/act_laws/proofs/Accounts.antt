@@ -1,14 +1,15 @@
 -- Accounts of objects: what is made of one when an object is made, when its terminator begins, and when it ends.
-use Rattle.std.proofs.Common.{ℕ, ◌+◌, ◌≡◌, ◌≢◌, ◌<◌, ◌≤◌, Bool, true, false, cond, List, [], ◌∷◌, ◌++◌, length}
-use Rattle.std.proofs.Common.{Option, Some, None, refl, sym, ap, ◌∙◌, inl, inr, arith, length-append}
-use Rattle.vb_heap.specs.Below.{AreBelow, EachBelow}
+use Rattle.std.proofs.Common.{ℕ, ◌+◌, ◌≡◌, ◌≢◌, ◌<◌, ◌≤◌, Bool, true, false, cond, List, [], ◌∷◌, ◌++◌}
+use Rattle.std.proofs.Common.{Some, None, refl, sym, ap, ◌∙◌, inl, inr, arith, length-append}
+use Rattle.vb_heap.specs.Below.{EachBelow}
 use Rattle.vb_heap.specs.Limits.{most_objects}
 use Rattle.vb_heap.specs.Store.{is_number, numbered, replaced, without}
 use Rattle.vb_heap.proofs.Numbered.{below_more, below_less, below_other}
-use Rattle.act_laws.specs.Objects.{Account, AddsUp, Differ, HasBegun, HasEnded, IsEnding, IsLive, Onward, Settled}
+use Rattle.act_laws.specs.Objects.{Account, AddsUp, Differ, HasBegun, IsEnding, IsLive, Onward, Settled}
 use Rattle.std.proofs.lemmas.Bool.{cases_lt}
+use Rattle.std.proofs.lemmas.Map.{length-set_value}
 use Rattle.act_laws.proofs.Numbers.{itself, compared, none_replaced, none_without, none_above, other_replaced}
-use Rattle.act_laws.proofs.Numbers.{other_without, with_one_more, there_replaced, length_replaced, length_without, differ}
+use Rattle.act_laws.proofs.Numbers.{other_without, with_one_more, there_replaced, length_without, differ}
 
 -- ---- from one account to another
 
@@ -164,7 +165,7 @@ mark_onward account at right live = record {
   adds_up = record {
     differ = differ_replaced account.objects at true right.differ;
     below = (below_other account.objects at account.made true (record { each = right.below })).each;
-    count = let same = length_replaced account.objects at true in omega (arith, same, right.count);
+    count = let same = length-set_value (is_number at) account.objects true in omega (arith, same, right.count);
     most = right.most;
   };
   finished = omega arith;

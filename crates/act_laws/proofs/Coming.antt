@@ -77,8 +77,8 @@ module _ {E : Type 0} where
   one_out object before right live (Ends stop.Memory s) out =
       onward_then (mark_onward before object right live) out
 
-  -- What comes of a release point or of the page's end: no error, a page stop if it may come, and where it comes to its end
-  -- a fact of the state.
+  -- What comes of a release point or of the page's end: no error, a page stop if it may come, and a fact of the state
+  -- where it comes to its end.
   abbrev pub Comes : Type 0 → (State E → Type 0) → Account → Step (State E) (Unit {0}) → Type 0
   Comes stops P before (Gives done s) = Settled before (account_at s) × P s
   Comes stops P before (Ends stop.Page s) = stops × Settled before (account_at s)

@@ -2,22 +2,20 @@
 -- references, and the page's end leaves none at all.
 use Rattle.std.proofs.Common.{ℕ, zero, suc, ◌+◌, ◌-◌, ◌≡◌, ◌<◌, ◌≤◌, Bool, List, [], ◌∷◌, length, Option, Some, None}
 use Rattle.std.proofs.Common.{refl, sym, subst, arith}
-use Rattle.vb_value.specs.declared.value.Value.{Value, Empty}
+use Rattle.vb_value.specs.declared.value.Value.{Empty}
 use Rattle.vb_syntax.specs.declared.program.unit.Procedure.{Procedure}
 use Rattle.vb_heap.specs.Limits.{most_objects}
 use Rattle.vb_heap.specs.declared.object.Object.{Object}
 use Rattle.vb_heap.specs.Releases.{is_loose, oldest, oldest_live, oldest_loose, with_ending}
 use Rattle.vb_heap.specs.Store.{numbered}
 use Rattle.vb_meaning.specs.declared.reached.Argument.{Argument}
-use Rattle.vb_meaning.specs.declared.stop.Stop.TheVariants as stop
-use Rattle.vb_meaning.specs.declared.world.World.{World}
 use Rattle.vb_meaning.specs.Errors.{in_line}
 use Rattle.vb_meaning.specs.Inner.{Inner, Owner}
 use Rattle.vb_meaning.specs.Objects.{class_at}
 use Rattle.vb_meaning.specs.Releases as releases
 use Rattle.vb_meaning.specs.State.{State, Does, with_heap}
-use Rattle.vb_meaning.specs.Step.{Step, Gives, Ends, and_then, ◌>>◌}
-use Rattle.act_laws.specs.Objects.{Account, AddsUp, IsEnding, IsLive, Settled, account_at, marks}
+use Rattle.vb_meaning.specs.Step.{◌>>◌}
+use Rattle.act_laws.specs.Objects.{AddsUp, IsEnding, IsLive, Settled, account_at, marks}
 use Rattle.act_laws.proofs.Accounts.{mark_onward, marked, settled_still, with_mark}
 use Rattle.act_laws.proofs.Coming.{Comes, One, Outcome, comes_kept, comes_then, one_closes, one_comes, one_out}
 use Rattle.act_laws.proofs.Coming.{terminated_out}

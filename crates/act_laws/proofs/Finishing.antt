@@ -1,8 +1,6 @@
 -- An act whose objects have all ended.
-use Rattle.std.proofs.Common.{ℕ, ◌+◌, ◌≡◌, ◌<◌, ◌≤◌, List, [], length, Option, Some, None, refl, sym, subst, ap, arith}
-use Rattle.vb_value.specs.declared.application.AppReply.{AppReply}
+use Rattle.std.proofs.Common.{ℕ, ◌≡◌, ◌≤◌, List, [], length, Some, refl, sym, subst, ap, arith}
 use Rattle.vb_value.specs.declared.value.Value.{Value}
-use Rattle.vb_syntax.specs.declared.act.Act.{Act}
 use Rattle.vb_syntax.specs.declared.act.ActDone.{ActDone}
 use Rattle.vb_syntax.specs.declared.act.ActEnd.{ActEnd}
 use Rattle.vb_syntax.specs.declared.act.ActEnd.TheVariants as end
@@ -10,12 +8,9 @@ use Rattle.vb_syntax.specs.declared.member.Member.{Member}
 use Rattle.vb_syntax.specs.declared.program.Program.{Program}
 use Rattle.vb_syntax.specs.declared.program.unit.Procedure.{Procedure}
 use Rattle.vb_heap.specs.Held.{let_go_to}
-use Rattle.vb_heap.specs.Limits.{most_objects}
-use Rattle.vb_meaning.specs.declared.plain_end.PlainEnd.{PlainEnd}
 use Rattle.vb_meaning.specs.declared.plain_end.PlainEnd.TheVariants.{Ends as Ended}
 use Rattle.vb_meaning.specs.declared.reached.Argument.{Argument}
 use Rattle.vb_meaning.specs.declared.stop.Stop.TheVariants as stop
-use Rattle.vb_meaning.specs.declared.world.World.{World}
 use Rattle.vb_meaning.specs.Acts as acts
 use Rattle.vb_meaning.specs.Asking.{Host, ask}
 use Rattle.vb_meaning.specs.Errors.{raised_by}

@@ -1,17 +1,15 @@
 -- Two environments side by side: what is done in the one is done in the other, until a call that the one wants.
-use Rattle.std.proofs.Common.{ℕ, List, Bool, true, false, if◌then◌else◌, Result, Ok, Err, Option, None}
+use Rattle.std.proofs.Common.{ℕ, List, Option}
 use Rattle.vb_value.specs.declared.application.AppCall.{AppCall}
 use Rattle.vb_value.specs.declared.application.AppReply.{AppReply}
-use Rattle.vb_value.specs.declared.fault.VbError.{VbError}
 use Rattle.vb_value.specs.declared.limit.LimitKind.{LimitKind}
 use Rattle.vb_meaning.specs.declared.cause.Cause.{Cause}
-use Rattle.vb_meaning.specs.declared.cause.Cause.TheVariants.{Language}
 use Rattle.vb_meaning.specs.declared.stop.Stop.{Stop}
 use Rattle.vb_meaning.specs.declared.stop.Stop.TheVariants as stop
 use Rattle.vb_meaning.specs.declared.world.World.{World}
 use Rattle.vb_meaning.specs.Asking.{Host}
 use Rattle.vb_meaning.specs.State.{State, Does, on_world, lifted}
-use Rattle.vb_meaning.specs.Step.{Step, Gives, Ends, Run, and_then, ◌>>=◌, pure, ends as step_ends, given, fails}
+use Rattle.vb_meaning.specs.Step.{Step, Gives, Ends, Run, and_then, ◌>>=◌, pure, ends as step_ends}
 use Rattle.act_laws.proofs.Keeping.{state_of}
 use Rattle.act_laws.proofs.Wantless.{Wantless, NoWant}
 

@@ -8,7 +8,7 @@ use Rattle.vb_meaning.specs.declared.cause.Cause.TheVariants.{Language}
 use Rattle.vb_meaning.specs.declared.stop.Stop.TheVariants as stop
 use Rattle.vb_meaning.specs.declared.world.World.{World}
 use Rattle.vb_meaning.specs.State.{State, Does, on_world}
-use Rattle.vb_meaning.specs.Step.{Step, Gives, Ends, Run, and_then, ◌>>=◌, pure, ends as step_ends, given, fails}
+use Rattle.vb_meaning.specs.Step.{Step, Run, and_then, ◌>>=◌, pure, ends as step_ends, given, fails}
 use Rattle.act_laws.specs.Objects.{Account, Kept, account_at, account_of}
 use Rattle.act_laws.proofs.Joined as joined
 use Rattle.act_laws.proofs.Joined.{Link, Joined, JoinedTurn}

@@ -1,8 +1,9 @@
 -- Accounts of the data of a page: which changes leave them, and which change them as an account is changed.
-use Rattle.std.proofs.Common.{ℕ, ◌≡◌, Bool, true, false, not, ◌&&◌, ◌==◌, cond, if◌then◌else◌, List, [], ◌∷◌, ◌++◌, map}
+use Rattle.std.proofs.Common.{ℕ, ◌≡◌, Bool, true, false, not, ◌&&◌, ◌==◌, cond, if◌then◌else◌, List, [], ◌∷◌, ◌++◌}
 use Rattle.std.proofs.Common.{Option, Some, None, Ok, Err, refl, sym, ap, subst, ◌∙◌, inl, inr, arith}
 use Rattle.std.proofs.Common.{◌+◌, ◌≤◌, IsTrue, is_ok, length, nat_le}
 use Rattle.std.proofs.lemmas.Bool.Decides.{nat_tests}
+use Rattle.std.proofs.lemmas.Map.Steps.{set_value_same}
 use Rattle.std.specs.Option.{option_map, option_map_or}
 use Rattle.vb_value.specs.declared.value.ObjNo.{ObjNo}
 use Rattle.vb_value.specs.declared.value.Value.{Value}
@@ -22,13 +23,13 @@ use Rattle.vb_heap.specs.Limits.{fits, if_fits, most_cells, most_held, most_obje
 use Rattle.vb_heap.specs.Objects.{cells_from, live, new_object_of, with_fields, with_new_object, with_object}
 use Rattle.vb_heap.specs.PageWeight.{weight_of_page}
 use Rattle.vb_heap.specs.References.{references_to}
-use Rattle.vb_heap.specs.Releases.{ending, ends_now, finished as finished_object, objects_ending, oldest, oldest_live}
+use Rattle.vb_heap.specs.Releases.{ending, ends_now, finished as finished_object, oldest, oldest_live}
 use Rattle.vb_heap.specs.Releases.{is_loose, oldest_loose, with_ending}
 use Rattle.vb_heap.specs.Store.{Store, is_number, numbered, replaced, without}
 use Rattle.vb_meaning.specs.Places.{cells_dropped}
 use Rattle.act_laws.specs.Objects.{Account, AddsUp, Differ, IsEnding, IsLive, Settled, marks}
 use Rattle.act_laws.proofs.Accounts.{made_live, with_mark}
-use Rattle.act_laws.proofs.Numbers.{compared, itself, same_replaced}
+use Rattle.act_laws.proofs.Numbers.{compared, itself}
 
 -- the account of data of which so many objects have ended
 abbrev pub account_in : Store → ℕ → Account
@@ -82,7 +83,7 @@ dictionary_at : (change : Dictionary → Dictionary) (objects : List (ℕ × Obj
     ≡ marks objects
 dictionary_at change objects number None is = refl
 dictionary_at change objects number (Some object) is = marks_replaced objects number (object_changed change object)
-    ∙ same_replaced (marks objects) number object.ending
+    ∙ set_value_same (is_number number) (marks objects) object.ending
     (marked_by objects number ∙ ap (λ o. option_map (λ (object : Object). object.ending) o) is)
 
 -- a dictionary is changed

@@ -1,5 +1,5 @@
 -- Things by their numbers, of which one is changed, added or taken away.
-use Rattle.std.proofs.Common.{ℕ, suc, ◌+◌, ◌≡◌, ◌≢◌, ◌<◌, ◌≤◌, Bool, true, false, cond, List, [], ◌∷◌, ◌++◌, length, map}
+use Rattle.std.proofs.Common.{ℕ, ◌+◌, ◌≡◌, ◌≢◌, ◌<◌, ◌≤◌, Bool, true, false, cond, List, [], ◌∷◌, ◌++◌, length}
 use Rattle.std.proofs.Common.{Option, Some, None, refl, sym, ap, ◌∙◌, inl, inr, ◌⊎◌, arith}
 use Rattle.std.proofs.lemmas.Bool.{cases_lt}
 use Rattle.std.specs.Cmp.{nat_cmp_is}
@@ -118,31 +118,6 @@ module _ {T : Type 0} where
   there_replaced [] at old thing is = absurd (cc)
   there_replaced (first ∷ others) at old thing is =
       there_at first others at old thing (is_number at first.0) refl (there_replaced others at old thing) is
-
-  same_at : (first : ℕ × T) (others : List (ℕ × T)) (at : ℕ) (thing : T) (b : Bool)
-      → (numbered at others ≡ Some thing → replaced at thing others ≡ others)
-      → cond b (Some first.1) (numbered at others) ≡ Some thing
-      → cond b ((first.0, thing) ∷ others) (first ∷ replaced at thing others) ≡ first ∷ others
-  same_at first others at thing true rest found =
-      let value : thing ≡ first.1 = cc in ap (λ t. (first.0, t) ∷ others) value
-  same_at first others at thing false rest found = ap (λ behind. first ∷ behind) (rest found)
-
-  -- what is there in its own place
-  pub same_replaced : (things : List (ℕ × T)) (at : ℕ) (thing : T) → numbered at things ≡ Some thing
-      → replaced at thing things ≡ things
-  same_replaced [] at thing is = refl
-  same_replaced (first ∷ others) at thing is =
-      same_at first others at thing (is_number at first.0) (same_replaced others at thing) is
-
-  pub length_replaced : (things : List (ℕ × T)) (at : ℕ) (thing : T)
-      → length (replaced at thing things) ≡ length things
-  length_replaced [] at thing = refl
-  length_replaced (first ∷ others) at thing = elim (is_number at first.0)
-      as (λ b. length (cond b ((first.0, thing) ∷ others) (first ∷ replaced at thing others))
-      ≡ length (first ∷ others)) [
-        | true ↦ refl
-        | false ↦ ap suc (length_replaced others at thing)
-      ]
 
   length_at : (first : ℕ × T) (others : List (ℕ × T)) (gone : ℕ) (thing : T) (b : Bool)
       → (numbered gone others ≡ Some thing → length others ≡ length (without gone others) + 1)

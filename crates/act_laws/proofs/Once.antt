@@ -1,12 +1,10 @@
 -- Terminators that are run once.
-use Rattle.std.proofs.Common.{ℕ, ◌≡◌, ◌<◌, List, [], true, false, Some, None, refl, sym, subst, ◌∙◌}
+use Rattle.std.proofs.Common.{ℕ, ◌≡◌, List, true, false, Some, None, refl, sym, subst, ◌∙◌}
 use Rattle.vb_heap.specs.Releases.{with_ending}
 use Rattle.vb_heap.specs.Store.{numbered}
-use Rattle.vb_syntax.specs.declared.program.Program.{Program}
 use Rattle.vb_syntax.specs.declared.program.unit.Procedure.{Procedure}
 use Rattle.vb_meaning.specs.declared.reached.Argument.{Argument}
 use Rattle.vb_meaning.specs.declared.stop.Stop.TheVariants as stop
-use Rattle.vb_meaning.specs.Asking.{Host}
 use Rattle.vb_meaning.specs.Inner.{Inner, Owner}
 use Rattle.vb_meaning.specs.Meaning.{inside}
 use Rattle.vb_meaning.specs.Releases.{end_all, settle, settle_last, terminate}
@@ -14,8 +12,8 @@ use Rattle.vb_meaning.specs.State.{State, with_heap}
 use Rattle.vb_meaning.specs.Step.{Step, Gives, Ends, ◌>>◌}
 use Rattle.act_laws.specs.Laws.{TerminatorsRunOnce}
 use Rattle.act_laws.specs.Objects.{Account, AddsUp, HasBegun, HasEnded, IsEnding, IsLive, account_at, account_of}
-use Rattle.act_laws.specs.Terminators.{AllEnded, ComesOut, KeepsAll, NoneLoose, RunsEach}
-use Rattle.act_laws.proofs.Accounts.{marked, not_there, there_below, with_mark}
+use Rattle.act_laws.specs.Terminators.{AllEnded, ComesOut, NoneLoose, RunsEach}
+use Rattle.act_laws.proofs.Accounts.{marked, not_there, there_below}
 use Rattle.act_laws.proofs.Coming.{Comes, Outcome, Ran, comes_kept}
 use Rattle.act_laws.proofs.Ending.{HasNoneLoose, IsEmptied, end_all_comes, page_comes, settle_comes, settle_keeps}
 use Rattle.act_laws.proofs.Ending.{settle_last_comes, terminate_out}
@@ -84,21 +82,26 @@ module _ (E : Type 0) (m : Inner E)
   }
 
 pub run_once : (E : Type 0) → TerminatorsRunOnce E
-run_once E = (fresh_adds_up, λ host program levels s right.
-    let i = levels_alone E host program levels in
-    let m = inside E host program levels in
-    let enter : (owner : Owner) (procedure : Procedure) (arguments : List Argument)
-    → Keeps account_at (m.enter owner procedure arguments) =
-    λ owner procedure arguments. (i.enter_fits owner procedure arguments).keeps in
-    (runs_each E m enter s right, record {
-      settle = settle_keeps E m enter s right;
-      settle_last = comes_kept ⊥ HasNoneLoose (account_at s) (settle_last E m s)
-          (settle_last_comes E m enter s right);
-      end_all = comes_kept ⊥ IsEmptied (account_at s) (end_all E m s) (end_all_comes E m enter s right);
-      value = λ x. (i.value_fits x).keeps s right;
-      argument = λ x. (i.argument_fits x).keeps s right;
-      assign = λ how path found. (i.assign_fits how path found).keeps s right;
-      call = λ path. (i.call_fits path).keeps s right;
-      statement = λ x. (i.statement_fits x).keeps s right;
-      enter = λ owner procedure arguments. (i.enter_fits owner procedure arguments).keeps s right;
-    }))
+run_once E = (
+  fresh_adds_up,
+  λ host program levels s right.
+      let i = levels_alone E host program levels in
+      let m = inside E host program levels in
+      let enter : (owner : Owner) (procedure : Procedure) (arguments : List Argument)
+      → Keeps account_at (m.enter owner procedure arguments) =
+      λ owner procedure arguments. (i.enter_fits owner procedure arguments).keeps in (
+        runs_each E m enter s right,
+        record {
+          settle = settle_keeps E m enter s right;
+          settle_last = comes_kept ⊥ HasNoneLoose (account_at s) (settle_last E m s)
+              (settle_last_comes E m enter s right);
+          end_all = comes_kept ⊥ IsEmptied (account_at s) (end_all E m s) (end_all_comes E m enter s right);
+          value = λ x. (i.value_fits x).keeps s right;
+          argument = λ x. (i.argument_fits x).keeps s right;
+          assign = λ how path found. (i.assign_fits how path found).keeps s right;
+          call = λ path. (i.call_fits path).keeps s right;
+          statement = λ x. (i.statement_fits x).keeps s right;
+          enter = λ owner procedure arguments. (i.enter_fits owner procedure arguments).keeps s right;
+        },
+      ),
+)

@@ -132,7 +132,8 @@ module _ (l : Link) (i : Inners l) where
 
   -- ---- the page's end
 
-  end_one_joined : {first : Does l.E (Unit {0})} {second : Does l.F (Unit {0})} (found : Option ℕ) → Joined l first second
+  end_one_joined : {first : Does l.E (Unit {0})} {second : Does l.F (Unit {0})} (found : Option ℕ)
+      → Joined l first second
       → Joined l (releases.end_one l.E (one i) first found) (releases.end_one l.F (two i) second found)
   end_one_joined {first} {second} (Some object) fit = seeing_joined
       (λ world s. and_then (in_line (releases.line_of l.E (one i) object world) (releases.without_page_stop l.E
@@ -142,7 +143,8 @@ module _ (l : Link) (i : Inners l) where
       (releases.terminate l.F (two i) object
       (releases.in_world l.F (with_heap (with_ending (Some object)) s.world) s)))) (λ done. second))
       (λ world. then_joined (turn_joined (line_joined l (releases.line_of l.E (one i) object world))
-      (turn_joined (without_stop_joined l) (moved_joined (with_heap (with_ending (Some object))) (terminate_joined object))))
+      (turn_joined (without_stop_joined l)
+      (moved_joined (with_heap (with_ending (Some object))) (terminate_joined object))))
       (λ done. fit))
   end_one_joined None fit = value_joined l tt
 
@@ -162,7 +164,8 @@ module _ (l : Link) (i : Inners l) where
   end_times_joined (suc more) = seen_joined
       (λ E m world. releases.end_one E m (releases.settle_last E m >> releases.end_times E m more)
       (oldest_live world.heap))
-      (λ world. end_one_joined (oldest_live world.heap) (then_joined settle_last_joined (λ done. end_times_joined more)))
+      (λ world. end_one_joined (oldest_live world.heap)
+      (then_joined settle_last_joined (λ done. end_times_joined more)))
 
   pub end_all_joined : Both (λ E m. releases.end_all E m)
   unfolding releases.end_all

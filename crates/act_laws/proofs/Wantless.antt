@@ -1,5 +1,6 @@
 -- What scripts do to the world alone wants no call, and keeps the account of objects.
-use Rattle.std.proofs.Common.{ℕ, ◌-◌, nat_lt, pos, Bool, true, false, if◌then◌else◌, Option, Some, None, Result, Ok, Err}
+use Rattle.std.proofs.Common.{ℕ, ◌-◌, nat_lt, pos, Bool, true, false, if◌then◌else◌}
+use Rattle.std.proofs.Common.{Option, Some, None, Result, Ok, Err}
 use Rattle.std.proofs.Common.{◌≡◌, IsTrue, refl, subst, sym, is_ok}
 use Rattle.vb_value.specs.declared.fault.VbError.{VbError}
 use Rattle.vb_heap.specs.declared.fault.HeapStop.{HeapStop}

@@ -104,7 +104,8 @@ put_by_wantless object _ value = fails_wantless wrong_number
 
 set_mode_wantless : (object : ObjNo) (value : Value) → Wantless (set_mode object value)
 set_mode_wantless object value = then_wantless (given_wantless (to_long_of value)) (λ mode.
-    heap_wantless (dictionary.set_mode_of object mode) (with_mode object mode) (dictionary_still (mode_set mode) object))
+    heap_wantless (dictionary.set_mode_of object mode) (with_mode object mode)
+    (dictionary_still (mode_set mode) object))
 
 member_wantless : (object : ObjNo) (found : DictionaryMember) (arguments : List Value)
     → Wantless (member object found arguments)

@@ -68,7 +68,7 @@ abbrev pub ObjectsEnd : Type 0 → Type 0
 ObjectsEnd E = (host : Host E) (program : Program) (which : Act) (env : E) (replies : List AppReply) (done : ActDone)
     → (act_of E host program which env replies).0 ≡ Some (Ends done) → HaveEnded done.end done.made done.finished
 
--- Each object's terminator is run once: at each level of each program, from each state whose account adds up, as that of
+-- Each object's terminator is run once: at each level of a program, and from each state whose account adds up. That of
 -- the world in which an act begins does.
 abbrev pub TerminatorsRunOnce : Type 0 → Type 0
 TerminatorsRunOnce E = AddsUp (account_of fresh_world) × ((host : Host E) (program : Program) (levels : ℕ) (s : State E)

@@ -1,5 +1,5 @@
 -- How terminators begin, are run, and come to their end.
-use Rattle.std.specs.Prelude.{◌≡◌, ◌<◌, ◌≤◌, ℕ, List, Option, Some, None}
+use Rattle.std.specs.Prelude.{◌≡◌, ◌<◌, ◌≤◌, ℕ, List, Some, None}
 use Rattle.vb_value.specs.declared.value.Value.{Value}
 use Rattle.vb_syntax.specs.declared.act.ActEnd.{ActEnd}
 use Rattle.vb_syntax.specs.declared.act.ActEnd.TheVariants as end
@@ -12,7 +12,7 @@ use Rattle.vb_meaning.specs.declared.reached.Argument.{Argument}
 use Rattle.vb_meaning.specs.declared.reached.Assigned.{Assigned}
 use Rattle.vb_meaning.specs.declared.stop.Stop.TheVariants as stop
 use Rattle.vb_meaning.specs.Inner.{Inner, Owner}
-use Rattle.vb_meaning.specs.Releases.{end_all, in_world, settle, settle_last, terminate}
+use Rattle.vb_meaning.specs.Releases.{end_all, settle, settle_last, terminate}
 use Rattle.vb_meaning.specs.State.{Does, State, with_heap}
 use Rattle.vb_meaning.specs.Step.{Step, Gives, Ends, ◌>>◌}
 use Rattle.act_laws.specs.Objects.{HasBegun, HasEnded, IsEnding, IsLive, Kept, account_at, account_of}
