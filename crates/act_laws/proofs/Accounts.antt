@@ -145,7 +145,7 @@ pub marked : (account : Account) (at : ℕ) → AddsUp account → IsLive at acc
 marked account at right live = there_replaced account.objects at false true live
 
 -- any other object is as it was
-pub unmarked : (account : Account) (at number : ℕ) → number ≢ at
+unmarked : (account : Account) (at number : ℕ) → number ≢ at
     → numbered number (with_mark at account).objects ≡ numbered number account.objects
 unmarked account at number apart = other_replaced account.objects at number true (differ number at apart)
 
@@ -186,7 +186,7 @@ pub not_there : (account : Account) (gone : ℕ) → AddsUp account
 not_there account gone right = gone_without account.objects gone right.differ
 
 -- any other object is as it was
-pub not_gone : (account : Account) (gone number : ℕ) → number ≢ gone
+not_gone : (account : Account) (gone number : ℕ) → number ≢ gone
     → numbered number (with_end gone account).objects ≡ numbered number account.objects
 not_gone account gone number apart = other_without account.objects gone number (differ number gone apart)
 
@@ -201,7 +201,7 @@ begun_ended account gone number right has = (
   ],
 )
 
-pub end_onward : (account : Account) (gone : ℕ) → AddsUp account → IsEnding gone account
+end_onward : (account : Account) (gone : ℕ) → AddsUp account → IsEnding gone account
     → Onward account (with_end gone account)
 end_onward account gone right is = record {
   adds_up = record {

@@ -70,7 +70,7 @@ all_ended (end.Error number source description line) made finished is = is
 all_ended (end.Limit kind line) made finished is = omega (arith, is)
 
 -- an account that adds up, without objects
-pub none_left : (account : Account) → AddsUp account → account.objects ≡ [] → account.finished ≡ account.made
+none_left : (account : Account) → AddsUp account → account.objects ≡ [] → account.finished ≡ account.made
 none_left account right none =
     let length_is : length account.objects ≡ 0 = ap length none in omega (arith, right.count, length_is)
 

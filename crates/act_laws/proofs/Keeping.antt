@@ -14,7 +14,7 @@ use Rattle.vb_meaning.specs.Errors.{in_line, resumed, with_err, raised_by}
 use Rattle.vb_meaning.specs.State.{State, lifted}
 use Rattle.vb_meaning.specs.Step.{Step, Gives, Ends, Run, and_then}
 use Rattle.vb_meaning.specs.Stops.{ask_stop}
-use Rattle.act_laws.specs.Objects.{Account, AddsUp, Goes, Kept, Onward, Settled, account_at, account_of}
+use Rattle.act_laws.specs.Objects.{Account, AddsUp, Goes, Kept, Settled, account_at, account_of}
 use Rattle.act_laws.proofs.Accounts.{onward_still, onward_then, settled_still, settled_then}
 
 -- something that is done from any account that adds up
@@ -36,13 +36,6 @@ pub kept_from : {S A : Type 0} (of : S → Account) {a b : Account} → Settled 
 kept_from of before (Gives value s) kept = settled_then before kept
 kept_from of before (Ends why s) kept = goes_from before why (of s) kept
 
-goes_on : {a b : Account} (why : Stop) → Goes why a b → Onward a b
-goes_on (stop.Error what line) goes = goes.onward
-goes_on stop.Page goes = goes.onward
-goes_on (stop.Limit kind line) goes = goes
-goes_on (stop.Wants call) goes = goes
-goes_on stop.Memory goes = goes
-
 pub goes_settled : {a b : Account} (why : Stop) → Settled a b → Goes why a b
 goes_settled (stop.Error what line) settled = settled
 goes_settled stop.Page settled = settled
@@ -54,11 +47,6 @@ goes_settled stop.Memory settled = settled.onward
 abbrev pub state_of : {S A : Type 0} → Step S A → S
 state_of (Gives value s) = s
 state_of (Ends why s) = s
-
-pub kept_onward : {S A : Type 0} (of : S → Account) {a : Account} (step : Step S A) → Kept of a step
-    → Onward a (of (state_of step))
-kept_onward of (Gives value s) kept = kept.onward
-kept_onward of (Ends why s) kept = goes_on why kept
 
 -- one after the other
 pub next_keeps : {S A B : Type 0} (of : S → Account) (next : A → Run S B) → ((value : A) → Keeps of (next value))

@@ -38,7 +38,7 @@ account_in store count =
 
 -- ---- marks
 
-pub marks_more : (objects : List (ℕ × Object)) (number : ℕ) (object : Object)
+marks_more : (objects : List (ℕ × Object)) (number : ℕ) (object : Object)
     → marks (objects ++ (number, object) ∷ []) ≡ marks objects ++ (number, object.ending) ∷ []
 marks_more [] number object = refl
 marks_more (first ∷ others) number object =
