@@ -5,6 +5,7 @@ pub mod Numbers
 pub mod Accounts
 pub mod Marks
 pub mod Keeping
+pub mod Counting
 pub mod Joined
 pub mod Linked
 pub mod Turning

@@ -1,7 +1,6 @@
 -- Terminators that are run once.
-use Rattle.std.proofs.Common.{ℕ, ◌≡◌, List, true, false, Some, None, refl, sym, subst, ◌∙◌}
+use Rattle.std.proofs.Common.{ℕ, ◌≡◌, List, true, false, Some, sym, subst, ◌∙◌}
 use Rattle.vb_heap.specs.Releases.{with_ending}
-use Rattle.vb_heap.specs.Store.{numbered}
 use Rattle.vb_syntax.specs.declared.program.unit.Procedure.{Procedure}
 use Rattle.vb_meaning.specs.declared.reached.Argument.{Argument}
 use Rattle.vb_meaning.specs.declared.stop.Stop.TheVariants as stop
@@ -15,6 +14,7 @@ use Rattle.act_laws.specs.Objects.{Account, AddsUp, HasBegun, HasEnded, IsEnding
 use Rattle.act_laws.specs.Terminators.{AllEnded, ComesOut, NoneLoose, RunsEach}
 use Rattle.act_laws.proofs.Accounts.{marked, not_there, there_below}
 use Rattle.act_laws.proofs.Coming.{Comes, Outcome, Ran, comes_kept}
+use Rattle.act_laws.proofs.Counting.{ended_all, ended_count}
 use Rattle.act_laws.proofs.Ending.{HasNoneLoose, IsEmptied, end_all_comes, page_comes, settle_comes, settle_keeps}
 use Rattle.act_laws.proofs.Ending.{settle_last_comes, terminate_out}
 use Rattle.act_laws.proofs.Finishing.{fresh_adds_up, levels_alone}
@@ -49,11 +49,8 @@ comes_out object before right ends (Ends stop.Memory s) out =
 
 all_ended : {E : Type 0} (before : Account) → ((number : ℕ) → IsEnding number before → ⊥)
     → (step : Step (State E) (Unit {0})) → Comes ⊥ IsEmptied before step → AllEnded step
-all_ended before none (Gives done s) comes = λ number made. (
-  made,
-  subst (λ objects. numbered number objects ≡ None)
-      (sym (comes.1 (λ other ends. none other (comes.0.stood other ends)))) refl,
-)
+all_ended before none (Gives done s) comes =
+    ended_all (account_at s) (comes.1 (λ other ends. none other (comes.0.stood other ends)))
 all_ended before none (Ends why s) comes = tt
 
 leaves_none : {E : Type 0} (stops : Type 0) (before : Account) (step : Step (State E) (Unit {0}))
@@ -76,6 +73,7 @@ module _ (E : Type 0) (m : Inner E)
     begins = λ object live. begins s object right live;
     ends = λ object ends. comes_out object (account_at s) right ends (terminate E m object s)
         (terminate_out E m enter object s right ends);
+    counted = ended_count (account_at s) right;
     settles = leaves_none (Unit {0}) (account_at s) (settle E m s) (settle_comes E m enter s right);
     settles_last = leaves_none ⊥ (account_at s) (settle_last E m s) (settle_last_comes E m enter s right);
     all = λ none. all_ended (account_at s) none ((settle_last E m >> end_all E m) s) (page_comes E m enter s right);

@@ -1,6 +1,7 @@
 -- The objects of an act, from when they are made to their end. An object is live at first. Then its terminator has
 -- begun, and then it has ended.
-use Rattle.std.specs.Prelude.{◌≡◌, ◌≢◌, ◌+◌, ◌<◌, ◌≤◌, ℕ, Bool, true, false, List, [], ◌∷◌, length, map, Some, None}
+use Rattle.std.specs.Prelude.{◌≡◌, ◌≢◌, ◌+◌, ◌<◌, ◌≤◌, ℕ, zero, suc, Bool, true, false, if◌then◌else◌}
+use Rattle.std.specs.Prelude.{List, [], ◌∷◌, ◌++◌, length, map, Some, None, is_none}
 use Rattle.vb_heap.specs.declared.object.Object.{Object}
 use Rattle.vb_heap.specs.Below.{EachBelow}
 use Rattle.vb_heap.specs.Limits.{most_objects}
@@ -43,6 +44,21 @@ HasBegun number account = (number < account.made) × (numbered number account.ob
 -- an object was made, and is not there any more
 abbrev pub HasEnded : ℕ → Account → Type 0
 HasEnded number account = (number < account.made) × (numbered number account.objects ≡ None)
+
+-- the numbers below that one
+abbrev pub numbers_below : ℕ → List ℕ
+numbers_below zero = []
+numbers_below (suc n) = numbers_below n ++ n ∷ []
+
+-- those of them that no object has which is there
+abbrev pub absent_below : ℕ → List (ℕ × Bool) → List ℕ
+absent_below zero objects = []
+absent_below (suc n) objects =
+    if is_none (numbered n objects) then absent_below n objects ++ n ∷ [] else absent_below n objects
+
+-- the numbers of the objects that have ended, each once
+abbrev pub ended_objects : Account → List ℕ
+ended_objects account = absent_below account.made account.objects
 
 -- each number stands once
 abbrev pub Differ : List (ℕ × Bool) → Type 0

@@ -1,5 +1,5 @@
 -- How terminators begin, are run, and come to their end.
-use Rattle.std.specs.Prelude.{◌≡◌, ◌<◌, ◌≤◌, ℕ, List, Some, None}
+use Rattle.std.specs.Prelude.{◌≡◌, ◌≤◌, ℕ, List, length, Some, None}
 use Rattle.vb_value.specs.declared.value.Value.{Value}
 use Rattle.vb_syntax.specs.declared.act.ActEnd.{ActEnd}
 use Rattle.vb_syntax.specs.declared.act.ActEnd.TheVariants as end
@@ -15,7 +15,8 @@ use Rattle.vb_meaning.specs.Inner.{Inner, Owner}
 use Rattle.vb_meaning.specs.Releases.{end_all, settle, settle_last, terminate}
 use Rattle.vb_meaning.specs.State.{Does, State, with_heap}
 use Rattle.vb_meaning.specs.Step.{Step, Gives, Ends, ◌>>◌}
-use Rattle.act_laws.specs.Objects.{HasBegun, HasEnded, IsEnding, IsLive, Kept, account_at, account_of}
+use Rattle.act_laws.specs.Objects.{HasBegun, HasEnded, IsEnding, IsLive, Kept, account_at, account_of, ended_objects}
+use Rattle.act_laws.specs.Objects.{numbers_below}
 
 -- Of the objects that an act made, all have ended, unless a limit ended it.
 abbrev pub HaveEnded : ActEnd → ℕ → ℕ → Type 0
@@ -45,18 +46,19 @@ NoneLoose (Ends why s) = Unit {0}
 
 -- where the page's end comes to its end, each object that was made has ended
 abbrev pub AllEnded : {E : Type 0} → Step (State E) (Unit {0}) → Type 0
-AllEnded (Gives done s) = (number : ℕ) → number < s.world.heap.objects_made → HasEnded number (account_at s)
+AllEnded (Gives done s) = ended_objects (account_at s) ≡ numbers_below s.world.heap.objects_made
 AllEnded (Ends why s) = Unit {0}
 
 -- From a state, terminators are run so: an object whose terminator is to begin is live, and is live no more when it has
--- begun; when it has come to its end, so has the object. A release point goes on until no live object is without
--- references, and the page's end until each object has ended.
+-- begun; when it has come to its end, so has the object, and as many have come to their end as objects have ended. A
+-- release point goes on until no live object is without references, and the page's end until each object has ended.
 pub record RunsEach (E : Type 0) (m : Inner E) (s : State E) : Type 0 where
   pub loose : (object : ℕ) → oldest_loose s.world.heap ≡ Some object → IsLive object (account_at s)
   pub last : (object : ℕ) → oldest_live s.world.heap ≡ Some object → IsLive object (account_at s)
   pub begins : (object : ℕ) → IsLive object (account_at s)
       → IsEnding object (account_of (with_heap (with_ending (Some object)) s.world))
   pub ends : (object : ℕ) → IsEnding object (account_at s) → ComesOut object (terminate E m object s)
+  pub counted : length (ended_objects (account_at s)) ≡ s.world.finished
   pub settles : NoneLoose (settle E m s)
   pub settles_last : NoneLoose (settle_last E m s)
   pub all : ((object : ℕ) → IsEnding object (account_at s) → ⊥) → AllEnded ((settle_last E m >> end_all E m) s)
