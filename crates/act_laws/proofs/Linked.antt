@@ -10,7 +10,7 @@ use Rattle.vb_meaning.specs.declared.world.World.{World}
 use Rattle.vb_meaning.specs.State.{State, Does, on_world}
 use Rattle.vb_meaning.specs.Step.{Step, Run, and_then, ◌>>=◌, pure, ends as step_ends, given, fails}
 use Rattle.act_laws.specs.Objects.{Account, Kept, account_at, account_of}
-use Rattle.act_laws.proofs.Joined as joined
+use Rattle.act_laws.proofs.Joined as sides
 use Rattle.act_laws.proofs.Joined.{Link, Joined, JoinedTurn}
 use Rattle.act_laws.proofs.Keeping.{Keeps, kept_moved, lifted_keeps, next_keeps, still_ends, still_gives}
 use Rattle.act_laws.proofs.Wantless.{Wantless}
@@ -34,7 +34,7 @@ pub turned : {A B : Type 0} {l : Link} {turn : Step (State l.E) A → Step (Stat
     {other : Step (State l.F) A → Step (State l.F) B} {first : Does l.E A} {second : Does l.F A}
     → Turns l turn other → Fits l first second → Fits l (λ s. turn (first s)) (λ s. other (second s))
 turned {second} turns fit = record {
-  joined = joined.turn_joined turns.joined fit.joined;
+  joined = sides.turn_joined turns.joined fit.joined;
   keeps = λ s right. turns.keeps (account_at s) (second s) (fit.keeps s right);
 }
 
@@ -43,7 +43,7 @@ pub next_turns : {A B : Type 0} {l : Link} {next : A → Does l.E B} {other : A 
     → ((value : A) → Fits l (next value) (other value))
     → Turns l (λ step. and_then step next) (λ step. and_then step other)
 next_turns {other} fit = record {
-  joined = joined.next_turn (λ value. (fit value).joined);
+  joined = sides.next_turn (λ value. (fit value).joined);
   keeps = next_keeps account_at other (λ value. (fit value).keeps);
 }
 
@@ -57,20 +57,20 @@ then_fits fit next = turned (next_turns next) fit
 
 -- a value, and no change
 pub value_fits : {A : Type 0} (l : Link) (value : A) → Fits l (pure value) (pure value)
-value_fits l value = record { joined = joined.value_joined l value; keeps = still_gives account_at value }
+value_fits l value = record { joined = sides.value_joined l value; keeps = still_gives account_at value }
 
 -- an end for another reason than a call
 pub error_fits : {A : Type 0} (l : Link) (what : Cause) (line : Option ℕ)
     → Fits {A = A} l (step_ends (stop.Error what line)) (step_ends (stop.Error what line))
 error_fits {A} l what line = record {
-  joined = joined.error_joined l what line;
+  joined = sides.error_joined l what line;
   keeps = still_ends A account_at (stop.Error what line);
 }
 
 pub limit_fits : {A : Type 0} (l : Link) (kind : LimitKind) (line : Option ℕ)
     → Fits {A = A} l (step_ends (stop.Limit kind line)) (step_ends (stop.Limit kind line))
 limit_fits {A} l kind line = record {
-  joined = joined.limit_joined l kind line;
+  joined = sides.limit_joined l kind line;
   keeps = still_ends A account_at (stop.Limit kind line);
 }
 
@@ -87,7 +87,7 @@ given_fits l (Err error) = fails_fit l error
 pub world_fits : {A : Type 0} (l : Link) {change : Run World A} → Wantless change
     → Fits l (on_world change) (on_world change)
 world_fits l {change} wantless = record {
-  joined = joined.world_joined l wantless;
+  joined = sides.world_joined l wantless;
   keeps = λ s right. lifted_keeps s.env s.replies (account_at s) (change s.world) (wantless.keeps s.world right);
 }
 
@@ -111,7 +111,7 @@ pub moved_fits : {A : Type 0} {l : Link} (change : World → World)
     → Fits l first second
     → Fits l (λ s. first (record s { world = change s.world })) (λ s. second (record s { world = change s.world }))
 moved_fits change same {first} {second} fit = record {
-  joined = joined.moved_joined change fit.joined;
+  joined = sides.moved_joined change fit.joined;
   keeps = λ s right. kept_moved account_at (account_of s.world) (account_of (change s.world)) (same s.world)
       (second (record s { world = change s.world })) (fit.keeps (record s { world = change s.world })) right;
 }
@@ -121,6 +121,6 @@ pub seeing_fits : {A : Type 0} {l : Link} (first : World → Does l.E A) (second
     → ((world : World) → Fits l (first world) (second world))
     → Fits l (λ s. first s.world s) (λ s. second s.world s)
 seeing_fits first second each = record {
-  joined = joined.seeing_joined first second (λ world. (each world).joined);
+  joined = sides.seeing_joined first second (λ world. (each world).joined);
   keeps = λ s right. (each s.world).keeps s right;
 }
