@@ -20,15 +20,17 @@ use Rattle.vb_meaning.specs.Asking.{ask}
 use Rattle.vb_meaning.specs.Errors.{raised_by}
 use Rattle.vb_meaning.specs.Meaning.{most_levels}
 use Rattle.vb_meaning.specs.Releases.{settle_last, end_all}
-use Rattle.vb_meaning.specs.State.{State}
+use Rattle.vb_meaning.specs.State.{State, on_world}
 use Rattle.vb_meaning.specs.Step.{Step, Gives, Ends, ◌>>◌}
 use Rattle.act_laws.specs.Calls.{wanted}
 use Rattle.act_laws.proofs.Calling.{block_fits}
 use Rattle.act_laws.proofs.Inside.{Inners, one, two, Same}
-use Rattle.act_laws.proofs.Linked.{Link, Fits, Alike, Past, state_of, gives, ends, gone, turned, then_fits, value_fits}
+use Rattle.act_laws.proofs.Joined.{Link, Alike, Joined, Past, gives, ends, gone, then_joined}
+use Rattle.act_laws.proofs.Linked.{Fits, turned, then_fits, value_fits}
+use Rattle.act_laws.proofs.Keeping.{ask_keeps, state_of}
 use Rattle.act_laws.proofs.Linked.{fails_fit, world_fits}
 use Rattle.act_laws.proofs.Meaning.{inners, each_level}
-use Rattle.act_laws.proofs.Releasing.{settle_last_fits, end_all_fits}
+use Rattle.act_laws.proofs.Releasing.{settle_last_joined, end_all_joined}
 use Rattle.act_laws.proofs.Turning.{line_turns}
 use Rattle.act_laws.proofs.WantlessScopes.{page_begins_wantless}
 
@@ -74,15 +76,16 @@ module _ (l : Link) (i : Inners l) where
   closed_alike how _ second (gone call s _ past) = one_wants call s.env (acts.closed l.F (two i) how second)
       (state_of second).replies (closed_past how call second past)
 
-  ending_fits : Same l i (λ E m. settle_last E m >> end_all E m)
-  ending_fits = then_fits (settle_last_fits l i) (λ done. end_all_fits l i)
+  ending_joined : Joined l (settle_last l.E (one i) >> end_all l.E (one i))
+      (settle_last l.F (two i) >> end_all l.F (two i))
+  ending_joined = then_joined (settle_last_joined l i) (λ done. end_all_joined l i)
 
   page_alike : (how : ActEnd) (world : World) (env : l.E) (replies : List AppReply) (other_env : l.F)
       (others : List AppReply) → l.now env replies other_env others
       → ActsAlike l (acts.page_ends l.E (one i) how (record { world = world; env = env; replies = replies }))
       (acts.page_ends l.F (two i) how (record { world = world; env = other_env; replies = others }))
   page_alike how world env replies other_env others now =
-      closed_alike how _ _ (ending_fits.alike (acts.page_left world) env replies other_env others now)
+      closed_alike how _ _ (ending_joined.alike (acts.page_left world) env replies other_env others now)
 
   -- ---- the act
 
@@ -92,7 +95,7 @@ module _ (l : Link) (i : Inners l) where
       let after = (settle_last l.F (two i) >> end_all l.F (two i)) (record s { world = acts.page_left s.world }) in (
         (state_of after).replies,
         closed_past how call after
-            (ending_fits.goes_on call (acts.page_left s.world) s.env s.replies past),
+            (ending_joined.goes_on call (acts.page_left s.world) s.env s.replies past),
       )
 
   act_past : (call : AppCall) (second : Step (State l.F) (Unit {0})) → Past l call second
@@ -133,22 +136,36 @@ module _ (l : Link) (i : Inners l) where
   part_fits act.Body = then_fits (block_fits l i i.program.unit.body) (λ done. value_fits l tt)
   part_fits (act.Proc number) = event_fits (slice_get i.program.unit.procedures number)
 
+  -- all of an act before the page's end
+  pub runs_fits : (which : Act) → Same l i (λ E m. on_world (acts.page_begins m.program.unit) >> acts.part E m which)
+  runs_fits which = then_fits (world_fits l (page_begins_wantless i.program.unit)) (λ done. part_fits which)
+
   act_alike : (which : Act) (world : World) (env : l.E) (replies : List AppReply) (other_env : l.F)
       (others : List AppReply) → l.now env replies other_env others
       → ActsAlike l (acts.act_in l.E (one i) which (record { world = world; env = env; replies = replies }))
       (acts.act_in l.F (two i) which (record { world = world; env = other_env; replies = others }))
-  act_alike which world env replies other_env others now = ends_alike _ _
-      ((then_fits (world_fits l (page_begins_wantless i.program.unit)) (λ done. part_fits which)).alike
-      world env replies other_env others now)
+  act_alike which world env replies other_env others now =
+      ends_alike _ _ ((runs_fits which).joined.alike world env replies other_env others now)
+
+-- a question in the one and in the other
+pub asks_fit : (l : Link) → ((member : Member) (arguments : List Value)
+    → Joined l (ask l.host member arguments) (ask l.other member arguments))
+    → (member : Member) (arguments : List Value)
+    → Fits l (ask l.host member arguments) (ask l.other member arguments)
+asks_fit l asks member arguments = record {
+  joined = asks member arguments;
+  keeps = ask_keeps l.other member arguments;
+}
 
 -- an act in the one is as in the other
 pub acts_alike : (l : Link) → ((member : Member) (arguments : List Value)
-    → Fits l (ask l.host member arguments) (ask l.other member arguments))
+    → Joined l (ask l.host member arguments) (ask l.other member arguments))
     → (program : Program) (which : Act) (env : l.E) (replies : List AppReply) (other_env : l.F)
     (others : List AppReply) → l.now env replies other_env others
     → ActsAlike l (acts.act_of l.E l.host program which env replies)
     (acts.act_of l.F l.other program which other_env others)
 unfolding acts.act_of
 acts_alike l asks program which env replies other_env others now =
-    act_alike l (inners l asks program most_levels (each_level l asks program most_levels)) which acts.fresh_world
+    act_alike l (inners l (asks_fit l asks) program most_levels
+    (each_level l (asks_fit l asks) program most_levels)) which acts.fresh_world
     env replies other_env others now

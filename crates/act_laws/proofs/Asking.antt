@@ -13,7 +13,7 @@ use Rattle.vb_meaning.specs.Asking.{Host, Said, ask, heard, name_values}
 use Rattle.act_laws.specs.Calls.{LeavesOnly}
 use Rattle.act_laws.specs.Laws.{OnlyAskingChanges}
 use Rattle.act_laws.proofs.Acting.{ActsAlike, both_end, both_want, one_wants, acts_alike}
-use Rattle.act_laws.proofs.Linked.{Link, Fits, Alike, gives, ends}
+use Rattle.act_laws.proofs.Joined.{Link, Joined, Alike, gives, ends}
 use Rattle.act_laws.proofs.Links.{ends_for}
 
 module _ (E : Type 0) (host : Host E) (test : E → Bool)
@@ -48,7 +48,7 @@ module _ (E : Type 0) (host : Host E) (test : E → Bool)
       ends_for beside_itself reason world env replies env replies (refl, refl, holds)
 
   asks_alike : (member : Member) (arguments : List Value)
-      → Fits beside_itself (ask host member arguments) (ask host member arguments)
+      → Joined beside_itself (ask host member arguments) (ask host member arguments)
   unfolding ask
   asks_alike member arguments = record {
     alike = λ world env replies other others now.

@@ -29,7 +29,8 @@ use Rattle.vb_meaning.specs.Objects.{takes_assigned}
 use Rattle.vb_meaning.specs.Reading.{is_taken, me_value}
 use Rattle.vb_meaning.specs.State.{Does}
 use Rattle.act_laws.proofs.Inside.{Inners, one, two, Same, seen_fits}
-use Rattle.act_laws.proofs.Linked.{Link, Fits, then_fits, value_fits, fails_fit, world_fits, choice_fits}
+use Rattle.act_laws.proofs.Joined.{Link}
+use Rattle.act_laws.proofs.Linked.{Fits, then_fits, value_fits, fails_fit, world_fits, choice_fits}
 use Rattle.act_laws.proofs.Reading.{values_fit, arguments_fit, field_fits, held_object_fits, class_fits, access_fits}
 use Rattle.act_laws.proofs.Reading.{unknown_fits, name_fits, groups_fit, from_page_fits, me_wantless, subject_wantless}
 use Rattle.act_laws.proofs.Wantless.{seeing_wantless}

@@ -1,5 +1,5 @@
 -- Blocks and procedures, in two environments side by side.
-use Rattle.std.proofs.Common.{nat_lt, ◌==◌, List, [], ◌∷◌, length, if◌then◌else◌}
+use Rattle.std.proofs.Common.{nat_lt, ◌==◌, List, [], ◌∷◌, ◌++◌, length, if◌then◌else◌, ◌≡◌, refl, subst, sym}
 use Rattle.vb_value.specs.declared.application.AppCall.{AppCall}
 use Rattle.vb_value.specs.declared.value.Value.{Value}
 use Rattle.vb_value.specs.Errors.{wrong_number}
@@ -14,11 +14,15 @@ use Rattle.vb_meaning.specs.Blocks as blocks
 use Rattle.vb_meaning.specs.Calling as calling
 use Rattle.vb_meaning.specs.Errors.{tick, too_deep}
 use Rattle.vb_meaning.specs.Inner.{Owner}
-use Rattle.vb_meaning.specs.Releases.{in_world}
+use Rattle.vb_meaning.specs.Releases.{in_world, settle}
 use Rattle.vb_meaning.specs.State.{State, Does, on_world}
-use Rattle.vb_meaning.specs.Step.{Step, Gives, Ends, ◌>>◌}
+use Rattle.vb_meaning.specs.Step.{Step, Gives, Ends, ◌>>◌, ends as step_ends}
 use Rattle.act_laws.proofs.Inside.{Inners, one, two, Same, seen_fits}
-use Rattle.act_laws.proofs.Linked.{Link, Fits, Alike, Past, Turns, gives, ends, gone, turned, then_fits, value_fits}
+use Rattle.act_laws.specs.Objects.{Account, Kept, Settled, account_at, account_of}
+use Rattle.act_laws.proofs.Joined.{Link, Alike, JoinedTurn, Past, gives, ends, gone}
+use Rattle.act_laws.proofs.Keeping.{kept_from, kept_moved}
+use Rattle.act_laws.proofs.Linked.{Fits, Turns, turned, then_fits, value_fits}
+use Rattle.act_laws.proofs.Marks.{dropped_still}
 use Rattle.act_laws.proofs.Linked.{fails_fit, error_fits, moved_fits, world_fits, choice_fits, either_fits}
 use Rattle.act_laws.proofs.Releasing.{settle_fits}
 use Rattle.act_laws.proofs.Wantless.{seeing_wantless, tick_wantless, deep_wantless}
@@ -37,23 +41,27 @@ module _ (l : Link) (i : Inners l) where
 
   -- ---- how a procedure is left
 
+  left_still : (caller world : World) → account_of (calling.left caller world) ≡ account_of world
+  left_still caller world =
+      dropped_still (world.frame.own ++ calling.cell_of world.frame.result) world.heap world.finished
+
   returned_fits : (caller : World) → Same l i (λ E m. calling.returned E m caller)
   returned_fits caller = then_fits
       (world_fits l (seeing_wantless (λ world. calling.result_value world.frame.result)
       (λ world. result_wantless world.frame.result))) (λ value.
       then_fits (then_fits (then_fits (world_fits l (hold_wantless value))
-      (λ done. moved_fits (calling.left caller) (value_fits l tt)))
+      (λ done. moved_fits (calling.left caller) (left_still caller) (value_fits l tt)))
       (λ done. settle_fits l i)) (λ done. value_fits l value))
 
-  abandoned_turns : (caller : World)
-      → Turns l (calling.abandoned l.E (one i) caller) (calling.abandoned l.F (two i) caller)
-  abandoned_turns caller = record { alike = alike; goes_on = goes_on }
+  abandoned_joined : (caller : World)
+      → JoinedTurn l (calling.abandoned l.E (one i) caller) (calling.abandoned l.F (two i) caller)
+  abandoned_joined caller = record { alike = alike; goes_on = goes_on }
     where
       goes_on : (call : AppCall) (second : Step (State l.F) Exit) → Past l call second
           → Past l call (calling.abandoned l.F (two i) caller second)
-      goes_on call (Gives exit s) past = (returned_fits caller).goes_on call s.world s.env s.replies past
+      goes_on call (Gives exit s) past = (returned_fits caller).joined.goes_on call s.world s.env s.replies past
       goes_on call (Ends (stop.Error what line) s) past =
-          (then_fits (settle_fits l i) (λ done. error_fits {A = Value} l what line)).goes_on
+          (then_fits (settle_fits l i) (λ done. error_fits {A = Value} l what line)).joined.goes_on
           call (calling.left caller s.world) s.env s.replies past
       goes_on call (Ends (stop.Limit kind line) s) past = past
       goes_on call (Ends stop.Page s) past = past
@@ -63,9 +71,9 @@ module _ (l : Link) (i : Inners l) where
       alike : (first : Step (State l.E) Exit) (second : Step (State l.F) Exit) → Alike l first second
           → Alike l (calling.abandoned l.E (one i) caller first) (calling.abandoned l.F (two i) caller second)
       alike _ _ (gives exit world env replies other_env others now) =
-          (returned_fits caller).alike world env replies other_env others now
+          (returned_fits caller).joined.alike world env replies other_env others now
       alike _ _ (ends (stop.Error what line) world env replies other_env others now) =
-          (then_fits (settle_fits l i) (λ done. error_fits {A = Value} l what line)).alike
+          (then_fits (settle_fits l i) (λ done. error_fits {A = Value} l what line)).joined.alike
           (calling.left caller world) env replies other_env others now
       alike _ _ (ends (stop.Limit kind line) world env replies other_env others now) =
           ends (stop.Limit kind line) world env replies other_env others now
@@ -77,6 +85,26 @@ module _ (l : Link) (i : Inners l) where
           ends stop.Memory world env replies other_env others now
       alike _ second (gone call s _ past) =
           gone call s (calling.abandoned l.F (two i) caller second) (goes_on call second past)
+
+  abandoned_turns : (caller : World)
+      → Turns l (calling.abandoned l.E (one i) caller) (calling.abandoned l.F (two i) caller)
+  abandoned_turns caller = record { joined = abandoned_joined caller; keeps = keeps }
+    where
+      keeps : (before : Account) (step : Step (State l.F) Exit) → Kept account_at before step
+          → Kept account_at before (calling.abandoned l.F (two i) caller step)
+      keeps before (Gives exit s) kept = kept_from account_at kept (calling.returned l.F (two i) caller s)
+          ((returned_fits caller).keeps s kept.onward.adds_up)
+      keeps before (Ends (stop.Error what line) s) kept =
+          let t = in_world l.F (calling.left caller s.world) s in
+          let after = (then_fits (settle_fits l i) (λ done. error_fits {A = Value} l what line)).keeps t in
+          kept_from account_at kept ((settle l.F (two i) >> step_ends (stop.Error what line)) t)
+          (kept_moved account_at (account_at s) (account_at t) (left_still caller s.world)
+          ((settle l.F (two i) >> step_ends (stop.Error what line)) t) after kept.onward.adds_up)
+      keeps before (Ends stop.Page s) kept =
+          subst (λ account. Settled before account) (sym (left_still caller s.world)) kept
+      keeps before (Ends (stop.Limit kind line) s) kept = kept
+      keeps before (Ends (stop.Wants call) s) kept = kept
+      keeps before (Ends stop.Memory s) kept = kept
 
   -- ---- how it is entered
 
@@ -91,7 +119,8 @@ module _ (l : Link) (i : Inners l) where
   inside_fits owner procedure arguments = seen_fits l i
       (λ E m world s. calling.abandoned E m world
       (calling.runs E m procedure arguments (in_world E (calling.entered owner s.world) s)))
-      (λ world. turned (abandoned_turns world) (moved_fits (calling.entered owner) (runs_fits procedure arguments)))
+      (λ world. turned (abandoned_turns world) (moved_fits (calling.entered owner) (λ world. refl)
+      (runs_fits procedure arguments)))
 
   opened_fits : (owner : Owner) (procedure : Procedure) (arguments : List Argument)
       → Same l i (λ E m. calling.opened E m owner procedure arguments)

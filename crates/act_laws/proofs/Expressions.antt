@@ -22,7 +22,8 @@ use Rattle.vb_meaning.specs.Objects.{class_at}
 use Rattle.vb_meaning.specs.State.{Does}
 use Rattle.vb_meaning.specs.Values.{literal_value}
 use Rattle.act_laws.proofs.Inside.{Inners, Same}
-use Rattle.act_laws.proofs.Linked.{Link, Fits, then_fits, value_fits, fails_fit, given_fits, world_fits, choice_fits}
+use Rattle.act_laws.proofs.Joined.{Link}
+use Rattle.act_laws.proofs.Linked.{Fits, then_fits, value_fits, fails_fit, given_fits, world_fits, choice_fits}
 use Rattle.act_laws.proofs.Reading.{path_value_fits, reached_fits}
 use Rattle.act_laws.proofs.Wantless.{then_wantless}
 use Rattle.act_laws.proofs.WantlessPlaces.{holding_wantless, reached_wantless}

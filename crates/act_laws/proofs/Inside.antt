@@ -14,7 +14,8 @@ use Rattle.vb_meaning.specs.declared.world.World.{World}
 use Rattle.vb_meaning.specs.Asking.{ask}
 use Rattle.vb_meaning.specs.Inner.{Inner, Owner}
 use Rattle.vb_meaning.specs.State.{Does}
-use Rattle.act_laws.proofs.Linked.{Link, Fits, seeing_fits}
+use Rattle.act_laws.proofs.Joined.{Link}
+use Rattle.act_laws.proofs.Linked.{Fits, seeing_fits}
 
 -- what the constructs inside do in the one and in the other
 pub record Inners (l : Link) : Type 0 where

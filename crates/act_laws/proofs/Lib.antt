@@ -1,8 +1,16 @@
 pub mod Wantless
 pub mod WantlessPlaces
 pub mod WantlessScopes
+pub mod Numbers
+pub mod Accounts
+pub mod Marks
+pub mod Keeping
+pub mod Counting
+pub mod Joined
 pub mod Linked
 pub mod Turning
+pub mod Coming
+pub mod Ending
 pub mod Inside
 pub mod Reading
 pub mod Expressions
@@ -13,6 +21,8 @@ pub mod Statements
 pub mod Looping
 pub mod Meaning
 pub mod Acting
+pub mod Finishing
+pub mod Once
 pub mod Getting
 pub mod Links
 pub mod Replies

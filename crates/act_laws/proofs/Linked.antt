@@ -1,104 +1,51 @@
--- Two environments side by side: what is done in the one is done in the other, until a call that the one wants.
-use Rattle.std.proofs.Common.{ℕ, List, Bool, true, false, if◌then◌else◌, Result, Ok, Err, Option, None}
-use Rattle.vb_value.specs.declared.application.AppCall.{AppCall}
-use Rattle.vb_value.specs.declared.application.AppReply.{AppReply}
+-- Two environments side by side: what is done in the one is done in the other, until a call that the one wants, and it
+-- keeps the account of objects.
+use Rattle.std.proofs.Common.{ℕ, Bool, true, false, if◌then◌else◌, Result, Ok, Err, Option, None, ◌≡◌}
 use Rattle.vb_value.specs.declared.fault.VbError.{VbError}
 use Rattle.vb_value.specs.declared.limit.LimitKind.{LimitKind}
 use Rattle.vb_meaning.specs.declared.cause.Cause.{Cause}
 use Rattle.vb_meaning.specs.declared.cause.Cause.TheVariants.{Language}
-use Rattle.vb_meaning.specs.declared.stop.Stop.{Stop}
 use Rattle.vb_meaning.specs.declared.stop.Stop.TheVariants as stop
 use Rattle.vb_meaning.specs.declared.world.World.{World}
-use Rattle.vb_meaning.specs.Asking.{Host}
-use Rattle.vb_meaning.specs.State.{State, Does, on_world, lifted}
-use Rattle.vb_meaning.specs.Step.{Step, Gives, Ends, Run, and_then, ◌>>=◌, pure, ends as step_ends, given, fails}
-use Rattle.act_laws.proofs.Wantless.{Wantless, NoWant}
+use Rattle.vb_meaning.specs.State.{State, Does, on_world}
+use Rattle.vb_meaning.specs.Step.{Step, Run, and_then, ◌>>=◌, pure, ends as step_ends, given, fails}
+use Rattle.act_laws.specs.Objects.{Account, Kept, account_at, account_of}
+use Rattle.act_laws.proofs.Joined as sides
+use Rattle.act_laws.proofs.Joined.{Link, Joined, JoinedTurn}
+use Rattle.act_laws.proofs.Keeping.{Keeps, kept_moved, lifted_keeps, next_keeps, still_ends, still_gives}
+use Rattle.act_laws.proofs.Wantless.{Wantless}
 
--- Two environments with what they do, and how they and the replies that are left belong together: while what is done
--- in the one is done in the other, where both want the same call, and where only the first stopped for a call.
-pub record Link : Type 1 where
-  pub E : Type 0
-  pub F : Type 0
-  pub host : Host E
-  pub other : Host F
-  pub now : E → List AppReply → F → List AppReply → Type 0
-  pub both_want : E → List AppReply → F → List AppReply → Type 0
-  pub past : AppCall → F → List AppReply → Type 0
-
--- how they belong together where both have ended for this reason
-abbrev pub Ended : (l : Link) → Stop → l.E → List AppReply → l.F → List AppReply → Type 0
-Ended l (stop.Wants call) env replies other_env others = l.both_want env replies other_env others
-Ended l (stop.Error what line) env replies other_env others = l.now env replies other_env others
-Ended l (stop.Limit kind line) env replies other_env others = l.now env replies other_env others
-Ended l stop.Page env replies other_env others = l.now env replies other_env others
-Ended l stop.Memory env replies other_env others = l.now env replies other_env others
-
--- the state after a step
-abbrev pub state_of : {S A : Type 0} → Step S A → S
-state_of (Gives value s) = s
-state_of (Ends why s) = s
-
--- the second is past the call for which the first stopped
-abbrev pub Past : {A : Type 0} (l : Link) → AppCall → Step (State l.F) A → Type 0
-Past l call step = l.past call (state_of step).env (state_of step).replies
-
--- a step of the one and a step of the other
-pub data Alike (l : Link) {A : Type 0} : Step (State l.E) A → Step (State l.F) A → Type 0 where
-  gives : (value : A) (world : World) (env : l.E) (replies : List AppReply) (other_env : l.F) (others : List AppReply)
-      → l.now env replies other_env others
-      → Alike l (Gives value (record { world = world; env = env; replies = replies }))
-      (Gives value (record { world = world; env = other_env; replies = others }))
-  ends : (why : Stop) (world : World) (env : l.E) (replies : List AppReply) (other_env : l.F) (others : List AppReply)
-      → Ended l why env replies other_env others
-      → Alike l (Ends why (record { world = world; env = env; replies = replies }))
-      (Ends why (record { world = world; env = other_env; replies = others }))
-  gone : (call : AppCall) (s : State l.E) (step : Step (State l.F) A) → Past l call step
-      → Alike l (Ends (stop.Wants call) s) step
-
--- something that is done in the one as in the other
+-- something that is done in the one as in the other, and keeps the account of objects
 pub record Fits {A : Type 0} (l : Link) (first : Does l.E A) (second : Does l.F A) : Type 0 where
-  pub alike : (world : World) (env : l.E) (replies : List AppReply) (other_env : l.F) (others : List AppReply)
-      → l.now env replies other_env others
-      → Alike l (first (record { world = world; env = env; replies = replies }))
-      (second (record { world = world; env = other_env; replies = others }))
-  pub goes_on : (call : AppCall) (world : World) (env : l.F) (replies : List AppReply) → l.past call env replies
-      → Past l call (second (record { world = world; env = env; replies = replies }))
+  pub joined : Joined l first second
+  pub keeps : Keeps account_at second
 
 -- ---- steps
 
 -- what is made of a step in the one, and of a step in the other
 pub record Turns {A B : Type 0} (l : Link) (turn : Step (State l.E) A → Step (State l.E) B)
     (other : Step (State l.F) A → Step (State l.F) B) : Type 0 where
-  pub alike : (first : Step (State l.E) A) (second : Step (State l.F) A) → Alike l first second
-      → Alike l (turn first) (other second)
-  pub goes_on : (call : AppCall) (second : Step (State l.F) A) → Past l call second → Past l call (other second)
+  pub joined : JoinedTurn l turn other
+  pub keeps : (before : Account) (step : Step (State l.F) A) → Kept account_at before step
+      → Kept account_at before (other step)
 
 -- what is done, and then something is made of the step
 pub turned : {A B : Type 0} {l : Link} {turn : Step (State l.E) A → Step (State l.E) B}
     {other : Step (State l.F) A → Step (State l.F) B} {first : Does l.E A} {second : Does l.F A}
     → Turns l turn other → Fits l first second → Fits l (λ s. turn (first s)) (λ s. other (second s))
-turned turns fit = record {
-  alike = λ world env replies other_env others now.
-      turns.alike _ _ (fit.alike world env replies other_env others now);
-  goes_on = λ call world env replies past. turns.goes_on call _ (fit.goes_on call world env replies past);
+turned {second} turns fit = record {
+  joined = sides.turn_joined turns.joined fit.joined;
+  keeps = λ s right. turns.keeps (account_at s) (second s) (fit.keeps s right);
 }
 
 -- what follows a step
 pub next_turns : {A B : Type 0} {l : Link} {next : A → Does l.E B} {other : A → Does l.F B}
     → ((value : A) → Fits l (next value) (other value))
     → Turns l (λ step. and_then step next) (λ step. and_then step other)
-next_turns {A} {B} {l} {next} {other} fit = record { alike = alike; goes_on = goes_on }
-  where
-    goes_on : (call : AppCall) (second : Step (State l.F) A) → Past l call second → Past l call (and_then second other)
-    goes_on call (Gives value s) past = (fit value).goes_on call s.world s.env s.replies past
-    goes_on call (Ends why s) past = past
-
-    alike : (first : Step (State l.E) A) (second : Step (State l.F) A) → Alike l first second
-        → Alike l (and_then first next) (and_then second other)
-    alike _ _ (gives value world env replies other_env others now) =
-        (fit value).alike world env replies other_env others now
-    alike _ _ (ends why world env replies other_env others ended) = ends why world env replies other_env others ended
-    alike _ second (gone call s _ past) = gone call s (and_then second other) (goes_on call second past)
+next_turns {other} fit = record {
+  joined = sides.next_turn (λ value. (fit value).joined);
+  keeps = next_keeps account_at other (λ value. (fit value).keeps);
+}
 
 -- ---- what is done
 
@@ -110,26 +57,21 @@ then_fits fit next = turned (next_turns next) fit
 
 -- a value, and no change
 pub value_fits : {A : Type 0} (l : Link) (value : A) → Fits l (pure value) (pure value)
-value_fits l value = record {
-  alike = λ world env replies other_env others now. gives value world env replies other_env others now;
-  goes_on = λ call world env replies past. past;
-}
+value_fits l value = record { joined = sides.value_joined l value; keeps = still_gives account_at value }
 
 -- an end for another reason than a call
 pub error_fits : {A : Type 0} (l : Link) (what : Cause) (line : Option ℕ)
     → Fits {A = A} l (step_ends (stop.Error what line)) (step_ends (stop.Error what line))
-error_fits l what line = record {
-  alike = λ world env replies other_env others now.
-      ends (stop.Error what line) world env replies other_env others now;
-  goes_on = λ call world env replies past. past;
+error_fits {A} l what line = record {
+  joined = sides.error_joined l what line;
+  keeps = still_ends A account_at (stop.Error what line);
 }
 
 pub limit_fits : {A : Type 0} (l : Link) (kind : LimitKind) (line : Option ℕ)
     → Fits {A = A} l (step_ends (stop.Limit kind line)) (step_ends (stop.Limit kind line))
-limit_fits l kind line = record {
-  alike = λ world env replies other_env others now.
-      ends (stop.Limit kind line) world env replies other_env others now;
-  goes_on = λ call world env replies past. past;
+limit_fits {A} l kind line = record {
+  joined = sides.limit_joined l kind line;
+  keeps = still_ends A account_at (stop.Limit kind line);
 }
 
 -- an error of the language
@@ -141,34 +83,12 @@ pub given_fits : {A : Type 0} (l : Link) (answer : Result A VbError) → Fits l 
 given_fits l (Ok value) = value_fits l value
 given_fits l (Err error) = fails_fit l error
 
--- a step of the world, which is the same in both
-pub lifted_alike : {A : Type 0} (l : Link) (env : l.E) (replies : List AppReply) (other_env : l.F)
-    (others : List AppReply) → l.now env replies other_env others → (step : Step World A) → NoWant step
-    → Alike l (lifted env replies step) (lifted other_env others step)
-lifted_alike l env replies other_env others now (Gives value world) none =
-    gives value world env replies other_env others now
-lifted_alike l env replies other_env others now (Ends (stop.Wants call) world) none = absurd none
-lifted_alike l env replies other_env others now (Ends (stop.Error what line) world) none =
-    ends (stop.Error what line) world env replies other_env others now
-lifted_alike l env replies other_env others now (Ends (stop.Limit kind line) world) none =
-    ends (stop.Limit kind line) world env replies other_env others now
-lifted_alike l env replies other_env others now (Ends stop.Page world) none =
-    ends stop.Page world env replies other_env others now
-lifted_alike l env replies other_env others now (Ends stop.Memory world) none =
-    ends stop.Memory world env replies other_env others now
-
-lifted_past : {A : Type 0} (l : Link) (call : AppCall) (env : l.F) (replies : List AppReply) → l.past call env replies
-    → (step : Step World A) → Past l call (lifted env replies step)
-lifted_past l call env replies past (Gives value world) = past
-lifted_past l call env replies past (Ends why world) = past
-
 -- what is done to the world alone
 pub world_fits : {A : Type 0} (l : Link) {change : Run World A} → Wantless change
     → Fits l (on_world change) (on_world change)
 world_fits l {change} wantless = record {
-  alike = λ world env replies other_env others now.
-      lifted_alike l env replies other_env others now (change world) (wantless.no_want world);
-  goes_on = λ call world env replies past. lifted_past l call env replies past (change world);
+  joined = sides.world_joined l wantless;
+  keeps = λ s right. lifted_keeps s.env s.replies (account_at s) (change s.world) (wantless.keeps s.world right);
 }
 
 -- one of two
@@ -185,13 +105,15 @@ pub either_fits : {A : Type 0} {l : Link} (test : Bool) {one other : Does l.E A}
 either_fits true one other = one
 either_fits false one other = other
 
--- what is done in a changed world
-pub moved_fits : {A : Type 0} {l : Link} (change : World → World) {first : Does l.E A} {second : Does l.F A}
+-- what is done in a changed world, whose account of objects is the same
+pub moved_fits : {A : Type 0} {l : Link} (change : World → World)
+    → ((world : World) → account_of (change world) ≡ account_of world) → {first : Does l.E A} {second : Does l.F A}
     → Fits l first second
     → Fits l (λ s. first (record s { world = change s.world })) (λ s. second (record s { world = change s.world }))
-moved_fits change fit = record {
-  alike = λ world env replies other_env others now. fit.alike (change world) env replies other_env others now;
-  goes_on = λ call world env replies past. fit.goes_on call (change world) env replies past;
+moved_fits change same {first} {second} fit = record {
+  joined = sides.moved_joined change fit.joined;
+  keeps = λ s right. kept_moved account_at (account_of s.world) (account_of (change s.world)) (same s.world)
+      (second (record s { world = change s.world })) (fit.keeps (record s { world = change s.world })) right;
 }
 
 -- what is done as the world has it
@@ -199,6 +121,6 @@ pub seeing_fits : {A : Type 0} {l : Link} (first : World → Does l.E A) (second
     → ((world : World) → Fits l (first world) (second world))
     → Fits l (λ s. first s.world s) (λ s. second s.world s)
 seeing_fits first second each = record {
-  alike = λ world env replies other_env others now. (each world).alike world env replies other_env others now;
-  goes_on = λ call world env replies past. (each world).goes_on call world env replies past;
+  joined = sides.seeing_joined first second (λ world. (each world).joined);
+  keeps = λ s right. (each s.world).keeps s right;
 }

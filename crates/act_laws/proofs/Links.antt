@@ -17,7 +17,7 @@ use Rattle.vb_meaning.specs.Step.{Step, Ends}
 use Rattle.vb_meaning.specs.Stops.{ask_stop}
 use Rattle.act_laws.specs.Calls.{Noting, noted, noting}
 use Rattle.act_laws.proofs.Getting.{get_last, get_kept}
-use Rattle.act_laws.proofs.Linked.{Link, Fits, Alike, Past, gives, ends, gone}
+use Rattle.act_laws.proofs.Joined.{Link, Joined, Alike, Past, gives, ends, gone}
 
 one_more_noted : (calls : List AppCall) (call : AppCall) (n : ℕ) → length calls ≡ n
     → length (calls ++ call ∷ []) ≡ n + 1
@@ -74,7 +74,7 @@ module _ (E : Type 0) (host : Host E) (n : ℕ) where
       ends_for the_same reason world env replies (env, calls) replies (refl, refl, count)
 
   pub asks_same : (member : Member) (arguments : List Value)
-      → Fits the_same (ask host member arguments) (ask (noting host) member arguments)
+      → Joined the_same (ask host member arguments) (ask (noting host) member arguments)
   unfolding ask
   asks_same member arguments = record {
     alike = λ world env replies other others now.
@@ -141,7 +141,7 @@ module _ (E : Type 0) (host : Host E) (n : ℕ) where
         ends_for the_first reason world env replies (env, calls) (replies ++ more) (refl, refl, count)
 
     pub asks_first : (member : Member) (arguments : List Value)
-        → Fits the_first (ask host member arguments) (ask (noting host) member arguments)
+        → Joined the_first (ask host member arguments) (ask (noting host) member arguments)
     unfolding ask
     asks_first member arguments = record {
       alike = λ world env replies other others now.

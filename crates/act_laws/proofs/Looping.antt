@@ -20,7 +20,8 @@ use Rattle.vb_meaning.specs.Step.{given}
 use Rattle.vb_meaning.specs.Values.{copied}
 use Rattle.act_laws.proofs.Calling.{block_fits}
 use Rattle.act_laws.proofs.Inside.{Inners, one, two, Same, seen_fits}
-use Rattle.act_laws.proofs.Linked.{Link, Fits, turned, then_fits, value_fits, limit_fits, given_fits, world_fits}
+use Rattle.act_laws.proofs.Joined.{Link}
+use Rattle.act_laws.proofs.Linked.{Fits, turned, then_fits, value_fits, limit_fits, given_fits, world_fits}
 use Rattle.act_laws.proofs.Linked.{choice_fits}
 use Rattle.act_laws.proofs.Statements.{in_head_fits, condition_fits}
 use Rattle.act_laws.proofs.Turning.{line_turns}

@@ -1,5 +1,5 @@
 -- Statements as a whole, and the meaning of a program level by level, in two environments side by side.
-use Rattle.std.proofs.Common.{ℕ, zero, suc, true, false, if◌then◌else◌, List}
+use Rattle.std.proofs.Common.{ℕ, zero, suc, true, false, if◌then◌else◌, List, ◌≡◌, refl}
 use Rattle.vb_value.specs.declared.value.Value.{Value, Str}
 use Rattle.vb_syntax.specs.declared.member.Member.{Member}
 use Rattle.vb_syntax.specs.declared.program.Program.{Program}
@@ -9,12 +9,14 @@ use Rattle.vb_syntax.specs.declared.program.statement.Statement.{Statement}
 use Rattle.vb_syntax.specs.declared.program.statement.StatementKind.{out-StatementKind}
 use Rattle.vb_syntax.specs.declared.program.statement.StatementKind.TheOpen.{StatementKind-F}
 use Rattle.vb_syntax.specs.declared.program.unit.Procedure.{Procedure}
+use Rattle.vb_syntax.specs.declared.statement.ExitKind.{ExitKind}
 use Rattle.vb_meaning.specs.declared.reached.Argument.{Argument}
 use Rattle.vb_meaning.specs.declared.reached.Argument.TheVariants.{Value as OfValue}
 use Rattle.vb_meaning.specs.declared.reached.Assigned.{Assigned}
 use Rattle.vb_meaning.specs.declared.reached.Assigned.TheVariants.{Let as ByLet, Set as BySet}
 use Rattle.vb_meaning.specs.declared.world.Exit.{Exit}
 use Rattle.vb_meaning.specs.declared.world.Exit.TheVariants.{Next, Leave}
+use Rattle.vb_meaning.specs.declared.world.World.{World}
 use Rattle.vb_meaning.specs.Asking.{ask}
 use Rattle.vb_meaning.specs.Errors.{in_line, resumed, cleared}
 use Rattle.vb_meaning.specs.Executing as executing
@@ -25,11 +27,13 @@ use Rattle.vb_meaning.specs.Places.{held_so_far}
 use Rattle.vb_meaning.specs.Releases.{release}
 use Rattle.vb_meaning.specs.State.{Does}
 use Rattle.vb_meaning.specs.Statements.{clears_err}
+use Rattle.act_laws.specs.Objects.{account_of}
 use Rattle.act_laws.proofs.Assigning.{assign_to_fits}
 use Rattle.act_laws.proofs.Calling.{enter_of_fits}
 use Rattle.act_laws.proofs.Expressions.{valued_fits, argument_of_fits, written_or_fits}
 use Rattle.act_laws.proofs.Inside.{Inners, one, two, Same}
-use Rattle.act_laws.proofs.Linked.{Link, Fits, turned, then_fits, value_fits, world_fits, seeing_fits}
+use Rattle.act_laws.proofs.Joined.{Link}
+use Rattle.act_laws.proofs.Linked.{Fits, turned, then_fits, value_fits, world_fits, seeing_fits}
 use Rattle.act_laws.proofs.Looping.{do_fits, while_fits, for_fits, for_each_fits}
 use Rattle.act_laws.proofs.Releasing.{release_turns}
 use Rattle.act_laws.proofs.Statements.{redim_fits, assignment_fits, if_fits, select_fits, with_fits, call_of_fits}
@@ -39,6 +43,15 @@ use Rattle.act_laws.proofs.Wantless.{tick_wantless, deep_wantless, change_wantle
 use Rattle.act_laws.proofs.WantlessScopes.{erase_all_wantless}
 
 -- ---- statements
+
+-- what an Exit does to Err leaves the account of objects
+left_still : (kind : ExitKind) (world : World)
+    → account_of (if clears_err kind then cleared world else world) ≡ account_of world
+left_still kind world = elim (clears_err kind)
+    as (λ b. account_of (if b then cleared world else world) ≡ account_of world) [
+      | true ↦ refl
+      | false ↦ refl
+    ]
 
 module _ (l : Link) (i : Inners l) where
   does_fits : (said : executing.Said) → Same l i (λ E m. executing.does E m said)
@@ -57,7 +70,7 @@ module _ (l : Link) (i : Inners l) where
   does_fits (StatementKind-F.While test body) = while_fits l i test body
   does_fits (StatementKind-F.With subject body) = with_fits l i subject body
   does_fits (StatementKind-F.Exit kind) = world_fits l
-      (change_wantless (Leave kind) (λ world. if clears_err kind then cleared world else world))
+      (change_wantless (Leave kind) (λ world. if clears_err kind then cleared world else world) (left_still kind))
   does_fits StatementKind-F.OnErrorResumeNext = handles_fit l i true
   does_fits StatementKind-F.OnErrorGoToZero = handles_fit l i false
   does_fits (StatementKind-F.Erase arrays) =

@@ -29,10 +29,11 @@ use Rattle.vb_meaning.specs.Objects.{class_at, dictionary_word, field_named, pro
 use Rattle.vb_meaning.specs.Places.{cell_place, hold}
 use Rattle.vb_meaning.specs.Reading as reading
 use Rattle.vb_meaning.specs.State.{Does, on_world}
-use Rattle.vb_meaning.specs.Step.{Run, ◌>>◌, given}
+use Rattle.vb_meaning.specs.Step.{Run, ◌>>◌, given, pure}
 use Rattle.vb_meaning.specs.Values.{object_in, literal_value}
 use Rattle.act_laws.proofs.Inside.{Inners, one, two, Same, seen_fits}
-use Rattle.act_laws.proofs.Linked.{Link, Fits, then_fits, value_fits, fails_fit, given_fits, world_fits, choice_fits}
+use Rattle.act_laws.proofs.Joined.{Link}
+use Rattle.act_laws.proofs.Linked.{Fits, then_fits, value_fits, fails_fit, given_fits, world_fits, choice_fits}
 use Rattle.act_laws.proofs.Wantless.{Wantless, then_wantless, pure_wantless, given_wantless}
 use Rattle.act_laws.proofs.Wantless.{seeing_wantless}
 use Rattle.act_laws.proofs.WantlessPlaces.{hold_wantless, variable_wantless, named_member_wantless, element_wantless}
@@ -43,7 +44,8 @@ pub me_wantless : (owner : Owner) → Wantless (reading.me_value owner)
 me_wantless owner = given_wantless (reading.me_of owner)
 
 pub subject_wantless : Wantless reading.subject
-subject_wantless = record { no_want = λ world. tt }
+subject_wantless = seeing_wantless (λ world. pure (reading.last_of world.frame.subjects))
+    (λ world. pure_wantless (reading.last_of world.frame.subjects))
 
 module _ (l : Link) (i : Inners l) where
   pub values_fit : (done : List Value) (supplied : List Expression)

@@ -1,5 +1,5 @@
 -- Statements but for loops, in two environments side by side.
-use Rattle.std.proofs.Common.{Bool, true, false, List, [], ◌∷◌, ◌++◌, Option, Some, None}
+use Rattle.std.proofs.Common.{Bool, true, false, List, [], ◌∷◌, ◌++◌, Option, Some, None, refl}
 use Rattle.vb_value.specs.declared.operator.Op2.TheVariants.{Equal}
 use Rattle.vb_value.specs.declared.value.Value.{Value}
 use Rattle.vb_value.specs.Errors.{type_mismatch}
@@ -27,7 +27,8 @@ use Rattle.vb_meaning.specs.State.{Does}
 use Rattle.vb_meaning.specs.Statements as statements
 use Rattle.act_laws.proofs.Calling.{block_fits}
 use Rattle.act_laws.proofs.Inside.{Inners, one, two, Same, seen_fits}
-use Rattle.act_laws.proofs.Linked.{Link, Fits, turned, then_fits, value_fits, fails_fit, given_fits, world_fits}
+use Rattle.act_laws.proofs.Joined.{Link}
+use Rattle.act_laws.proofs.Linked.{Fits, turned, then_fits, value_fits, fails_fit, given_fits, world_fits}
 use Rattle.act_laws.proofs.Linked.{choice_fits, moved_fits, seeing_fits}
 use Rattle.act_laws.proofs.Reading.{values_fit, head_fits}
 use Rattle.act_laws.proofs.Releasing.{release_turns}
@@ -103,7 +104,7 @@ module _ (l : Link) (i : Inners l) where
       (λ E m world s. statements.out_of_with E m world.frame.subjects (block E m body
       (record s { world = statements.with_subjects E m (s.world.frame.subjects ++ value ∷ []) s.world })))
       (λ world. turned (with_turns l (one i) (two i) world.frame.subjects) (moved_fits
-      (λ world. statements.with_subjects l.E (one i) (world.frame.subjects ++ value ∷ []) world)
+      (λ world. statements.with_subjects l.E (one i) (world.frame.subjects ++ value ∷ []) world) (λ world. refl)
       (block_fits l i body))))
 
   -- ---- assignments and calls
@@ -143,4 +144,4 @@ module _ (l : Link) (i : Inners l) where
   write_fits value = then_fits (i.asks ResponseWrite (value ∷ [])) (λ given. value_fits l Next)
 
   pub handles_fit : (resumes : Bool) → Same l i (λ E m. statements.handles E m resumes)
-  handles_fit resumes = world_fits l (change_wantless Next (on_error resumes))
+  handles_fit resumes = world_fits l (change_wantless Next (on_error resumes) (λ world. refl))

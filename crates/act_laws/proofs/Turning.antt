@@ -12,11 +12,14 @@ use Rattle.vb_meaning.specs.Releases.{terminated, ended, without_page_stop}
 use Rattle.vb_meaning.specs.State.{State}
 use Rattle.vb_meaning.specs.Statements.{out_of_with, with_subjects}
 use Rattle.vb_meaning.specs.Step.{Step, Gives, Ends}
-use Rattle.act_laws.proofs.Linked.{Link, Alike, gives, ends, gone, Past, Turns}
+use Rattle.act_laws.proofs.Joined.{Link, Alike, gives, ends, gone, Past, JoinedTurn}
+use Rattle.act_laws.proofs.Keeping.{line_keeps, resumed_keeps}
+use Rattle.act_laws.proofs.Linked.{Turns}
+use Rattle.act_laws.specs.Objects.{Account, Kept, account_at}
 
 -- a line
-pub line_turns : {A : Type 0} (l : Link) (line : ℕ) → Turns {A = A} l (in_line line) (in_line line)
-line_turns {A} l line = record { alike = alike; goes_on = goes_on }
+pub line_joined : {A : Type 0} (l : Link) (line : ℕ) → JoinedTurn {A = A} l (in_line line) (in_line line)
+line_joined {A} l line = record { alike = alike; goes_on = goes_on }
   where
     goes_on : (call : AppCall) (second : Step (State l.F) A) → Past l call second → Past l call (in_line line second)
     goes_on call (Gives value s) past = past
@@ -41,9 +44,12 @@ line_turns {A} l line = record { alike = alike; goes_on = goes_on }
         ends stop.Memory world env replies other_env others now
     alike _ second (gone call s _ past) = gone call s (in_line line second) (goes_on call second past)
 
+pub line_turns : {A : Type 0} (l : Link) (line : ℕ) → Turns {A = A} l (in_line line) (in_line line)
+line_turns l line = record { joined = line_joined l line; keeps = line_keeps account_at line }
+
 -- On Error
-pub resumed_turns : {A : Type 0} (l : Link) (instead : A) → Turns {A = A} l (resumed instead) (resumed instead)
-resumed_turns {A} l instead = record { alike = alike; goes_on = goes_on }
+resumed_joined : {A : Type 0} (l : Link) (instead : A) → JoinedTurn {A = A} l (resumed instead) (resumed instead)
+resumed_joined {A} l instead = record { alike = alike; goes_on = goes_on }
   where
     past_error : (call : AppCall) (what : Cause) (line : Option ℕ) (s : State l.F) (resumes : Bool)
         → l.past call s.env s.replies
@@ -90,10 +96,13 @@ resumed_turns {A} l instead = record { alike = alike; goes_on = goes_on }
         ends stop.Memory world env replies other_env others now
     alike _ second (gone call s _ past) = gone call s (resumed instead second) (goes_on call second past)
 
+pub resumed_turns : {A : Type 0} (l : Link) (instead : A) → Turns {A = A} l (resumed instead) (resumed instead)
+resumed_turns l instead = record { joined = resumed_joined l instead; keeps = resumed_keeps instead }
+
 -- the end of a terminator
-pub terminated_turns : (l : Link) (object : ℕ) (before : World)
-    → Turns l (terminated l.E object before) (terminated l.F object before)
-terminated_turns l object before = record { alike = alike; goes_on = goes_on }
+pub terminated_joined : (l : Link) (object : ℕ) (before : World)
+    → JoinedTurn l (terminated l.E object before) (terminated l.F object before)
+terminated_joined l object before = record { alike = alike; goes_on = goes_on }
   where
     goes_on : (call : AppCall) (second : Step (State l.F) Value) → Past l call second
         → Past l call (terminated l.F object before second)
@@ -122,8 +131,8 @@ terminated_turns l object before = record { alike = alike; goes_on = goes_on }
         gone call s (terminated l.F object before second) (goes_on call second past)
 
 -- a page stop that goes no further
-pub without_stop_turns : (l : Link) → Turns l (without_page_stop l.E) (without_page_stop l.F)
-without_stop_turns l = record { alike = alike; goes_on = goes_on }
+pub without_stop_joined : (l : Link) → JoinedTurn l (without_page_stop l.E) (without_page_stop l.F)
+without_stop_joined l = record { alike = alike; goes_on = goes_on }
   where
     goes_on : (call : AppCall) (second : Step (State l.F) (Unit {0})) → Past l call second
         → Past l call (without_page_stop l.F second)
@@ -149,9 +158,9 @@ without_stop_turns l = record { alike = alike; goes_on = goes_on }
     alike _ second (gone call s _ past) = gone call s (without_page_stop l.F second) (goes_on call second past)
 
 -- the end of a With
-pub with_turns : {A : Type 0} (l : Link) (m : Inner l.E) (other : Inner l.F) (subjects : List Value)
-    → Turns {A = A} l (out_of_with l.E m subjects) (out_of_with l.F other subjects)
-with_turns {A} l m other subjects = record { alike = alike; goes_on = goes_on }
+with_joined : {A : Type 0} (l : Link) (m : Inner l.E) (other : Inner l.F) (subjects : List Value)
+    → JoinedTurn {A = A} l (out_of_with l.E m subjects) (out_of_with l.F other subjects)
+with_joined {A} l m other subjects = record { alike = alike; goes_on = goes_on }
   where
     goes_on : (call : AppCall) (second : Step (State l.F) A) → Past l call second
         → Past l call (out_of_with l.F other subjects second)
@@ -166,3 +175,12 @@ with_turns {A} l m other subjects = record { alike = alike; goes_on = goes_on }
         ends why (with_subjects l.E m subjects world) env replies other_env others same
     alike _ second (gone call s _ past) = gone call (record s { world = with_subjects l.E m subjects s.world })
         (out_of_with l.F other subjects second) (goes_on call second past)
+
+pub with_turns : {A : Type 0} (l : Link) (m : Inner l.E) (other : Inner l.F) (subjects : List Value)
+    → Turns {A = A} l (out_of_with l.E m subjects) (out_of_with l.F other subjects)
+with_turns {A} l m other subjects = record { joined = with_joined l m other subjects; keeps = keeps }
+  where
+    keeps : (before : Account) (step : Step (State l.F) A) → Kept account_at before step
+        → Kept account_at before (out_of_with l.F other subjects step)
+    keeps before (Gives value s) kept = kept
+    keeps before (Ends why s) kept = kept

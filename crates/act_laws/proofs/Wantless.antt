@@ -1,16 +1,27 @@
--- What scripts do to the world alone wants no call.
-use Rattle.std.proofs.Common.{ℕ, ◌-◌, nat_lt, pos, Bool, true, false, if◌then◌else◌, Some, None, Result, Ok, Err}
+-- What scripts do to the world alone wants no call, and keeps the account of objects.
+use Rattle.std.proofs.Common.{ℕ, ◌-◌, nat_lt, pos, Bool, true, false, if◌then◌else◌}
+use Rattle.std.proofs.Common.{Option, Some, None, Result, Ok, Err}
+use Rattle.std.proofs.Common.{◌≡◌, IsTrue, refl, subst, sym, is_ok}
 use Rattle.vb_value.specs.declared.fault.VbError.{VbError}
 use Rattle.vb_heap.specs.declared.fault.HeapStop.{HeapStop}
 use Rattle.vb_heap.specs.declared.fault.HeapStop.TheVariants as heap
 use Rattle.vb_heap.specs.Store.{Store}
 use Rattle.vb_value.specs.declared.limit.LimitKind.TheVariants.{Ticks, Depth}
+use Rattle.vb_meaning.specs.declared.cause.Cause.{Cause}
 use Rattle.vb_meaning.specs.declared.cause.Cause.TheVariants as cause
 use Rattle.vb_meaning.specs.declared.stop.Stop.TheVariants as stop
+use Rattle.vb_meaning.specs.declared.world.Frame.{Frame}
 use Rattle.vb_meaning.specs.declared.world.World.{World}
-use Rattle.vb_meaning.specs.Errors.{in_line, tick, too_deep}
-use Rattle.vb_meaning.specs.State.{on_heap, heap_answer, with_heap}
-use Rattle.vb_meaning.specs.Step.{Step, Gives, Ends, Run, and_then, ◌>>=◌, pure, given, fails}
+use Rattle.vb_meaning.specs.Calling.{in_frame}
+use Rattle.vb_meaning.specs.Errors.{in_line, tick, too_deep, depth_stop}
+use Rattle.vb_meaning.specs.State.{on_heap, heap_answer, with_frame, with_heap}
+use Rattle.vb_meaning.specs.Step.{Step, Gives, Ends, Run, and_then, ◌>>=◌, pure, given, ends, fails}
+use Rattle.vb_meaning.specs.Stops.{heap_stop}
+use Rattle.act_laws.specs.Objects.{AddsUp, Kept, Settled, account_of}
+use Rattle.act_laws.proofs.Accounts.{onward_still, settled_still}
+use Rattle.act_laws.proofs.Keeping.{Keeps, goes_settled, kept_moved, line_keeps, next_keeps, still_ends}
+use Rattle.act_laws.proofs.Keeping.{still_gives}
+use Rattle.act_laws.proofs.Marks.{account_in}
 
 -- a step that no call stopped
 abbrev pub NoWant : {S A : Type 0} → Step S A → Type 0
@@ -21,15 +32,19 @@ NoWant (Ends (stop.Limit kind line) s) = Unit {0}
 NoWant (Ends stop.Page s) = Unit {0}
 NoWant (Ends stop.Memory s) = Unit {0}
 
--- what no call stops
+-- what no call stops, and what keeps the account of objects
 pub record Wantless {A : Type 0} (run : Run World A) : Type 0 where
   pub no_want : (world : World) → NoWant (run world)
+  pub keeps : Keeps account_of run
 
 -- one after the other
 pub then_wantless : {A B : Type 0} {first : Run World A} {next : A → Run World B} → Wantless first
     → ((value : A) → Wantless (next value)) → Wantless (first >>= next)
-then_wantless {A} {B} {first} {next} one other =
-    record { no_want = λ world. go (first world) (one.no_want world) }
+then_wantless {A} {B} {first} {next} one other = record {
+  no_want = λ world. go (first world) (one.no_want world);
+  keeps = λ world right. next_keeps account_of next (λ value. (other value).keeps) (account_of world) (first world)
+      (one.keeps world right);
+}
   where
     go : (step : Step World A) → NoWant step → NoWant (and_then step next)
     go (Gives value world) none = (other value).no_want world
@@ -40,10 +55,14 @@ then_wantless {A} {B} {first} {next} one other =
     go (Ends stop.Memory world) none = tt
 
 pub pure_wantless : {A : Type 0} (value : A) → Wantless (pure value)
-pure_wantless value = record { no_want = λ world. tt }
+pure_wantless value = record { no_want = λ world. tt; keeps = still_gives account_of value }
+
+pub error_wantless : {A : Type 0} (what : Cause) (line : Option ℕ) → Wantless {A = A} (ends (stop.Error what line))
+error_wantless {A} what line =
+    record { no_want = λ world. tt; keeps = still_ends A account_of (stop.Error what line) }
 
 pub fails_wantless : {A : Type 0} (error : VbError) → Wantless (fails {A = A} error)
-fails_wantless error = record { no_want = λ world. tt }
+fails_wantless error = error_wantless (cause.Language error.number) None
 
 pub given_wantless : {A : Type 0} (answer : Result A VbError) → Wantless (given answer)
 given_wantless (Ok value) = pure_wantless value
@@ -52,33 +71,69 @@ given_wantless (Err error) = fails_wantless error
 -- what is done as the world has it
 pub seeing_wantless : {A : Type 0} (run : World → Run World A) → ((world : World) → Wantless (run world))
     → Wantless (λ world. run world world)
-seeing_wantless run each = record { no_want = λ world. (each world).no_want world }
+seeing_wantless run each = record {
+  no_want = λ world. (each world).no_want world;
+  keeps = λ world right. (each world).keeps world right;
+}
 
--- what is done in a changed world
-pub changing_wantless : {A : Type 0} (change : World → World) {run : Run World A} → Wantless run
+-- what is done in a changed world, whose account of objects is the same
+pub changing_wantless : {A : Type 0} (change : World → World)
+    → ((world : World) → account_of (change world) ≡ account_of world) → {run : Run World A} → Wantless run
     → Wantless (λ world. run (change world))
-changing_wantless change one = record { no_want = λ world. one.no_want (change world) }
+changing_wantless change same {run} one = record {
+  no_want = λ world. one.no_want (change world);
+  keeps = λ world right. kept_moved account_of (account_of world) (account_of (change world)) (same world)
+      (run (change world)) (one.keeps (change world)) right;
+}
 
--- a value, and a changed world
-pub change_wantless : {A : Type 0} (value : A) (change : World → World) → Wantless (λ world. Gives value (change world))
-change_wantless value change = record { no_want = λ world. tt }
+-- a value, and a changed world, whose account of objects is the same
+pub change_wantless : {A : Type 0} (value : A) (change : World → World)
+    → ((world : World) → account_of (change world) ≡ account_of world) → Wantless (λ world. Gives value (change world))
+change_wantless value change same = changing_wantless change same (pure_wantless value)
 
--- a call on the data of the page
-pub heap_wantless : {A : Type 0} (answer : Store → Result A HeapStop) (change : Store → Store)
+heap_no_want : {A : Type 0} (world changed : World) (found : Result A HeapStop)
+    → NoWant (heap_answer found changed world)
+heap_no_want world changed (Ok value) = tt
+heap_no_want world changed (Err (heap.Error number)) = tt
+heap_no_want world changed (Err (heap.Limit kind)) = tt
+heap_no_want world changed (Err heap.Memory) = tt
+
+heap_keeps : {A : Type 0} (world changed : World) (found : Result A HeapStop) → AddsUp (account_of world)
+    → (IsTrue (is_ok found) → Settled (account_of world) (account_of changed))
+    → Kept account_of (account_of world) (heap_answer found changed world)
+heap_keeps world changed (Ok value) right settled = settled refl
+heap_keeps world changed (Err why) right settled =
+    goes_settled (heap_stop why) (settled_still (account_of world) right)
+
+-- the names of the procedure change
+pub framed_wantless : (change : Frame → Frame) → Wantless (in_frame change)
+framed_wantless change = change_wantless tt (with_frame change) (λ world. refl)
+
+-- a call on the data of the page that settles its objects where it is not refused
+pub settling_wantless : {A : Type 0} (answer : Store → Result A HeapStop) (change : Store → Store)
+    → ((world : World) → AddsUp (account_of world) → IsTrue (is_ok (answer world.heap))
+    → Settled (account_of world) (account_of (with_heap change world)))
     → Wantless (on_heap answer change)
-heap_wantless {A} answer change =
-    record { no_want = λ world. go world (with_heap change world) (answer world.heap) }
-  where
-    go : (world changed : World) (found : Result A HeapStop) → NoWant (heap_answer found changed world)
-    go world changed (Ok value) = tt
-    go world changed (Err (heap.Error number)) = tt
-    go world changed (Err (heap.Limit kind)) = tt
-    go world changed (Err heap.Memory) = tt
+settling_wantless answer change settles = record {
+  no_want = λ world. heap_no_want world (with_heap change world) (answer world.heap);
+  keeps = λ world right. heap_keeps world (with_heap change world) (answer world.heap) right (settles world right);
+}
+
+-- one that leaves the account of objects
+pub heap_wantless : {A : Type 0} (answer : Store → Result A HeapStop) (change : Store → Store)
+    → ((store : Store) (count : ℕ) → account_in (change store) count ≡ account_in store count)
+    → Wantless (on_heap answer change)
+heap_wantless answer change same = settling_wantless answer change (λ world right done.
+    subst (λ account. Settled (account_of world) account) (sym (same world.heap world.finished))
+    (settled_still (account_of world) right))
 
 -- what is done in a line
 pub line_wantless : {A : Type 0} (line : ℕ) {run : Run World A} → Wantless run
     → Wantless (λ world. in_line line (run world))
-line_wantless {A} line {run} one = record { no_want = λ world. go (run world) (one.no_want world) }
+line_wantless {A} line {run} one = record {
+  no_want = λ world. go (run world) (one.no_want world);
+  keeps = λ world right. line_keeps account_of line (account_of world) (run world) (one.keeps world right);
+}
   where
     go : (step : Step World A) → NoWant step → NoWant (in_line line step)
     go (Gives value world) none = tt
@@ -100,7 +155,10 @@ choice_wantless false first second = second
 
 pub tick_wantless : Wantless tick
 unfolding tick
-tick_wantless = record { no_want = λ world. go world (nat_lt 0 world.ticks) }
+tick_wantless = record {
+  no_want = λ world. go world (nat_lt 0 world.ticks);
+  keeps = λ world right. kept world right (nat_lt 0 world.ticks);
+}
   where
     go : (world : World) (left : Bool) → NoWant {S = World} {A = Unit {0}}
         (if left then Gives tt (record world { ticks = world.ticks - 1 })
@@ -108,8 +166,17 @@ tick_wantless = record { no_want = λ world. go world (nat_lt 0 world.ticks) }
     go world true = tt
     go world false = tt
 
+    kept : (world : World) → AddsUp (account_of world) → (left : Bool) → Kept {S = World} {A = Unit {0}} account_of
+        (account_of world) (if left then Gives tt (record world { ticks = world.ticks - 1 })
+        else Ends (stop.Limit Ticks None) world)
+    kept world right true = settled_still (account_of world) right
+    kept world right false = onward_still (account_of world) right
+
 pub deep_wantless : {A : Type 0} → Wantless (too_deep {A = A})
-deep_wantless {A} = record { no_want = λ world. go world world.terminates }
+deep_wantless {A} = record {
+  no_want = λ world. go world world.terminates;
+  keeps = λ world right. goes_settled (depth_stop world) (settled_still (account_of world) right);
+}
   where
     go : (world : World) (terminates : Bool) → NoWant {S = World} {A = A}
         (Ends (if terminates then stop.Limit Depth None

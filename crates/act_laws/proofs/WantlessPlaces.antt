@@ -1,8 +1,8 @@
--- Variables, elements, dictionaries and Err want no call.
-use Rattle.std.proofs.Common.{ℤ, List, [], ◌∷◌, Option, Some, None, Result}
+-- Variables, elements, dictionaries and Err want no call, and keep the account of objects.
+use Rattle.std.proofs.Common.{ℤ, List, [], ◌∷◌, Option, Some, None, Result, refl}
 use Rattle.vb_value.specs.declared.fault.VbError.{VbError}
 use Rattle.vb_value.specs.declared.value.ObjNo.{ObjNo}
-use Rattle.vb_value.specs.declared.value.Value.{Value, Empty, Long, Bool as Boolean}
+use Rattle.vb_value.specs.declared.value.Value.{Value, Empty, Long, Str, Bool as Boolean}
 use Rattle.vb_value.specs.Conversions.{to_long_of, to_str_of}
 use Rattle.vb_value.specs.Errors.{type_mismatch, illegal_assignment, object_not_set, unsupported, wrong_number}
 use Rattle.vb_value.specs.Errors.{and_then}
@@ -16,10 +16,12 @@ use Rattle.vb_syntax.specs.declared.program.name.Slot.{Slot}
 use Rattle.vb_heap.specs.declared.place.Place.{Place}
 use Rattle.vb_heap.specs.Cells.{new_cell_of, with_new_cell, read_of, store_of, with_stored}
 use Rattle.vb_heap.specs.DictionaryCalls as dictionary
-use Rattle.vb_heap.specs.Entries.{add_entry_of, with_entry, with_mode, without_entries}
+use Rattle.vb_heap.specs.Entries.{add_entry_of, emptied, entry_added, mode_set, with_entry, with_mode}
+use Rattle.vb_heap.specs.Entries.{without_entries}
 use Rattle.vb_heap.specs.Held.{hold_of, with_held}
 use Rattle.vb_heap.specs.Places.{value_in}
 use Rattle.vb_heap.specs.Store.{Store}
+use Rattle.vb_meaning.specs.declared.cause.Cause.TheVariants.{Raised as ByRaise}
 use Rattle.vb_meaning.specs.declared.reached.Kind.{Kind}
 use Rattle.vb_meaning.specs.declared.reached.Kind.TheVariants as kind
 use Rattle.vb_meaning.specs.declared.reached.Reached.{Reached}
@@ -32,20 +34,22 @@ use Rattle.vb_meaning.specs.Paths.{item_in, element_in, element_at, element_of_p
 use Rattle.vb_meaning.specs.Paths.{element, reached_value, kind_of}
 use Rattle.vb_meaning.specs.Places.{new_cell, hold, holding, variable, slot_place, target_variable, indices_of}
 use Rattle.vb_meaning.specs.Places.{element_place, held_at, read_place, is_fixed, store_place}
-use Rattle.vb_meaning.specs.Step.{given}
+use Rattle.vb_meaning.specs.Errors.{cleared, with_err}
+use Rattle.vb_meaning.specs.Step.{given, pure}
 use Rattle.vb_meaning.specs.Values.{copied}
 use Rattle.act_laws.proofs.Wantless.{Wantless, then_wantless, pure_wantless, fails_wantless, given_wantless}
-use Rattle.act_laws.proofs.Wantless.{seeing_wantless, heap_wantless, choice_wantless}
+use Rattle.act_laws.proofs.Marks.{dictionary_still, got_still, put_still, removed_still}
+use Rattle.act_laws.proofs.Wantless.{seeing_wantless, heap_wantless, choice_wantless, change_wantless, error_wantless}
 
 -- ---- places
 
 pub new_cell_wantless : (value : Value) → Wantless (new_cell value)
 unfolding new_cell
-new_cell_wantless value = heap_wantless (new_cell_of value) (with_new_cell value)
+new_cell_wantless value = heap_wantless (new_cell_of value) (with_new_cell value) (λ store count. refl)
 
 pub hold_wantless : (value : Value) → Wantless (hold value)
 unfolding hold
-hold_wantless value = heap_wantless (hold_of value) (with_held value)
+hold_wantless value = heap_wantless (hold_of value) (with_held value) (λ store count. refl)
 
 pub holding_wantless : (value : Value) → Wantless (holding value)
 holding_wantless value = then_wantless (hold_wantless value) (λ done. pure_wantless value)
@@ -71,7 +75,7 @@ pub store_wantless : (place : Place) (value : Value) → Wantless (store_place p
 unfolding store_place
 store_wantless place value = then_wantless (held_wantless place) (λ old.
     choice_wantless (is_fixed old) (fails_wantless type_mismatch)
-    (heap_wantless (store_of place value) (with_stored place value)))
+    (heap_wantless (store_of place value) (with_stored place value) (λ store count. refl)))
 
 -- ---- dictionaries
 
@@ -81,7 +85,8 @@ asking_wantless question = seeing_wantless (λ world. given (question world.heap
 
 pub item_wantless : (object : ObjNo) (key : Value) → Wantless (item object key)
 unfolding item
-item_wantless object key = heap_wantless (dictionary.get_of object key) (dictionary.with_got object key)
+item_wantless object key =
+    heap_wantless (dictionary.get_of object key) (dictionary.with_got object key) (got_still object key)
 
 pub item_by_wantless : (object : ObjNo) (keys : List Value) → Wantless (item_by object keys)
 item_by_wantless object (key ∷ []) = item_wantless object key
@@ -91,6 +96,7 @@ put_item_wantless : (object : ObjNo) (key value : Value) → Wantless (put_item 
 unfolding put_item
 put_item_wantless object key value =
     heap_wantless (dictionary.put_of object key value) (dictionary.with_put object key value)
+    (put_still object key value)
 
 pub put_by_wantless : (object : ObjNo) (keys : List Value) (value : Value) → Wantless (put_by object keys value)
 put_by_wantless object (key ∷ []) value = put_item_wantless object key value
@@ -98,22 +104,26 @@ put_by_wantless object _ value = fails_wantless wrong_number
 
 set_mode_wantless : (object : ObjNo) (value : Value) → Wantless (set_mode object value)
 set_mode_wantless object value = then_wantless (given_wantless (to_long_of value)) (λ mode.
-    heap_wantless (dictionary.set_mode_of object mode) (with_mode object mode))
+    heap_wantless (dictionary.set_mode_of object mode) (with_mode object mode)
+    (dictionary_still (mode_set mode) object))
 
 member_wantless : (object : ObjNo) (found : DictionaryMember) (arguments : List Value)
     → Wantless (member object found arguments)
 unfolding member
 member_wantless object word.Add (key ∷ value ∷ []) =
-    then_wantless (heap_wantless (add_entry_of object key value) (with_entry object key value))
+    then_wantless (heap_wantless (add_entry_of object key value) (with_entry object key value)
+    (dictionary_still (entry_added key value) object))
     (λ done. pure_wantless Empty)
 member_wantless object word.Item (key ∷ []) = item_wantless object key
 member_wantless object word.Exists (key ∷ []) =
     then_wantless (asking_wantless (dictionary.exists_of object key)) (λ truth. pure_wantless (Boolean truth))
 member_wantless object word.Remove (key ∷ []) =
-    then_wantless (heap_wantless (dictionary.remove_of object key) (dictionary.with_removed object key))
+    then_wantless (heap_wantless (dictionary.remove_of object key) (dictionary.with_removed object key)
+    (removed_still object key))
     (λ done. pure_wantless Empty)
 member_wantless object word.RemoveAll [] =
-    then_wantless (heap_wantless (dictionary.remove_all_of object) (without_entries object))
+    then_wantless (heap_wantless (dictionary.remove_all_of object) (without_entries object)
+    (dictionary_still emptied object))
     (λ done. pure_wantless Empty)
 member_wantless object word.Keys [] = asking_wantless (dictionary.keys_of object)
 member_wantless object word.Items [] = asking_wantless (dictionary.items_of object)
@@ -204,14 +214,17 @@ store_element_wantless (AtValue whole) indices value = store_in_value_wantless i
 
 raise_wantless : {A : Type 0} (arguments : List Value) → Wantless (raise {A = A} arguments)
 raise_wantless arguments =
-    then_wantless (given_wantless (raise_of arguments)) (λ error. record { no_want = λ world. tt })
+    then_wantless (given_wantless (raise_of arguments)) (λ error. error_wantless (ByRaise error) None)
 
 pub err_wantless : (found : ErrMember) (arguments : List Value) → Wantless (err_value found arguments)
 unfolding err_value
-err_wantless err.Number [] = record { no_want = λ world. tt }
-err_wantless err.Description [] = record { no_want = λ world. tt }
-err_wantless err.Source [] = record { no_want = λ world. tt }
-err_wantless err.Clear [] = record { no_want = λ world. tt }
+err_wantless err.Number [] = seeing_wantless (λ world. pure (Long world.err.number))
+    (λ world. pure_wantless (Long world.err.number))
+err_wantless err.Description [] = seeing_wantless (λ world. pure (Str world.err.description))
+    (λ world. pure_wantless (Str world.err.description))
+err_wantless err.Source [] = seeing_wantless (λ world. pure (Str world.err.source))
+    (λ world. pure_wantless (Str world.err.source))
+err_wantless err.Clear [] = change_wantless Empty cleared (λ world. refl)
 err_wantless err.Raise arguments = raise_wantless arguments
 err_wantless err.Absent arguments = fails_wantless unsupported
 err_wantless _ arguments = fails_wantless wrong_number
@@ -219,9 +232,12 @@ err_wantless _ arguments = fails_wantless wrong_number
 pub set_err_wantless : (found : ErrMember) (value : Value) → Wantless (set_err found value)
 unfolding set_err
 set_err_wantless err.Number value =
-    then_wantless (given_wantless (to_long_of value)) (λ number. record { no_want = λ world. tt })
+    then_wantless (given_wantless (to_long_of value)) (λ number.
+    change_wantless tt (λ world. with_err (record world.err { number = number }) world) (λ world. refl))
 set_err_wantless err.Description value =
-    then_wantless (given_wantless (to_str_of value)) (λ text. record { no_want = λ world. tt })
+    then_wantless (given_wantless (to_str_of value)) (λ text.
+    change_wantless tt (λ world. with_err (record world.err { description = text }) world) (λ world. refl))
 set_err_wantless err.Source value =
-    then_wantless (given_wantless (to_str_of value)) (λ text. record { no_want = λ world. tt })
+    then_wantless (given_wantless (to_str_of value)) (λ text.
+    change_wantless tt (λ world. with_err (record world.err { source = text }) world) (λ world. refl))
 set_err_wantless _ value = fails_wantless unsupported

@@ -1,6 +1,7 @@
--- Declarations, procedures and statements that change the world alone want no call.
+-- Declarations, procedures and statements that change the world alone want no call, and keep the account of
+-- objects.
 use Rattle.std.proofs.Common.{ℕ, ◌+◌, nat_lt, codes, drop, length, Bool, true, false, List, [], ◌∷◌, ◌++◌, slice_get}
-use Rattle.std.proofs.Common.{Option, Some, None, Ok}
+use Rattle.std.proofs.Common.{Option, Some, None, Ok, refl}
 use Rattle.vb_value.specs.declared.value.ObjNo.{ObjNo}
 use Rattle.vb_value.specs.declared.value.Value.{Value, Obj, Nothing, Empty, Str, out-Value}
 use Rattle.vb_value.specs.declared.value.Value.TheViews.{Arr}
@@ -33,7 +34,7 @@ use Rattle.vb_meaning.specs.declared.reached.Argument.{Argument}
 use Rattle.vb_meaning.specs.declared.reached.Argument.TheVariants.{Place as OfPlace, Value as OfValue}
 use Rattle.vb_meaning.specs.Acts.{page_begins}
 use Rattle.vb_meaning.specs.Calling.{own_variable, parameter, parameters, variables, result_cell, begins, result_value}
-use Rattle.vb_meaning.specs.Calling.{gives_value}
+use Rattle.vb_meaning.specs.Calling.{gives_value, with_own, with_place}
 use Rattle.vb_meaning.specs.Declaring.{Faulty, fault_before, first_fault, declared_cell}
 use Rattle.vb_meaning.specs.Declaring.{declared_cells, constants_from}
 use Rattle.vb_meaning.specs.Expressions.{Said, constant_at, written_value}
@@ -48,7 +49,8 @@ use Rattle.vb_meaning.specs.Step.{◌>>=◌, ◌>>◌, pure, given}
 use Rattle.vb_meaning.specs.Values.{constant_value, declared_array, literal_value}
 use Rattle.act_laws.proofs.Wantless.{Wantless, then_wantless, pure_wantless, fails_wantless, given_wantless}
 use Rattle.act_laws.proofs.Wantless.{seeing_wantless, heap_wantless, choice_wantless, line_wantless}
-use Rattle.act_laws.proofs.Wantless.{changing_wantless}
+use Rattle.act_laws.proofs.Wantless.{changing_wantless, framed_wantless, settling_wantless}
+use Rattle.act_laws.proofs.Marks.{object_settles, table_settles}
 use Rattle.act_laws.proofs.WantlessPlaces.{new_cell_wantless, hold_wantless, holding_wantless, variable_wantless}
 use Rattle.act_laws.proofs.WantlessPlaces.{target_wantless, held_wantless, read_wantless, store_wantless}
 
@@ -82,19 +84,19 @@ constants_from_wantless done (constant ∷ constants) =
 pub page_begins_wantless : (unit : Code) → Wantless (page_begins unit)
 page_begins_wantless unit =
     then_wantless (declared_cells_wantless [] (first_fault unit.constants) unit.variables) (λ cells.
-    changing_wantless (λ world. record world { page = cells })
+    changing_wantless (λ world. record world { page = cells }) (λ world. refl)
     (then_wantless (constants_from_wantless [] unit.constants) (λ constants. pure_wantless tt)))
 
 -- ---- procedures
 
 own_variable_wantless : (value : Value) → Wantless (own_variable value)
 own_variable_wantless value =
-    then_wantless (new_cell_wantless value) (λ cell. record { no_want = λ world. tt })
+    then_wantless (new_cell_wantless value) (λ cell. framed_wantless (with_own cell))
 
 parameter_wantless : (by_value : Bool) (argument : Argument) → Wantless (parameter by_value argument)
 parameter_wantless by_value (OfValue value) = own_variable_wantless value
 parameter_wantless true (OfPlace place) = then_wantless (read_wantless place) own_variable_wantless
-parameter_wantless false (OfPlace place) = record { no_want = λ world. tt }
+parameter_wantless false (OfPlace place) = framed_wantless (with_place place)
 
 parameters_wantless : (by_value : List Bool) (arguments : List Argument) → Wantless (parameters by_value arguments)
 parameters_wantless (by_value ∷ others) (argument ∷ rest) =
@@ -105,12 +107,13 @@ parameters_wantless (by_value ∷ others) [] = pure_wantless tt
 variables_wantless : (fault : Faulty) (arrays : List (Option DeclaredArray)) → Wantless (variables fault arrays)
 variables_wantless fault [] = pure_wantless tt
 variables_wantless fault (first ∷ others) = then_wantless (then_wantless (fault_before_wantless fault first) (λ done.
-    then_wantless (declared_cell_wantless first) (λ cell. record { no_want = λ world. tt })))
+    then_wantless (declared_cell_wantless first) (λ cell. framed_wantless (with_own cell))))
     (λ done. variables_wantless fault others)
 
 result_cell_wantless : (gives : Bool) → Wantless (result_cell gives)
 result_cell_wantless true =
-    then_wantless (new_cell_wantless Empty) (λ cell. record { no_want = λ world. tt })
+    then_wantless (new_cell_wantless Empty) (λ cell.
+    framed_wantless (λ frame. record frame { result = Some cell }))
 result_cell_wantless false = pure_wantless tt
 
 pub begins_wantless : (procedure : Procedure) (arguments : List Argument) → Wantless (begins procedure arguments)
@@ -120,7 +123,7 @@ begins_wantless procedure arguments = then_wantless
     (λ done. variables_wantless (first_fault procedure.constants)
     (drop (length procedure.by_value) procedure.variables)))
     (λ done. constants_from_wantless [] procedure.constants))
-    (λ constants. record { no_want = λ world. tt })
+    (λ constants. framed_wantless (λ frame. record frame { constants = constants }))
 
 pub result_wantless : (cell : Option CellNo) → Wantless (result_value cell)
 result_wantless (Some cell) = read_wantless (cell_place cell)
@@ -130,7 +133,8 @@ result_wantless None = pure_wantless Empty
 
 created_wantless : (name : List ℕ) → Wantless (created name)
 created_wantless name = choice_wantless (same_name (codes "scripting.dictionary") name)
-    (then_wantless (heap_wantless new_table_of with_new_table) (λ object. holding_wantless (Obj object)))
+    (then_wantless (settling_wantless new_table_of with_new_table (λ world right fitting.
+    table_settles world.heap world.finished right fitting)) (λ object. holding_wantless (Obj object)))
     (fails_wantless cannot_create_object)
 
 pub create_object_wantless : (arguments : List Value) → Wantless (create_object arguments)
@@ -152,7 +156,7 @@ field_made_wantless object field (Some array) = line_wantless array.line
     (then_wantless (seeing_wantless (λ world. given (field_of field (numbered object.0 world.heap.objects)))
     (λ world. given_wantless (field_of field (numbered object.0 world.heap.objects)))) (λ cell.
     then_wantless (given_wantless (declared_array array.bounds)) (λ value.
-    heap_wantless (store_of (cell_place cell) value) (with_stored (cell_place cell) value))))
+    heap_wantless (store_of (cell_place cell) value) (with_stored (cell_place cell) value) (λ store count. refl))))
 field_made_wantless object field None = pure_wantless tt
 
 fields_made_wantless : (object : ObjNo) (number : ℕ) (fields : List Field)
@@ -166,7 +170,8 @@ pub object_made_wantless : (number : ℕ) (fields : List Field) → Wantless (
     on_heap (new_object_of number (length fields)) (with_new_object number (length fields)) >>= (λ object.
     hold (Obj object) >> making.fields_made object 0 fields >> pure object))
 object_made_wantless number fields =
-    then_wantless (heap_wantless (new_object_of number (length fields)) (with_new_object number (length fields)))
+    then_wantless (settling_wantless (new_object_of number (length fields)) (with_new_object number (length fields))
+    (λ world right fitting. object_settles number (length fields) world.heap world.finished right fitting))
     (λ object. then_wantless (then_wantless (hold_wantless (Obj object)) (λ done. fields_made_wantless object 0 fields))
     (λ done. pure_wantless object))
 
@@ -196,13 +201,13 @@ resize_wantless preserve bounds place old =
     (λ done. given_wantless (indices_of bounds))) (λ found.
     then_wantless (then_wantless (given_wantless (statements.good_bounds found))
     (λ done. given_wantless (statements.resized_array preserve (out-Value old) found))) (λ array.
-    heap_wantless (store_of place (Arr array)) (with_stored place (Arr array))))
+    heap_wantless (store_of place (Arr array)) (with_stored place (Arr array)) (λ store count. refl)))
 
 erase_wantless : (found : Named) → Wantless (statements.erase found)
 erase_wantless (named.Place found) = then_wantless (variable_wantless found) (λ place.
     then_wantless (held_wantless place) (λ old.
     then_wantless (given_wantless (statements.erased (out-Value old))) (λ value.
-    heap_wantless (store_of place value) (with_stored place value))))
+    heap_wantless (store_of place value) (with_stored place value) (λ store count. refl))))
 erase_wantless _ = fails_wantless type_mismatch
 
 pub erase_all_wantless : (names : List Named) → Wantless (statements.erase_all names)

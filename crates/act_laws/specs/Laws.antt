@@ -1,14 +1,21 @@
--- Laws of an act and of the replies that it is given, for the objects of a host whatever they do.
-use Rattle.std.specs.Prelude.{◌≡◌, Bool, IsTrue, List, [], ◌++◌, length, slice_get, Some, None}
+-- Laws of an act, of the replies that it is given, and of the objects that it makes, for the objects of a host whatever
+-- they do.
+use Rattle.std.specs.Prelude.{ℕ, ◌≡◌, Bool, IsTrue, List, [], ◌++◌, length, slice_get, Some, None}
 use Rattle.vb_value.specs.declared.application.AppCall.{AppCall}
 use Rattle.vb_value.specs.declared.application.AppReply.{AppReply}
 use Rattle.vb_value.specs.declared.value.Value.{Value}
 use Rattle.vb_syntax.specs.declared.act.Act.{Act}
+use Rattle.vb_syntax.specs.declared.act.ActDone.{ActDone}
 use Rattle.vb_syntax.specs.declared.member.Member.{Member}
 use Rattle.vb_syntax.specs.declared.program.Program.{Program}
-use Rattle.vb_meaning.specs.Acts.{act_of}
+use Rattle.vb_meaning.specs.declared.plain_end.PlainEnd.TheVariants.{Ends}
+use Rattle.vb_meaning.specs.Acts.{act_of, fresh_world}
 use Rattle.vb_meaning.specs.Asking.{Host}
+use Rattle.vb_meaning.specs.Meaning.{inside}
+use Rattle.vb_meaning.specs.State.{State}
 use Rattle.act_laws.specs.Calls.{LeavesOnly, Noting, WantsOnly, calls_of, noting, wanted}
+use Rattle.act_laws.specs.Objects.{AddsUp, account_at, account_of}
+use Rattle.act_laws.specs.Terminators.{HaveEnded, KeepsAll, RunsEach}
 
 -- an act that wants no call ends the same, and leaves the same environment, where more replies stand behind
 abbrev pub RepliesBeyond : Type 0 → Type 0
@@ -55,3 +62,15 @@ OnlyAskingChanges E = (host : Host E) (test : E → Bool)
     → LeavesOnly test (host.answered member arguments reply env))
     → (program : Program) (which : Act) (env : E) (replies : List AppReply) → IsTrue (test env)
     → IsTrue (test (act_of E host program which env replies).1)
+
+-- When an act has ended, all objects that it made have ended, unless a limit ended it; then no more than were made.
+abbrev pub ObjectsEnd : Type 0 → Type 0
+ObjectsEnd E = (host : Host E) (program : Program) (which : Act) (env : E) (replies : List AppReply) (done : ActDone)
+    → (act_of E host program which env replies).0 ≡ Some (Ends done) → HaveEnded done.end done.made done.finished
+
+-- Each object's terminator is run once: at each level of a program, and from each state whose account adds up. That of
+-- the world in which an act begins does.
+abbrev pub TerminatorsRunOnce : Type 0 → Type 0
+TerminatorsRunOnce E = AddsUp (account_of fresh_world) × ((host : Host E) (program : Program) (levels : ℕ) (s : State E)
+    → AddsUp (account_at s)
+    → RunsEach E (inside E host program levels) s × KeepsAll E (inside E host program levels) s)

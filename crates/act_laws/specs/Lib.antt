@@ -1,2 +1,4 @@
 pub mod Calls
+pub mod Objects
+pub mod Terminators
 pub mod Laws

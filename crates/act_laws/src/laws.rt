@@ -1,6 +1,7 @@
-//! Laws of an act and of the replies that it is given. The functions do nothing: their contracts are the laws.
-ghost use Rattle.act_laws.specs.Laws.{CallsInOrder, CallsStay, NotesChangeNothing, OnlyAskingChanges};
-ghost use Rattle.act_laws.specs.Laws.{OnlyObjectsWant, RepliesBeyond};
+//! Laws of an act, of the replies that it is given, and of the objects that it makes. The functions do nothing: their
+//! contracts are the laws.
+ghost use Rattle.act_laws.specs.Laws.{CallsInOrder, CallsStay, NotesChangeNothing, ObjectsEnd};
+ghost use Rattle.act_laws.specs.Laws.{OnlyAskingChanges, OnlyObjectsWant, RepliesBeyond, TerminatorsRunOnce};
 
 /// An act that has ended takes no account of more replies.
 pub fn replies_beyond<E>()
@@ -30,4 +31,14 @@ pub fn only_objects_want<E>()
 /// What each question to the objects of the page keeps true of them, an act keeps.
 pub fn only_asking_changes<E>()
     ensures { OnlyAskingChanges E }
+{}
+
+/// When an act has ended, all objects that it made have ended, unless a limit ended it.
+pub fn objects_end<E>()
+    ensures { ObjectsEnd E }
+{}
+
+/// The terminator of each object is run once.
+pub fn terminators_run_once<E>()
+    ensures { TerminatorsRunOnce E }
 {}

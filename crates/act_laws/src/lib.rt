@@ -1,9 +1,9 @@
-//! Laws of an act and of the replies that it is given, in the subject's own words.
+//! Laws of an act, of the replies that it is given, and of the objects that it makes, in the subject's own words.
 #![tactic(auto)]
 
 mod laws;
 
 pub use laws::{
-    calls_in_order, calls_stay, notes_change_nothing, only_asking_changes, only_objects_want,
-    replies_beyond,
+    calls_in_order, calls_stay, notes_change_nothing, objects_end, only_asking_changes,
+    only_objects_want, replies_beyond, terminators_run_once,
 };
