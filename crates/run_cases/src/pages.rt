@@ -69,14 +69,12 @@ impl Subject for Pages {
         let asked = read_text(alloc, asked)?;
         let site = site_of(alloc, script.as_str())?;
         let job = read_job(alloc, asked.as_str())?;
-        match run(&PlainRunner { alloc }, &site, &job)? {
-            Some(
-                Finished {
-                    answer: Some(answer),
-                    ..
-                },
-            ) => shown(alloc, &answer),
-            _ => Err(CaseStop::Unreadable),
+        let Some(finished) = run(&PlainRunner { alloc }, &site, &job)? else {
+            return Err(CaseStop::Unreadable);
+        };
+        match &finished.answer {
+            Some(answer) => shown(alloc, answer),
+            None => Err(CaseStop::Unreadable),
         }
     }
 }

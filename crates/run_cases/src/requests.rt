@@ -1,10 +1,10 @@
 //! Requests from bytes.
-ghost use Rattle.std.specs.Prelude.{◌≡◌, ◌-◌, ◌^◌, IfOk, IsTrue, min, sum_by};
+ghost use Rattle.std.specs.Prelude.{◌≡◌, ◌<◌, ◌-◌, ◌^◌, IfOk, IsTrue, min, sum_by};
 ghost use Rattle.asp_job.specs.Size as size;
 
 use asp_job::{Asked, Header, Job, Request, Work};
 use case_files::CaseStop;
-use http_front::{Reader, take_requests};
+use http_front::{End, Reader, take_requests};
 use std::alloc::Global;
 use vb_value::List;
 
@@ -34,20 +34,27 @@ fn is_small(request: &Request) -> bool
     fixed.saturating_add(content) < 1 << 24
 }
 
-/// The job of the one request that a text gives.
+/// The requests of bytes that come one by one.
+fn read_singly(alloc: Global, bytes: &[u8]) -> Result<List<Request>, CaseStop> {
+    let mut reader = Reader::new(alloc);
+    let mut requests = List::new(alloc);
+    for place in 0..bytes.len() {
+        reader.feed(&bytes[place..place + 1])?;
+        match take_requests(&mut reader, &mut requests)? {
+            End::More => {}
+            End::Refused(_) => return Err(CaseStop::Unreadable),
+        }
+    }
+    Ok(requests)
+}
+
+/// The job of the one request that a text gives, byte by byte.
 pub fn read_job(alloc: Global, text: &str) -> Result<Job, CaseStop>
     ensures { IfOk result size.IsSmall }
 {
-    let mut requests = List::new(alloc);
-    let bytes = text.as_bytes();
-    if bytes.len() > 65_536 {
-        return Err(CaseStop::Unreadable);
-    }
-    let mut reader = Reader::new(alloc);
-    reader.feed(bytes)?;
-    let _ = take_requests(&mut reader, &mut requests)?;
+    let mut requests = read_singly(alloc, text.as_bytes())?;
     match requests.pop() {
-        Some(request) if is_small(&request) => Ok(Job {
+        Some(request) if requests.is_empty() && is_small(&request) => Ok(Job {
             work: Work::Page(request),
             moment: 0,
             asked: Asked::Fresh,
