@@ -1,12 +1,13 @@
 //! What pages see of a request.
 
-use crate::requests::read_requests;
+use crate::requests::{Given, read_at_once, read_bytes, read_singly};
 use asp_request::{InSet, Inputs};
-use case_files::{CaseStop, Subject, read_text};
+use case_files::{CaseStop, Subject};
 use std::alloc::Global;
 use vb_value::{Text, Value};
 
-/// A request and, behind ` ## `, what is asked of it, each with what it gives.
+/// A request and, behind ` ## `, what is asked of it, each with what it gives. The request comes at once, and byte by
+/// byte.
 pub struct Collections;
 
 fn set_of(word: &str) -> Result<InSet, CaseStop> {
@@ -59,14 +60,23 @@ fn ask(inputs: &Inputs, alloc: Global, asked: &str) -> Result<String, CaseStop> 
     }
 }
 
+/// What `asked` gives of the one request that came.
+fn ask_given(given: &Given, alloc: Global, asked: &str) -> Result<String, CaseStop> {
+    match given.requests.as_slice() {
+        [request] => ask(&Inputs::of(alloc, request)?, alloc, asked),
+        _ => Err(CaseStop::Unreadable),
+    }
+}
+
 impl Subject for Collections {
     fn answer(&self, alloc: Global, case: &str) -> Result<String, CaseStop> {
         let (written, asked) = case.split_once(" ## ").unwrap_or((case, ""));
-        let text = read_text(alloc, written)?;
-        let (requests, _) = read_requests(alloc, text.as_str())?;
-        match requests.as_slice() {
-            [request] => ask(&Inputs::of(alloc, request)?, alloc, asked),
-            _ => Err(CaseStop::Unreadable),
+        let bytes = read_bytes(alloc, written)?;
+        let whole = ask_given(&read_at_once(alloc, bytes.as_slice())?, alloc, asked)?;
+        let singly = ask_given(&read_singly(alloc, bytes.as_slice())?, alloc, asked)?;
+        if singly.as_str() != whole.as_str() {
+            return Ok(format!(in alloc; "{singly} byte by byte")?);
         }
+        Ok(whole)
     }
 }
