@@ -1,8 +1,8 @@
 //! The forms in memory.
 
 use asp_io::{
-    Clock, Failed, Folder, Link, MemClock, MemFolder, MemSink, Source, SureFolder, SureLink,
-    SureSink, SureSource, SureWire, Wire, write_all,
+    Clock, Failed, Folder, Link, MemClock, MemFolder, MemLink, MemSink, MemSource, Source,
+    SureFolder, SureLink, SureSink, SureSource, SureWire, Wire, write_all,
 };
 use std::alloc::Global;
 use std::test::Fail;
@@ -65,6 +65,43 @@ fn a_piece_goes_to_a_sink(rt: HostRuntime) -> Result<(), Fail> {
         assert_eq!(rt; write_all(&mut sink, b"ne"), want, "{room}");
         assert_eq!(rt; sink.held(), held.as_bytes(), "{room}");
     }
+    Ok(())
+}
+
+#[test]
+fn listed_reads_of_a_source_fail(rt: HostRuntime) -> Result<(), Fail> {
+    let alloc = rt.alloc();
+    let bytes = Bytes::from_slice(alloc, b"abc")?;
+    let mut source = MemSource::new(bytes, List::from_slice(alloc, &[2, 5])?);
+    let mut buffer = [0u8; 2];
+    for want in [Ok(2), Err(Failed), Ok(1), Ok(0), Err(Failed)] {
+        assert_eq!(rt; source.read(&mut buffer), want);
+    }
+    assert_eq!(rt; buffer, *b"cb");
+    assert_eq!(rt; source.plan.faults, 2);
+    assert_eq!(rt; source.read(&mut []), Ok(0));
+    Ok(())
+}
+
+/// The second, third and sixth of a connection's calls fail; it has room for three bytes.
+#[test]
+fn calls_of_a_link_are_counted_together(rt: HostRuntime) -> Result<(), Fail> {
+    let alloc = rt.alloc();
+    let bytes = Bytes::from_slice(alloc, b"abc")?;
+    let mut link = MemLink::new(alloc, bytes, 3, List::from_slice(alloc, &[2, 3, 6])?)?;
+    let mut buffer = [0u8; 2];
+    assert_eq!(rt; link.read(&mut buffer), Ok(2));
+    assert_eq!(rt; link.write(b"xy"), Err(Failed));
+    assert_eq!(rt; link.read(&mut buffer), Err(Failed));
+    assert_eq!(rt; buffer, *b"ab");
+    assert_eq!(rt; link.write(b"xy"), Ok(2));
+    assert_eq!(rt; link.write(b"zw"), Ok(1));
+    assert_eq!(rt; link.read(&mut buffer), Err(Failed));
+    assert_eq!(rt; link.read(&mut buffer), Ok(1));
+    assert_eq!(rt; link.read(&mut buffer), Ok(0));
+    assert_eq!(rt; buffer, *b"cb");
+    assert_eq!(rt; link.write(b"w"), Err(Failed));
+    assert_eq!(rt; link.sink.held(), b"xyz".as_slice());
     Ok(())
 }
 

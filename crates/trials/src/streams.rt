@@ -1,6 +1,6 @@
 //! Streams that fail or stop short in the middle.
 
-use asp_io::{Failed, IoStop, Sink, StdOut, read_start, write_all, write_start};
+use asp_io::{Failed, IoStop, Sink, Source, StdIn, StdOut, read_start, write_all, write_start};
 use std::cell::Cell;
 use std::fmt::Display;
 use std::io;
@@ -94,6 +94,45 @@ fn a_reader_that_fails_in_the_middle(rt: HostRuntime) -> Result<(), Fail> {
         assert_eq!(rt; read.map(|bytes| bytes.len()), want, "{fails} {kind:?}");
     }
     Ok(())
+}
+
+/// A read that was interrupted is tried again, and one that failed puts nothing into the buffer.
+#[test]
+fn input_that_fails_in_the_middle(rt: HostRuntime) {
+    let cases = [
+        (ErrorKind::Other, Err(Failed), 0, 1),
+        (ErrorKind::OutOfMemory, Err(Failed), 0, 1),
+        (ErrorKind::Interrupted, Ok(1), b'x', 0),
+    ];
+    for (kind, want, second, faults) in cases {
+        let mut source = StdIn::new(Faulty {
+            calls: 0,
+            fails: 2,
+            kind,
+        });
+        let mut buffer = [0u8; 3];
+        assert_eq!(rt; source.read(&mut buffer), Ok(1), "{kind:?}");
+        assert_eq!(rt; source.read(&mut buffer[1..]), want, "{kind:?}");
+        assert_eq!(rt; buffer, [b'x', second, 0], "{kind:?}");
+        assert_eq!(rt; source.faults(), faults, "{kind:?}");
+        assert_eq!(rt; source.read(&mut []), Ok(0), "{kind:?}");
+    }
+}
+
+#[test]
+fn input_comes_to_its_end(rt: HostRuntime) {
+    let bytes = [b'a'; 5_000];
+    let mut source = StdIn::new(bytes.as_slice());
+    let mut buffer = [0u8; 3_000];
+    let mut total = 0u32;
+    for _ in 0..4u32 {
+        let count = source.read(&mut buffer).unwrap_or(u32::MAX);
+        total = total.saturating_add(count);
+    }
+    assert_eq!(rt; total, 5_000);
+    assert_eq!(rt; buffer, [b'a'; 3_000]);
+    assert_eq!(rt; source.read(&mut buffer), Ok(0));
+    assert_eq!(rt; source.faults(), 0);
 }
 
 #[test]
