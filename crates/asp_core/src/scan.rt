@@ -350,8 +350,7 @@ fn asking_lane_in(run: u64, entry: &Entry) -> Option<u32>
     ensures { result ≡ runs.asking_lane_in run entry.now.lane entry.now.what }
 {
     match &entry.what {
-        What::Admit { run: about, .. } | What::Refuse { run: about, .. } => if *about as u64
-            == run
+        What::Admit { run: about, .. } | What::Refuse { run: about, .. } => if *about as u64 == run
         {
             Some(entry.lane)
         } else {

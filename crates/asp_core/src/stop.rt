@@ -1,4 +1,6 @@
 //! Why calls of the core are refused.
+ghost use Rattle.std.specs.Prelude.{◌≡◌};
+ghost use Rattle.asp_core.specs.Stops as spec;
 
 use vb_value::Memory;
 
@@ -68,6 +70,16 @@ pub enum AppStepStop {
     Memory,
 }
 
+/// The same for a job.
+pub(crate) fn admit_stop(stop: EventStop) -> AdmitStop
+    ensures { result ≡ spec.admit_stop stop }
+{
+    match stop {
+        EventStop::JournalFull { entries, weight } => AdmitStop::JournalFull { entries, weight },
+        EventStop::Memory => AdmitStop::Memory,
+    }
+}
+
 impl From<Memory> for EventStop {
     fn from(_: Memory) -> EventStop {
         EventStop::Memory
@@ -78,7 +90,9 @@ impl From<Memory> for EventStop {
 #[derive(Clone, Copy, Debug, PartialEq, Eq)]
 pub enum CollectStop {
     /// Another lane asked for the run.
-    Foreign { lane: u32 },
+    Foreign {
+        lane: u32,
+    },
     /// The run has not ended.
     NotEnded,
     /// The run is not that of a page.
