@@ -16,3 +16,11 @@ pub mod Ticking
 pub mod Admitting
 pub mod Halting
 pub mod Refusing
+pub mod Jobs
+pub mod Beginning
+pub mod Counts
+pub mod Made
+pub mod Ending
+pub mod Answering
+pub mod Handing
+pub mod Calling

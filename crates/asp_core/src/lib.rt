@@ -3,20 +3,25 @@
 
 mod admit;
 mod admitted;
+mod begin;
+mod calls;
 mod cookie;
 mod drawing;
+mod ends;
 mod entries;
 mod events;
 mod hands;
 mod kernel;
 mod keys;
 mod laws;
+mod opening;
 mod places;
 mod ready;
 mod room;
 mod run;
 mod scan;
 mod stop;
+mod takes;
 mod weighing;
 mod works;
 
