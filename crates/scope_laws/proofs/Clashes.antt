@@ -55,7 +55,8 @@ position-found test at (first ∷ names) name = go (test first) (position-found 
 
 has_name-push : (names : List Name) (new name : Name)
     → has_name (names ++ new ∷ []) name ≡ (has_name names name || same_name name new)
-has_name-push names new name = position-found (λ (other : Name). pointwise nat_eq (folded name) (folded other)) 0 names new
+has_name-push names new name = position-found (λ (other : Name). pointwise nat_eq (folded name) (folded other)) 0
+    names new
 
 -- ---- declarations
 
@@ -64,49 +65,72 @@ pub declared-push : (d : DeclaredNames) (new : Name) (kind : Option PropertyKind
     (accessor : Option PropertyKind) → is_declared (declare d new kind) name accessor
     ≡ (is_declared d name accessor || clash (name, accessor) (new, kind))
 declared-push d new None name None =
-    ap (λ x. ((x || (has_name d.gets name)) || (has_name d.lets name)) || (has_name d.sets name)) (has_name-push d.others new name) ∙ ap (λ x. (x || (has_name d.lets name)) || (has_name d.sets name)) (swap (has_name d.others name) (same_name name new) (has_name d.gets name))
-    ∙ ap (λ x. x || (has_name d.sets name)) (swap ((has_name d.others name) || (has_name d.gets name)) (same_name name new) (has_name d.lets name)) ∙ swap (((has_name d.others name) || (has_name d.gets name)) || (has_name d.lets name)) (same_name name new) (has_name d.sets name)
-    ∙ ap (λ x. ((((has_name d.others name) || (has_name d.gets name)) || (has_name d.lets name)) || (has_name d.sets name)) || x) (sym (with-true (same_name name new)))
+    ap (λ x. ((x || (has_name d.gets name)) || (has_name d.lets name)) || (has_name d.sets name)) (has_name-push
+    d.others new name) ∙ ap (λ x. (x || (has_name d.lets name)) || (has_name d.sets name)) (swap (has_name
+    d.others name) (same_name name new) (has_name d.gets name))
+    ∙ ap (λ x. x || (has_name d.sets name)) (swap ((has_name d.others name) || (has_name d.gets name)) (same_name
+    name new) (has_name d.lets name)) ∙ swap (((has_name d.others name) || (has_name d.gets name)) || (has_name
+    d.lets name)) (same_name name new) (has_name d.sets name)
+    ∙ ap (λ x. ((((has_name d.others name) || (has_name d.gets name)) || (has_name d.lets name)) || (has_name d.sets
+    name)) || x) (sym (with-true (same_name name new)))
 declared-push d new (Some property.Get) name None =
-    ap (λ x. (((has_name d.others name) || x) || (has_name d.lets name)) || (has_name d.sets name)) (has_name-push d.gets new name) ∙ ap (λ x. (x || (has_name d.lets name)) || (has_name d.sets name)) (assoc (has_name d.others name) (has_name d.gets name) (same_name name new))
-    ∙ ap (λ x. x || (has_name d.sets name)) (swap ((has_name d.others name) || (has_name d.gets name)) (same_name name new) (has_name d.lets name)) ∙ swap (((has_name d.others name) || (has_name d.gets name)) || (has_name d.lets name)) (same_name name new) (has_name d.sets name)
-    ∙ ap (λ x. ((((has_name d.others name) || (has_name d.gets name)) || (has_name d.lets name)) || (has_name d.sets name)) || x) (sym (with-true (same_name name new)))
+    ap (λ x. (((has_name d.others name) || x) || (has_name d.lets name)) || (has_name d.sets name)) (has_name-push
+    d.gets new name) ∙ ap (λ x. (x || (has_name d.lets name)) || (has_name d.sets name)) (assoc (has_name
+    d.others name) (has_name d.gets name) (same_name name new))
+    ∙ ap (λ x. x || (has_name d.sets name)) (swap ((has_name d.others name) || (has_name d.gets name)) (same_name
+    name new) (has_name d.lets name)) ∙ swap (((has_name d.others name) || (has_name d.gets name)) || (has_name
+    d.lets name)) (same_name name new) (has_name d.sets name)
+    ∙ ap (λ x. ((((has_name d.others name) || (has_name d.gets name)) || (has_name d.lets name)) || (has_name d.sets
+    name)) || x) (sym (with-true (same_name name new)))
 declared-push d new (Some property.Let) name None =
-    ap (λ x. (((has_name d.others name) || (has_name d.gets name)) || x) || (has_name d.sets name)) (has_name-push d.lets new name) ∙ ap (λ x. x || (has_name d.sets name)) (assoc ((has_name d.others name) || (has_name d.gets name)) (has_name d.lets name) (same_name name new))
-    ∙ swap (((has_name d.others name) || (has_name d.gets name)) || (has_name d.lets name)) (same_name name new) (has_name d.sets name)
-    ∙ ap (λ x. ((((has_name d.others name) || (has_name d.gets name)) || (has_name d.lets name)) || (has_name d.sets name)) || x) (sym (with-true (same_name name new)))
+    ap (λ x. (((has_name d.others name) || (has_name d.gets name)) || x) || (has_name d.sets name)) (has_name-push
+    d.lets new name) ∙ ap (λ x. x || (has_name d.sets name)) (assoc ((has_name d.others name) || (has_name d.gets
+    name)) (has_name d.lets name) (same_name name new))
+    ∙ swap (((has_name d.others name) || (has_name d.gets name)) || (has_name d.lets name)) (same_name name new)
+    (has_name d.sets name)
+    ∙ ap (λ x. ((((has_name d.others name) || (has_name d.gets name)) || (has_name d.lets name)) || (has_name d.sets
+    name)) || x) (sym (with-true (same_name name new)))
 declared-push d new (Some property.Set) name None =
-    ap (λ x. (((has_name d.others name) || (has_name d.gets name)) || (has_name d.lets name)) || x) (has_name-push d.sets new name) ∙ assoc (((has_name d.others name) || (has_name d.gets name)) || (has_name d.lets name)) (has_name d.sets name) (same_name name new)
-    ∙ ap (λ x. ((((has_name d.others name) || (has_name d.gets name)) || (has_name d.lets name)) || (has_name d.sets name)) || x) (sym (with-true (same_name name new)))
+    ap (λ x. (((has_name d.others name) || (has_name d.gets name)) || (has_name d.lets name)) || x) (has_name-push
+    d.sets new name) ∙ assoc (((has_name d.others name) || (has_name d.gets name)) || (has_name d.lets name))
+    (has_name d.sets name) (same_name name new)
+    ∙ ap (λ x. ((((has_name d.others name) || (has_name d.gets name)) || (has_name d.lets name)) || (has_name d.sets
+    name)) || x) (sym (with-true (same_name name new)))
 declared-push d new None name (Some property.Get) =
-    ap (λ x. x || (has_name d.gets name)) (has_name-push d.others new name) ∙ swap (has_name d.others name) (same_name name new) (has_name d.gets name)
+    ap (λ x. x || (has_name d.gets name)) (has_name-push d.others new name) ∙ swap (has_name d.others name)
+    (same_name name new) (has_name d.gets name)
     ∙ ap (λ x. ((has_name d.others name) || (has_name d.gets name)) || x) (sym (with-true (same_name name new)))
 declared-push d new (Some property.Get) name (Some property.Get) =
-    ap (λ x. (has_name d.others name) || x) (has_name-push d.gets new name) ∙ assoc (has_name d.others name) (has_name d.gets name) (same_name name new)
+    ap (λ x. (has_name d.others name) || x) (has_name-push d.gets new name) ∙ assoc (has_name d.others name)
+    (has_name d.gets name) (same_name name new)
     ∙ ap (λ x. ((has_name d.others name) || (has_name d.gets name)) || x) (sym (with-true (same_name name new)))
 declared-push d new (Some property.Let) name (Some property.Get) =
     apart ((has_name d.others name) || (has_name d.gets name)) (same_name name new)
 declared-push d new (Some property.Set) name (Some property.Get) =
     apart ((has_name d.others name) || (has_name d.gets name)) (same_name name new)
 declared-push d new None name (Some property.Let) =
-    ap (λ x. x || (has_name d.lets name)) (has_name-push d.others new name) ∙ swap (has_name d.others name) (same_name name new) (has_name d.lets name)
+    ap (λ x. x || (has_name d.lets name)) (has_name-push d.others new name) ∙ swap (has_name d.others name)
+    (same_name name new) (has_name d.lets name)
     ∙ ap (λ x. ((has_name d.others name) || (has_name d.lets name)) || x) (sym (with-true (same_name name new)))
 declared-push d new (Some property.Get) name (Some property.Let) =
     apart ((has_name d.others name) || (has_name d.lets name)) (same_name name new)
 declared-push d new (Some property.Let) name (Some property.Let) =
-    ap (λ x. (has_name d.others name) || x) (has_name-push d.lets new name) ∙ assoc (has_name d.others name) (has_name d.lets name) (same_name name new)
+    ap (λ x. (has_name d.others name) || x) (has_name-push d.lets new name) ∙ assoc (has_name d.others name)
+    (has_name d.lets name) (same_name name new)
     ∙ ap (λ x. ((has_name d.others name) || (has_name d.lets name)) || x) (sym (with-true (same_name name new)))
 declared-push d new (Some property.Set) name (Some property.Let) =
     apart ((has_name d.others name) || (has_name d.lets name)) (same_name name new)
 declared-push d new None name (Some property.Set) =
-    ap (λ x. x || (has_name d.sets name)) (has_name-push d.others new name) ∙ swap (has_name d.others name) (same_name name new) (has_name d.sets name)
+    ap (λ x. x || (has_name d.sets name)) (has_name-push d.others new name) ∙ swap (has_name d.others name)
+    (same_name name new) (has_name d.sets name)
     ∙ ap (λ x. ((has_name d.others name) || (has_name d.sets name)) || x) (sym (with-true (same_name name new)))
 declared-push d new (Some property.Get) name (Some property.Set) =
     apart ((has_name d.others name) || (has_name d.sets name)) (same_name name new)
 declared-push d new (Some property.Let) name (Some property.Set) =
     apart ((has_name d.others name) || (has_name d.sets name)) (same_name name new)
 declared-push d new (Some property.Set) name (Some property.Set) =
-    ap (λ x. (has_name d.others name) || x) (has_name-push d.sets new name) ∙ assoc (has_name d.others name) (has_name d.sets name) (same_name name new)
+    ap (λ x. (has_name d.others name) || x) (has_name-push d.sets new name) ∙ assoc (has_name d.others name)
+    (has_name d.sets name) (same_name name new)
     ∙ ap (λ x. ((has_name d.others name) || (has_name d.sets name)) || x) (sym (with-true (same_name name new)))
 
 pub clashes-push : (earlier : List Declaration) (last one : Declaration)

@@ -1,5 +1,6 @@
 -- A script without a fault has at most 65,535 names.
-use Rattle.std.proofs.Common.{◌≡◌, ℕ, ◌≤◌, ◌<◌, Bool, true, false, not, ◌&&◌, List, [], ◌∷◌, ◌++◌, length, nat_lt, map, fold}
+use Rattle.std.proofs.Common.{◌≡◌, ℕ, ◌≤◌, ◌<◌, Bool, true, false, not, ◌&&◌, List, [], ◌∷◌, ◌++◌, length, nat_lt}
+use Rattle.std.proofs.Common.{map, fold}
 use Rattle.std.proofs.Common.{Option, Some, None, if◌then◌else◌, refl, sym, ap, subst, ◌∙◌, ◌+◌, lit≤, arith}
 use Rattle.std.proofs.lemmas.Bool.{ltb-true}
 use Rattle.std.proofs.lemmas.List.{length_push}
@@ -12,10 +13,13 @@ use Rattle.vb_syntax.specs.declared.unit.ClassMember.{ClassMember}
 use Rattle.vb_syntax.specs.declared.unit.Item.{Item}
 use Rattle.vb_syntax.specs.declared.unit.Item.TheVariants as item
 use Rattle.vb_syntax.specs.declared.unit.Unit.{Unit as Script}
-use Rattle.vb_syntax.specs.scope.Faults.{Faults, SoFar, fresh, where_true, in_line, kind_faults, after_kind, notes_faults}
-use Rattle.vb_syntax.specs.scope.Faults.{after_notes, name_faults, declaration_faults, is_declared, is_constant, is_object}
+use Rattle.vb_syntax.specs.scope.Faults.{Faults, SoFar, fresh, where_true, in_line, kind_faults, after_kind}
+use Rattle.vb_syntax.specs.scope.Faults.{notes_faults}
+use Rattle.vb_syntax.specs.scope.Faults.{after_notes, name_faults, declaration_faults, is_declared, is_constant}
+use Rattle.vb_syntax.specs.scope.Faults.{is_object}
 use Rattle.vb_syntax.specs.scope.Faults.{is_bare, after_body, body_faults, bodies_faults, member_faults, after_member}
-use Rattle.vb_syntax.specs.scope.Faults.{members_faults, after_members, class_faults, after_class, inside_faults, after_inside}
+use Rattle.vb_syntax.specs.scope.Faults.{members_faults, after_members, class_faults, after_class, inside_faults}
+use Rattle.vb_syntax.specs.scope.Faults.{after_inside}
 use Rattle.vb_syntax.specs.scope.Faults.{item_faults, after_item, items_faults, after_items, faults_of, names_of}
 use Rattle.vb_syntax.specs.scope.Names.{Name, has_name, add_name}
 use Rattle.vb_syntax.specs.scope.Notes.{Notes}

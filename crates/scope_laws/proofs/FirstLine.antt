@@ -1,5 +1,6 @@
 -- The first fault of a script stands in the least line.
-use Rattle.std.proofs.Common.{◌≡◌, ℕ, ◌≤◌, Bool, false, List, [], ◌∷◌, ◌++◌, map, refl, sym, ap, subst, ◌∙◌, append_assoc, arith}
+use Rattle.std.proofs.Common.{◌≡◌, ℕ, ◌≤◌, Bool, false, List, [], ◌∷◌, ◌++◌, map, refl, sym, ap, subst, ◌∙◌}
+use Rattle.std.proofs.Common.{append_assoc, arith}
 use Rattle.std.specs.List.{flat_map}
 use Rattle.vb_syntax.specs.declared.note.Note.{Note}
 use Rattle.vb_syntax.specs.declared.note.ScopeFault.{ScopeFault}
@@ -7,9 +8,11 @@ use Rattle.vb_syntax.specs.declared.unit.ClassMember.{ClassMember}
 use Rattle.vb_syntax.specs.declared.unit.Item.{Item}
 use Rattle.vb_syntax.specs.declared.unit.Item.TheVariants as item
 use Rattle.vb_syntax.specs.declared.unit.Unit.{Unit as Script}
-use Rattle.vb_syntax.specs.scope.Faults.{Faults, SoFar, fresh, notes_faults, kind_faults, in_line, after_kind, after_notes}
+use Rattle.vb_syntax.specs.scope.Faults.{Faults, SoFar, fresh, notes_faults, kind_faults, in_line, after_kind}
+use Rattle.vb_syntax.specs.scope.Faults.{after_notes}
 use Rattle.vb_syntax.specs.scope.Faults.{after_body, body_faults, bodies_faults, member_faults, after_member}
-use Rattle.vb_syntax.specs.scope.Faults.{members_faults, inside_faults, item_faults, after_item, items_faults, faults_of}
+use Rattle.vb_syntax.specs.scope.Faults.{members_faults, inside_faults, item_faults, after_item, items_faults}
+use Rattle.vb_syntax.specs.scope.Faults.{faults_of}
 use Rattle.vb_syntax.specs.scope.Names.{Name}
 use Rattle.vb_syntax.specs.scope.Notes.{Notes}
 use Rattle.vb_syntax.specs.scope.Resolving.{IsFirstFault}
@@ -72,7 +75,8 @@ order-notes scopes before (note ∷ notes) =
 
 module _ (explicit : Bool) (page : Declarations) where
   order-bodies : (class : Declarations) (names : List Name) (bodies : List Body)
-      → InOrder (bodies_faults explicit page class names bodies) (flat_map (λ (body : Body). lines_of (in_body body)) bodies)
+      → InOrder (bodies_faults explicit page class names bodies) (flat_map (λ (body : Body). lines_of (in_body body))
+      bodies)
   order-bodies class names [] = nothing
   order-bodies class names (body ∷ bodies) = both (body_faults explicit page class names body)
       (bodies_faults explicit page class (after_body names body) bodies) (lines_of (in_body body))
@@ -124,7 +128,8 @@ below-append : (line : ℕ) (some more : Faults) → NoneBelow line (fault_lines
 below-append line [] more one other = other
 below-append line (found ∷ some) more one other = (one.0, below-append line some more one.1 other)
 
-below-line : (line other : ℕ) (found : List ScopeFault) → line ≤ other → NoneBelow line (fault_lines (in_line other found))
+below-line : (line other : ℕ) (found : List ScopeFault) → line ≤ other → NoneBelow line (fault_lines (in_line other
+    found))
 below-line line other [] le = tt
 below-line line other (first ∷ found) le = (le, below-line line other found le)
 

@@ -14,7 +14,8 @@ use Rattle.vb_syntax.specs.scope.Faults.{after_kind, where_true, is_declared, is
 use Rattle.vb_syntax.specs.scope.Names.{Name, has_name}
 use Rattle.vb_syntax.specs.scope.Notes.{Notes}
 use Rattle.vb_syntax.specs.scope.Scopes.{Scopes, named_in, object_in}
-use Rattle.scope_laws.specs.Unique.{lines_where, is_redefined, is_const_target, later_clashes, told_line, clash_line, said}
+use Rattle.scope_laws.specs.Unique.{lines_where, is_redefined, is_const_target, later_clashes, told_line, clash_line}
+use Rattle.scope_laws.specs.Unique.{said}
 use Rattle.scope_laws.specs.Unique.{Declaration, clash, clashes, written, written_constants, constant_line}
 use Rattle.scope_laws.proofs.Clashes.{declared-push, clashes-push}
 

@@ -24,7 +24,8 @@ use Rattle.scope_laws.specs.Unique.{lines_where, Declaration, said, is_redefined
 use Rattle.scope_laws.specs.Unique.{told_line, clash_line, written_constants, constant_line, written}
 use Rattle.scope_laws.proofs.Lines.{Tells, tells-none, tells-after, lines-append, redefined-from, constants_written_lem}
 
-often-append : (line : ℕ) (some more : List ℕ) → how_often line (some ++ more) ≡ how_often line some + how_often line more
+often-append : (line : ℕ) (some more : List ℕ) → how_often line (some ++ more) ≡ how_often line some + how_often line
+    more
 often-append line [] more = omega arith
 often-append line (first ∷ some) more =
     let later : how_often line (some ++ more) ≡ how_often line some + how_often line more =
@@ -137,7 +138,8 @@ module _ (test : ScopeFault → Bool) (lines_of : Scopes → List Declaration �
         let split_own : told (own ++ inside) ≡ told own + told inside = told-append own inside in
         let notes : how_often line (lines_of outer earlier (member_notes found ++ flat_map member_notes members))
         ≡ how_often line (lines_of outer earlier (member_notes found))
-        + how_often line (lines_of outer (earlier ++ declared_by (member_notes found)) (flat_map member_notes members)) =
+        + how_often line (lines_of outer (earlier ++ declared_by (member_notes found)) (flat_map member_notes
+        members)) =
         joined-often outer earlier (member_notes found) (flat_map member_notes members) in
         let bodies : due (map (place_of explicit page class) (member_body found ++ flat_map member_body members))
         ≡ due (map (place_of explicit page class) (member_body found))

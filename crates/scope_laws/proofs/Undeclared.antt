@@ -20,7 +20,8 @@ use Rattle.vb_syntax.specs.declared.program.name.Named.TheVariants as named
 use Rattle.vb_syntax.specs.declared.program.name.Slot.TheVariants as slot
 use Rattle.vb_syntax.specs.scope.Names.{Name, number_of_key, first_of, of_language, object_named}
 use Rattle.vb_syntax.specs.scope.Notes.{Notes}
-use Rattle.vb_syntax.specs.scope.Scopes.{Declarations, Scopes, with_name, with_variable, place_at, declare, declare_note}
+use Rattle.vb_syntax.specs.scope.Scopes.{Declarations, Scopes, with_name, with_variable, place_at, declare}
+use Rattle.vb_syntax.specs.scope.Scopes.{declare_note}
 use Rattle.vb_syntax.specs.scope.Scopes.{declared, nothing_declared, standing_in, standing_at, declared_in, named_in}
 use Rattle.vb_syntax.specs.scope.Scopes.{is_unknown, mentioned, resized, made_by, with_made, on_page_in, scopes_of}
 use Rattle.vb_syntax.specs.scope.Scopes.{page_scope_of, body_scope_of}
@@ -234,7 +235,8 @@ module _ (at : Level) (around : Declarations → Scopes) where
 
   -- what stands for a key around a scope, where the scope has none
   abbrev Outside : Name → Option Named → Type 0
-  Outside key rest = (found : Declarations) → declared_in (around found) false key ≡ or_else (standing_in found key) rest
+  Outside key rest = (found : Declarations) → declared_in (around found) false key ≡ or_else (standing_in found key)
+      rest
 
   itself : (key : Name) → pointwise nat_eq key key ≡ true
   itself key = (bytes_eq-Decides key key).1 refl
@@ -299,7 +301,8 @@ outside-page : (key : Name) → Outside level.Page on_page_in key None
 unfolding declared_in
 outside-page key found = first-alone (standing_in found key)
 
-first-more : (found : Option Named) (more : List (Option Named)) → first_of (found ∷ more) ≡ or_else found (first_of more)
+first-more : (found : Option Named) (more : List (Option Named)) → first_of (found ∷ more) ≡ or_else found (first_of
+    more)
 first-more None more = refl
 first-more (Some found) more = refl
 

@@ -26,7 +26,11 @@ place_of explicit page class body = (body_scopes explicit page class body, in_bo
 -- the scopes inside an item: that of a procedure, or those of a class and of its methods and properties
 abbrev pub places_inside : Bool → Declarations → Item → List Place
 places_inside explicit page (item.Procedure found) = place_of explicit page nothing_declared (body_of false found) ∷ []
-places_inside explicit page (item.Class found) = (scopes_of page (class_scope found) nothing_declared, in_class_of found)
+places_inside explicit page (item.Class found) = (
+  scopes_of page (class_scope found) nothing_declared,
+  in_class_of
+      found,
+)
     ∷ map (place_of explicit page (class_scope found)) (bodies_in found)
 places_inside explicit page _ = []
 
