@@ -11,4 +11,8 @@ pub mod Bounds
 pub mod Same
 pub mod Staying
 pub mod Locking
+pub mod Trimming
+pub mod Ticking
+pub mod Admitting
 pub mod Halting
+pub mod Refusing

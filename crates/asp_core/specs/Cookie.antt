@@ -33,7 +33,12 @@ abbrev pub key_in_piece : List ℕ → Option (List ℕ) → Option ℕ
 key_in_piece seed None = None
 key_in_piece seed (Some piece) = key_of_letters seed (drop (length cookie_name) piece)
 
+abbrev pub is_cookie : List ℕ → Bool
+is_cookie piece = starts_with nat_eq piece cookie_name
+
+abbrev pub cookie_if : List ℕ → Option (List ℕ)
+cookie_if piece = if is_cookie piece then Some piece else None
+
 -- The first piece that begins so is the session cookie, and the rest of it the letters of a key.
 abbrev pub cookie_key_in : List ℕ → Request → Option ℕ
-cookie_key_in seed request =
-    key_in_piece seed (find (λ piece. starts_with nat_eq piece cookie_name) (flat_map cookie_pieces request.headers))
+cookie_key_in seed request = key_in_piece seed (find is_cookie (flat_map cookie_pieces request.headers))

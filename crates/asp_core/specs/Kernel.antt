@@ -225,12 +225,10 @@ abbrev pub StandsAsBefore : {State : Type 0} → (State → Told → ℕ → Typ
     RunView State → RunView State → Type 0
 StandsAsBefore stands meaning old new = (t : Told) → StandsFor stands meaning old t → StandsFor stands meaning new t
 
--- The run is one of the core's unfinished runs, of that lane, and was told what the journal says. The answers that
--- stand
+-- The run is one of the core's unfinished runs, of that lane, and was told what the journal says. The answers that stand
 -- in for its own are those of its work.
 pub record IsRunOf {R Site State : Type 0} (meaning : R → Site → Meaning)
-    (stands : R → Site → State → Told → ℕ → Type 0) (core : CoreView R Site) (lane : ℕ) (run : RunView State) : Type
-    0 where
+    (stands : R → Site → State → Told → ℕ → Type 0) (core : CoreView R Site) (lane : ℕ) (run : RunView State) : Type 0 where
   pub running : IsRunning (past_of core) lane run.number
   pub stands_for : StandsFor (stands core.runner core.site) (meaning core.runner core.site) run
       (told (rules_of meaning core) (past_of core) run.number)

@@ -11,9 +11,9 @@ ghost use Rattle.asp_job.specs.Turns as turns;
 ghost use Rattle.asp_job.specs.declared.entry.TheConstants.{MOST_ENTRIES};
 ghost use Rattle.asp_core.specs.Kernel as kernel;
 
-use crate::keys::{due_at, has_most_keys, is_askable, live};
-use crate::scan::{drawn, made, moment_of};
-use asp_job::{Entry, Job, SessionState, What, Work};
+use crate::keys::{due_at, live};
+use crate::scan::{drawn, moment_of};
+use asp_job::{Entry, SessionState, What, Work};
 use std::alloc::Global;
 use vb_value::{List, Memory};
 
@@ -108,35 +108,4 @@ pub fn stop_entries(
         },
     })?;
     Ok(entries)
-}
-
-/// How a job is admitted, or that it is refused.
-pub fn admission(
-    journal: &[Entry],
-    table: &[Option<SessionState>],
-    keyed: bool,
-    asked: u32,
-    job: Job,
-) -> What
-    requires { history.entries_in (reverse journal.now) ≤ MOST_ENTRIES + MOST_ENTRIES }
-    ensures { result ≡ journals.admission keyed asked (kernel.session_at table.now) (reverse journal.now) job }
-{
-    let run = drawn(journal) as u32 + 1;
-    let needs = keyed && !is_askable(journal, table, asked as u64);
-    if needs && has_most_keys(journal, table) {
-        return What::Refuse { run, job };
-    }
-    let key = if needs {
-        made(journal) as u32 + 1
-    } else if keyed {
-        asked
-    } else {
-        0
-    };
-    What::Admit {
-        run,
-        key,
-        fresh: needs,
-        job,
-    }
 }

@@ -8,12 +8,16 @@ ghost use Rattle.asp_job.specs.History as history;
 ghost use Rattle.asp_job.specs.Journal as journals;
 ghost use Rattle.asp_job.specs.Keys as spec;
 ghost use Rattle.asp_job.specs.declared.entry.TheConstants.{MOST_ENTRIES};
+ghost use Rattle.asp_job.specs.Size.{IsSmall};
+ghost use Rattle.asp_core.specs.Drawing as drawing;
 ghost use Rattle.asp_core.specs.Kernel as kernel;
 
+use crate::admitted::Drawn;
+use crate::drawing::add_job;
 use crate::entries::{stop_entries, tick_entries};
 use crate::room::{append, fit};
 use crate::stop::EventStop;
-use asp_job::{Answer, Entry, Runner, SessionState};
+use asp_job::{Answer, Entry, Job, Runner, SessionState};
 use std::snapshot::Snapshot;
 
 /// The journal after a Tick. A refusal leaves it.
@@ -105,4 +109,51 @@ pub fn with_stop<R: Runner>(
         return Err(EventStop::Memory);
     }
     fit(journal, answers, first)
+}
+
+/// The journal after a job. A refusal leaves it.
+#[tactic(auto, using(crate::proofs::Admitting::job_made, crate::proofs::Admitting::job_entry, crate::proofs::Past::take_first))]
+pub fn with_job<R: Runner>(
+    runner: &R,
+    site: &R::Site,
+    seed: &[u8; 32],
+    journal: &mut Vec<Entry>,
+    answers: &mut Vec<(u32, Answer)>,
+    table: &[Option<SessionState>],
+    lane: u32,
+    job: &Job,
+) -> Result<Drawn, EventStop>
+    requires sessions { kernel.session_at table.now
+        ≡ spec.session_of (kernel.rules_by (R.meaning runner.now site.now) seed.now) (reverse journal.old.items) }
+    requires few { history.entries_in (reverse journal.old.items) ≤ MOST_ENTRIES }
+    requires small { IsSmall job.now }
+    ensures entries { OnOk result (journal.new.items ≡ journal.old.items ++ journals.admit_entries
+        (kernel.rules_by (R.meaning runner.now site.now) seed.now) (reverse journal.old.items) lane job.now) }
+    ensures drawn { IfOk result (drawing.IsDrawn (drawing.entry_then
+        (kernel.rules_by (R.meaning runner.now site.now) seed.now) (reverse journal.old.items) lane job.now).what) }
+    ensures err { OnErr result (journal.new.items ≡ journal.old.items) }
+    ensures answers { answers.new.items ≡ answers.old.items }
+    ensures capacity { vec_capacity journal.old ≤ vec_capacity journal.new }
+    ensures capacity_of_answers { vec_capacity answers.old ≤ vec_capacity answers.new }
+    ensures within { OnOk result (kernel.IsWithin (reverse journal.new.items)) }
+    ensures room { OnOk result (kernel.HasRoom (reverse journal.new.items)
+        (length answers.old.items + 1) (vec_capacity journal.new)) }
+    ensures answer_room { OnOk result (kernel.HasAnswerRoom (reverse journal.new.items)
+        (length answers.old.items + 1) (vec_capacity answers.new)) }
+    ensures full { (entries weight : ℕ) → result ≡ Err (EventStop.JournalFull entries weight) →
+        kernel.IsTooMuch (journals.past_after (reverse journal.old.items) (journals.admit_entries
+        (kernel.rules_by (R.meaning runner.now site.now) seed.now) (reverse journal.old.items) lane job.now))
+        entries weight }
+{
+    let first = journal.len();
+    match add_job(runner, site, seed, journal, table, lane, job) {
+        Ok(drawn) => match fit(journal, answers, first) {
+            Ok(()) => Ok(drawn),
+            Err(stop) => Err(stop),
+        },
+        Err(_) => {
+            journal.truncate(first);
+            Err(EventStop::Memory)
+        }
+    }
 }

@@ -1,12 +1,17 @@
 //! The core of a host: it keeps the journal of a site's runs, one event after another.
 #![tactic(auto)]
 
+mod admit;
+mod admitted;
+mod cookie;
+mod drawing;
 mod entries;
 mod events;
 mod hands;
 mod kernel;
 mod keys;
 mod laws;
+mod places;
 mod ready;
 mod room;
 mod run;
@@ -15,6 +20,7 @@ mod stop;
 mod weighing;
 mod works;
 
+pub use admitted::Admitted;
 pub use kernel::Core;
 pub use laws::{lock_holds, runs_stay};
 pub use ready::{BODY_ROOM, MOST_BODIES};

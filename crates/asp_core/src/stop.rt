@@ -1,4 +1,6 @@
 //! Why calls of the core are refused.
+ghost use Rattle.std.specs.Prelude.{◌≡◌};
+ghost use Rattle.asp_core.specs.Stops as spec;
 
 use vb_value::Memory;
 
@@ -66,6 +68,16 @@ pub enum AppStepStop {
     },
     /// Memory ran out.
     Memory,
+}
+
+/// The same for a job.
+pub(crate) fn admit_stop(stop: EventStop) -> AdmitStop
+    ensures { result ≡ spec.admit_stop stop }
+{
+    match stop {
+        EventStop::JournalFull { entries, weight } => AdmitStop::JournalFull { entries, weight },
+        EventStop::Memory => AdmitStop::Memory,
+    }
 }
 
 impl From<Memory> for EventStop {

@@ -10,6 +10,6 @@ mod stop;
 mod waiting;
 
 pub use after::After;
-pub use cookie::letters;
+pub use cookie::{key_of_letters, letters};
 pub use sessions::Sessions;
 pub use stop::KeyStop;

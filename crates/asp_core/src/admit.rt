@@ -1,0 +1,145 @@
+//! The call of the core that takes a job.
+#![tactic(auto)]
+
+ghost use Rattle.std.specs.Prelude.{◌≡◌, ◌↔◌, ◌≤◌, ◌<◌, ℕ, length, reverse, true, false, Err, OnOk, OnErr, IfOk};
+ghost use Rattle.std.specs.Prelude.{vec_capacity, Result, Ok};
+ghost use Rattle.vb_value.specs.Outcome.{Changes};
+ghost use Rattle.asp_job.specs.History as history;
+ghost use Rattle.asp_job.specs.Journal as journals;
+ghost use Rattle.asp_job.specs.Keys as spec;
+ghost use Rattle.asp_job.specs.Runs as runs;
+ghost use Rattle.asp_job.specs.Running.{is_page};
+ghost use Rattle.asp_job.specs.Size.{IsSmall};
+ghost use Rattle.asp_job.specs.Turns as turns;
+ghost use Rattle.asp_job.specs.declared.entry.TheConstants.{MOST_ENTRIES, MOST_WAITING};
+ghost use Rattle.asp_core.specs.Drawing as drawing;
+ghost use Rattle.asp_core.specs.Kernel as kernel;
+ghost use Rattle.asp_core.specs.Stops as stops;
+ghost use Rattle.asp_core.specs.Taking as taking;
+
+use crate::admitted::Admitted;
+use crate::events::with_job;
+use crate::kernel::Core;
+use crate::keys::waiting_pages;
+use crate::places::{add_answer, add_place};
+use crate::scan::is_stopping;
+use crate::stop::{AdmitStop, EventStop, admit_stop};
+use asp_job::{Answer, Entry, Job, MOST_WAITING, Runner, SessionState};
+use vb_value::Memory;
+
+fn refused_before(journal: &[Entry]) -> Option<AdmitStop>
+    ensures { result ≡ taking.refused_before (reverse journal.now) }
+{
+    if is_stopping(journal) {
+        Some(AdmitStop::Stopping)
+    } else if waiting_pages(journal) >= MOST_WAITING as u64 {
+        Some(AdmitStop::WaitingFull)
+    } else {
+        None
+    }
+}
+
+fn reserve_place(table: &mut Vec<Option<SessionState>>) -> Result<(), Memory>
+    ensures items { table.new.items ≡ table.old.items }
+    ensures room { OnOk result (length table.new.items < vec_capacity table.new) }
+{
+    Ok(table.reserve(1)?)
+}
+
+/// The journal, the answers and the table after a job. A refusal leaves them.
+#[tactic(auto, using(crate::proofs::Admitting::answers_few))]
+pub(crate) fn take_job<R: Runner>(
+    runner: &R,
+    site: &R::Site,
+    seed: &[u8; 32],
+    journal: &mut Vec<Entry>,
+    answers: &mut Vec<(u32, Answer)>,
+    table: &mut Vec<Option<SessionState>>,
+    lane: u32,
+    job: &Job,
+) -> Result<Admitted, EventStop>
+    requires sessions { kernel.session_at table.old.items
+        ≡ spec.session_of (kernel.rules_by (R.meaning runner.now site.now) seed.now) (reverse journal.old.items) }
+    requires few { history.entries_in (reverse journal.old.items) ≤ MOST_ENTRIES }
+    requires small { IsSmall job.now }
+    ensures ok { OnOk result (taking.HasTaken (kernel.rules_by (R.meaning runner.now site.now) seed.now)
+        lane job.now journal.old.items table.old.items answers.old.items
+        journal.new.items table.new.items answers.new.items
+        (vec_capacity journal.new) (vec_capacity answers.new)) }
+    ensures told { IfOk result (λ told. told ≡ drawing.told_of (drawing.entry_then
+        (kernel.rules_by (R.meaning runner.now site.now) seed.now) (reverse journal.old.items) lane job.now).what) }
+    ensures err { OnErr result ((journal.new.items ≡ journal.old.items) × (table.new.items ≡ table.old.items)
+        × (answers.new.items ≡ answers.old.items)) }
+    ensures capacity { OnErr result ((vec_capacity journal.old ≤ vec_capacity journal.new)
+        × (vec_capacity answers.old ≤ vec_capacity answers.new)) }
+    ensures full { (entries weight : ℕ) → result ≡ Err (EventStop.JournalFull entries weight) →
+        kernel.IsTooMuch (journals.past_after (reverse journal.old.items) (journals.admit_entries
+        (kernel.rules_by (R.meaning runner.now site.now) seed.now) (reverse journal.old.items) lane job.now))
+        entries weight }
+{
+    if reserve_place(table).is_err() {
+        return Err(EventStop::Memory);
+    }
+    let drawn = match with_job(
+        runner,
+        site,
+        seed,
+        journal,
+        answers,
+        table.as_slice(),
+        lane,
+        job,
+    ) {
+        Ok(drawn) => drawn,
+        Err(stop) => return Err(stop),
+    };
+    add_place(table, drawn.fresh);
+    add_answer(answers, drawn.told.run, drawn.answer);
+    Ok(drawn.told)
+}
+
+impl<R: Runner> Core<R> {
+    /// A job of a page comes. Where its moment is greater than the last one, time goes on first, and sessions end; an
+    /// earlier one is taken as the last. It is refused where it needs a new key and none can be made: then its answer
+    /// waits. Any other refusal changes nothing.
+    pub fn admit(
+        &mut self,
+        lane: u32,
+        runner: &R,
+        site: &R::Site,
+        job: &Job,
+    ) -> Result<Admitted, AdmitStop>
+        requires host { kernel.IsHostOf self.old runner.now site.now }
+        requires page { is_page job.now.work ≡ true }
+        requires small { IsSmall job.now }
+        ensures ok { OnOk result (self.new ≡ kernel.grown self.old (journals.admit_entries
+            (kernel.rules_of R.meaning self.old) (kernel.past_of self.old) lane job.now)) }
+        ensures told { IfOk result (λ told. told ≡ drawing.told_of (drawing.entry_then
+            (kernel.rules_of R.meaning self.old) (kernel.past_of self.old) lane job.now).what) }
+        ensures stopping { result ≡ Err AdmitStop.Stopping ↔ (runs.is_stopping (kernel.past_of self.old) ≡ true) }
+        ensures waiting { result ≡ Err AdmitStop.WaitingFull ↔ ((runs.is_stopping (kernel.past_of self.old) ≡ false)
+            × (MOST_WAITING ≤ length (turns.waiting_pages (kernel.past_of self.old)))) }
+        ensures full { (entries weight : ℕ) → result ≡ Err (AdmitStop.JournalFull entries weight) →
+            kernel.IsTooMuch (journals.past_after (kernel.past_of self.old) (journals.admit_entries
+            (kernel.rules_of R.meaning self.old) (kernel.past_of self.old) lane job.now)) entries weight }
+        ensures err { OnErr result (self.new ≡ self.old) }
+    {
+        if let Some(stop) = refused_before(self.journal.as_slice()) {
+            return Err(stop);
+        }
+        let made = take_job(
+            runner,
+            site,
+            &self.seed,
+            &mut self.journal,
+            &mut self.answers,
+            &mut self.table,
+            lane,
+            job,
+        );
+        match made {
+            Ok(told) => Ok(told),
+            Err(stop) => Err(admit_stop(stop)),
+        }
+    }
+}
