@@ -16,3 +16,6 @@ pub mod Ticking
 pub mod Admitting
 pub mod Halting
 pub mod Refusing
+pub mod Jobs
+pub mod Answering
+pub mod Handing

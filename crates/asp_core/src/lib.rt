@@ -17,6 +17,7 @@ mod room;
 mod run;
 mod scan;
 mod stop;
+mod takes;
 mod weighing;
 mod works;
 
