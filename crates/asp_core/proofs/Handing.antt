@@ -193,7 +193,8 @@ IsFirst past lane answers run = option_map (λ (one : ℕ × Answer). one.0) (fi
 pub can_take_run : (m : Rules) (past : List Entry) (lane run : ℕ) (answers : List (ℕ × Answer)) → AreRight m past
     → IsAnswered m past → answers ≡ ready m past → IsFirst past lane answers run → CanTake m past lane run
 can_take_run m past lane run answers right answered is e =
-    let first = first_given (first_for past lane (ready m past)) run (subst (λ list. IsFirst past lane list run) is e) in
+    let before = subst (λ list. IsFirst past lane list run) is e in
+    let first = first_given (first_for past lane (ready m past)) run before in
     subst (CanTake m past lane) first.2 (can_take_first m past lane first.0 right answered first.1).0
 
 pair_is : (run : ℕ) (answer : Answer) (given : ℕ × Answer) → given.0 ≡ run → Some given.1 ≡ Some answer
@@ -207,7 +208,8 @@ pub first_is : (m : Rules) (past : List Entry) (lane run : ℕ) (answer : Answer
     → AreRight m past → IsAnswered m past → answers ≡ ready m past → IsFirst past lane answers run
     → lookup (nat_eq run) answers ≡ Some answer → Some (run, answer) ≡ first_for past lane (ready m past)
 first_is m past lane run answer answers right answered is e found =
-    let first = first_given (first_for past lane (ready m past)) run (subst (λ list. IsFirst past lane list run) is e) in
+    let before = subst (λ list. IsFirst past lane list run) is e in
+    let first = first_given (first_for past lane (ready m past)) run before in
     let has = (can_take_first m past lane first.0 right answered first.1).1 in
     let same = sym has ∙ ap (λ k. lookup (nat_eq k) (ready m past)) first.2
     ∙ ap (lookup (nat_eq run)) (sym is) ∙ found in

@@ -19,3 +19,6 @@ pub mod Refusing
 pub mod Jobs
 pub mod Answering
 pub mod Handing
+pub mod Counts
+pub mod Made
+pub mod Ending

@@ -6,3 +6,4 @@ pub mod Drawing
 pub mod Stops
 pub mod Standing
 pub mod Taking
+pub mod Ends

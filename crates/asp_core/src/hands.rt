@@ -16,7 +16,8 @@ use crate::takes::{collect_stop, take_run};
 use asp_job::{Answer, Entry, Runner, What};
 
 impl<R: Runner> Core<R> {
-    /// Hands the answer of a run out, to the lane that asked for the run. A refusal changes nothing. It takes no memory.
+    /// Hands the answer of a run out, to the lane that asked for the run. It takes no memory. A refusal changes
+    /// nothing.
     pub fn collect(&mut self, lane: u32, run: u32) -> Result<Answer, CollectStop>
         ensures stop { spec.stop_of result ≡ spec.collect_stop (past_of self.old) lane run }
         ensures answer { IfOk result (λ answer.

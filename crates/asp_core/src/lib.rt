@@ -5,6 +5,7 @@ mod admit;
 mod admitted;
 mod cookie;
 mod drawing;
+mod ends;
 mod entries;
 mod events;
 mod hands;

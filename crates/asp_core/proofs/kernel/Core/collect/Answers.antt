@@ -1,5 +1,5 @@
-use Rattle.std.proofs.Common.{◌≡◌, ◌<◌, ◌++◌, ◌∷◌, [], ℕ, reverse, length, nat_eq, None, Some, IsSome, ap, sym, subst, ◌∙◌}
-use Rattle.std.proofs.Common.{arith, vec_capacity, vec_len}
+use Rattle.std.proofs.Common.{◌≡◌, ◌<◌, ◌++◌, ◌∷◌, [], ℕ, reverse, length, nat_eq, None, Some, IsSome, ap, sym}
+use Rattle.std.proofs.Common.{subst, ◌∙◌, arith, vec_capacity, vec_len}
 use Rattle.std.specs.Map.{lookup}
 use Rattle.std.proofs.lemmas.Grind.{common_steps}
 use Rattle.asp_core.specs.Kernel.{CoreView, grown, past_of, rules_by, rules_of}
