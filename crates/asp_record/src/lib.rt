@@ -4,10 +4,17 @@
 mod call;
 mod entry;
 mod fields;
+mod line;
+mod one_request;
+mod reading;
 mod recording;
+mod scanning;
+mod stop;
 mod value;
 mod writing;
 
 pub use entry::entry_line;
+pub use reading::read_recording;
 pub use recording::{Item, Recording};
+pub use stop::RecordStop;
 pub use writing::write_recording;
