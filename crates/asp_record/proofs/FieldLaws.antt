@@ -1,12 +1,12 @@
 -- A field that is read is the field that was written, and what was written is read again.
-use Rattle.std.proofs.Common.{◌≡◌, ℕ, zero, suc, ◌+◌, ◌^◌, ◌<◌, ◌≤◌, Bool, true, false, cond, ltb, eqb, not, ◌&&◌, List, [], ◌∷◌, ◌++◌}
-use Rattle.std.proofs.Common.{length, get_or, take, drop, Option, Some, None, refl, sym, ap, ◌∙◌, append_assoc, arith, inl, inr, ◌⊎◌}
+use Rattle.std.proofs.Common.{◌≡◌, ℕ, suc, ◌+◌, ◌<◌, Bool, true, false, cond, ltb, eqb, not, ◌&&◌, List, [], ◌∷◌, ◌++◌}
+use Rattle.std.proofs.Common.{length, get_or, take, drop, Option, Some, None, refl, sym, ap, ◌∙◌, arith, inl, inr, ◌⊎◌}
 use Rattle.std.specs.List.{prefix_len}
 use Rattle.std.specs.Char.{digit_value}
 use Rattle.std.specs.Fmt.{decimal}
 use Rattle.std.specs.Str.{bytes_eq}
 use Rattle.std.specs.Str.Parse.{AllDigits, digits_value}
-use Rattle.std.proofs.lemmas.Bool.{cases_lt, ltb-true, ltb-false, lt-ltb}
+use Rattle.std.proofs.lemmas.Bool.{cases_lt, ltb-true, lt-ltb}
 use Rattle.std.proofs.lemmas.Bool.Decides.{nat_tests}
 use Rattle.std.proofs.lemmas.Fmt.{decimal-digits_value, decimal_digit, decimal_is_IsNumeral, first_decimal}
 use Rattle.std.proofs.lemmas.List.{take_at, drop_at, take-append-drop, length-append, length-take-le}
@@ -105,9 +105,11 @@ number_is bytes n rest e =
     let back : drop count bytes ≡ rest = ap (λ (p : ℕ × List ℕ). p.1) g.1 in
     let small : digits_value 10 digits < 1099511627776 = ltb-true _ _ tests.1 in
     let tells = plain_tells digits tests.0 in
-    let text : decimal (digits_value 10 digits) ≡ digits = decimal-digits_value own digits (run_digits bytes) tells.0 tells.1 (omega (arith, small)) in
-    (sym (take-append-drop count bytes) ∙ ap (λ l. l ++ drop count bytes) (sym text)
-    ∙ ap (λ m. decimal m ++ drop count bytes) value ∙ ap (λ l. decimal n ++ l) back, omega (arith, small, value))
+    let text : decimal (digits_value 10 digits) ≡ digits = decimal-digits_value own digits (run_digits bytes) tells.0 tells.1 (omega (arith, small)) in (
+      sym (take-append-drop count bytes) ∙ ap (λ l. l ++ drop count bytes) (sym text)
+          ∙ ap (λ m. decimal m ++ drop count bytes) value ∙ ap (λ l. decimal n ++ l) back,
+      omega (arith, small, value),
+    )
 
 pub marked_again : (n mark : ℕ) (word rest : List ℕ) → n < 1099511627776 → is_digit mark ≡ false
     → marked_at (mark ∷ word) (decimal n ++ mark ∷ (word ++ rest)) ≡ Some (n, rest)
@@ -125,9 +127,11 @@ marked_is word bytes n rest e =
     let later = second.0 in
     let number = number_is bytes m.0 m.1 first.1 in
     let number_same : m.0 ≡ n = grind (arith, second.2) in
-    let rest_same : later ≡ rest = grind (arith, second.2) in
-    (number.0 ∙ ap (λ l. decimal m.0 ++ l) (behind_is word m.1 later second.1)
-    ∙ ap (λ k. decimal k ++ (word ++ later)) number_same ∙ ap (λ l. decimal n ++ (word ++ l)) rest_same, omega (arith, number.1, number_same))
+    let rest_same : later ≡ rest = grind (arith, second.2) in (
+      number.0 ∙ ap (λ l. decimal m.0 ++ l) (behind_is word m.1 later second.1)
+          ∙ ap (λ k. decimal k ++ (word ++ later)) number_same ∙ ap (λ l. decimal n ++ (word ++ l)) rest_same,
+      omega (arith, number.1, number_same),
+    )
 
 pub counted_again : (text rest : List ℕ) → counted_at (length text) (text ++ 10 ∷ rest) ≡ Some (text, rest)
 unfolding counted_at
@@ -145,9 +149,11 @@ counted_is count bytes text rest e =
     let within : count < length bytes = ltb-true _ _ g.0 in
     let text_is : take count bytes ≡ text = grind (arith, second.2) in
     let rest_is : later ≡ rest = grind (arith, second.2) in
-    let size : length (take count bytes) ≡ count = length-take-le count bytes (omega (arith, within)) in
-    (sym (take-append-drop count bytes) ∙ ap (λ l. take count bytes ++ l) (behind_is (10 ∷ []) (drop count bytes) later second.1)
-    ∙ ap (λ l. l ++ 10 ∷ later) text_is ∙ ap (λ l. text ++ 10 ∷ l) rest_is, ap length (sym text_is) ∙ size)
+    let size : length (take count bytes) ≡ count = length-take-le count bytes (omega (arith, within)) in (
+      sym (take-append-drop count bytes) ∙ ap (λ l. take count bytes ++ l) (behind_is (10 ∷ []) (drop count bytes) later second.1)
+          ∙ ap (λ l. l ++ 10 ∷ later) text_is ∙ ap (λ l. text ++ 10 ∷ l) rest_is,
+      ap length (sym text_is) ∙ size,
+    )
   where
     cond_step : {A : Type 0} (b : Bool) (o : Option A) (y : A) → cond b o None ≡ Some y → (b ≡ true) × (o ≡ Some y)
     cond_step true o y e = (refl, e)

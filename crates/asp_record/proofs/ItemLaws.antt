@@ -1,9 +1,9 @@
 -- An item that is read is the item that was written, and what was written is read again.
-use Rattle.std.proofs.Common.{◌≡◌, ℕ, ◌<◌, Bool, true, false, cond, ltb, List, [], ◌∷◌, ◌++◌, length, Option, Some, None}
+use Rattle.std.proofs.Common.{◌≡◌, ℕ, ◌<◌, true, cond, ltb, List, [], ◌∷◌, ◌++◌, length, Option, Some, None}
 use Rattle.std.proofs.Common.{refl, sym, ap, ◌∙◌, append_assoc, arith}
 use Rattle.std.specs.Prelude.{codes}
 use Rattle.std.specs.Fmt.{decimal}
-use Rattle.std.proofs.lemmas.Bool.{ltb-true, lt-ltb}
+use Rattle.std.proofs.lemmas.Bool.{lt-ltb}
 use Rattle.std.proofs.lemmas.Option.{cond_some, some_pair_parts}
 use Rattle.asp_record.specs.declared.recording.Item.{Item}
 use Rattle.asp_record.specs.declared.recording.Item.TheVariants.{Request, Tick}
@@ -11,7 +11,7 @@ use Rattle.asp_record.specs.Lines.{number}
 use Rattle.asp_record.specs.Recording.{item_text, request_text, tick_text}
 use Rattle.asp_record.specs.Fields.{◌>>=◌, behind, counted_at, marked_at}
 use Rattle.asp_record.specs.Reading.{item_at, item_by, request_at, tick_at}
-use Rattle.asp_record.proofs.FieldLaws.{behind_again, behind_is, counted_again, counted_is, marked_again, marked_is, step_is}
+use Rattle.asp_record.proofs.FieldLaws.{behind_is, counted_again, counted_is, marked_again, marked_is, step_is}
 
 -- the numbers of an item are those that a line may have
 abbrev pub IsSmall : Item → Type 0
@@ -31,8 +31,13 @@ request_again client moment bytes rest small =
     let third = decimal (length bytes) ++ 10 ∷ (bytes ++ 10 ∷ rest) in
     let second = decimal moment ++ 32 ∷ third in
     let low : ltb client 4294967296 ≡ true = lt-ltb client 4294967296 small.0 in
-    rw (marked_again client 32 [] second (omega (arith, small.0)) refl, marked_again moment 32 [] third small.1 refl,
-      marked_again (length bytes) 10 [] (bytes ++ 10 ∷ rest) small.2 refl, counted_again bytes rest, low) refl
+    rw (
+      marked_again client 32 [] second (omega (arith, small.0)) refl,
+      marked_again moment 32 [] third small.1 refl,
+      marked_again (length bytes) 10 [] (bytes ++ 10 ∷ rest) small.2 refl,
+      counted_again bytes rest,
+      low,
+    ) refl
 
 parts : (a b c d mark bytes end rest : List ℕ) → (((a ++ b ++ c ++ d) ++ mark) ++ (bytes ++ end)) ++ rest
     ≡ a ++ (b ++ (c ++ (d ++ (mark ++ (bytes ++ (end ++ rest))))))
@@ -76,10 +81,10 @@ unfolding request_at
 request_is bytes item rest e =
     let last = λ (client moment : ℕ) (text : List ℕ × List ℕ). cond (ltb client 4294967296) (Some (Request client moment text.0, text.1)) None in
     let a = step_is (marked_at (32 ∷ []) bytes) (λ client. marked_at (32 ∷ []) client.1 >>= λ moment.
-      marked_at (10 ∷ []) moment.1 >>= λ count. counted_at count.0 count.1 >>= last client.0 moment.0) (item, rest) e in
+    marked_at (10 ∷ []) moment.1 >>= λ count. counted_at count.0 count.1 >>= last client.0 moment.0) (item, rest) e in
     let client = a.0 in
     let b = step_is (marked_at (32 ∷ []) client.1) (λ moment.
-      marked_at (10 ∷ []) moment.1 >>= λ count. counted_at count.0 count.1 >>= last client.0 moment.0) (item, rest) a.2 in
+    marked_at (10 ∷ []) moment.1 >>= λ count. counted_at count.0 count.1 >>= last client.0 moment.0) (item, rest) a.2 in
     let moment = b.0 in
     let c = step_is (marked_at (10 ∷ []) moment.1) (λ count. counted_at count.0 count.1 >>= last client.0 moment.0) (item, rest) b.2 in
     let count = c.0 in
@@ -92,13 +97,13 @@ request_is bytes item rest e =
     let fourth = counted_is count.0 count.1 text.0 text.1 d.1 in
     let counted : count.1 ≡ text.0 ++ 10 ∷ text.1 = fourth.0 in
     let numbered : moment.1 ≡ decimal (length text.0) ++ 10 ∷ (text.0 ++ 10 ∷ text.1) =
-      third.0 ∙ ap (λ l. decimal count.0 ++ 10 ∷ l) counted ∙ ap (λ n. decimal n ++ 10 ∷ (text.0 ++ 10 ∷ text.1)) (sym fourth.1) in
+    third.0 ∙ ap (λ l. decimal count.0 ++ 10 ∷ l) counted ∙ ap (λ n. decimal n ++ 10 ∷ (text.0 ++ 10 ∷ text.1)) (sym fourth.1) in
     let later : client.1 ≡ decimal moment.0 ++ 32 ∷ (decimal (length text.0) ++ 10 ∷ (text.0 ++ 10 ∷ text.1)) =
-      second.0 ∙ ap (λ l. decimal moment.0 ++ 32 ∷ l) numbered in
+    second.0 ∙ ap (λ l. decimal moment.0 ++ 32 ∷ l) numbered in
     let all : bytes ≡ decimal client.0 ++ 32 ∷ (decimal moment.0 ++ 32 ∷ (decimal (length text.0) ++ 10 ∷ (text.0 ++ 10 ∷ text.1))) =
-      first.0 ∙ ap (λ l. decimal client.0 ++ 32 ∷ l) later in
+    first.0 ∙ ap (λ l. decimal client.0 ++ 32 ∷ l) later in
     let whole : codes "request " ++ bytes ≡ item_text (Request client.0 moment.0 text.0) ++ text.1 =
-      ap (λ l. codes "request " ++ l) all ∙ sym (request_parts client.0 moment.0 text.0 text.1) in
+    ap (λ l. codes "request " ++ l) all ∙ sym (request_parts client.0 moment.0 text.0 text.1) in
     same_text (codes "request " ++ bytes) (Request client.0 moment.0 text.0) item text.1 rest whole (ap (λ p. Some p) g.1)
 
 by_is : (tick request : Option (List ℕ)) (bytes : List ℕ) (item : Item) (rest : List ℕ)

@@ -1,5 +1,5 @@
 -- Which item comes next.
-use Rattle.std.proofs.Common.{◌≡◌, ◌≢◌, ℕ, ◌+◌, ◌^◌, ◌<◌, ◌≤◌, Bool, true, false, List, [], ◌∷◌, ◌++◌, length, Option, Some, None, Result, Ok, Err}
+use Rattle.std.proofs.Common.{◌≡◌, ℕ, ◌^◌, ◌<◌, ◌≤◌, Bool, true, false, List, [], ◌∷◌, ◌++◌, length, Some, None, Result, Ok, Err}
 use Rattle.std.proofs.Common.{refl, sym, ap, subst, ◌∙◌, append_assoc, append-nil, arith}
 use Rattle.std.specs.Prelude.{IfOk}
 use Rattle.std.specs.Bool.{Decides}
@@ -12,7 +12,7 @@ use Rattle.asp_record.specs.declared.recording.Item.{Item}
 use Rattle.asp_record.specs.declared.recording.Item.TheVariants.{Request, Tick}
 use Rattle.asp_record.specs.Recording.{item_text}
 use Rattle.asp_record.specs.Reading.{item_at}
-use Rattle.asp_record.specs.Recorded.{AreItems, HasNoItem, IsNext, IsOneRequest, ReadsItems, last_of, moment_of}
+use Rattle.asp_record.specs.Recorded.{AreItems, HasNoItem, IsNext, IsOneRequest, last_of, moment_of}
 use Rattle.asp_record.proofs.ItemLaws.{IsSmall, item_again, item_is}
 
 pub tick_next : (now moment : ℕ) (told : Bool) → Decides told ((now ≤ moment) × (moment ≤ 253402300799)) → Decides told (IsNext now (Tick moment))
@@ -76,7 +76,7 @@ pub text_more : (items : List Item) (item : Item) (bytes before after : List ℕ
     → before ≡ item_text item ++ after → bytes ≡ flat_map item_text (items ++ item ∷ []) ++ after
 text_more items item bytes before after text found =
     let all : flat_map item_text (items ++ item ∷ []) ≡ flat_map item_text items ++ item_text item =
-      flat_map-append item_text items (item ∷ []) ∙ ap (λ l. flat_map item_text items ++ l) (append-nil (item_text item)) in
+    flat_map-append item_text items (item ∷ []) ∙ ap (λ l. flat_map item_text items ++ l) (append-nil (item_text item)) in
     text ∙ ap (λ l. flat_map item_text items ++ l) found ∙ sym (append_assoc (flat_map item_text items) (item_text item) after)
     ∙ ap (λ l. l ++ after) (sym all)
 
@@ -91,3 +91,21 @@ shorter item before after found =
     let sum = length-append (item_text item) after in
     let size = ap length found in
     omega (arith, one, sum, size)
+
+-- the items that are read, and what is left, with one item more
+pub record ReadOn (bytes : List ℕ) (items : List Item) (moment : ℕ) (rest : List ℕ) : Type 0 where
+  pub right : AreItems 0 items
+  pub text : bytes ≡ flat_map item_text items ++ rest
+  pub time : moment ≡ last_of 0 items
+
+pub read_on : (bytes rest after : List ℕ) (items longer : List Item) (now moment : ℕ) (item copy : Item) → AreItems 0 items
+    → bytes ≡ flat_map item_text items ++ rest → now ≡ last_of 0 items → IsNext now item × (rest ≡ item_text item ++ after)
+    → copy ≡ item → longer ≡ items ++ copy ∷ [] → moment ≡ moment_of item → ReadOn bytes longer moment after
+read_on bytes rest after items longer now moment item copy right text time found same pushed comes =
+    let all : longer ≡ items ++ item ∷ [] = pushed ∙ ap (λ i. items ++ i ∷ []) same in
+    let next = subst (λ n. IsNext n item) time found.0 in
+    record {
+      right = subst (AreItems 0) (sym all) (items_more 0 items item right next);
+      text = text_more items item bytes rest after text found.1 ∙ ap (λ l. flat_map item_text l ++ after) (sym all);
+      time = comes ∙ sym (last_more 0 items item) ∙ ap (last_of 0) (sym all);
+    }

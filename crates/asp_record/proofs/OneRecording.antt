@@ -1,20 +1,22 @@
 -- Bytes have at most one recording at their front, and are not refused where they have one.
-use Rattle.std.proofs.Common.{◌≡◌, ◌≢◌, ℕ, zero, suc, ◌+◌, ◌<◌, ◌≤◌, List, [], ◌∷◌, ◌++◌, length, Option, Some, None, inl, inr}
+use Rattle.std.proofs.Common.{◌≡◌, ℕ, ◌+◌, ◌≤◌, List, [], ◌∷◌, ◌++◌, length, Option, Some, None, inl, inr}
 use Rattle.std.proofs.Common.{Result, Ok, Err, refl, sym, ap, subst, ◌∙◌, append_assoc, append-nil, arith}
-use Rattle.std.specs.Prelude.{codes}
+use Rattle.std.specs.Prelude.{codes, IfOk}
 use Rattle.std.specs.List.{flat_map}
 use Rattle.std.proofs.lemmas.List.{append_cancel_left, length-append}
-use Rattle.std.proofs.lemmas.Grind.{flat_map-append}
 use Rattle.std.proofs.lemmas.Option.{some_pair_parts}
 use Rattle.hex.specs.Hex.{IsBytes}
+use Rattle.vb_value.specs.Outcome.{Answers}
 use Rattle.asp_record.specs.declared.recording.Item.{Item}
 use Rattle.asp_record.specs.declared.recording.Recording.{Recording}
+use Rattle.asp_record.specs.declared.stop.RecordStop.{RecordStop}
+use Rattle.asp_record.specs.declared.stop.RecordStop.TheVariants.{Memory, Refused}
 use Rattle.asp_record.specs.Lines.{field, hex, line}
 use Rattle.asp_record.specs.Recording.{item_text, opening_text, recording_text, seed_text}
 use Rattle.asp_record.specs.Fields.{◌>>=◌, behind, seed_at}
 use Rattle.asp_record.specs.Reading.{item_at, seed_line_at}
-use Rattle.asp_record.specs.Recorded.{AreItems, Begun, Begins, Ended, IsLast, IsNext, IsPart, IsPlace, IsRefusedAt, IsSound, Named, Nothing, Part, Stands, last_of, moment_of, part_text}
-use Rattle.asp_record.proofs.FieldLaws.{behind_again, behind_is, step_is}
+use Rattle.asp_record.specs.Recorded.{AreItems, Begun, Begins, Ended, IsLast, IsNext, IsPart, IsPlace, IsRefusedAt, IsSound, Named, Nothing, OnRefused, Part, Stands, last_of, moment_of, part_text}
+use Rattle.asp_record.proofs.FieldLaws.{behind_is, step_is}
 use Rattle.asp_record.proofs.SeedLaws.{seed_again, seed_is}
 use Rattle.asp_record.proofs.ItemLaws.{item_again}
 use Rattle.asp_record.proofs.NextItem.{items_more, small, text_more}
@@ -33,10 +35,9 @@ seed_line_again seed rest size fits =
     ap seed_line_at (seed_parts seed rest)
     ∙ rw (seed_again seed (10 ∷ rest) size fits) refl
 
-pub seed_line_is : (bytes seed rest : List ℕ) → IsBytes seed → seed_line_at bytes ≡ Some (seed, rest)
-    → (bytes ≡ seed_text seed ++ rest) × (length seed ≡ 32)
+pub seed_line_is : (bytes seed rest : List ℕ) → seed_line_at bytes ≡ Some (seed, rest) → bytes ≡ seed_text seed ++ rest
 unfolding seed_line_at
-seed_line_is bytes seed rest fits e =
+seed_line_is bytes seed rest e =
     let a = step_is (behind (codes "seed ") bytes) (λ text. seed_at text >>= λ found. behind (10 ∷ []) found.1 >>= λ later. Some (found.0, later)) (seed, rest) e in
     let text = a.0 in
     let b = step_is (seed_at text) (λ found. behind (10 ∷ []) found.1 >>= λ later. Some (found.0, later)) (seed, rest) a.2 in
@@ -45,9 +46,9 @@ seed_line_is bytes seed rest fits e =
     let later = c.0 in
     let same = some_pair_parts found.0 seed later rest c.2 in
     let read : seed_at text ≡ Some (seed, found.1) = b.1 ∙ ap (λ s. Some (s, found.1)) same.0 in
-    let is = seed_is text seed found.1 fits read in
-    (behind_is (codes "seed ") bytes text a.1 ∙ ap (λ l. codes "seed " ++ l) (is.0 ∙ ap (λ l. hex seed ++ l) (behind_is (10 ∷ []) found.1 later c.1))
-    ∙ ap (λ l. codes "seed " ++ (hex seed ++ 10 ∷ l)) same.1 ∙ sym (seed_parts seed rest), is.1)
+    let is = seed_is text seed found.1 read in
+    behind_is (codes "seed ") bytes text a.1 ∙ ap (λ l. codes "seed " ++ l) (is ∙ ap (λ l. hex seed ++ l) (behind_is (10 ∷ []) found.1 later c.1))
+    ∙ ap (λ l. codes "seed " ++ (hex seed ++ 10 ∷ l)) same.1 ∙ sym (seed_parts seed rest)
 
 -- ---- one list of items
 
@@ -62,18 +63,18 @@ pub reads_on : (now : ℕ) (items more : List Item) (left after : List ℕ) → 
 reads_on now [] more left after right all e = (more, refl, e)
 reads_on now (item ∷ items) [] left after right all e =
     let again : item_at (item_text item ++ (flat_map item_text items ++ left)) ≡ Some (item, flat_map item_text items ++ left) =
-      item_again item (flat_map item_text items ++ left) (small now item right.0) in
+    item_again item (flat_map item_text items ++ left) (small now item right.0) in
     let whole : item_at (codes "end" ++ 10 ∷ after) ≡ Some (item, flat_map item_text items ++ left) =
-      ap item_at (sym (sym (append_assoc (item_text item) (flat_map item_text items) left) ∙ e)) ∙ again in
+    ap item_at (sym (sym (append_assoc (item_text item) (flat_map item_text items) left) ∙ e)) ∙ again in
     absurd (no_item after item (flat_map item_text items ++ left) whole)
 reads_on now (item ∷ items) (other ∷ more) left after right all e =
     let a = flat_map item_text items ++ left in
     let b = flat_map item_text more ++ (codes "end" ++ 10 ∷ after) in
     let cut : item_text item ++ a ≡ item_text other ++ b =
-      sym (append_assoc (item_text item) (flat_map item_text items) left) ∙ e
-      ∙ append_assoc (item_text other) (flat_map item_text more) (codes "end" ++ 10 ∷ after) in
+    sym (append_assoc (item_text item) (flat_map item_text items) left) ∙ e
+    ∙ append_assoc (item_text other) (flat_map item_text more) (codes "end" ++ 10 ∷ after) in
     let same = some_pair_parts item other a b
-      (sym (item_again item a (small now item right.0)) ∙ ap item_at cut ∙ item_again other b (small now other all.0)) in
+    (sym (item_again item a (small now item right.0)) ∙ ap item_at cut ∙ item_again other b (small now other all.0)) in
     let next = reads_on (moment_of item) items more left after right.1 (subst (λ i. AreItems (moment_of i) more) (sym same.0) all.1) same.1 in
     (next.0, ap (λ i. i ∷ more) (sym same.0) ∙ ap (λ l. item ∷ l) next.1, next.2)
 
@@ -113,7 +114,7 @@ meets bytes whole begun left after sound right stands begins =
     let later = codes "end" ++ 10 ∷ after in
     let e = sym (opening_parts begun left) ∙ sym begins ∙ stands ∙ ending_parts whole after ∙ opening_parts whole later in
     let seeds = same_seed begun.seed whole.seed (flat_map item_text begun.items ++ left) (flat_map item_text whole.items ++ later)
-      right.size right.bytes sound.size sound.bytes e in
+    right.size right.bytes sound.size sound.bytes e in
     let on = reads_on 0 begun.items whole.items left after right.items sound.items seeds.1 in
     record { seed = sym seeds.0; others = on.0; items = on.1; rest = on.2 }
 
@@ -153,7 +154,7 @@ one_recording bytes whole other end last stands found =
     let after = stands.begins.0 in
     let rest = found.begins.0 in
     let m = meets bytes whole other (codes "end" ++ 10 ∷ rest) after stands.sound found.sound stands.begins.1
-      (found.begins.1 ∙ ending_parts other rest) in
+    (found.begins.1 ∙ ending_parts other rest) in
     let right : AreItems 0 (other.items ++ m.others) = subst (AreItems 0) m.items stands.sound.items in
     let none = no_others 0 other.items m.others rest after right m.rest in
     let items : whole.items ≡ other.items = m.items ∙ ap (λ l. other.items ++ l) none ∙ append-nil other.items in
@@ -207,3 +208,14 @@ no_place bytes whole end offset (Ended other) stands right begins (inr place) =
 pub not_refused : (bytes : List ℕ) (whole : Recording) (end offset : ℕ) → Stands bytes whole end → IsRefusedAt bytes offset → ⊥
 not_refused bytes whole end offset stands refused =
     no_place bytes whole end offset refused.part stands refused.right refused.begins refused.place
+
+-- what is read is the one recording that stands there, or memory ran out
+pub only_one : (bytes : List ℕ) (result : Result (Recording × ℕ) RecordStop) → IfOk result (λ read. Stands bytes read.0 read.1)
+    → OnRefused result (IsRefusedAt bytes) → (whole : Recording) (end : ℕ) → Stands bytes whole end
+    → Answers result Memory (Ok (whole, end))
+only_one bytes (Ok read) found refused whole end stands =
+    let same = one_recording bytes whole read.0 end read.1 stands found in
+    ap (λ r. Ok (r, end)) same.0 ∙ ap (λ e. Ok (read.0, e)) same.1
+only_one bytes (Err (Refused offset)) found refused whole end stands = λ other.
+    absurd (not_refused bytes whole end offset stands refused)
+only_one bytes (Err Memory) found refused whole end stands = λ other. absurd (other refl)

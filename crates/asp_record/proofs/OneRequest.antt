@@ -1,5 +1,5 @@
 -- What tells whether bytes are one request.
-use Rattle.std.proofs.Common.{◌≡◌, ℕ, ◌+◌, ◌<◌, ◌≤◌, Bool, true, false, List, [], ◌∷◌, ◌++◌, length, refl, sym, ap, subst, ◌∙◌, append-nil, append_assoc, arith, take, drop}
+use Rattle.std.proofs.Common.{◌≡◌, ℕ, ◌+◌, ◌≤◌, Bool, false, List, [], ◌∷◌, ◌++◌, length, refl, sym, ap, subst, ◌∙◌, append-nil, append_assoc, arith, take, drop}
 use Rattle.std.proofs.lemmas.List.{length-append, take-append-drop}
 use Rattle.std.specs.Bool.{Decides}
 use Rattle.httparse.specs.Grammar.{RequestHead}
@@ -63,10 +63,12 @@ fed_more bytes before rest fed piece later count whole more front back =
 pub request_decides : Laws → (bytes fed rest left : List ℕ) (h : RequestHead) (body : List ℕ) (told : Bool) → bytes ≡ fed ++ rest
     → IsFront fed (Request h body left) → Decides told (length left + length rest ≡ 0) → Decides told (IsOneRequest bytes)
 request_decides laws bytes fed rest left h body told whole comes decides =
-    let tells = request_tells laws fed rest left h body comes in
-    (λ e. subst IsOneRequest (sym whole) (tells.one (no_bytes left rest (decides.0 e))), λ one.
-      let none = ap length (tells.none (subst IsOneRequest whole one)) in
-      decides.1 (omega (arith, none, length-append left rest)))
+    let tells = request_tells laws fed rest left h body comes in (
+      λ e. subst IsOneRequest (sym whole) (tells.one (no_bytes left rest (decides.0 e))),
+      λ one.
+          let none = ap length (tells.none (subst IsOneRequest whole one)) in
+          decides.1 (omega (arith, none, length-append left rest)),
+    )
 
 pub refused_decides : Laws → (bytes fed rest : List ℕ) (status : ℕ) → bytes ≡ fed ++ rest → IsFront fed (Refused status)
     → Decides false (IsOneRequest bytes)

@@ -1,6 +1,6 @@
 -- Where bytes are refused, and where a recording stands, by what its reader found.
-use Rattle.std.proofs.Common.{◌≡◌, ◌≢◌, ℕ, ◌+◌, ◌-◌, ◌<◌, ◌≤◌, List, [], ◌∷◌, ◌++◌, length, get_or, Option, Some, None, inl, inr}
-use Rattle.std.proofs.Common.{refl, sym, ap, subst, ◌∙◌, append_assoc, append-nil, arith}
+use Rattle.std.proofs.Common.{◌≡◌, ◌≢◌, ℕ, ◌+◌, ◌-◌, ◌<◌, ◌≤◌, List, [], ◌∷◌, ◌++◌, length, Option, Some, None, inl, inr}
+use Rattle.std.proofs.Common.{refl, sym, ap, subst, ◌∙◌, append_assoc, arith}
 use Rattle.std.specs.Prelude.{codes}
 use Rattle.std.specs.List.{flat_map}
 use Rattle.std.proofs.lemmas.List.{append_cancel_left, length-append}
@@ -10,7 +10,7 @@ use Rattle.asp_record.specs.Lines.{line}
 use Rattle.asp_record.specs.Recording.{item_text, opening_text, recording_text, seed_text}
 use Rattle.asp_record.specs.Fields.{behind}
 use Rattle.asp_record.specs.Reading.{seed_line_at}
-use Rattle.asp_record.specs.Recorded.{AreItems, Begun, Begins, Ended, HasNoItem, IsLast, IsLonger, IsPart, IsRefusedAt, IsSound, Named, Nothing, Part, ReadsItems, Stands, last_of, part_text}
+use Rattle.asp_record.specs.Recorded.{AreItems, Begun, Begins, Ended, HasNoItem, IsLonger, IsPart, IsRefusedAt, IsSound, Named, Nothing, Part, Stands, last_of, part_text}
 use Rattle.asp_record.proofs.FieldLaws.{behind_again, behind_is}
 use Rattle.asp_record.proofs.NextItem.{text_more}
 use Rattle.asp_record.proofs.OneRecording.{ending_parts, item_within, opening_parts, seed_line_again, seed_line_is, text_size}
@@ -43,9 +43,9 @@ seed_last bytes rest text none Named right longer = λ begins. longer
 seed_last bytes rest text none (Begun recording) right longer = λ begins.
     let later = flat_map item_text recording.items ++ begins.0 in
     let cut : rest ≡ seed_text recording.seed ++ later =
-      append_cancel_left (line (codes "ASPREC 1")) rest (seed_text recording.seed ++ later) (sym text ∙ begins.1 ∙ opening_parts recording begins.0) in
+    append_cancel_left (line (codes "ASPREC 1")) rest (seed_text recording.seed ++ later) (sym text ∙ begins.1 ∙ opening_parts recording begins.0) in
     let some : seed_line_at rest ≡ Some (recording.seed, later) =
-      ap seed_line_at cut ∙ seed_line_again recording.seed later right.size right.bytes in
+    ap seed_line_at cut ∙ seed_line_again recording.seed later right.size right.bytes in
     let no : ◌≡◌ {A = Option (List ℕ × List ℕ)} None (Some (recording.seed, later)) = sym none ∙ some in cc
 seed_last bytes rest text none (Ended recording) right longer = λ begins. longer
 
@@ -70,19 +70,19 @@ begun_last bytes rest recording text last none (Begun other) right longer = λ b
     let later = item_text item ++ begins.0 in
     let more = text_more recording.items item (flat_map item_text recording.items ++ later) later begins.0 refl refl in
     let same : opening_text other ++ begins.0 ≡ opening_text recording ++ later =
-      opening_parts other begins.0
-      ∙ ap (λ s. line (codes "ASPREC 1") ++ (seed_text s ++ (flat_map item_text other.items ++ begins.0))) longer.0
-      ∙ ap (λ i. line (codes "ASPREC 1") ++ (seed_text recording.seed ++ (flat_map item_text i ++ begins.0))) longer.1.1
-      ∙ ap (λ l. line (codes "ASPREC 1") ++ (seed_text recording.seed ++ l)) (sym more)
-      ∙ sym (opening_parts recording later) in
+    opening_parts other begins.0
+    ∙ ap (λ s. line (codes "ASPREC 1") ++ (seed_text s ++ (flat_map item_text other.items ++ begins.0))) longer.0
+    ∙ ap (λ i. line (codes "ASPREC 1") ++ (seed_text recording.seed ++ (flat_map item_text i ++ begins.0))) longer.1.1
+    ∙ ap (λ l. line (codes "ASPREC 1") ++ (seed_text recording.seed ++ l)) (sym more)
+    ∙ sym (opening_parts recording later) in
     let cut : rest ≡ later = append_cancel_left (opening_text recording) rest later (sym text ∙ begins.1 ∙ same) in
     let items : AreItems 0 (recording.items ++ item ∷ []) = subst (AreItems 0) longer.1.1 right.items in
     last item begins.0 (item_within 0 recording.items item [] items) cut
 begun_last bytes rest recording text last none (Ended other) right longer = λ begins.
     let same : recording_text other ++ begins.0 ≡ opening_text recording ++ (codes "end" ++ 10 ∷ begins.0) =
-      ap (λ r. recording_text r ++ begins.0) longer ∙ ending_parts recording begins.0 in
+    ap (λ r. recording_text r ++ begins.0) longer ∙ ending_parts recording begins.0 in
     let cut : rest ≡ codes "end" ++ 10 ∷ begins.0 =
-      append_cancel_left (opening_text recording) rest (codes "end" ++ 10 ∷ begins.0) (sym text ∙ begins.1 ∙ same) in
+    append_cancel_left (opening_text recording) rest (codes "end" ++ 10 ∷ begins.0) (sym text ∙ begins.1 ∙ same) in
     not_behind (codes "end" ++ 10 ∷ []) rest begins.0 none cut
 
 -- how much was read
@@ -140,14 +140,10 @@ stands bytes rest after recording end text sound ends is short =
       short = short;
     }
 
--- a recording that was read up to its end
-pub begun_text : (bytes named begun rest seed : List ℕ) (items : List Item) → bytes ≡ line (codes "ASPREC 1") ++ named
-    → named ≡ seed_text seed ++ begun → begun ≡ flat_map item_text items ++ rest
-    → bytes ≡ opening_text (record { seed = seed; items = items }) ++ rest
-begun_text bytes named begun rest seed items first second third =
-    first ∙ ap (λ l. line (codes "ASPREC 1") ++ l) (second ∙ ap (λ l. seed_text seed ++ l) third)
-    ∙ sym (opening_parts (record { seed = seed; items = items }) rest)
-
-pub begun_sound : (seed begun rest : List ℕ) (items : List Item) → length seed ≡ 32 → ((i : ℕ) → get_or seed i 0 < 256)
-    → ReadsItems begun items rest → IsSound (record { seed = seed; items = items })
-begun_sound seed begun rest items size bytes reads = record { size = size; bytes = bytes; items = reads.right }
+-- what is read behind the line of the seed
+pub begun_seed : (bytes named begun seed : List ℕ) → behind (codes "ASPREC 1" ++ 10 ∷ []) bytes ≡ Some named
+    → seed_line_at named ≡ Some (seed, begun) → bytes ≡ line (codes "ASPREC 1") ++ seed_text seed ++ begun
+begun_seed bytes named begun seed first second =
+    behind_is (codes "ASPREC 1" ++ 10 ∷ []) bytes named first
+    ∙ ap (λ l. line (codes "ASPREC 1") ++ l) (seed_line_is named seed begun second)
+    ∙ sym (append_assoc (line (codes "ASPREC 1")) (seed_text seed) begun)

@@ -157,11 +157,7 @@ fn seed_line(bytes: &[u8]) -> Option<([u8; 32], &[u8])>
 }
 
 /// Ends a recording, of which `rest` is still to be read.
-fn ended(
-    bytes: &[u8],
-    rest: &[u8],
-    recording: Recording,
-) -> Result<(Recording, u64), RecordStop>
+fn ended(bytes: &[u8], rest: &[u8], recording: Recording) -> Result<(Recording, u64), RecordStop>
     requires text { bytes.now ≡ opening_text recording ++ rest.now }
     requires sound { spec.IsSound recording }
     requires last { spec.HasNoItem (spec.last_of 0 recording.items) rest.now }
@@ -223,7 +219,6 @@ fn recording_at(alloc: Global, bytes: &[u8]) -> Result<(Recording, u64), RecordS
 ///
 /// Bytes without one are refused at the first byte of the first line that does not fit, of which a request's bytes are
 /// a part; at their length, where `end` is missing behind whole lines; and at 67,108,864, where the recording is longer.
-#[tactic(auto, using(crate::proofs::OneRecording::one_recording, crate::proofs::OneRecording::not_refused))]
 pub fn read_recording(alloc: Global, bytes: &[u8]) -> Result<(Recording, u64), RecordStop>
     ensures recording { IfOk result (λ read. spec.Stands bytes.now read.0 read.1) }
     ensures only { (recording : Recorded) (end : ℕ) → spec.Stands bytes.now recording end
