@@ -16,7 +16,8 @@ use Rattle.std.proofs.lemmas.Str.Parse.{IsNumeralModel, numerals_by_value, tells
 use Rattle.asp_record.specs.Fields.{◌>>=◌, behind, counted_at, is_digit, is_plain, marked_at, number_at}
 
 -- the value of a step that gave one
-pub step_is : {A B : Type 0} (r : Option A) (f : A → Option B) (y : B) → (r >>= f) ≡ Some y → (x : A) × (r ≡ Some x) × (f x ≡ Some y)
+pub step_is : {A B : Type 0} (r : Option A) (f : A → Option B) (y : B) → (r >>= f) ≡ Some y
+    → (x : A) × (r ≡ Some x) × (f x ≡ Some y)
 step_is (Some x) f y e = (x, refl, e)
 step_is None f y e = absurd cc
 
@@ -27,7 +28,8 @@ both false c e = absurd cc
 
 pub behind_again : (word rest : List ℕ) → behind word (word ++ rest) ≡ Some rest
 behind_again word rest =
-    rw (take_at word rest (length word) refl, drop_at word rest (length word) refl, (bytes_eq-Decides word word).1 refl) refl
+    rw (take_at word rest (length word) refl, drop_at word rest (length word) refl, (bytes_eq-Decides word word).1 refl)
+    refl
 
 pub behind_is : (word bytes rest : List ℕ) → behind word bytes ≡ Some rest → bytes ≡ word ++ rest
 behind_is word bytes rest e =
@@ -57,17 +59,22 @@ run_digits (b ∷ bytes) =
           rw here tt
     ]
 
-plain_is : (digits : List ℕ) → 0 < length digits → (length digits ≡ 1) ⊎ (48 < get_or digits 0 0) → is_plain digits ≡ true
+plain_is : (digits : List ℕ) → 0 < length digits → (length digits ≡ 1) ⊎ (48 < get_or digits 0 0)
+    → is_plain digits ≡ true
 plain_is [] some h = absurd (omega (arith, some))
 plain_is (d ∷ []) some h = refl
 plain_is (d ∷ e ∷ digits) some (inl one) = absurd (omega (arith, one))
 plain_is (d ∷ e ∷ digits) some (inr above) = let other : eqb d 48 ≡ false = grind (arith, nat_tests) in rw other refl
 
-plain_tells : (digits : List ℕ) → is_plain digits ≡ true → (0 < length digits) × (get_or digits 0 0 ≡ 48 → length digits ≡ 1)
+plain_tells : (digits : List ℕ) → is_plain digits ≡ true → (0 < length digits) × (get_or digits 0 0 ≡ 48
+    → length digits ≡ 1)
 plain_tells [] e = absurd cc
 plain_tells (d ∷ []) e = (omega arith, λ _. refl)
-plain_tells (d ∷ f ∷ digits) e =
-    (omega arith, λ zero_first. let same : eqb d 48 ≡ true = grind (arith, nat_tests) in absurd (let no : not true ≡ true = ap not (sym same) ∙ e in cc))
+plain_tells (d ∷ f ∷ digits) e = (
+  omega arith,
+  λ zero_first. let same : eqb d 48 ≡ true = grind (arith, nat_tests) in
+      absurd (let no : not true ≡ true = ap not (sym same) ∙ e in cc),
+)
 
 own : IsNumeralModel (AllDigits 10) (digits_value 10)
 own = numerals_by_value (AllDigits 10) tells_digits
@@ -99,13 +106,15 @@ unfolding number_at
 number_is bytes n rest e =
     let count = prefix_len is_digit bytes in
     let digits = take count bytes in
-    let g = cond_some (is_plain digits && ltb (digits_value 10 digits) 1099511627776) (digits_value 10 digits, drop count bytes) (n, rest) e in
+    let g = cond_some (is_plain digits && ltb (digits_value 10 digits) 1099511627776)
+    (digits_value 10 digits, drop count bytes) (n, rest) e in
     let tests = both (is_plain digits) (ltb (digits_value 10 digits) 1099511627776) g.0 in
     let value : digits_value 10 digits ≡ n = ap (λ (p : ℕ × List ℕ). p.0) g.1 in
     let back : drop count bytes ≡ rest = ap (λ (p : ℕ × List ℕ). p.1) g.1 in
     let small : digits_value 10 digits < 1099511627776 = ltb-true _ _ tests.1 in
     let tells = plain_tells digits tests.0 in
-    let text : decimal (digits_value 10 digits) ≡ digits = decimal-digits_value own digits (run_digits bytes) tells.0 tells.1 (omega (arith, small)) in (
+    let text : decimal (digits_value 10 digits) ≡ digits =
+    decimal-digits_value own digits (run_digits bytes) tells.0 tells.1 (omega (arith, small)) in (
       sym (take-append-drop count bytes) ∙ ap (λ l. l ++ drop count bytes) (sym text)
           ∙ ap (λ m. decimal m ++ drop count bytes) value ∙ ap (λ l. decimal n ++ l) back,
       omega (arith, small, value),
@@ -136,21 +145,25 @@ marked_is word bytes n rest e =
 pub counted_again : (text rest : List ℕ) → counted_at (length text) (text ++ 10 ∷ rest) ≡ Some (text, rest)
 unfolding counted_at
 counted_again text rest =
-    let long : ltb (length text) (length (text ++ 10 ∷ rest)) ≡ true = lt-ltb _ _ (omega (arith, length-append text (10 ∷ rest))) in
+    let long : ltb (length text) (length (text ++ 10 ∷ rest)) ≡ true =
+    lt-ltb _ _ (omega (arith, length-append text (10 ∷ rest))) in
     rw (long, take_at text (10 ∷ rest) (length text) refl, drop_at text (10 ∷ rest) (length text) refl) refl
 
 pub counted_is : (count : ℕ) (bytes text rest : List ℕ) → counted_at count bytes ≡ Some (text, rest)
     → (bytes ≡ text ++ 10 ∷ rest) × (length text ≡ count)
 unfolding counted_at
 counted_is count bytes text rest e =
-    let g = cond_step (ltb count (length bytes)) (behind (10 ∷ []) (drop count bytes) >>= λ later. Some (take count bytes, later)) (text, rest) e in
-    let second = step_is (behind (10 ∷ []) (drop count bytes)) (λ later. Some (take count bytes, later)) (text, rest) g.1 in
+    let g = cond_step (ltb count (length bytes)) (behind (10 ∷ []) (drop count bytes) >>= λ later. Some
+    (take count bytes, later)) (text, rest) e in
+    let second = step_is (behind (10 ∷ []) (drop count bytes)) (λ later. Some (take count bytes, later))
+    (text, rest) g.1 in
     let later = second.0 in
     let within : count < length bytes = ltb-true _ _ g.0 in
     let text_is : take count bytes ≡ text = grind (arith, second.2) in
     let rest_is : later ≡ rest = grind (arith, second.2) in
     let size : length (take count bytes) ≡ count = length-take-le count bytes (omega (arith, within)) in (
-      sym (take-append-drop count bytes) ∙ ap (λ l. take count bytes ++ l) (behind_is (10 ∷ []) (drop count bytes) later second.1)
+      sym (take-append-drop count bytes) ∙ ap (λ l. take count bytes ++ l)
+          (behind_is (10 ∷ []) (drop count bytes) later second.1)
           ∙ ap (λ l. l ++ 10 ∷ later) text_is ∙ ap (λ l. text ++ 10 ∷ l) rest_is,
       ap length (sym text_is) ∙ size,
     )

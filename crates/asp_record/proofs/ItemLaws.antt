@@ -15,7 +15,8 @@ use Rattle.asp_record.proofs.FieldLaws.{behind_is, counted_again, counted_is, ma
 
 -- the numbers of an item are those that a line may have
 abbrev pub IsSmall : Item → Type 0
-IsSmall (Request client moment bytes) = (client < 4294967296) × (moment < 1099511627776) × (length bytes < 1099511627776)
+IsSmall (Request client moment bytes) = (client < 4294967296) × (moment < 1099511627776)
+    × (length bytes < 1099511627776)
 IsSmall (Tick moment) = moment < 1099511627776
 
 tick_again : (moment : ℕ) (rest : List ℕ) → moment < 1099511627776
@@ -45,7 +46,8 @@ parts a b c d mark bytes end rest = simp append_assoc
 
 -- the text of a request, from its first word on
 request_parts : (client moment : ℕ) (bytes rest : List ℕ) → request_text client moment bytes ++ rest
-    ≡ codes "request " ++ (decimal client ++ 32 ∷ (decimal moment ++ 32 ∷ (decimal (length bytes) ++ 10 ∷ (bytes ++ 10 ∷ rest))))
+    ≡ codes "request " ++
+    (decimal client ++ 32 ∷ (decimal moment ++ 32 ∷ (decimal (length bytes) ++ 10 ∷ (bytes ++ 10 ∷ rest))))
 request_parts client moment bytes rest =
     parts (codes "request") (number client) (number moment) (number (length bytes)) (10 ∷ []) bytes (10 ∷ []) rest
 
@@ -72,21 +74,24 @@ tick_is bytes item rest e =
     let s = step_is (marked_at (10 ∷ []) bytes) (λ moment. Some (Tick moment.0, moment.1)) (item, rest) e in
     let m = s.0 in
     let text = marked_is (10 ∷ []) bytes m.0 m.1 s.1 in
-    let whole : codes "tick " ++ bytes ≡ item_text (Tick m.0) ++ m.1 = ap (λ l. codes "tick " ++ l) text.0 ∙ sym (tick_parts m.0 m.1) in
+    let whole : codes "tick " ++ bytes ≡ item_text (Tick m.0) ++ m.1 =
+    ap (λ l. codes "tick " ++ l) text.0 ∙ sym (tick_parts m.0 m.1) in
     same_text (codes "tick " ++ bytes) (Tick m.0) item m.1 rest whole s.2
 
 request_is : (bytes : List ℕ) (item : Item) (rest : List ℕ) → request_at bytes ≡ Some (item, rest)
     → codes "request " ++ bytes ≡ item_text item ++ rest
 unfolding request_at
 request_is bytes item rest e =
-    let last = λ (client moment : ℕ) (text : List ℕ × List ℕ). cond (ltb client 4294967296) (Some (Request client moment text.0, text.1)) None in
+    let last = λ (client moment : ℕ) (text : List ℕ × List ℕ). cond (ltb client 4294967296)
+    (Some (Request client moment text.0, text.1)) None in
     let a = step_is (marked_at (32 ∷ []) bytes) (λ client. marked_at (32 ∷ []) client.1 >>= λ moment.
     marked_at (10 ∷ []) moment.1 >>= λ count. counted_at count.0 count.1 >>= last client.0 moment.0) (item, rest) e in
     let client = a.0 in
     let b = step_is (marked_at (32 ∷ []) client.1) (λ moment.
     marked_at (10 ∷ []) moment.1 >>= λ count. counted_at count.0 count.1 >>= last client.0 moment.0) (item, rest) a.2 in
     let moment = b.0 in
-    let c = step_is (marked_at (10 ∷ []) moment.1) (λ count. counted_at count.0 count.1 >>= last client.0 moment.0) (item, rest) b.2 in
+    let c = step_is (marked_at (10 ∷ []) moment.1) (λ count. counted_at count.0 count.1 >>= last client.0 moment.0)
+    (item, rest) b.2 in
     let count = c.0 in
     let d = step_is (counted_at count.0 count.1) (last client.0 moment.0) (item, rest) c.2 in
     let text = d.0 in
@@ -97,14 +102,17 @@ request_is bytes item rest e =
     let fourth = counted_is count.0 count.1 text.0 text.1 d.1 in
     let counted : count.1 ≡ text.0 ++ 10 ∷ text.1 = fourth.0 in
     let numbered : moment.1 ≡ decimal (length text.0) ++ 10 ∷ (text.0 ++ 10 ∷ text.1) =
-    third.0 ∙ ap (λ l. decimal count.0 ++ 10 ∷ l) counted ∙ ap (λ n. decimal n ++ 10 ∷ (text.0 ++ 10 ∷ text.1)) (sym fourth.1) in
+    third.0 ∙ ap (λ l. decimal count.0 ++ 10 ∷ l) counted ∙ ap (λ n. decimal n ++ 10 ∷ (text.0 ++ 10 ∷ text.1))
+    (sym fourth.1) in
     let later : client.1 ≡ decimal moment.0 ++ 32 ∷ (decimal (length text.0) ++ 10 ∷ (text.0 ++ 10 ∷ text.1)) =
     second.0 ∙ ap (λ l. decimal moment.0 ++ 32 ∷ l) numbered in
-    let all : bytes ≡ decimal client.0 ++ 32 ∷ (decimal moment.0 ++ 32 ∷ (decimal (length text.0) ++ 10 ∷ (text.0 ++ 10 ∷ text.1))) =
+    let all : bytes ≡ decimal client.0 ++ 32 ∷ (decimal moment.0 ++ 32 ∷
+    (decimal (length text.0) ++ 10 ∷ (text.0 ++ 10 ∷ text.1))) =
     first.0 ∙ ap (λ l. decimal client.0 ++ 32 ∷ l) later in
     let whole : codes "request " ++ bytes ≡ item_text (Request client.0 moment.0 text.0) ++ text.1 =
     ap (λ l. codes "request " ++ l) all ∙ sym (request_parts client.0 moment.0 text.0 text.1) in
-    same_text (codes "request " ++ bytes) (Request client.0 moment.0 text.0) item text.1 rest whole (ap (λ p. Some p) g.1)
+    same_text (codes "request " ++ bytes) (Request client.0 moment.0 text.0) item text.1 rest whole
+    (ap (λ p. Some p) g.1)
 
 by_is : (tick request : Option (List ℕ)) (bytes : List ℕ) (item : Item) (rest : List ℕ)
     → behind (codes "tick ") bytes ≡ tick → behind (codes "request ") bytes ≡ request
@@ -115,7 +123,8 @@ by_is None (Some later) bytes item rest ticks requests e =
     behind_is (codes "request ") bytes later requests ∙ request_is later item rest e
 by_is None None bytes item rest ticks requests e = absurd cc
 
-pub item_is : (bytes : List ℕ) (item : Item) (rest : List ℕ) → item_at bytes ≡ Some (item, rest) → bytes ≡ item_text item ++ rest
+pub item_is : (bytes : List ℕ) (item : Item) (rest : List ℕ) → item_at bytes ≡ Some (item, rest)
+    → bytes ≡ item_text item ++ rest
 unfolding item_at
 item_is bytes item rest e =
     by_is (behind (codes "tick ") bytes) (behind (codes "request ") bytes) bytes item rest refl refl e

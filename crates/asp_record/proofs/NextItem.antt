@@ -1,5 +1,6 @@
 -- Which item comes next.
-use Rattle.std.proofs.Common.{◌≡◌, ℕ, ◌^◌, ◌<◌, ◌≤◌, Bool, true, false, List, [], ◌∷◌, ◌++◌, length, Some, None, Result, Ok, Err}
+use Rattle.std.proofs.Common.{◌≡◌, ℕ, ◌^◌, ◌<◌, ◌≤◌, Bool, true, false, List, [], ◌∷◌, ◌++◌, length, Some, None, Result}
+use Rattle.std.proofs.Common.{Ok, Err}
 use Rattle.std.proofs.Common.{refl, sym, ap, subst, ◌∙◌, append_assoc, append-nil, arith}
 use Rattle.std.specs.Prelude.{IfOk}
 use Rattle.std.specs.Bool.{Decides}
@@ -15,28 +16,20 @@ use Rattle.asp_record.specs.Reading.{item_at}
 use Rattle.asp_record.specs.Recorded.{AreItems, HasNoItem, IsNext, IsOneRequest, last_of, moment_of}
 use Rattle.asp_record.proofs.ItemLaws.{IsSmall, item_again, item_is}
 
-pub tick_next : (now moment : ℕ) (told : Bool) → Decides told ((now ≤ moment) × (moment ≤ 253402300799)) → Decides told (IsNext now (Tick moment))
-tick_next now moment told tells =
-    (λ e. let times = tells.0 e in record { rises = times.0; ends = times.1; held = tt }, λ next. tells.1 (next.rises, next.ends))
-
-pub request_next : (now client moment : ℕ) (bytes : List ℕ) (told : Bool) → now ≤ moment → moment ≤ 253402300799 → client < 2 ^ 32
-    → length bytes ≤ 67108864 → Decides told (IsOneRequest bytes) → Decides told (IsNext now (Request client moment bytes))
+pub request_next : (now client moment : ℕ) (bytes : List ℕ) (told : Bool) → now ≤ moment → moment ≤ 253402300799
+    → client < 2 ^ 32
+    → length bytes ≤ 67108864 → Decides told (IsOneRequest bytes)
+    → Decides told (IsNext now (Request client moment bytes))
 request_next now client moment bytes told rises ends low short tells =
     (λ e. record { rises = rises; ends = ends; held = (low, short, tells.0 e) }, λ next. tells.1 next.held.2)
 
-pub request_told : (result : Result Bool Memory) (now client moment : ℕ) (bytes : List ℕ) → now ≤ moment → moment ≤ 253402300799
+pub request_told : (result : Result Bool Memory) (now client moment : ℕ) (bytes : List ℕ) → now ≤ moment
+    → moment ≤ 253402300799
     → client < 2 ^ 32 → length bytes ≤ 67108864 → IfOk result (λ told. Decides told (IsOneRequest bytes))
     → IfOk result (λ told. Decides told (IsNext now (Request client moment bytes)))
-request_told (Ok told) now client moment bytes rises ends low short tells = request_next now client moment bytes told rises ends low short tells
+request_told (Ok told) now client moment bytes rises ends low short tells =
+    request_next now client moment bytes told rises ends low short tells
 request_told (Err stop) now client moment bytes rises ends low short tells = tt
-
-pub request_late : (now client moment : ℕ) (bytes : List ℕ) → Decides false ((now ≤ moment) × (moment ≤ 253402300799))
-    → Decides false (IsNext now (Request client moment bytes))
-request_late now client moment bytes tells = (λ e. absurd cc, λ next. tells.1 (next.rises, next.ends))
-
-pub request_long : (now client moment : ℕ) (bytes : List ℕ) → 67108864 < length bytes
-    → Decides false (IsNext now (Request client moment bytes))
-request_long now client moment bytes long = (λ e. absurd cc, λ next. let short : length bytes ≤ 67108864 = next.held.1 in absurd (omega (arith, short, long)))
 
 pub small : (now : ℕ) (item : Item) → IsNext now item → IsSmall item
 small now (Request client moment bytes) next =
@@ -46,7 +39,8 @@ small now (Request client moment bytes) next =
     (omega (arith, low), omega (arith, ends), omega (arith, short))
 small now (Tick moment) next = let ends : moment ≤ 253402300799 = next.ends in omega (arith, ends)
 
-pub is_found : (bytes : List ℕ) (now : ℕ) (item : Item) (rest : List ℕ) → item_at bytes ≡ Some (item, rest) → IsNext now item
+pub is_found : (bytes : List ℕ) (now : ℕ) (item : Item) (rest : List ℕ) → item_at bytes ≡ Some (item, rest)
+    → IsNext now item
     → IsNext now item × (bytes ≡ item_text item ++ rest)
 is_found bytes now item rest e next = (next, item_is bytes item rest e)
 
@@ -72,12 +66,15 @@ pub last_more : (now : ℕ) (items : List Item) (item : Item) → last_of now (i
 last_more now [] item = refl
 last_more now (first ∷ items) item = last_more (moment_of first) items item
 
-pub text_more : (items : List Item) (item : Item) (bytes before after : List ℕ) → bytes ≡ flat_map item_text items ++ before
+pub text_more : (items : List Item) (item : Item) (bytes before after : List ℕ)
+    → bytes ≡ flat_map item_text items ++ before
     → before ≡ item_text item ++ after → bytes ≡ flat_map item_text (items ++ item ∷ []) ++ after
 text_more items item bytes before after text found =
     let all : flat_map item_text (items ++ item ∷ []) ≡ flat_map item_text items ++ item_text item =
-    flat_map-append item_text items (item ∷ []) ∙ ap (λ l. flat_map item_text items ++ l) (append-nil (item_text item)) in
-    text ∙ ap (λ l. flat_map item_text items ++ l) found ∙ sym (append_assoc (flat_map item_text items) (item_text item) after)
+    flat_map-append item_text items (item ∷ []) ∙ ap (λ l. flat_map item_text items ++ l)
+    (append-nil (item_text item)) in
+    text ∙ ap (λ l. flat_map item_text items ++ l) found ∙ sym
+    (append_assoc (flat_map item_text items) (item_text item) after)
     ∙ ap (λ l. l ++ after) (sym all)
 
 some_text : (item : Item) → 0 < length (item_text item)
@@ -98,8 +95,10 @@ pub record ReadOn (bytes : List ℕ) (items : List Item) (moment : ℕ) (rest : 
   pub text : bytes ≡ flat_map item_text items ++ rest
   pub time : moment ≡ last_of 0 items
 
-pub read_on : (bytes rest after : List ℕ) (items longer : List Item) (now moment : ℕ) (item copy : Item) → AreItems 0 items
-    → bytes ≡ flat_map item_text items ++ rest → now ≡ last_of 0 items → IsNext now item × (rest ≡ item_text item ++ after)
+pub read_on : (bytes rest after : List ℕ) (items longer : List Item) (now moment : ℕ) (item copy : Item)
+    → AreItems 0 items
+    → bytes ≡ flat_map item_text items ++ rest → now ≡ last_of 0 items
+    → IsNext now item × (rest ≡ item_text item ++ after)
     → copy ≡ item → longer ≡ items ++ copy ∷ [] → moment ≡ moment_of item → ReadOn bytes longer moment after
 read_on bytes rest after items longer now moment item copy right text time found same pushed comes =
     let all : longer ≡ items ++ item ∷ [] = pushed ∙ ap (λ i. items ++ i ∷ []) same in

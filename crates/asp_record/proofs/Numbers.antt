@@ -6,7 +6,8 @@ use Rattle.std.specs.Str.Parse.{digits_value}
 use Rattle.std.proofs.lemmas.Int.Digits.{digits_value_more}
 
 -- one digit more, where the value so far is cut
-saturated : (value digit : ℕ) → min (min value 1099511627776 * 10 + digit) 1099511627776 ≡ min (value * 10 + digit) 1099511627776
+saturated : (value digit : ℕ) → min (min value 1099511627776 * 10 + digit) 1099511627776
+    ≡ min (value * 10 + digit) 1099511627776
 saturated value digit = omega arith
 
 -- the value up to one digit more

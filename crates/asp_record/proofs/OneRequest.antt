@@ -1,5 +1,6 @@
 -- What tells whether bytes are one request.
-use Rattle.std.proofs.Common.{◌≡◌, ℕ, ◌+◌, ◌≤◌, Bool, false, List, [], ◌∷◌, ◌++◌, length, refl, sym, ap, subst, ◌∙◌, append-nil, append_assoc, arith, take, drop}
+use Rattle.std.proofs.Common.{◌≡◌, ℕ, ◌+◌, ◌≤◌, Bool, false, List, [], ◌∷◌, ◌++◌, length, refl, sym, ap, subst, ◌∙◌}
+use Rattle.std.proofs.Common.{append-nil, append_assoc, arith, take, drop}
 use Rattle.std.proofs.lemmas.List.{length-append, take-append-drop}
 use Rattle.std.specs.Bool.{Decides}
 use Rattle.httparse.specs.Grammar.{RequestHead}
@@ -29,9 +30,11 @@ wanting_is_none laws bytes wants = λ one.
     subst IsRequest same tt
 
 -- nor are bytes that are refused, whatever follows
-pub refused_is_none : Laws → (fed rest : List ℕ) (status : ℕ) → IsFront fed (Refused status) → ¬ (IsOneRequest (fed ++ rest))
+pub refused_is_none : Laws → (fed rest : List ℕ) (status : ℕ) → IsFront fed (Refused status)
+    → ¬ (IsOneRequest (fed ++ rest))
 refused_is_none laws fed rest status refused = λ one.
-    let same = laws.unique (fed ++ rest) (Request one.0 one.1 []) (Refused status) one.2 (laws.stays fed rest (Refused status) refused) in
+    let same = laws.unique (fed ++ rest) (Request one.0 one.1 []) (Refused status) one.2
+    (laws.stays fed rest (Refused status) refused) in
     subst IsRequest same tt
 
 -- the bytes are one request where nothing is left, and only then
@@ -40,10 +43,16 @@ pub record Tells (bytes left : List ℕ) : Type 0 where
   pub none : IsOneRequest bytes → left ≡ []
 
 -- where a request comes, its bytes are one request if nothing is left, and only then
-pub request_tells : Laws → (fed rest left : List ℕ) (h : RequestHead) (body : List ℕ) → IsFront fed (Request h body left)
+pub request_tells : Laws → (fed rest left : List ℕ) (h : RequestHead) (body : List ℕ)
+    → IsFront fed (Request h body left)
     → Tells (fed ++ rest) (left ++ rest)
 request_tells laws fed rest left h body comes = record {
-  one = λ none. (h, body, subst (λ l. IsFront (fed ++ rest) (Request h body l)) none (laws.stays fed rest (Request h body left) comes));
+  one = λ none. (
+    h,
+    body,
+    subst (λ l. IsFront (fed ++ rest) (Request h body l)) none
+        (laws.stays fed rest (Request h body left) comes),
+  );
   none = λ one. ap left_by (laws.unique (fed ++ rest) (Request h body (left ++ rest)) (Request one.0 one.1 [])
       (laws.stays fed rest (Request h body left) comes) one.2);
 }
@@ -57,11 +66,14 @@ no_bytes (first ∷ left) rest none = absurd (omega (arith, none))
 pub fed_more : (bytes before rest fed piece later : List ℕ) (count : ℕ) → bytes ≡ before ++ rest → fed ≡ before ++ piece
     → piece ≡ take count rest → later ≡ drop count rest → bytes ≡ fed ++ later
 fed_more bytes before rest fed piece later count whole more front back =
-    let split : rest ≡ piece ++ later = sym (take-append-drop count rest) ∙ ap (λ l. l ++ drop count rest) (sym front) ∙ ap (λ l. piece ++ l) (sym back) in
+    let split : rest ≡ piece ++ later = sym (take-append-drop count rest) ∙ ap (λ l. l ++ drop count rest) (sym front)
+    ∙ ap (λ l. piece ++ l) (sym back) in
     whole ∙ ap (λ l. before ++ l) split ∙ sym (append_assoc before piece later) ∙ ap (λ l. l ++ later) (sym more)
 
-pub request_decides : Laws → (bytes fed rest left : List ℕ) (h : RequestHead) (body : List ℕ) (told : Bool) → bytes ≡ fed ++ rest
-    → IsFront fed (Request h body left) → Decides told (length left + length rest ≡ 0) → Decides told (IsOneRequest bytes)
+pub request_decides : Laws → (bytes fed rest left : List ℕ) (h : RequestHead) (body : List ℕ) (told : Bool)
+    → bytes ≡ fed ++ rest
+    → IsFront fed (Request h body left) → Decides told (length left + length rest ≡ 0)
+    → Decides told (IsOneRequest bytes)
 request_decides laws bytes fed rest left h body told whole comes decides =
     let tells = request_tells laws fed rest left h body comes in (
       λ e. subst IsOneRequest (sym whole) (tells.one (no_bytes left rest (decides.0 e))),

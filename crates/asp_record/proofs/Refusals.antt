@@ -1,5 +1,6 @@
 -- Where bytes are refused, and where a recording stands, by what its reader found.
-use Rattle.std.proofs.Common.{◌≡◌, ◌≢◌, ℕ, ◌+◌, ◌-◌, ◌<◌, ◌≤◌, List, [], ◌∷◌, ◌++◌, length, Option, Some, None, inl, inr}
+use Rattle.std.proofs.Common.{◌≡◌, ◌≢◌, ℕ, ◌+◌, ◌-◌, ◌<◌, ◌≤◌, List, [], ◌∷◌, ◌++◌, length, Option, Some, None, inl}
+use Rattle.std.proofs.Common.{inr}
 use Rattle.std.proofs.Common.{refl, sym, ap, subst, ◌∙◌, append_assoc, arith}
 use Rattle.std.specs.Prelude.{codes}
 use Rattle.std.specs.List.{flat_map}
@@ -10,10 +11,12 @@ use Rattle.asp_record.specs.Lines.{line}
 use Rattle.asp_record.specs.Recording.{item_text, opening_text, recording_text, seed_text}
 use Rattle.asp_record.specs.Fields.{behind}
 use Rattle.asp_record.specs.Reading.{seed_line_at}
-use Rattle.asp_record.specs.Recorded.{AreItems, Begun, Begins, Ended, HasNoItem, IsLonger, IsPart, IsRefusedAt, IsSound, Named, Nothing, Part, Stands, last_of, part_text}
+use Rattle.asp_record.specs.Recorded.{AreItems, Begun, Begins, Ended, HasNoItem, IsLonger, IsPart, IsRefusedAt, IsSound}
+use Rattle.asp_record.specs.Recorded.{Named, Nothing, Part, Stands, last_of, part_text}
 use Rattle.asp_record.proofs.FieldLaws.{behind_again, behind_is}
 use Rattle.asp_record.proofs.NextItem.{text_more}
-use Rattle.asp_record.proofs.OneRecording.{ending_parts, item_within, opening_parts, seed_line_again, seed_line_is, text_size}
+use Rattle.asp_record.proofs.OneRecording.{ending_parts, item_within, opening_parts, seed_line_again, seed_line_is}
+use Rattle.asp_record.proofs.OneRecording.{text_size}
 
 -- what a word does not begin
 not_behind : (word bytes rest : List ℕ) → behind word bytes ≡ None → bytes ≢ word ++ rest
@@ -21,10 +24,12 @@ not_behind word bytes rest none = λ text.
     let some : behind word bytes ≡ Some rest = ap (behind word) text ∙ behind_again word rest in
     let no : None ≡ Some rest = sym none ∙ some in cc
 
-first_last : (bytes : List ℕ) → behind (codes "ASPREC 1" ++ 10 ∷ []) bytes ≡ None → (longer : Part) → IsPart longer → IsLonger Nothing longer
+first_last : (bytes : List ℕ) → behind (codes "ASPREC 1" ++ 10 ∷ []) bytes ≡ None → (longer : Part) → IsPart longer
+    → IsLonger Nothing longer
     → ¬ (Begins bytes (part_text longer))
 first_last bytes none Nothing right longer = λ begins. longer
-first_last bytes none Named right longer = λ begins. not_behind (codes "ASPREC 1" ++ 10 ∷ []) bytes begins.0 none begins.1
+first_last bytes none Named right longer =
+    λ begins. not_behind (codes "ASPREC 1" ++ 10 ∷ []) bytes begins.0 none begins.1
 first_last bytes none (Begun recording) right longer = λ begins. longer
 first_last bytes none (Ended recording) right longer = λ begins. longer
 
@@ -36,20 +41,23 @@ refused_first bytes none = record {
   place = inl (record { is_open = tt; last = first_last bytes none }, omega arith, refl);
 }
 
-seed_last : (bytes rest : List ℕ) → bytes ≡ line (codes "ASPREC 1") ++ rest → seed_line_at rest ≡ None → (longer : Part) → IsPart longer
+seed_last : (bytes rest : List ℕ) → bytes ≡ line (codes "ASPREC 1") ++ rest → seed_line_at rest ≡ None → (longer : Part)
+    → IsPart longer
     → IsLonger Named longer → ¬ (Begins bytes (part_text longer))
 seed_last bytes rest text none Nothing right longer = λ begins. longer
 seed_last bytes rest text none Named right longer = λ begins. longer
 seed_last bytes rest text none (Begun recording) right longer = λ begins.
     let later = flat_map item_text recording.items ++ begins.0 in
     let cut : rest ≡ seed_text recording.seed ++ later =
-    append_cancel_left (line (codes "ASPREC 1")) rest (seed_text recording.seed ++ later) (sym text ∙ begins.1 ∙ opening_parts recording begins.0) in
+    append_cancel_left (line (codes "ASPREC 1")) rest (seed_text recording.seed ++ later)
+    (sym text ∙ begins.1 ∙ opening_parts recording begins.0) in
     let some : seed_line_at rest ≡ Some (recording.seed, later) =
     ap seed_line_at cut ∙ seed_line_again recording.seed later right.size right.bytes in
     let no : ◌≡◌ {A = Option (List ℕ × List ℕ)} None (Some (recording.seed, later)) = sym none ∙ some in cc
 seed_last bytes rest text none (Ended recording) right longer = λ begins. longer
 
-pub refused_seed : (bytes rest : List ℕ) → behind (codes "ASPREC 1" ++ 10 ∷ []) bytes ≡ Some rest → seed_line_at rest ≡ None
+pub refused_seed : (bytes rest : List ℕ) → behind (codes "ASPREC 1" ++ 10 ∷ []) bytes ≡ Some rest
+    → seed_line_at rest ≡ None
     → IsRefusedAt bytes 9
 refused_seed bytes rest named none =
     let text = behind_is (codes "ASPREC 1" ++ 10 ∷ []) bytes rest named in
@@ -61,7 +69,8 @@ refused_seed bytes rest named none =
     }
 
 begun_last : (bytes rest : List ℕ) (recording : Recording) → bytes ≡ opening_text recording ++ rest
-    → HasNoItem (last_of 0 recording.items) rest → behind (codes "end" ++ 10 ∷ []) rest ≡ None → (longer : Part) → IsPart longer
+    → HasNoItem (last_of 0 recording.items) rest → behind (codes "end" ++ 10 ∷ []) rest ≡ None → (longer : Part)
+    → IsPart longer
     → IsLonger (Begun recording) longer → ¬ (Begins bytes (part_text longer))
 begun_last bytes rest recording text last none Nothing right longer = λ begins. longer
 begun_last bytes rest recording text last none Named right longer = λ begins. longer
@@ -93,8 +102,10 @@ read_size bytes rest recording text =
     let sum = length-append (opening_text recording) rest in
     omega (arith, size, sum)
 
-pub refused_item : (bytes rest : List ℕ) (recording : Recording) (at : ℕ) → bytes ≡ opening_text recording ++ rest → IsSound recording
-    → HasNoItem (last_of 0 recording.items) rest → behind (codes "end" ++ 10 ∷ []) rest ≡ None → at ≡ length bytes - length rest
+pub refused_item : (bytes rest : List ℕ) (recording : Recording) (at : ℕ) → bytes ≡ opening_text recording ++ rest
+    → IsSound recording
+    → HasNoItem (last_of 0 recording.items) rest → behind (codes "end" ++ 10 ∷ []) rest ≡ None
+    → at ≡ length bytes - length rest
     → at ≤ 67108864 → IsRefusedAt bytes at
 refused_item bytes rest recording at text sound last none is short =
     let size = is ∙ read_size bytes rest recording text in
@@ -102,10 +113,15 @@ refused_item bytes rest recording at text sound last none is short =
       part = Begun recording;
       right = sound;
       begins = (rest, text);
-      place = inl (record { is_open = tt; last = begun_last bytes rest recording text last none }, omega (arith, size, short), size);
+      place = inl (
+        record { is_open = tt; last = begun_last bytes rest recording text last none },
+        omega (arith, size, short),
+        size,
+      );
     }
 
-pub refused_long : (bytes rest : List ℕ) (recording : Recording) → bytes ≡ opening_text recording ++ rest → IsSound recording
+pub refused_long : (bytes rest : List ℕ) (recording : Recording) → bytes ≡ opening_text recording ++ rest
+    → IsSound recording
     → 67108864 < length bytes - length rest → IsRefusedAt bytes 67108864
 refused_long bytes rest recording text sound long = record {
   part = Begun recording;
@@ -117,10 +133,13 @@ refused_long bytes rest recording text sound long = record {
 whole : (bytes rest after : List ℕ) (recording : Recording) → bytes ≡ opening_text recording ++ rest
     → behind (codes "end" ++ 10 ∷ []) rest ≡ Some after → bytes ≡ recording_text recording ++ after
 whole bytes rest after recording text ends =
-    text ∙ ap (λ l. opening_text recording ++ l) (behind_is (codes "end" ++ 10 ∷ []) rest after ends) ∙ sym (ending_parts recording after)
+    text ∙ ap (λ l. opening_text recording ++ l) (behind_is (codes "end" ++ 10 ∷ []) rest after ends)
+    ∙ sym (ending_parts recording after)
 
-pub refused_end : (bytes rest after : List ℕ) (recording : Recording) → bytes ≡ opening_text recording ++ rest → IsSound recording
-    → behind (codes "end" ++ 10 ∷ []) rest ≡ Some after → 67108864 < length bytes - length rest + 4 → IsRefusedAt bytes 67108864
+pub refused_end : (bytes rest after : List ℕ) (recording : Recording) → bytes ≡ opening_text recording ++ rest
+    → IsSound recording
+    → behind (codes "end" ++ 10 ∷ []) rest ≡ Some after → 67108864 < length bytes - length rest + 4
+    → IsRefusedAt bytes 67108864
 refused_end bytes rest after recording text sound ends long = record {
   part = Ended recording;
   right = sound;
@@ -128,7 +147,8 @@ refused_end bytes rest after recording text sound ends long = record {
   place = inr (let size = read_size bytes rest recording text in omega (arith, size, long, text_size recording), refl);
 }
 
-pub stands : (bytes rest after : List ℕ) (recording : Recording) (end : ℕ) → bytes ≡ opening_text recording ++ rest → IsSound recording
+pub stands : (bytes rest after : List ℕ) (recording : Recording) (end : ℕ) → bytes ≡ opening_text recording ++ rest
+    → IsSound recording
     → behind (codes "end" ++ 10 ∷ []) rest ≡ Some after → end ≡ length bytes - length rest + 4 → end ≤ 67108864
     → Stands bytes recording end
 stands bytes rest after recording end text sound ends is short =

@@ -1,6 +1,8 @@
 -- A seed that is read is the seed that was written, and what was written is read again.
-use Rattle.std.proofs.Common.{◌≡◌, ℕ, zero, suc, ◌/◌, ◌%◌, ◌<◌, Bool, true, false, cond, ltb, eqb, ◌&&◌, List, [], ◌∷◌, ◌++◌}
-use Rattle.std.proofs.Common.{length, get_or, take, drop, Option, Some, None, Result, Ok, Err, refl, sym, ap, ◌∙◌, arith}
+use Rattle.std.proofs.Common.{◌≡◌, ℕ, zero, suc, ◌/◌, ◌%◌, ◌<◌, Bool, true, false, cond, ltb, eqb, ◌&&◌, List, [], ◌∷◌}
+use Rattle.std.proofs.Common.{◌++◌}
+use Rattle.std.proofs.Common.{length, get_or, take, drop, Option, Some, None, Result, Ok, Err, refl, sym, ap, ◌∙◌}
+use Rattle.std.proofs.Common.{arith}
 use Rattle.std.specs.Fmt.{digit_glyph}
 use Rattle.std.specs.Str.{bytes_eq}
 use Rattle.std.proofs.lemmas.Bool.{le-ltb}
@@ -22,7 +24,8 @@ all_same (suc n) = eqb (get_or lower_digits n 0) (digit_glyph false n) && all_sa
 
 glyph : (n : ℕ) → n < 16 → get_or lower_digits n 0 ≡ digit_glyph false n
 glyph =
-    (Decides-below_and (λ n. eqb (get_or lower_digits n 0) (digit_glyph false n)) (λ n. get_or lower_digits n 0 ≡ digit_glyph false n) all_same
+    (Decides-below_and (λ n. eqb (get_or lower_digits n 0) (digit_glyph false n))
+    (λ n. get_or lower_digits n 0 ≡ digit_glyph false n) all_same
     (λ n. Decides-eqb (get_or lower_digits n 0) (digit_glyph false n)) refl (λ _. refl) 16).0 refl
 
 hex_is : (bytes : List ℕ) → IsBytes bytes → encode_lower bytes ≡ hex bytes
@@ -39,9 +42,16 @@ unfolding seed_at
 seed_again seed rest size fits =
     let text = encode_lower seed in
     let sixty_four : length text ≡ 64 = omega (arith, length-encode_with lower_digits seed, size) in
-    let long : ltb (length (text ++ rest)) 64 ≡ false = le-ltb _ _ (omega (arith, length-append text rest, sixty_four)) in
+    let long : ltb (length (text ++ rest)) 64 ≡ false =
+    le-ltb _ _ (omega (arith, length-append text rest, sixty_four)) in
     let whole : seed_at (text ++ rest) ≡ Some (seed, rest) =
-    rw (long, take_at text rest 64 sixty_four, drop_at text rest 64 sixty_four, decode_sized-encode_lower seed 32 size fits, (bytes_eq-Decides text text).1 refl) refl in
+    rw (
+      long,
+      take_at text rest 64 sixty_four,
+      drop_at text rest 64 sixty_four,
+      decode_sized-encode_lower seed 32 size fits,
+      (bytes_eq-Decides text text).1 refl,
+    ) refl in
     ap (λ l. seed_at (l ++ rest)) (sym (hex_is seed fits)) ∙ whole
 
 lower_is : (text seed : List ℕ) (read : Result (List ℕ) FromHexError) → in_lower_case text read ≡ Some seed
@@ -68,11 +78,14 @@ seed_is bytes seed rest e =
     let g = other_step (ltb (length bytes) 64) (read >>= λ found. Some (found, drop 64 bytes)) (seed, rest) e in
     let s = step_is read (λ found. Some (found, drop 64 bytes)) (seed, rest) g.1 in
     let found = s.0 in
-    let seed_same : found ≡ seed = ap (λ (p : Option (List ℕ × List ℕ)). elim p as (λ _. List ℕ) [ Some q ↦ q.0 | None ↦ [] ]) s.2 in
-    let rest_same : drop 64 bytes ≡ rest = ap (λ (p : Option (List ℕ × List ℕ)). elim p as (λ _. List ℕ) [ Some q ↦ q.1 | None ↦ [] ]) s.2 in
+    let seed_same : found ≡ seed =
+    ap (λ (p : Option (List ℕ × List ℕ)). elim p as (λ _. List ℕ) [ Some q ↦ q.0 | None ↦ [] ]) s.2 in
+    let rest_same : drop 64 bytes ≡ rest =
+    ap (λ (p : Option (List ℕ × List ℕ)). elim p as (λ _. List ℕ) [ Some q ↦ q.1 | None ↦ [] ]) s.2 in
     let digits = take 64 bytes in
     let lower = lower_is digits found (decode_sized digits 32) s.1 in
-    let pairs = paired (eqb (length digits % 2) 1) (eqb (length digits / 2) 32) (decode_pairs 0 digits) OddLength InvalidStringLength found lower.1 in
+    let pairs = paired (eqb (length digits % 2) 1) (eqb (length digits / 2) 32)
+    (decode_pairs 0 digits) OddLength InvalidStringLength found lower.1 in
     let fits : IsBytes found = (decode_pairs-ok 0 digits found pairs).2 in
     sym (take-append-drop 64 bytes) ∙ ap (λ l. l ++ drop 64 bytes) (sym lower.0 ∙ hex_is found fits)
     ∙ ap (λ l. hex l ++ drop 64 bytes) seed_same ∙ ap (λ l. hex seed ++ l) rest_same

@@ -73,7 +73,6 @@ fn is_next(reader: &mut Reader, now: u64, line: Line<'_>) -> Result<bool, Memory
 }
 
 /// The item that comes next, and what follows it.
-#[tactic(auto, using(crate::proofs::NextItem::is_found, crate::proofs::NextItem::has_none, crate::proofs::NextItem::is_not_next))]
 fn next_item<'a>(
     reader: &mut Reader,
     now: u64,
@@ -218,7 +217,8 @@ fn recording_at(alloc: Global, bytes: &[u8]) -> Result<(Recording, u64), RecordS
 /// Reads the recording at the front of bytes, and tells where it ends. What follows it is left to the caller.
 ///
 /// Bytes without one are refused at the first byte of the first line that does not fit, of which a request's bytes are
-/// a part; at their length, where `end` is missing behind whole lines; and at 67,108,864, where the recording is longer.
+/// a part; at their length, where `end` is missing behind whole lines; and at 67,108,864, where the recording is
+/// longer.
 pub fn read_recording(alloc: Global, bytes: &[u8]) -> Result<(Recording, u64), RecordStop>
     ensures recording { IfOk result (λ read. spec.Stands bytes.now read.0 read.1) }
     ensures only { (recording : Recorded) (end : ℕ) → spec.Stands bytes.now recording end

@@ -10,8 +10,10 @@ loop-items-preserved c =
     let found = rw c.in-Some.is at c.in_ok-next_item.ensures.found in
     let kept = rw c.in-Some.is at c.in_ok-next_item.ensures.kept in
     let none = kept refl in
-    let on = read_on c.args.bytes.now c.loop-items.rest.now c.in-Some.after.now c.loop-items.items c.push.new.self c.loop-items.now
-    c.moment_of-now.result (item_of c.in-Some.line) c.in_ok-item-in-Some.field-0 before.right before.text before.time found
+    let on = read_on c.args.bytes.now c.loop-items.rest.now c.in-Some.after.now c.loop-items.items c.push.new.self
+    c.loop-items.now
+    c.moment_of-now.result (item_of c.in-Some.line) c.in_ok-item-in-Some.field-0 before.right before.text before.time
+    found
     c.in_ok-item-in-Some.ensures c.in_ok-push-in-Some.ensures c.moment_of-now.ensures in
     record {
       right = on.right;
