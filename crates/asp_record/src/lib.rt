@@ -4,6 +4,7 @@
 mod call;
 mod entry;
 mod fields;
+mod laws;
 mod line;
 mod one_request;
 mod reading;
@@ -14,6 +15,7 @@ mod value;
 mod writing;
 
 pub use entry::entry_line;
+pub use laws::{one_recording, recording_not_refused, text_stands};
 pub use reading::read_recording;
 pub use recording::{Item, Recording};
 pub use stop::RecordStop;
