@@ -16,7 +16,8 @@ commas_push [] text = append-nil text
 commas_push (first ∷ texts) text =
     let behind = λ (other : List ℕ). codes "," ++ other in
     let some : ltb 0 (suc (length texts)) ≡ true = grind (arith, nat_tests) in
-    ap (λ l. first ++ l) (flat_map-append behind texts (text ∷ []) ∙ ap (λ l. flat_map behind texts ++ l) (append-nil (behind text)))
+    ap (λ l. first ++ l) (flat_map-append behind texts (text ∷ [])
+    ∙ ap (λ l. flat_map behind texts ++ l) (append-nil (behind text)))
     ∙ sym (append_assoc first (flat_map behind texts) (behind text))
     ∙ ap (λ more. (first ++ flat_map behind texts) ++ (mark more ++ text)) (sym some)
 

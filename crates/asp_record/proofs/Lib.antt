@@ -1,1 +1,9 @@
 mod Commas
+mod FieldLaws
+mod ItemLaws
+mod NextItem
+mod Numbers
+mod OneRecording
+mod OneRequest
+mod Refusals
+mod SeedLaws

@@ -31,7 +31,8 @@ queue_text lane run work key = codes "Q" ++ number lane ++ number run ++ field (
 
 -- a run called the Application object
 abbrev pub app_text : ℕ → ℕ → AppCall → AppReply → List ℕ
-app_text lane run call reply = codes "P" ++ number lane ++ number run ++ field (call_text call) ++ field (reply_text reply)
+app_text lane run call reply =
+    codes "P" ++ number lane ++ number run ++ field (call_text call) ++ field (reply_text reply)
 
 -- whether there is a line of what a lane did: not of an answer that was handed out, nor of a halt
 abbrev pub has_line : What → Bool
@@ -42,7 +43,8 @@ has_line _ = true
 -- what stands in the line
 abbrev pub what_text : ℕ → What → List ℕ
 what_text lane (what.Queue run work key) = queue_text lane run work key
-what_text lane (what.Admit run key fresh job) = codes "A" ++ number lane ++ number run ++ number key ++ number job.moment
+what_text lane (what.Admit run key fresh job) =
+    codes "A" ++ number lane ++ number run ++ number key ++ number job.moment
 what_text lane (what.Refuse run job) = codes "X" ++ number lane ++ number run ++ number job.moment
 what_text lane (what.Tick moment) = codes "T" ++ number lane ++ number moment
 what_text lane (what.Begin run serial) = codes "B" ++ number lane ++ number run ++ number serial

@@ -23,8 +23,10 @@ item_text (Tick moment) = tick_text moment
 abbrev pub seed_text : List ℕ → List ℕ
 seed_text seed = line (codes "seed" ++ field (hex seed))
 
--- the first line, the seed, the items, and `end`
+-- the first line, the seed and the items
+abbrev pub opening_text : Recording → List ℕ
+opening_text recording = line (codes "ASPREC 1") ++ seed_text recording.seed ++ flat_map item_text recording.items
+
+-- these, and `end`
 unfoldable pub recording_text : Recording → List ℕ
-recording_text recording =
-    line (codes "ASPREC 1") ++ seed_text recording.seed ++ flat_map item_text recording.items
-    ++ line (codes "end")
+recording_text recording = opening_text recording ++ line (codes "end")

@@ -37,7 +37,8 @@ value_form _ = []
 -- one array, with the text of each item in its place: its bounds, `|`, its items
 abbrev pub array_form : Array-F (List ℕ) (List ℕ) → List ℕ
 array_form array =
-    opening array.fixed ++ with_commas (map signed_decimal array.bounds) ++ codes "|" ++ with_commas array.items ++ codes "]"
+    opening array.fixed ++ with_commas (map signed_decimal array.bounds) ++ codes "|" ++ with_commas array.items
+    ++ codes "]"
 
 -- the text of a value
 abbrev pub value_text : Value → List ℕ

@@ -10,6 +10,7 @@ pub loop-name-preserved : goal.loop-name-preserved
 loop-name-preserved c = (
   one_behind c.loop-name.name-index,
   next_item text_form c.args.names.now c.loop-name.name-index c.name-item.result c.loop-name.more
-      c.args.bytes.now c.loop-name.bytes c.push_mark.new.bytes c.push_text.new.bytes c.name-item.is c.loop-name.invariant.0
+      c.args.bytes.now c.loop-name.bytes c.push_mark.new.bytes c.push_text.new.bytes c.name-item.is
+      c.loop-name.invariant.0
       c.loop-name-test.true c.loop-name.invariant.1 c.in_ok-push_mark.ensures c.in_ok-push_text.ensures,
 )
