@@ -16,3 +16,5 @@ pub mod Ticking
 pub mod Admitting
 pub mod Halting
 pub mod Refusing
+pub mod Jobs
+pub mod Beginning
