@@ -5,5 +5,6 @@ pub mod Ready
 pub mod Drawing
 pub mod Stops
 pub mod Standing
+pub mod Opening
 pub mod Taking
 pub mod Ends
