@@ -34,7 +34,8 @@ pub struct StandIns {
     pub full: Option<Answer>,
 }
 
-/// A run that was moved out of the core.
+/// A run that was moved out of the core. One that is let go stays unfinished for ever.
+#[derive(Drop)]
 pub struct Run<R: Runner> {
     pub(crate) number: u32,
     pub(crate) progress: Progress,
@@ -75,6 +76,13 @@ impl<R: Runner> Run<R> {
         ensures { result ≡ self.now.number }
     {
         self.number
+    }
+
+    /// What the last step of the run was.
+    pub fn progress(&self) -> &Progress
+        ensures { result.now ≡ self.now.progress }
+    {
+        &self.progress
     }
 
     /// Goes on until the run wants a call, has ended, or has spent `quantum` ticks and has more to do. Without memory
