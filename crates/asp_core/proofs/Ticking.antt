@@ -1,7 +1,7 @@
 -- How many entries a Tick adds, with the runs that are then owed.
-use Rattle.std.proofs.Common.{◌≡◌, ℕ, zero, suc, ◌+◌, ◌≤◌, Bool, true, false, if◌then◌else◌, List, [], ◌∷◌, ◌++◌, length, reverse, filter, Option, Result, Ok, Err, OnOk, append_assoc, ap, ◌∙◌, refl, sym, arith, length-append, nat_lt, subst}
+use Rattle.std.proofs.Common.{◌≡◌, ℕ, zero, suc, ◌+◌, ◌-◌, ◌≤◌, Bool, true, false, if◌then◌else◌, List, [], ◌∷◌, ◌++◌, length, reverse, filter, Option, Result, Ok, Err, OnOk, append_assoc, ap, ◌∙◌, refl, sym, arith, length-append, nat_lt, subst}
 use Rattle.asp_core.specs.Drawing.{drawn_by, drawn_then, entries_by, tick_before}
-use Rattle.asp_core.specs.Kernel.{ticked}
+use Rattle.asp_core.specs.Kernel.{expired_by, ticked}
 use Rattle.asp_job.specs.History.{counts, entries_in, with_lane}
 use Rattle.asp_job.specs.Journal.{past_after, queue_entries}
 use Rattle.asp_job.specs.Keys.{due_at, is_due_key, made}
@@ -62,13 +62,26 @@ ticked_if : (b : Bool) (entries : List Entry) (n : ℕ) → length entries ≤ n
 ticked_if true entries n h = h
 ticked_if false entries n h = omega arith
 
-tick_length : (sessions : ℕ → Option SessionState) (past : List Entry) (lane moment : ℕ) → length (ticked sessions past lane moment) ≤ entries_in past + 1
+pub tick_length : (sessions : ℕ → Option SessionState) (past : List Entry) (lane moment : ℕ) → length (ticked sessions past lane moment) ≤ entries_in past + 1
 tick_length sessions past lane moment =
     let queued = queue_entries lane (drawn past + 1) (closing_runs (due_at sessions past moment)) in
     let size : length queued ≡ length (due_at sessions past moment) = queue_length lane (drawn past + 1) (due_at sessions past moment) in
     let due = due_length sessions past moment in
     let few = made_small past in
     ticked_if (nat_lt (moment_of past) moment) (with_lane lane (Tick moment) ∷ queued) (entries_in past + 1) (omega arith)
+
+counted_if : (b : Bool) (first : Entry) (queued : List Entry) (keys : List ℕ) → length queued ≡ length keys
+    → length (if b then first ∷ queued else []) - 1 ≡ (if b then length keys else 0)
+counted_if true first queued keys e = omega arith
+counted_if false first queued keys e = refl
+
+-- the entries of a Tick but one are as many as the keys whose sessions are over
+pub expired_is : (sessions : ℕ → Option SessionState) (past : List Entry) (lane moment : ℕ)
+    → length (ticked sessions past lane moment) - 1 ≡ expired_by sessions past moment
+expired_is sessions past lane moment =
+    let keys = due_at sessions past moment in
+    counted_if (nat_lt (moment_of past) moment) (with_lane lane (Tick moment))
+    (queue_entries lane (drawn past + 1) (closing_runs keys)) keys (queue_length lane (drawn past + 1) keys)
 
 -- after the Tick of a job
 pub few_after_tick : (sessions : ℕ → Option SessionState) (journal next : List Entry) (lane moment : ℕ) → next ≡ journal ++ ticked sessions (reverse journal) lane moment → entries_in (reverse journal) ≤ MOST_ENTRIES → entries_in (reverse next) ≤ MOST_ENTRIES + MOST_ENTRIES + 1

@@ -173,6 +173,13 @@ ticked sessions past lane moment =
     if nat_lt (moment_of past) moment then with_lane lane (Tick moment)
     ∷ queue_entries lane (drawn past + 1) (closing_runs (due_at sessions past moment)) else []
 
+-- how many keys' sessions are over by a Tick
+abbrev pub expired_by : (ℕ → Option SessionState) → List Entry → ℕ → ℕ
+expired_by sessions past moment = if nat_lt (moment_of past) moment then length (due_at sessions past moment) else 0
+
+abbrev pub expired : Rules → List Entry → ℕ → ℕ
+expired rules past moment = expired_by (session_of rules past) past moment
+
 abbrev pub stopped_by : (ℕ → Option SessionState) → List Entry → ℕ → List Entry
 stopped_by sessions past lane =
     with_lane lane Stop ∷ queue_entries lane (drawn past + 1) (closing_runs (live sessions past) ++ (work.Stop, 0) ∷ [])

@@ -1,6 +1,6 @@
-use Rattle.std.proofs.Common.{◌≡◌, ◌++◌, reverse, ap, subst, ◌∙◌, vec_capacity}
+use Rattle.std.proofs.Common.{◌≡◌, ◌++◌, IfOk, reverse, ap, subst, ◌∙◌, vec_capacity}
 use Rattle.asp_job.specs.Journal.{tick_entries, past_after}
-use Rattle.asp_core.specs.Kernel.{CoreView, rules_by, rules_of, past_of, grown, IsTooMuch, IsKept}
+use Rattle.asp_core.specs.Kernel.{CoreView, rules_by, rules_of, past_of, grown, expired, IsTooMuch, IsKept}
 use Rattle.asp_core.proofs.Kept.{kept_after_tick}
 use Rattle.asp_core.proofs.Same.{kept_either, on_ok, view_of}
 use Rattle.asp_core.proofs.kernel.Core.tick.Goals as goal
@@ -29,3 +29,9 @@ pub returns-clause-full : goal.returns-clause-full
 returns-clause-full g c entries weight e =
     subst (λ (v : CoreView g.row.R.Denot g.row.R-Site.Denot). IsTooMuch (past_after (past_of v) (tick_entries (rules_of g.R.Runner.meaning v) (past_of v) c.args.lane c.args.moment)) entries weight) c.self.view_is
     (c.with_tick.ensures.full entries weight e)
+
+pub returns-clause-count : goal.returns-clause-count
+returns-clause-count g c =
+    subst (λ (v : CoreView g.row.R.Denot g.row.R-Site.Denot). IfOk c.with_tick.result
+    (λ count. count ≡ expired (rules_of g.R.Runner.meaning v) (past_of v) c.args.moment)) c.self.view_is
+    c.with_tick.ensures.count
