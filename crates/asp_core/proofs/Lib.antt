@@ -22,3 +22,4 @@ pub mod Handing
 pub mod Counts
 pub mod Made
 pub mod Ending
+pub mod Telling

@@ -7,3 +7,4 @@ pub mod Stops
 pub mod Standing
 pub mod Taking
 pub mod Ends
+pub mod Telling

@@ -19,6 +19,7 @@ mod run;
 mod scan;
 mod stop;
 mod takes;
+mod tellers;
 mod weighing;
 mod works;
 
