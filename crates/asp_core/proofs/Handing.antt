@@ -10,6 +10,7 @@ use Rattle.std.proofs.lemmas.List.{length-reverse}
 use Rattle.std.proofs.lemmas.List.Quantifiers.{position-Some}
 use Rattle.asp_core.specs.Kernel.{HasAnswerRoom, HasRoom, IsKept, IsWithin}
 use Rattle.asp_core.specs.Ready.{IsAnswered, asked_by, collect_stop, ended_stop, first_for, lane_stop, ready}
+use Rattle.asp_core.specs.Waits.{AreOnce, HasNone, waits}
 use Rattle.asp_core.specs.declared.stop.CollectStop.TheVariants.{Foreign}
 use Rattle.asp_job.specs.Application.{AppState}
 use Rattle.asp_job.specs.History.{with_lane}
@@ -23,7 +24,7 @@ use Rattle.asp_job.specs.declared.answer.Answer.{Answer}
 use Rattle.asp_job.specs.declared.entry.Entry.{Entry}
 use Rattle.asp_job.specs.declared.entry.What.TheVariants.{Take}
 use Rattle.asp_job.specs.declared.session.SessionState.{SessionState}
-use Rattle.asp_core.proofs.Answering.{AreOnce, HasNone, are_those, its_answer, removed_length, waits}
+use Rattle.asp_core.proofs.Answering.{are_those, its_answer, removed_length}
 use Rattle.asp_core.proofs.Jobs.{page_asked}
 use Rattle.asp_core.proofs.Kept.{may_follow}
 use Rattle.asp_core.proofs.Others.{own_number}

@@ -23,3 +23,4 @@ pub mod Counts
 pub mod Made
 pub mod Ending
 pub mod Telling
+pub mod Once

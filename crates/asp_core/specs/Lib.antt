@@ -8,3 +8,4 @@ pub mod Standing
 pub mod Taking
 pub mod Ends
 pub mod Telling
+pub mod Waits
