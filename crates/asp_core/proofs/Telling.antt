@@ -3,6 +3,7 @@ use Rattle.std.proofs.Common.{◌≡◌, ℕ, suc, zero, ◌+◌, ◌≤◌, Boo
 use Rattle.std.proofs.Common.{length, filter, refl, arith, length-append}
 use Rattle.asp_job.specs.History.{entries_in, with_lane}
 use Rattle.asp_job.specs.Runs.{drawn, is_waiting, numbers, waiting}
+use Rattle.asp_job.specs.Turns.{is_waiting_page, waiting_pages}
 use Rattle.asp_job.specs.declared.entry.Entry.{Entry}
 use Rattle.asp_job.specs.declared.entry.What.{What}
 use Rattle.asp_job.specs.declared.entry.What.TheVariants.{Admit, App, Begin, End, Halt, Queue, Refuse, Stop, Take, Tick}
@@ -24,12 +25,18 @@ filter_few : (p : ℕ → Bool) (xs : List ℕ) → length (filter p xs) ≤ len
 filter_few p [] = omega arith
 filter_few p (x ∷ xs) = let more = if_few (p x) x (filter p xs) (length xs) (filter_few p xs) in omega arith
 
-pub waiting_small : (past : List Entry) → length (waiting past) ≤ entries_in past
-waiting_small past =
-    let few = filter_few (is_waiting past) (numbers (drawn past)) in
+runs_few : (p : ℕ → Bool) (past : List Entry) → length (filter p (numbers (drawn past))) ≤ entries_in past
+runs_few p past =
+    let few = filter_few p (numbers (drawn past)) in
     let all = length-numbers (drawn past) in
     let small = drawn_small past in
     omega arith
+
+pub waiting_small : (past : List Entry) → length (waiting past) ≤ entries_in past
+waiting_small past = runs_few (is_waiting past) past
+
+pub pages_small : (past : List Entry) → length (waiting_pages past) ≤ entries_in past
+pages_small past = runs_few (is_waiting_page past) past
 
 admitted_more : (past : List Entry) (lane : ℕ) (what : What) → admitted past ≤ entries_in past
     → admitted (with_lane lane what ∷ past) ≤ entries_in (with_lane lane what ∷ past)

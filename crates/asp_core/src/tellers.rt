@@ -3,11 +3,12 @@
 
 ghost use Rattle.std.specs.Prelude.{◌≡◌, ◌≤◌, reverse, length};
 ghost use Rattle.asp_job.specs.Runs as runs;
+ghost use Rattle.asp_job.specs.Turns as turns;
 ghost use Rattle.asp_core.specs.Kernel.{past_of};
 ghost use Rattle.asp_core.specs.Telling as spec;
 
 use crate::kernel::Core;
-use crate::keys::waiting;
+use crate::keys::{waiting, waiting_pages};
 use asp_job::{EndKind, Entry, Runner, What};
 
 fn is_job(what: &What) -> bool
@@ -68,6 +69,14 @@ impl<R: Runner> Core<R> {
         ensures { result ≡ length (runs.waiting (past_of self.now)) }
     {
         waiting(self.journal.as_slice()) as u32
+    }
+
+    /// How many runs of pages wait. From 1,024 on no job is admitted.
+    #[tactic(auto, using(crate::proofs::Telling::pages_small))]
+    pub fn waiting_pages(&self) -> u32
+        ensures { result ≡ length (turns.waiting_pages (past_of self.now)) }
+    {
+        waiting_pages(self.journal.as_slice()) as u32
     }
 
     /// How many jobs came, those that were refused under a number too.
