@@ -1,10 +1,11 @@
 -- Which answers wait: those of the runs that ended and were not handed out.
-use Rattle.std.proofs.Common.{◌≡◌, ℕ, suc, ◌+◌, ◌<◌, ◌≤◌, ◌==◌, ◌||◌, nat_eq, Bool, true, false, if◌then◌else◌, List}
-use Rattle.std.proofs.Common.{[], ◌∷◌, ◌++◌, length, Option, Some, None, IsSome, is_some, unwrap_or, refl, ap, sym, ◌∙◌}
+use Rattle.std.proofs.Common.{◌≡◌, ℕ, ◌+◌, ◌==◌, ◌||◌, nat_eq, Bool, true, false, if◌then◌else◌, List}
+use Rattle.std.proofs.Common.{[], ◌∷◌, length, Option, Some, None, IsSome, is_some, refl, ap, sym, ◌∙◌}
 use Rattle.std.proofs.Common.{subst, arith, inl, inr}
 use Rattle.std.specs.Map.{lookup, remove_entry}
 use Rattle.std.proofs.lemmas.Bool.{cases_Bool, eqb-true, eq-eqb}
 use Rattle.asp_core.specs.Ready.{IsAnswered, ready, with_answer}
+use Rattle.asp_core.specs.Waits.{AreOnce, AreThose, HasNone, WaitsFor, waits}
 use Rattle.asp_job.specs.History.{run_in, with_lane}
 use Rattle.asp_job.specs.Journal.{AreRight, IsRight}
 use Rattle.asp_job.specs.Output.{answer_by, answer_of_run, unavailable_in}
@@ -13,10 +14,8 @@ use Rattle.asp_job.specs.Running.{is_page}
 use Rattle.asp_job.specs.Runs.{drawn, has_ended, is_stage_ended, is_taken, job_of, stage_of}
 use Rattle.asp_job.specs.Turns.{IsTake, MayFollow, owed}
 use Rattle.asp_job.specs.declared.answer.Answer.{Answer}
-use Rattle.asp_job.specs.declared.entry.EndKind.{EndKind}
 use Rattle.asp_job.specs.declared.entry.Entry.{Entry}
-use Rattle.asp_job.specs.declared.entry.Stage.{Stage}
-use Rattle.asp_job.specs.declared.entry.Stage.TheVariants.{Ended, Undrawn, Unfinished, Waiting}
+use Rattle.asp_job.specs.declared.entry.Stage.TheVariants.{Unfinished, Waiting}
 use Rattle.asp_job.specs.declared.entry.What.{What}
 use Rattle.asp_job.specs.declared.entry.What.TheVariants.{Admit, App, Begin, End, Halt, Queue, Refuse, Stop, Take, Tick}
 use Rattle.asp_job.specs.declared.job.Job.{Job}
@@ -26,15 +25,6 @@ use Rattle.asp_core.proofs.Others.{job_other, stage_other}
 use Rattle.asp_core.proofs.Right.{begin_right, drawn_next, end_running, may_begin_waits, next_undrawn, unfinished_is}
 
 -- ---- lists of answers
-
--- no answer of the run is among these
-abbrev pub HasNone : ℕ → List (ℕ × Answer) → Type 0
-HasNone r answers = lookup (nat_eq r) answers ≡ None
-
--- no run has two
-abbrev pub AreOnce : List (ℕ × Answer) → Type 0
-AreOnce [] = Unit {0}
-AreOnce (first ∷ rest) = HasNone first.0 rest × AreOnce rest
 
 eqb_sym : (a b : ℕ) → (a == b) ≡ false → (b == a) ≡ false
 eqb_sym a b e = grind arith
@@ -143,7 +133,7 @@ ended_stays m past lane what r all right h = elim (cases_Bool (run_in what == r)
   | inr other ↦ ap is_stage_ended (stage_other past lane r what other) ∙ h
 ]
 
-take_right : (m : Rules) (past : List Entry) (lane run : ℕ) (list : List (Work × ℕ))
+pub take_right : (m : Rules) (past : List Entry) (lane run : ℕ) (list : List (Work × ℕ))
     → MayFollow m past list (with_lane lane (Take run)) → IsTake past lane run
 take_right m past lane run [] may = may
 take_right m past lane run (first ∷ rest) may = absurd (let is = may.0 in cc)
@@ -188,13 +178,6 @@ not_taken m past right r e = elim (cases_Bool (is_taken past r)) [
 ]
 
 -- ---- what waits for a run: its answer, once it has ended and before it is handed out
-
-abbrev pub waits : Bool → Bool → Option Answer → Option Answer
-waits ended taken answer = if ended then (if taken then None else answer) else None
-
-abbrev WaitsFor : Rules → List Entry → ℕ → Type 0
-WaitsFor m past r = lookup (nat_eq r) (ready m past) ≡ waits (has_ended past r) (is_taken past r)
-    (answer_of_run m past r)
 
 unended : (m : Rules) (past : List Entry) (r : ℕ) → WaitsFor m past r → has_ended past r ≡ false
     → HasNone r (ready m past)
@@ -311,11 +294,7 @@ once_more m past lane (Take run) all right once ih = once_remove run (ready m pa
 once_more m past lane Stop all right once ih = once
 once_more m past lane Halt all right once ih = once
 
--- the answers that wait, each once, are those of the runs that ended and were not handed out
-pub record AreThose (m : Rules) (past : List Entry) : Type 0 where
-  pub once : AreOnce (ready m past)
-  pub found : (r : ℕ) → WaitsFor m past r
-
+-- they are those of the runs that ended and were not handed out
 pub are_those : (m : Rules) (past : List Entry) → AreRight m past → AreThose m past
 are_those m [] right = record { once = tt; found = λ r. refl }
 are_those m (entry ∷ past) right =

@@ -1,5 +1,5 @@
 -- What an End leaves of a right journal.
-use Rattle.std.proofs.Common.{◌≡◌, ℕ, zero, suc, ◌+◌, ◌-◌, ◌*◌, ◌^◌, ◌<◌, ◌≤◌, ◌==◌, ◌&&◌, Bool, true, false, not}
+use Rattle.std.proofs.Common.{◌≡◌, ℕ, ◌+◌, ◌-◌, ◌^◌, ◌<◌, ◌≤◌, ◌==◌, ◌&&◌, Bool, true, false, not}
 use Rattle.std.proofs.Common.{if◌then◌else◌, List, [], ◌∷◌, ◌++◌, All, length, reverse, Option, Some, None, IfSome}
 use Rattle.std.proofs.Common.{is_some, refl, ap, sym, ◌∙◌, subst, arith, inl, inr, length-set, slice_set, get_or}
 use lib.Utf8.{encode}
@@ -11,21 +11,21 @@ use Rattle.std.proofs.lemmas.List.{get_or-set_other, length-reverse}
 use Rattle.std.proofs.lemmas.List.Elements.{All-set}
 use Rattle.asp_core.specs.Ends.{end_what, left_of}
 use Rattle.asp_core.specs.Kernel.{CoreView, HasAnswerRoom, HasRoom, IsEndOf, IsKept, IsRunOf, IsSessionIn, IsWithin}
-use Rattle.asp_core.specs.Kernel.{RunView, StandsAt, past_of, rules_by, rules_of, session_at, table_after, to_come}
+use Rattle.asp_core.specs.Kernel.{RunView, StandsAt, past_of, rules_by, rules_of, session_at, table_after}
 use Rattle.asp_core.specs.Kernel.{wanted_by}
 use Rattle.asp_core.specs.Ready.{ready, with_answer}
-use Rattle.asp_core.specs.Standing.{is_head, stand_in, stand_ins}
+use Rattle.asp_core.specs.Standing.{stand_in, stand_ins}
 use Rattle.asp_core.specs.declared.ends.Left.{Left}
 use Rattle.asp_core.specs.declared.run.Progress.{Progress}
 use Rattle.asp_core.specs.declared.run.Progress.TheVariants as progress
 use Rattle.asp_core.specs.declared.run.StandIns.{StandIns}
 use Rattle.asp_job.specs.Application.{AppState, freed}
-use Rattle.asp_job.specs.History.{load, weight_load, with_lane}
+use Rattle.asp_job.specs.History.{with_lane}
 use Rattle.asp_job.specs.Journal.{MayEnd, end_entry}
-use Rattle.asp_job.specs.Keys.{made, session_left, session_of, told}
+use Rattle.asp_job.specs.Keys.{session_left, session_of, told}
 use Rattle.asp_job.specs.Output.{answer_by, answer_in, counted, end_of, finished_in, length_in, made_in, status_in}
 use Rattle.asp_job.specs.Output.{unavailable_in}
-use Rattle.asp_job.specs.Rules.{Cause, Rules, JournalFull, OutOfMemory, TooManySessions}
+use Rattle.asp_job.specs.Rules.{Rules, JournalFull, OutOfMemory}
 use Rattle.asp_job.specs.Running.{IsBounded, IsFinish, Over, is_page}
 use Rattle.asp_job.specs.Runs.{is_unfinished, job_of, key_of, unfinished}
 use Rattle.asp_job.specs.Told.{Ends, Meaning, Outcome, Told, Wants}

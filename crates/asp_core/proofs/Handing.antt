@@ -1,5 +1,5 @@
 -- What a hand-out leaves of a right journal.
-use Rattle.std.proofs.Common.{◌≡◌, ℕ, zero, suc, ◌+◌, ◌<◌, ◌≤◌, ◌==◌, ◌⊎◌, nat_eq, nat_lt, Bool, true, false}
+use Rattle.std.proofs.Common.{◌≡◌, ℕ, zero, suc, ◌+◌, ◌<◌, ◌==◌, ◌⊎◌, nat_eq, nat_lt, Bool, true, false}
 use Rattle.std.proofs.Common.{if◌then◌else◌, List, [], ◌∷◌, ◌++◌, length, reverse, get_or, Option, Some, None, IsSome}
 use Rattle.std.proofs.Common.{is_some, refl, ap, sym, ◌∙◌, subst, arith, inl, inr}
 use Rattle.std.specs.List.{find, position, position_or_len, remove}
@@ -10,7 +10,7 @@ use Rattle.std.proofs.lemmas.List.{length-reverse}
 use Rattle.std.proofs.lemmas.List.Quantifiers.{position-Some}
 use Rattle.asp_core.specs.Kernel.{HasAnswerRoom, HasRoom, IsKept, IsWithin}
 use Rattle.asp_core.specs.Ready.{IsAnswered, asked_by, collect_stop, ended_stop, first_for, lane_stop, ready}
-use Rattle.asp_core.specs.declared.stop.CollectStop.{CollectStop}
+use Rattle.asp_core.specs.Waits.{AreOnce, HasNone, waits}
 use Rattle.asp_core.specs.declared.stop.CollectStop.TheVariants.{Foreign}
 use Rattle.asp_job.specs.Application.{AppState}
 use Rattle.asp_job.specs.History.{with_lane}
@@ -18,13 +18,13 @@ use Rattle.asp_job.specs.Journal.{AreRight}
 use Rattle.asp_job.specs.Output.{answer_of_run}
 use Rattle.asp_job.specs.Rules.{Rules}
 use Rattle.asp_job.specs.Running.{is_page}
-use Rattle.asp_job.specs.Runs.{asking_lane_of, has_ended, is_taken, job_of, unfinished}
+use Rattle.asp_job.specs.Runs.{asking_lane_of, has_ended, is_taken, job_of}
 use Rattle.asp_job.specs.Turns.{IsTake}
 use Rattle.asp_job.specs.declared.answer.Answer.{Answer}
 use Rattle.asp_job.specs.declared.entry.Entry.{Entry}
 use Rattle.asp_job.specs.declared.entry.What.TheVariants.{Take}
 use Rattle.asp_job.specs.declared.session.SessionState.{SessionState}
-use Rattle.asp_core.proofs.Answering.{AreOnce, HasNone, are_those, its_answer, removed_length, waits}
+use Rattle.asp_core.proofs.Answering.{are_those, its_answer, removed_length}
 use Rattle.asp_core.proofs.Jobs.{page_asked}
 use Rattle.asp_core.proofs.Kept.{may_follow}
 use Rattle.asp_core.proofs.Others.{own_number}

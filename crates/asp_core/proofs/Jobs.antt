@@ -1,24 +1,23 @@
 -- What holds of the jobs and the keys of a right journal's runs.
-use Rattle.std.proofs.Common.{◌≡◌, ℕ, zero, suc, ◌+◌, ◌^◌, ◌<◌, ◌≤◌, ◌==◌, ◌&&◌, Bool, true, false, not, if◌then◌else◌}
-use Rattle.std.proofs.Common.{nat_le, List, [], ◌∷◌, ◌++◌, map, filter, drop, Option, Some, None, IsSome, is_some, refl}
+use Rattle.std.proofs.Common.{◌≡◌, ℕ, ◌+◌, ◌<◌, ◌==◌, Bool, true, false, if◌then◌else◌}
+use Rattle.std.proofs.Common.{List, [], ◌∷◌, ◌++◌, drop, Some, IsSome, is_some, refl}
 use Rattle.std.proofs.Common.{ap, sym, ◌∙◌, subst, arith, inl, inr}
 use Rattle.std.proofs.lemmas.Bool.{cases_Bool, eqb-true, eq-eqb}
 use Rattle.asp_core.specs.Kernel.{AreSmall, HasSmallJob}
 use Rattle.asp_job.specs.History.{run_in, with_lane}
 use Rattle.asp_job.specs.Journal.{AreRight, IsRight}
-use Rattle.asp_job.specs.Keys.{due_at, is_askable, is_due_key, is_live, live, made, session_of}
+use Rattle.asp_job.specs.Keys.{due_at, live, made, session_of}
 use Rattle.asp_job.specs.Rules.{Rules}
 use Rattle.asp_job.specs.Running.{is_page}
-use Rattle.asp_job.specs.Runs.{asking_lane_of, drawn, is_fresh, is_stopping, job_of, key_of, numbers, queued_job}
+use Rattle.asp_job.specs.Runs.{asking_lane_of, is_fresh, job_of, key_of, queued_job}
 use Rattle.asp_job.specs.Size.{IsSmall}
-use Rattle.asp_job.specs.Turns.{IsAdmit, IsRefuse, MayFollow, closing_runs, key_asked_by, key_for, needs_key, owed}
+use Rattle.asp_job.specs.Turns.{IsAdmit, MayFollow, closing_runs, key_asked_by, key_for, needs_key, owed}
 use Rattle.asp_job.specs.declared.entry.Entry.{Entry}
 use Rattle.asp_job.specs.declared.entry.What.{What}
 use Rattle.asp_job.specs.declared.entry.What.TheVariants.{Admit, App, Begin, End, Halt, Queue, Refuse, Stop, Take, Tick}
 use Rattle.asp_job.specs.declared.job.Job.{Job}
 use Rattle.asp_job.specs.declared.job.Work.{Work}
 use Rattle.asp_job.specs.declared.job.Work.TheVariants as work
-use Rattle.asp_job.specs.declared.session.SessionState.{SessionState}
 use Rattle.asp_core.proofs.Others.{fresh_other, job_other, key_other}
 
 -- ---- runs that the host queued are no pages

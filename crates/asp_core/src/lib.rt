@@ -21,12 +21,13 @@ mod run;
 mod scan;
 mod stop;
 mod takes;
+mod tellers;
 mod weighing;
 mod works;
 
 pub use admitted::Admitted;
 pub use kernel::Core;
-pub use laws::{lock_holds, runs_stay};
+pub use laws::{answers_wait, handed_out_once, lock_holds, runs_stay};
 pub use ready::{BODY_ROOM, MOST_BODIES};
 pub use run::{Progress, Run, StandIns};
 pub use stop::{AdmitStop, AppStepStop, BeginStop, CollectStop, EventStop};

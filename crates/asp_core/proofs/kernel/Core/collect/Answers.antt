@@ -1,13 +1,11 @@
-use Rattle.std.proofs.Common.{◌≡◌, ◌<◌, ◌++◌, ◌∷◌, [], ℕ, reverse, length, nat_eq, None, Some, IsSome, ap, sym}
+use Rattle.std.proofs.Common.{◌≡◌, reverse, length, nat_eq, None, Some, IsSome, ap, sym}
 use Rattle.std.proofs.Common.{subst, ◌∙◌, arith, vec_capacity, vec_len}
 use Rattle.std.specs.Map.{lookup}
 use Rattle.std.proofs.lemmas.Grind.{common_steps}
-use Rattle.asp_core.specs.Kernel.{CoreView, grown, past_of, rules_by, rules_of}
-use Rattle.asp_core.specs.Ready.{collect_stop, ready}
-use Rattle.asp_job.specs.History.{with_lane}
+use Rattle.asp_core.specs.Kernel.{CoreView, past_of, rules_by, rules_of}
+use Rattle.asp_core.specs.Ready.{collect_stop}
 use Rattle.asp_job.specs.Output.{answer_of_run}
-use Rattle.asp_job.specs.declared.entry.What.TheVariants.{Take}
-use Rattle.asp_core.proofs.Handing.{CanTake, can_take, kept_after_take, take_room}
+use Rattle.asp_core.proofs.Handing.{can_take, kept_after_take, take_room}
 use Rattle.asp_core.proofs.kernel.Core.collect.Goals as goal
 
 pub take_run-requires : goal.take_run-requires

@@ -1,11 +1,11 @@
-use Rattle.std.proofs.Common.{◌≡◌, ◌<◌, ◌++◌, ◌∷◌, [], ℕ, reverse, length, nat_eq, Some, IsSome, ap, sym}
+use Rattle.std.proofs.Common.{◌≡◌, reverse, length, nat_eq, Some, IsSome, ap, sym}
 use Rattle.std.proofs.Common.{subst, ◌∙◌, arith, vec_capacity, vec_len}
 use Rattle.std.specs.Map.{lookup}
 use Rattle.std.proofs.lemmas.Grind.{common_steps}
 use Rattle.asp_job.specs.Output.{answer_of_run}
 use Rattle.asp_core.specs.Kernel.{CoreView, past_of, rules_by, rules_of}
 use Rattle.asp_core.specs.Ready.{first_for, ready}
-use Rattle.asp_core.proofs.Handing.{CanTake, IsFirst, can_take_run, first_is, kept_after_take, take_room}
+use Rattle.asp_core.proofs.Handing.{IsFirst, can_take_run, first_is, kept_after_take, take_room}
 use Rattle.asp_core.proofs.kernel.Core.collect_first.Goals as goal
 
 pub take_run-answer-requires : goal.take_run-answer-requires

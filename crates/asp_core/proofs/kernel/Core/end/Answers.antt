@@ -1,4 +1,4 @@
-use Rattle.std.proofs.Common.{◌≡◌, ◌+◌, ◌<◌, ◌≤◌, ◌++◌, ◌∷◌, [], ℕ, reverse, length, ap, sym, ◌∙◌, arith}
+use Rattle.std.proofs.Common.{◌≡◌, ◌++◌, ◌∷◌, [], ℕ, reverse, length, ap, ◌∙◌, arith}
 use Rattle.std.proofs.Common.{vec_capacity, vec_len}
 use Rattle.std.proofs.lemmas.Grind.{common_steps}
 use Rattle.asp_core.specs.Ends.{end_what, left_of}
