@@ -24,3 +24,4 @@ pub mod Made
 pub mod Ending
 pub mod Telling
 pub mod Once
+pub mod Beginning

@@ -1,5 +1,5 @@
 -- What is kept after an event that may have been refused.
-use Rattle.std.proofs.Common.{◌≡◌, ℕ, ◌+◌, ◌≤◌, List, reverse, length, Option, Result, Ok, Err, OnOk, OnErr, arith}
+use Rattle.std.proofs.Common.{◌≡◌, ℕ, ◌+◌, ◌≤◌, List, reverse, length, Option, Result, Ok, Err, IfOk, OnOk, OnErr, arith}
 use Rattle.asp_job.specs.declared.answer.Answer.{Answer}
 use Rattle.asp_job.specs.declared.entry.Entry.{Entry}
 use Rattle.asp_job.specs.declared.session.SessionState.{SessionState}
@@ -26,3 +26,8 @@ on_ok (Err stop) P Q f p = tt
 -- what is seen of a core
 abbrev pub view_of : {R Site : Type 0} → R → Site → List ℕ → List Entry → CoreView R Site
 view_of runner site seed journal = record { journal = journal; runner = runner; site = site; seed = seed }
+
+-- a fact of what was given becomes another
+pub on_each : {T E : Type 0} → (result : Result T E) (P Q : T → Type 0) → ((x : T) → P x → Q x) → IfOk result P → IfOk result Q
+on_each (Ok given) P Q f p = f given p
+on_each (Err stop) P Q f p = tt

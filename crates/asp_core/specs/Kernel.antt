@@ -29,7 +29,7 @@ use Rattle.asp_job.specs.Runs.{unfinished, drawn, moment_of, is_halted, job_of}
 use Rattle.asp_job.specs.Session.{IsSession}
 use Rattle.asp_job.specs.Size.{IsSmall}
 use Rattle.asp_job.specs.Told.{Told, Outcome, Wants, Ends, Meaning}
-use Rattle.asp_job.specs.Turns.{IsRunning, IsNextRun, may_begin, closing_runs}
+use Rattle.asp_job.specs.Turns.{IsRunning, IsNextRun, IsBegin, may_begin, serial_of, closing_runs}
 use Rattle.asp_response.specs.declared.fixed.Unavailable.TheVariants as cause
 use Rattle.asp_response.specs.Fixed.{unavailable_of}
 use Rattle.asp_session.specs.Letters.{letters_of}
@@ -156,7 +156,12 @@ IsIdle rules past = NoneIsNext past ⊎ (MOST_BODIES < bodies_with_one (ready ru
 -- there would be too much with the Begin of the next run
 abbrev pub IsBeginTooMuch : Rules → List Entry → ℕ → ℕ → ℕ → Type 0
 IsBeginTooMuch rules past lane entries weight =
-    (run : ℕ) × IsNextRun past run × IsTooMuch (begin_entry rules past lane run ∷ past) entries weight
+    (run : ℕ) × IsBegin rules past run (serial_of rules past run)
+    × IsTooMuch (begin_entry rules past lane run ∷ past) entries weight
+
+-- there is room for the Begin of the next run
+abbrev pub NextFits : Rules → List Entry → ℕ → Type 0
+NextFits rules past lane = (run : ℕ) → IsNextRun past run → IsWithin (begin_entry rules past lane run ∷ past)
 
 -- ---- what events add, where these are the sessions of the keys
 
@@ -251,9 +256,12 @@ table_after table kind.Done key session = if key == 0 then table else slice_set 
 table_after table kind.Memory key session = table
 table_after table kind.JournalFull key session = table
 
+-- at some point since the run's last entry, the entry of the call that it wants did not fit
+abbrev pub HasNotFitFor : {State : Type 0} → List Entry → ℕ → RunView State → Type 0
+HasNotFitFor past lane run = (call : AppCall) × (wanted_by run.progress ≡ Some call) × HasNotFit past lane run.number call
+
 -- An End of this kind may come: the run has ended by itself, or at some point its call did not fit, or memory ran out.
 abbrev pub IsEndOf : {State : Type 0} → List Entry → ℕ → RunView State → EndKind → Type 0
 IsEndOf past lane run kind.Done = run.progress ≡ progress.Ended
 IsEndOf past lane run kind.Memory = Unit {0}
-IsEndOf past lane run kind.JournalFull =
-    (call : AppCall) × (wanted_by run.progress ≡ Some call) × HasNotFit past lane run.number call
+IsEndOf past lane run kind.JournalFull = HasNotFitFor past lane run

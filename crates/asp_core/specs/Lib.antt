@@ -5,6 +5,7 @@ pub mod Ready
 pub mod Drawing
 pub mod Stops
 pub mod Standing
+pub mod Opening
 pub mod Taking
 pub mod Ends
 pub mod Telling

@@ -3,6 +3,7 @@
 
 mod admit;
 mod admitted;
+mod begin;
 mod cookie;
 mod drawing;
 mod ends;
@@ -12,6 +13,7 @@ mod hands;
 mod kernel;
 mod keys;
 mod laws;
+mod opening;
 mod places;
 mod ready;
 mod room;

@@ -1,0 +1,421 @@
+-- What a Begin leaves of a right journal.
+use Rattle.std.proofs.Common.{◌≡◌, ℕ, zero, suc, ◌+◌, ◌-◌, ◌<◌, ◌≤◌, ◌==◌, ◌&&◌, ◌^◌, Bool, true, false, not}
+use Rattle.std.proofs.Common.{if◌then◌else◌, List, [], ◌∷◌, ◌++◌, All, length, reverse, get_or, Option, Some, None}
+use Rattle.std.proofs.Common.{is_some, Result, Ok, Err, IfOk, OnOk, OnErr, refl, ap, sym, ◌∙◌, subst, arith}
+use Rattle.std.proofs.Common.{append-nil, inl, inr}
+use Rattle.std.proofs.lemmas.Bool.{cases_lt}
+use Rattle.std.proofs.lemmas.List.Elements.{All-head, All-nil, All-tail}
+use Rattle.asp_core.specs.Kernel.{HasAnswerRoom, HasRoom, IsBeginTooMuch, IsKept, IsRunOf, IsSessionIn, IsTooMuch}
+use Rattle.asp_core.specs.Kernel.{IsWithin, NextFits, RunView, StandsAt, halts_to_come, rules_by, session_at, to_come}
+use Rattle.asp_core.specs.Opening.{CanBegin, CanOpen, HasBegun, HasOpened, IsIdleWith, IsNumberOf}
+use Rattle.asp_core.specs.Opening.{cookie_if, count_after, serial_if, session_if}
+use Rattle.asp_core.specs.Ready.{bodies_with_one}
+use Rattle.asp_core.specs.Stops.{begin_stop}
+use Rattle.asp_core.specs.declared.opening.SessionNumber.{SessionNumber}
+use Rattle.asp_core.specs.declared.ready.TheConstants.{MOST_BODIES}
+use Rattle.asp_core.specs.declared.stop.BeginStop.TheVariants as stops
+use Rattle.asp_core.specs.declared.stop.EventStop.{EventStop}
+use Rattle.asp_core.specs.declared.stop.EventStop.TheVariants as event
+use Rattle.asp_job.specs.Application.{AppState}
+use Rattle.asp_job.specs.History.{entries_in, load, with_lane}
+use Rattle.asp_job.specs.Journal.{AreRight, begin_entry}
+use Rattle.asp_job.specs.Keys.{Given, began_with, given, letters_of, new_session, opened, opens, serial_by, session_of}
+use Rattle.asp_job.specs.Keys.{told}
+use Rattle.asp_job.specs.Rules.{Rules}
+use Rattle.asp_job.specs.Running.{is_page}
+use Rattle.asp_job.specs.Runs.{Draw, draw_of, drawn, is_fresh, is_halted, job_of, key_of, replies_of, stage_of}
+use Rattle.asp_job.specs.Runs.{unfinished}
+use Rattle.asp_job.specs.Session.{IsSession}
+use Rattle.asp_job.specs.Told.{Meaning, Told, begun}
+use Rattle.asp_job.specs.Turns.{IsNextRun, IsRunning, may_begin, serial_of}
+use Rattle.asp_job.specs.declared.answer.Answer.{Answer}
+use Rattle.asp_job.specs.declared.entry.Entry.{Entry}
+use Rattle.asp_job.specs.declared.entry.Stage.TheVariants.{Waiting}
+use Rattle.asp_job.specs.declared.entry.TheConstants.{MOST_ENTRIES, MOST_UNFINISHED}
+use Rattle.asp_job.specs.declared.entry.What.{What}
+use Rattle.asp_job.specs.declared.entry.What.TheVariants.{Admit, App, Begin, End, Halt, Queue, Refuse, Stop, Take, Tick}
+use Rattle.asp_job.specs.declared.session.SessionState.{SessionState}
+use Rattle.asp_core.proofs.Bounds.{drawn_small}
+use Rattle.asp_core.proofs.Jobs.{fresh_key, small_job}
+use Rattle.asp_core.proofs.Kept.{may_follow}
+use Rattle.asp_core.proofs.Least.{AreNumbered, are_numbered}
+use Rattle.asp_core.proofs.Others.{own_number}
+use Rattle.asp_core.proofs.Past.{length_past, past_push}
+use Rattle.asp_core.proofs.Same.{view_of}
+use Rattle.asp_core.proofs.Right.{is_begun, may_begin_waits, no_replies}
+
+one_more : (b : Bool) (n k : ℕ) → n ≤ k → (if b then n + 1 else n) ≤ k + 1
+one_more true n k h = omega arith
+one_more false n k h = omega arith
+
+opened_more : (m : Rules) (past : List Entry) (lane : ℕ) (what : What) → opened m past ≤ entries_in past →
+    opened m (with_lane lane what ∷ past) ≤ entries_in (with_lane lane what ∷ past)
+opened_more m past lane (Queue run work key) h = omega arith
+opened_more m past lane (Admit run key fresh job) h = omega arith
+opened_more m past lane (Refuse run job) h = omega arith
+opened_more m past lane (Tick moment) h = omega arith
+opened_more m past lane (Begin run serial) h =
+    one_more (opens (draw_of past run) (session_of m past (key_of past run))) (opened m past) (entries_in past) h
+opened_more m past lane (App run call reply) h = omega arith
+opened_more m past lane (End run kind status size n1 n2) h = omega arith
+opened_more m past lane (Take run) h = h
+opened_more m past lane Stop h = omega arith
+opened_more m past lane Halt h = h
+
+-- no more sessions were opened than there are entries that count
+opened_small : (m : Rules) (past : List Entry) → opened m past ≤ entries_in past
+opened_small m [] = omega arith
+opened_small m (entry ∷ past) = opened_more m past entry.lane entry.what (opened_small m past)
+
+-- ---- a core's parts suffice
+
+pub can_number : (m : Rules) (past : List Entry) (table : List (Option SessionState)) (count : ℕ)
+    (answers : List (ℕ × Answer)) (capacity : ℕ) → CanBegin m past table count answers capacity → AreNumbered past
+can_number m past table count answers capacity can = are_numbered m past can.kept.account.entries
+
+pub can_count : (m : Rules) (past : List Entry) (table : List (Option SessionState)) (count : ℕ)
+    (answers : List (ℕ × Answer)) (capacity : ℕ) → CanBegin m past table count answers capacity → count + 1 < 2 ^ 31
+can_count m past table count answers capacity can =
+    let is = can.kept.opened_is in
+    let small = opened_small m past in
+    let few : load past ≤ MOST_ENTRIES = can.within.few in
+    omega arith
+
+pub can_draw : (m : Rules) (past : List Entry) (table : List (Option SessionState)) (count : ℕ)
+    (answers : List (ℕ × Answer)) (capacity run : ℕ) → CanBegin m past table count answers capacity →
+    run ≤ drawn past → run < 2 ^ 32
+can_draw m past table count answers capacity run can low =
+    let small = drawn_small past in
+    let few : load past ≤ MOST_ENTRIES = can.within.few in
+    omega arith
+
+one_to_come : (halted : Bool) → halted ≡ false → 1 ≤ (if halted then 0 else 1)
+one_to_come true e = absurd cc
+one_to_come false e = omega arith
+
+-- while no Halt stands there is room for one
+pub can_push : (m : Rules) (journal : List Entry) (table : List (Option SessionState)) (count : ℕ)
+    (answers : List (ℕ × Answer)) (capacity : ℕ) → CanBegin m (reverse journal) table count answers capacity →
+    is_halted (reverse journal) ≡ false → length journal < capacity
+can_push m journal table count answers capacity can going =
+    let same = length_past journal in
+    let one : 1 ≤ halts_to_come (reverse journal) = one_to_come (is_halted (reverse journal)) going in
+    let room : length (reverse journal) + to_come (reverse journal) (length answers) ≤ capacity = can.room in
+    omega arith
+
+-- ---- the session of a run
+
+valid_get : (table : List (Option SessionState)) (i : ℕ) → All IsSessionIn table → IsSessionIn (get_or table i None)
+valid_get [] i all = tt
+valid_get (x ∷ table) zero all = All-head IsSessionIn x table all
+valid_get (x ∷ table) (suc i) all = valid_get table i (All-tail IsSessionIn x table all)
+
+valid_if : (b : Bool) (s : Option SessionState) → IsSessionIn s → IsSessionIn (if b then None else s)
+valid_if true s v = tt
+valid_if false s v = v
+
+pub valid_at : (table : List (Option SessionState)) (k : ℕ) → All IsSessionIn table → IsSessionIn (session_at table k)
+valid_at table k all = valid_if (k == 0) (get_or table (k - 1) None) (valid_get table (k - 1) all)
+
+new_valid : (serial : ℕ) → 1 ≤ serial → serial < 2 ^ 31 → IsSession (new_session serial)
+new_valid serial low high = record {
+  counted = low;
+  few = high;
+  lasts = omega arith;
+  ends = omega arith;
+  entries = All-nil _;
+  differ = λ i j d less within. absurd (omega arith);
+  light = omega arith;
+  bare = refl;
+}
+
+session_valid : (a : Bool) (s : Option SessionState) (count : ℕ) → IsSessionIn s → count + 1 < 2 ^ 31 →
+    let b = a && not (is_some s) in IsSessionIn (session_if b s (serial_if count b s))
+session_valid true None count v few = new_valid (count + 1) (omega arith) few
+session_valid false None count v few = tt
+session_valid true (Some s) count v few = v
+session_valid false (Some s) count v few = v
+
+serial_right : (count : ℕ) (draw : Draw) (s : Option SessionState) →
+    serial_by count draw s ≡ serial_if count (opens draw s) s
+serial_right count draw None = refl
+serial_right count draw (Some s) = refl
+
+-- what the runner needs is there
+pub can_open : (m : Rules) (past then_past : List Entry) (table : List (Option SessionState)) (count : ℕ)
+    (answers : List (ℕ × Answer)) (capacity lane run serial : ℕ) (number : SessionNumber) →
+    CanBegin m past table count answers capacity →
+    IsNumberOf (draw_of past run) (session_at table (key_of past run)) count number →
+    then_past ≡ with_lane lane (Begin run serial) ∷ past →
+    CanOpen (draw_of then_past run) (session_at table (key_of then_past run)) number
+can_open m past then_past table count answers capacity lane run serial number can is of =
+    let draw = draw_of past run in
+    let s = session_at table (key_of past run) in
+    let serial_is = is.serial_is ∙ serial_right count draw s in
+    let valid = session_valid (is_page draw.job.work && not (draw.key == 0)) s count
+    (valid_at table (key_of past run) can.kept.valid) (can_count m past table count answers capacity can) in
+    rw of (record {
+      fresh = fresh_key m past can.kept.account.entries run;
+      small = small_job m past can.kept.account.entries can.kept.small run;
+      valid = rw (is.new_is, serial_is) valid;
+    })
+
+-- ---- which run is next
+
+-- where a run is next and there is room for its body, the core is not idle
+pub not_idle : (past : List Entry) (answers : List (ℕ × Answer)) (run : ℕ) → IsNextRun past run →
+    length (unfinished past) < MOST_UNFINISHED → is_halted past ≡ false →
+    bodies_with_one answers past ≤ MOST_BODIES → IsIdleWith answers past → ⊥
+not_idle past answers run next few going light (inl (inl halted)) = cc
+not_idle past answers run next few going light (inl (inr (inl many))) = omega arith
+not_idle past answers run next few going light (inl (inr (inr none))) =
+    let begins = next.begins in let may = none run in cc
+not_idle past answers run next few going light (inr heavy) = omega arith
+
+-- only one run is next
+one_next : (past : List Entry) (run other : ℕ) → IsNextRun past run → IsNextRun past other → other ≡ run
+one_next past run other next then_next = elim (cases_lt run other) [
+  | inl less ↦ absurd (let begins = next.begins in let may = then_next.least run less in cc)
+  | inr most ↦ elim (cases_lt other run) [
+    | inl less ↦ absurd (let begins = then_next.begins in let may = next.least other less in cc)
+    | inr least ↦ omega arith
+  ]
+]
+
+-- ---- what the run is told
+
+abbrev given_if : Bool → Option SessionState → ℕ → Given
+given_if b s serial =
+    if b then record { session = Some (new_session serial); is_new = true } else record { session = s; is_new = false }
+
+given_parts : (b : Bool) (s : Option SessionState) (serial : ℕ) →
+    ((given_if b s serial).session ≡ session_if b s serial) × ((given_if b s serial).is_new ≡ b)
+given_parts true s serial = (refl, refl)
+given_parts false s serial = (refl, refl)
+
+-- the number of the session is what the journal says
+pub number_right : (m : Rules) (past : List Entry) (table : List (Option SessionState)) (count run : ℕ)
+    (number : SessionNumber) → session_at table ≡ session_of m past → count ≡ opened m past →
+    IsNumberOf (draw_of past run) (session_at table (key_of past run)) count number →
+    (number.serial ≡ serial_of m past run)
+    × (number.is_new ≡ opens (draw_of past run) (session_of m past (key_of past run)))
+number_right m past table count run number sessions counted is =
+    let draw = draw_of past run in
+    let at : session_at table (key_of past run) ≡ session_of m past (key_of past run) =
+    ap (λ f. f (key_of past run)) sessions in (
+      is.serial_is ∙ ap (serial_by count draw) at
+          ∙ ap (λ n. serial_by n draw (session_of m past (key_of past run))) counted,
+      is.new_is ∙ ap (opens draw) at,
+    )
+
+-- what a run is told as it begins
+begun_told : (m : Rules) (past : List Entry) (lane run : ℕ) → AreRight m past → may_begin past run ≡ true →
+    let start = given (draw_of past run) (session_of m past (key_of past run)) (serial_of m past run) in
+    told m (begin_entry m past lane run ∷ past) run
+    ≡ begun (job_of past run) start.session start.is_new (letters_of m (draw_of past run))
+begun_told m past lane run right may =
+    let own = own_number run in
+    let start = given (draw_of past run) (session_of m past (key_of past run)) (serial_of m past run) in
+    let new = begin_entry m past lane run ∷ past in
+    let began : began_with m new run ≡ start = rw (own, began_with) refl in
+    let waits : stage_of past run ≡ Waiting = may_begin_waits past run may in
+    let replies : replies_of new run ≡ [] =
+    append-nil (replies_of past run) ∙ no_replies m past right run (ap is_begun waits) in
+    cc (ap (λ b. b.session) began, ap (λ b. b.is_new) began, replies)
+
+-- so it is told what the code gives it
+told_right : (m : Meaning) (seed : List ℕ) (past : List Entry) (table : List (Option SessionState)) (count lane run : ℕ)
+    (number : SessionNumber) → let rules = rules_by m seed in AreRight rules past → may_begin past run ≡ true →
+    session_at table ≡ session_of rules past → count ≡ opened rules past →
+    IsNumberOf (draw_of past run) (session_at table (key_of past run)) count number →
+    begun (job_of past run) (session_if number.is_new (session_at table (key_of past run)) number.serial) number.is_new
+    (cookie_if seed (is_fresh past run) (key_of past run))
+    ≡ told rules (begin_entry rules past lane run ∷ past) run
+told_right m seed past table count lane run number right may sessions counted is =
+    let rules = rules_by m seed in
+    let draw = draw_of past run in
+    let job = job_of past run in
+    let letters = letters_of rules draw in
+    let s = session_of rules past (key_of past run) in
+    let serial = serial_of rules past run in
+    let is_right = number_right rules past table count run number sessions counted is in
+    let parts = given_parts (opens draw s) s serial in
+    let at : session_at table (key_of past run) ≡ s = ap (λ f. f (key_of past run)) sessions in
+    ap (λ x. begun job (session_if number.is_new x number.serial) number.is_new letters) at
+    ∙ ap (λ n. begun job (session_if number.is_new s n) number.is_new letters) is_right.0
+    ∙ ap (λ b. begun job (session_if b s serial) b letters) is_right.1
+    ∙ ap (λ x. begun job x (opens draw s) letters) (sym parts.0)
+    ∙ ap (λ b. begun job (given draw s serial).session b letters) (sym parts.1)
+    ∙ sym (begun_told rules past lane run right may)
+
+-- ---- the Begin
+
+kept_begin : (m : Rules) (past : List Entry) (table : List (Option SessionState)) (count : ℕ) (held : AppState)
+    (answers : List (ℕ × Answer)) (lane run : ℕ) → IsKept m past table count held answers → IsNextRun past run →
+    length (unfinished past) < MOST_UNFINISHED → is_halted past ≡ false →
+    IsKept m (begin_entry m past lane run ∷ past) table (count_after m past run count) held answers
+kept_begin m past table count held answers lane run kept next few going =
+    let entry = begin_entry m past lane run in
+    let turn = may_follow m past entry kept.account.settled
+    (record { next = next; few = few; going = going; session = refl }) in
+    record {
+      account = record {
+        entries = (record { turn = turn; legal = tt; follows = tt }, kept.account.entries);
+        settled = refl;
+      };
+      sessions = kept.sessions;
+      keys = kept.keys;
+      opened_is =
+          ap (λ n. if opens (draw_of past run) (session_of m past (key_of past run)) then n + 1 else n) kept.opened_is;
+      held_is = kept.held_is;
+      answers_are = kept.answers_are;
+      answered = (tt, kept.answered);
+      small = (tt, kept.small);
+      valid = kept.valid;
+    }
+
+-- the run is unfinished, and the lane is its own
+begun_running : (m : Rules) (past : List Entry) (lane run : ℕ) → IsRunning (begin_entry m past lane run ∷ past) lane run
+begun_running m past lane run =
+    let own = own_number run in record { unfinished = rw own refl; begun_by = rw own refl }
+
+-- what was begun, where the run has this number
+pub has_begun : {State : Type 0} → (m : Meaning) (seed : List ℕ) (stands : State → Told → ℕ → Type 0) (lane : ℕ)
+    (journal mid : List Entry) (table : List (Option SessionState)) (count then_count : ℕ)
+    (answers : List (ℕ × Answer)) (run : RunView State) (next : ℕ) (number : SessionNumber)
+    (old capacity capacity_of : ℕ) → let rules = rules_by m seed in let past = reverse journal in
+    CanBegin rules past table count answers old → IsNextRun past next →
+    length (unfinished past) < MOST_UNFINISHED → is_halted past ≡ false → bodies_with_one answers past ≤ MOST_BODIES →
+    IsNumberOf (draw_of past next) (session_at table (key_of past next)) count number →
+    mid ≡ journal ++ with_lane lane (Begin next number.serial) ∷ [] →
+    IsWithin (reverse mid) → HasRoom (reverse mid) (length answers + 1) capacity →
+    HasAnswerRoom (reverse mid) (length answers + 1) capacity_of →
+    then_count ≡ (if number.is_new then count + 1 else count) →
+    HasOpened stands seed (draw_of (reverse mid) next) (session_at table (key_of (reverse mid) next)) number next run →
+    HasBegun rules stands lane journal count answers mid then_count capacity capacity_of run
+has_begun m seed stands lane journal mid table count then_count answers run next number old capacity capacity_of can
+    is_next few going light is made within room room_of counted told =
+    let rules = rules_by m seed in
+    let past = reverse journal in
+    let entry = with_lane lane (Begin next number.serial) in
+    let of : reverse mid ≡ entry ∷ past = ap reverse made ∙ past_push journal entry in
+    let is_right = number_right rules past table count next number can.kept.sessions can.kept.opened_is is in
+    let same = told_right m seed past table count lane next number can.kept.account.entries is_next.begins
+    can.kept.sessions can.kept.opened_is is in
+    let after : HasOpened stands seed (draw_of past next) (session_at table (key_of past next)) number next run =
+    subst (λ p. HasOpened stands seed (draw_of p next) (session_at table (key_of p next)) number next run) of told in
+    let has : HasRoom (reverse mid) (length answers) capacity = omega arith in
+    let has_of : HasAnswerRoom (reverse mid) (length answers) capacity_of = omega arith in
+    rw after.number_is (record {
+      is_next = is_next;
+      few = few;
+      going = going;
+      light = light;
+      journal_is = made ∙ ap (λ s. journal ++ with_lane lane (Begin next s) ∷ []) is_right.0;
+      count_is = counted ∙ ap (λ b. if b then count + 1 else count) is_right.1;
+      within = within;
+      room = has;
+      answer_room = has_of;
+      progress_is = after.progress_is;
+      told_is = subst (λ t. stands run.state t 0) same after.told_is;
+      stand_ins_are = after.stand_ins_are;
+    })
+
+-- what is kept then
+kept_begun : {State : Type 0} → (m : Rules) (stands : State → Told → ℕ → Type 0) (lane : ℕ)
+    (journal next : List Entry) (table : List (Option SessionState)) (count then_count : ℕ) (held : AppState)
+    (answers : List (ℕ × Answer)) (capacity capacity_of : ℕ) (run : RunView State) →
+    IsKept m (reverse journal) table count held answers →
+    HasBegun m stands lane journal count answers next then_count capacity capacity_of run →
+    IsKept m (reverse next) table then_count held answers
+kept_begun m stands lane journal next table count then_count held answers capacity capacity_of run kept has =
+    let past = reverse journal in
+    let of : reverse next ≡ begin_entry m past lane run.number ∷ past =
+    ap reverse has.journal_is ∙ past_push journal (begin_entry m past lane run.number) in
+    rw (of, has.count_is)
+    (kept_begin m past table count held answers lane run.number kept has.is_next has.few has.going)
+
+-- a core's parts after a run that may not have begun
+pub kept_either_begun : {State E : Type 0} → (result : Result (RunView State) E) (m : Rules)
+    (stands : State → Told → ℕ → Type 0) (lane : ℕ) (journal next : List Entry) (table : List (Option SessionState))
+    (count then_count : ℕ) (held : AppState) (answers then_answers : List (ℕ × Answer)) (old new old_of new_of : ℕ) →
+    IsKept m (reverse journal) table count held answers → IsWithin (reverse journal) →
+    HasRoom (reverse journal) (length answers) old → HasAnswerRoom (reverse journal) (length answers) old_of →
+    IfOk result (HasBegun m stands lane journal count answers next then_count new new_of) →
+    OnErr result ((next ≡ journal) × (then_count ≡ count)) → old ≤ new → old_of ≤ new_of → then_answers ≡ answers →
+    IsKept m (reverse next) table then_count held then_answers × IsWithin (reverse next)
+    × HasRoom (reverse next) (length then_answers) new × HasAnswerRoom (reverse next) (length then_answers) new_of
+kept_either_begun (Ok run) m stands lane journal next table count then_count held answers then_answers old new old_of
+    new_of kept within room room_of has same more more_of still =
+    let all = kept_begun m stands lane journal next table count then_count held answers new new_of run kept has in
+    rw still (all, has.within, has.room, has.answer_room)
+kept_either_begun (Err stop) m stands lane journal next table count then_count held answers then_answers old new old_of
+    new_of kept within room room_of has same more more_of still =
+    let wide : HasRoom (reverse journal) (length answers) new = omega arith in
+    let wide_of : HasAnswerRoom (reverse journal) (length answers) new_of = omega arith in
+    rw (same.0, same.1, still) (kept, within, wide, wide_of)
+
+-- the run is one of the core
+pub begun_run : {R Site State : Type 0} → (meaning : R → Site → Meaning)
+    (stands : R → Site → State → Told → ℕ → Type 0) (runner : R) (site : Site) (seed : List ℕ) (lane : ℕ)
+    (journal next : List Entry) (count then_count : ℕ) (answers : List (ℕ × Answer)) (capacity capacity_of : ℕ)
+    (run : RunView State) →
+    HasBegun (rules_by (meaning runner site) seed) (stands runner site) lane journal count answers
+    next then_count capacity capacity_of run →
+    IsRunOf meaning stands (view_of runner site seed next) lane run
+begun_run meaning stands runner site seed lane journal next count then_count answers capacity capacity_of run has =
+    let m = rules_by (meaning runner site) seed in
+    let past = reverse journal in
+    let entry = begin_entry m past lane run.number in
+    let of : reverse next ≡ entry ∷ past = ap reverse has.journal_is ∙ past_push journal entry in
+    let here : stands runner site run.state (told m (reverse next) run.number) 0 =
+    subst (λ p. stands runner site run.state (told m p run.number) 0) (sym of) has.told_is in
+    record {
+      running = rw of (begun_running m past lane run.number);
+      stands_for = subst (λ p. StandsAt p (stands runner site run.state (told m (reverse next) run.number))
+          ((meaning runner site).does (told m (reverse next) run.number))) (sym has.progress_is) (0, here);
+      stand_ins_are = rw of has.stand_ins_are;
+    }
+
+-- ---- a Begin that does not fit, and one that does
+
+pub begin_too_much : (m : Rules) (past : List Entry) (table : List (Option SessionState)) (count : ℕ)
+    (answers : List (ℕ × Answer)) (capacity lane run entries weight : ℕ) (number : SessionNumber) →
+    CanBegin m past table count answers capacity → IsNextRun past run → length (unfinished past) < MOST_UNFINISHED →
+    is_halted past ≡ false → IsNumberOf (draw_of past run) (session_at table (key_of past run)) count number →
+    IsTooMuch (with_lane lane (Begin run number.serial) ∷ past) entries weight →
+    IsBeginTooMuch m past lane entries weight
+begin_too_much m past table count answers capacity lane run entries weight number can next few going is much =
+    let is_right = number_right m past table count run number can.kept.sessions can.kept.opened_is is in (
+      run,
+      record { next = next; few = few; going = going; session = refl },
+      subst (λ s. IsTooMuch (with_lane lane (Begin run s) ∷ past) entries weight) is_right.0 much,
+    )
+
+pub begin_fits : (m : Rules) (past : List Entry) (table : List (Option SessionState)) (count : ℕ)
+    (answers : List (ℕ × Answer)) (capacity lane run : ℕ) (number : SessionNumber) →
+    CanBegin m past table count answers capacity → IsNextRun past run →
+    IsNumberOf (draw_of past run) (session_at table (key_of past run)) count number →
+    IsWithin (with_lane lane (Begin run number.serial) ∷ past) → NextFits m past lane
+begin_fits m past table count answers capacity lane run number can next is within other then_next =
+    let is_right = number_right m past table count run number can.kept.sessions can.kept.opened_is is in
+    let one = one_next past run other next then_next in
+    rw one (subst (λ s. IsWithin (with_lane lane (Begin run s) ∷ past)) is_right.0 within)
+
+-- a fact of a result that was given becomes one that does not name it
+pub on_each_ok : {T E : Type 0} → (result : Result T E) (P : T → Type 0) (Q : Type 0) → ((x : T) → P x → Q) →
+    IfOk result P → OnOk result Q
+on_each_ok (Ok given) P Q f p = f given p
+on_each_ok (Err stop) P Q f p = tt
+
+-- a run that did not begin for want of memory was refused so
+pub memory_back : (stop : EventStop) → begin_stop stop ≡ stops.Memory → stop ≡ event.Memory
+memory_back (event.JournalFull entries weight) e = absurd cc
+memory_back event.Memory e = refl
+
+-- the rules of the runner and the site that a core was given
+pub rules_same : {R Site : Type 0} → (meaning : R → Site → Meaning) (runner then_runner : R) (site then_site : Site)
+    (seed : List ℕ) → runner ≡ then_runner → site ≡ then_site →
+    rules_by (meaning runner site) seed ≡ rules_by (meaning then_runner then_site) seed
+rules_same meaning runner then_runner site then_site seed same_runner same_site =
+    ap (λ r. rules_by (meaning r site) seed) same_runner ∙ ap (λ s. rules_by (meaning then_runner s) seed) same_site
