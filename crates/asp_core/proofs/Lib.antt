@@ -17,4 +17,7 @@ pub mod Admitting
 pub mod Halting
 pub mod Refusing
 pub mod Jobs
+pub mod Opened
 pub mod Beginning
+pub mod Calling
+pub mod Called

@@ -6,4 +6,5 @@ pub mod Drawing
 pub mod Stops
 pub mod Standing
 pub mod Opening
+pub mod Calling
 pub mod Taking
