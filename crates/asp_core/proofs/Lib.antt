@@ -25,3 +25,6 @@ pub mod Ending
 pub mod Beginning
 pub mod Telling
 pub mod Once
+pub mod Opened
+pub mod Calling
+pub mod Called
