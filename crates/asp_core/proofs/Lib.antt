@@ -23,3 +23,5 @@ pub mod Counts
 pub mod Made
 pub mod Ending
 pub mod Beginning
+pub mod Holding
+pub mod Fitting

@@ -1,12 +1,17 @@
 //! Laws of valid journals. Each is the contract of a function that does nothing.
 #![tactic(auto)]
 
-ghost use Rattle.std.specs.Prelude.{◌≡◌, ◌++◌, ℕ, List, reverse, Some};
-ghost use Rattle.asp_job.specs.History.{held_by};
-ghost use Rattle.asp_job.specs.Journal.{AreRight, past_after};
-ghost use Rattle.asp_job.specs.Rules.{Rules};
-ghost use Rattle.asp_job.specs.Turns.{IsRunning};
+ghost use Rattle.std.specs.Prelude.{◌≡◌, ◌∷◌, ℕ, true, List, Some};
+ghost use Rattle.asp_job.specs.declared.entry.EndKind.{EndKind};
+ghost use Rattle.asp_job.specs.declared.entry.EndKind.TheVariants.{Memory};
 ghost use Rattle.asp_job.specs.declared.entry.Entry.{Entry};
+ghost use Rattle.asp_job.specs.declared.entry.What.TheVariants.{End};
+ghost use Rattle.asp_job.specs.History.{held_by, with_lane};
+ghost use Rattle.asp_job.specs.Journal.{AreRight, IsValidJournal, end_entry, past_after};
+ghost use Rattle.asp_job.specs.Rules.{Rules};
+ghost use Rattle.asp_job.specs.Runs.{is_unfinished};
+ghost use Rattle.asp_job.specs.Turns.{IsRunning};
+ghost use Rattle.asp_core.specs.Kernel.{IsWithin};
 ghost use Rattle.asp_core.specs.Laws.{AreOfOthers, RunStays, NoneIs, is_release_of, is_kept_out};
 
 /// The entries of other lanes leave an unfinished run as it is: it stays unfinished, and is told nothing.
@@ -21,4 +26,22 @@ pub fn lock_holds()
     ensures { (rules : Rules) (past entries : List Entry) (run : ℕ) →
         AreRight rules (past_after past entries) → (held_by past).holder ≡ Some run →
         NoneIs (is_release_of run) entries → NoneIs (is_kept_out run) entries }
+{}
+
+/// The run that has the lock has begun and has not ended: no lock stays behind when a run ends.
+pub fn holder_is_unfinished()
+    ensures { (rules : Rules) (past : List Entry) (run : ℕ) →
+        AreRight rules past → (held_by past).holder ≡ Some run → is_unfinished past run ≡ true }
+{}
+
+/// An unfinished run can always be ended: its lane may write that memory ran out, and the End of a run, of any kind and
+/// with any numbers, fits into each journal that is within the bounds of a core.
+pub fn end_fits()
+    ensures may { (rules : Rules) (past : List Entry) (lane run : ℕ) →
+        IsValidJournal rules past → IsRunning past lane run →
+        IsValidJournal rules (end_entry rules past lane run Memory ∷ past) }
+    ensures within { (rules : Rules) (past : List Entry) (lane run : ℕ) (kind : EndKind)
+        (status length made finished : ℕ) →
+        AreRight rules past → IsWithin past → is_unfinished past run ≡ true →
+        IsWithin (with_lane lane (End run kind status length made finished) ∷ past) }
 {}
