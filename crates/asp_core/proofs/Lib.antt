@@ -25,3 +25,4 @@ pub mod Ending
 pub mod Beginning
 pub mod Holding
 pub mod Fitting
+pub mod Idling

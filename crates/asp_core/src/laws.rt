@@ -1,7 +1,7 @@
 //! Laws of valid journals. Each is the contract of a function that does nothing.
 #![tactic(auto)]
 
-ghost use Rattle.std.specs.Prelude.{◌≡◌, ◌∷◌, ℕ, true, List, Some};
+ghost use Rattle.std.specs.Prelude.{◌≡◌, ℕ, true, false, List, [], ◌∷◌, Some};
 ghost use Rattle.asp_job.specs.declared.entry.EndKind.{EndKind};
 ghost use Rattle.asp_job.specs.declared.entry.EndKind.TheVariants.{Memory};
 ghost use Rattle.asp_job.specs.declared.entry.Entry.{Entry};
@@ -9,8 +9,8 @@ ghost use Rattle.asp_job.specs.declared.entry.What.TheVariants.{End};
 ghost use Rattle.asp_job.specs.History.{held_by, with_lane};
 ghost use Rattle.asp_job.specs.Journal.{AreRight, IsValidJournal, end_entry, past_after};
 ghost use Rattle.asp_job.specs.Rules.{Rules};
-ghost use Rattle.asp_job.specs.Runs.{is_unfinished};
-ghost use Rattle.asp_job.specs.Turns.{IsRunning};
+ghost use Rattle.asp_job.specs.Runs.{is_unfinished, unfinished, waiting};
+ghost use Rattle.asp_job.specs.Turns.{IsRunning, may_begin};
 ghost use Rattle.asp_core.specs.Kernel.{IsWithin};
 ghost use Rattle.asp_core.specs.Laws.{AreOfOthers, RunStays, NoneIs, is_release_of, is_kept_out};
 
@@ -44,4 +44,10 @@ pub fn end_fits()
         (status length made finished : ℕ) →
         AreRight rules past → IsWithin past → is_unfinished past run ≡ true →
         IsWithin (with_lane lane (End run kind status length made finished) ∷ past) }
+{}
+
+/// A host with nothing under way is never stuck: as long as a run waits, one may begin.
+pub fn some_run_may_begin()
+    ensures { (rules : Rules) (past : List Entry) →
+        AreRight rules past → unfinished past ≡ [] → ((run : ℕ) → may_begin past run ≡ false) → waiting past ≡ [] }
 {}
