@@ -26,3 +26,5 @@ pub mod Beginning
 pub mod Holding
 pub mod Fitting
 pub mod Idling
+pub mod Wanting
+pub mod Ordering

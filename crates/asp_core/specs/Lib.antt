@@ -8,3 +8,5 @@ pub mod Standing
 pub mod Opening
 pub mod Taking
 pub mod Ends
+pub mod Wanted
+pub mod Given
