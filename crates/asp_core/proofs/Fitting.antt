@@ -30,7 +30,8 @@ pub end_fits : (m : Rules) (past : List Entry) (lane run : ℕ) (kind : EndKind)
 end_fits m past lane run kind status size made finished right within busy =
     let new = with_lane lane (End run kind status size made finished) ∷ past in
     let fewer = fewer_unfinished m past lane run kind status size made finished right busy in
-    let few : load new ≡ load past = same_sum (entries_in past) (length (unfinished past)) (length (unfinished new)) fewer in
+    let few : load new ≡ load past =
+    same_sum (entries_in past) (length (unfinished past)) (length (unfinished new)) fewer in
     let light : weight_load new ≡ weight_load past =
     same_weight (weight_in past) (length (unfinished past)) (length (unfinished new)) fewer in
     record {

@@ -1,6 +1,8 @@
 -- Where nothing is under way and a run waits, one may begin.
-use Rattle.std.proofs.Common.{◌≡◌, ℕ, zero, suc, ◌+◌, ◌<◌, ◌≤◌, ◌==◌, ◌&&◌, ◌||◌, Bool, true, false, not, nat_lt, filter, drop}
-use Rattle.std.proofs.Common.{if◌then◌else◌, List, [], ◌∷◌, ◌++◌, Some, None, unwrap_or, refl, ap, sym, ◌∙◌, subst, arith, inl, inr}
+use Rattle.std.proofs.Common.{◌≡◌, ℕ, zero, suc, ◌+◌, ◌<◌, ◌≤◌, ◌==◌, ◌&&◌, ◌||◌, Bool, true, false, not, nat_lt}
+use Rattle.std.proofs.Common.{filter, drop}
+use Rattle.std.proofs.Common.{if◌then◌else◌, List, [], ◌∷◌, ◌++◌, Some, None, unwrap_or, refl, ap, sym, ◌∙◌}
+use Rattle.std.proofs.Common.{arith, inl, inr}
 use Rattle.std.specs.List.{list_any}
 use Rattle.std.proofs.lemmas.Bool.{cases_Bool, eqb-true, eq-eqb}
 use Rattle.std.proofs.lemmas.List.Elements.{filter-append}
@@ -10,14 +12,16 @@ use Rattle.asp_job.specs.Keys.{due_at, live, session_of}
 use Rattle.asp_job.specs.Rules.{Rules}
 use Rattle.asp_job.specs.Running.{is_page}
 use Rattle.asp_job.specs.Runs.{drawn, has_ended, is_stage_ended, is_stage_unfinished, is_stage_waiting, is_stopping}
-use Rattle.asp_job.specs.Runs.{is_unfinished, is_waiting, job_of, key_of, numbers, queued_job, stage_of, unfinished, waiting}
+use Rattle.asp_job.specs.Runs.{is_unfinished, is_waiting, job_of, key_of, numbers, queued_job, stage_of, unfinished}
+use Rattle.asp_job.specs.Runs.{waiting}
 use Rattle.asp_job.specs.Turns.{IsAsked, MayFollow, closing_runs, goes_before, has_company, is_behind, is_last_work}
 use Rattle.asp_job.specs.Turns.{is_other_open, may_begin, owed}
 use Rattle.asp_job.specs.declared.entry.Entry.{Entry}
 use Rattle.asp_job.specs.declared.entry.Stage.{Stage}
 use Rattle.asp_job.specs.declared.entry.Stage.TheVariants.{Ended, Undrawn, Unfinished, Waiting}
 use Rattle.asp_job.specs.declared.entry.What.{What}
-use Rattle.asp_job.specs.declared.entry.What.TheVariants.{Admit, App, Begin, End, Halt, Queue, Refuse, Stop, Take, Tick}
+use Rattle.asp_job.specs.declared.entry.What.TheVariants.{Admit, App, Begin, End, Halt, Queue, Refuse, Stop, Take}
+use Rattle.asp_job.specs.declared.entry.What.TheVariants.{Tick}
 use Rattle.asp_job.specs.declared.job.Job.{Job}
 use Rattle.asp_job.specs.declared.job.Work.{Work}
 use Rattle.asp_job.specs.declared.job.Work.TheVariants as work

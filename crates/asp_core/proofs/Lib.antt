@@ -28,3 +28,4 @@ pub mod Fitting
 pub mod Idling
 pub mod Wanting
 pub mod Ordering
+pub mod Alone

@@ -1,5 +1,6 @@
 -- The calls of a run are the ones that its meaning wants.
-use Rattle.std.proofs.Common.{◌≡◌, ℕ, ◌+◌, ◌<◌, ◌≤◌, ◌==◌, false, true, List, [], ◌∷◌, ◌++◌, length, take, get_or, Some}
+use Rattle.std.proofs.Common.{◌≡◌, ℕ, ◌+◌, ◌<◌, ◌≤◌, ◌==◌, false, true, List, [], ◌∷◌, ◌++◌, length, take, get_or}
+use Rattle.std.proofs.Common.{Some}
 use Rattle.std.proofs.Common.{slice_get, refl, ap, sym, ◌∙◌, subst, append-nil, arith, inl, inr, length-append}
 use Rattle.std.proofs.lemmas.Bool.{cases_Bool, cases_lt, eqb-true, eq-eqb}
 use Rattle.std.proofs.lemmas.List.{take-append-le}
@@ -9,17 +10,18 @@ use Rattle.std.proofs.Math.Seq.{get_or-append_seam, take-append_seam}
 use Rattle.vb_value.specs.declared.application.AppCall.{AppCall}
 use Rattle.vb_value.specs.declared.application.AppReply.{AppReply}
 use Rattle.asp_job.specs.declared.entry.Entry.{Entry}
-use Rattle.asp_job.specs.declared.entry.Stage.TheVariants.{Undrawn, Waiting}
+use Rattle.asp_job.specs.declared.entry.Stage.TheVariants.{Waiting}
 use Rattle.asp_job.specs.declared.entry.What.{What}
-use Rattle.asp_job.specs.declared.entry.What.TheVariants.{Admit, App, Begin, End, Halt, Queue, Refuse, Stop, Take, Tick}
+use Rattle.asp_job.specs.declared.entry.What.TheVariants.{Admit, App, Begin, End, Halt, Queue, Refuse, Stop, Take}
+use Rattle.asp_job.specs.declared.entry.What.TheVariants.{Tick}
 use Rattle.asp_job.specs.History.{calls_of_run, run_in, with_lane}
 use Rattle.asp_job.specs.Journal.{AreRight, IsRight}
 use Rattle.asp_job.specs.Keys.{told}
 use Rattle.asp_job.specs.Rules.{Rules}
-use Rattle.asp_job.specs.Runs.{replies_of, reply_in, stage_of}
+use Rattle.asp_job.specs.Runs.{replies_of, stage_of}
 use Rattle.asp_job.specs.Told.{Told, Wants, Meaning, heard}
 use Rattle.asp_job.specs.Turns.{owed}
-use Rattle.asp_core.specs.Wanted.{AreWanted, told_at}
+use Rattle.asp_core.specs.Wanted.{AreWanted}
 use Rattle.asp_core.proofs.Others.{told_other}
 use Rattle.asp_core.proofs.Right.{begin_right, drawn_next, is_begun, may_begin_waits, next_undrawn, no_replies}
 
@@ -51,10 +53,12 @@ wanted_one : (m : Meaning) (t : Told) (calls : List AppCall) (made : AppCall) (r
     → m.does t ≡ Wants made → AreWanted m (heard t reply) (calls ++ made ∷ [])
 unfolding with_replies
 wanted_one m t calls made reply before wants = record {
-  replied = length-append t.replies (reply ∷ []) ∙ ap (λ n. n + 1) before.replied ∙ sym (length-append calls (made ∷ []));
+  replied = length-append t.replies (reply ∷ []) ∙ ap (λ n. n + 1) before.replied
+      ∙ sym (length-append calls (made ∷ []));
   wanted = λ n call e. elim (cases_lt n (length calls)) [
     | inl less ↦ (let short : n ≤ length t.replies = (let same = before.replied in omega arith) in
-        let same : take n (t.replies ++ reply ∷ []) ≡ take n t.replies = take-append-le n t.replies (reply ∷ []) short in
+        let same : take n (t.replies ++ reply ∷ []) ≡ take n t.replies =
+        take-append-le n t.replies (reply ∷ []) short in
         ap (λ replies. m.does (with_replies t replies)) same ∙ before.wanted n call (nth calls n call made less e))
     | inr more ↦ (let within = slice_get_within (calls ++ made ∷ []) n call e in
         let longer : length (calls ++ made ∷ []) ≡ length calls + 1 = length-append calls (made ∷ []) in

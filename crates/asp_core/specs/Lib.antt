@@ -10,3 +10,4 @@ pub mod Taking
 pub mod Ends
 pub mod Wanted
 pub mod Given
+pub mod Alone

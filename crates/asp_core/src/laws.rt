@@ -1,18 +1,19 @@
 //! Laws of valid journals. Each is the contract of a function that does nothing.
 #![tactic(auto)]
 
-ghost use Rattle.std.specs.Prelude.{◌≡◌, ℕ, true, false, List, [], ◌∷◌, ◌++◌, Some};
+ghost use Rattle.std.specs.Prelude.{◌≡◌, ◌≢◌, ℕ, true, false, List, [], ◌∷◌, ◌++◌, Some};
 ghost use Rattle.asp_job.specs.declared.answer.Answer.{Answer};
 ghost use Rattle.asp_job.specs.declared.entry.EndKind.{EndKind};
 ghost use Rattle.asp_job.specs.declared.entry.EndKind.TheVariants.{Memory};
 ghost use Rattle.asp_job.specs.declared.entry.Entry.{Entry};
 ghost use Rattle.asp_job.specs.declared.entry.What.TheVariants.{End, Take};
-ghost use Rattle.asp_job.specs.History.{calls_of_run, held_by, with_lane};
+ghost use Rattle.asp_job.specs.History.{calls_of_run, held_by, run_in, with_lane};
 ghost use Rattle.asp_job.specs.Journal.{AreRight, IsValidJournal, end_entry, past_after};
-ghost use Rattle.asp_job.specs.Keys.{told};
+ghost use Rattle.asp_job.specs.Keys.{session_of, told};
 ghost use Rattle.asp_job.specs.Rules.{Rules};
-ghost use Rattle.asp_job.specs.Runs.{is_unfinished, unfinished, waiting};
+ghost use Rattle.asp_job.specs.Runs.{is_unfinished, key_of, unfinished, waiting};
 ghost use Rattle.asp_job.specs.Turns.{IsRunning, may_begin};
+ghost use Rattle.asp_core.specs.Alone.{alone};
 ghost use Rattle.asp_core.specs.Given.{AreOfFirst, given, handed, hands_out, made_by};
 ghost use Rattle.asp_core.specs.Kernel.{IsWithin};
 ghost use Rattle.asp_core.specs.Laws.{AreOfOthers, RunStays, NoneIs, is_release_of, is_kept_out};
@@ -33,7 +34,7 @@ pub fn lock_holds()
         NoneIs (is_release_of run) entries → NoneIs (is_kept_out run) entries }
 {}
 
-/// The run that has the lock has begun and has not ended: no lock stays behind when a run ends.
+/// The run that has the lock of the Application object is unfinished: no lock stays when its run has ended.
 pub fn holder_is_unfinished()
     ensures { (rules : Rules) (past : List Entry) (run : ℕ) →
         AreRight rules past → (held_by past).holder ≡ Some run → is_unfinished past run ≡ true }
@@ -79,4 +80,15 @@ pub fn answers_in_order()
         ≡ (before ++ (run, answer) ∷ []) ++ ready rules (with_lane lane (Take run) ∷ past) }
     ensures all { (rules : Rules) (past : List Entry) →
         AreOfFirst rules past → given rules past ≡ handed rules past ++ ready rules past }
+{}
+
+/// The runs of a session key decide its session, and no others do. Leave out of a journal all entries but those of the
+/// runs of the key: its session is the same, and each of those runs was told the same.
+pub fn sessions_apart()
+    ensures left_out { (past : List Entry) (entry : Entry) (key : ℕ) →
+        key_of (entry ∷ past) (run_in entry.what) ≢ key → alone (entry ∷ past) key ≡ alone past key }
+    ensures session { (rules : Rules) (past : List Entry) (key : ℕ) →
+        AreRight rules past → session_of rules past key ≡ session_of rules (alone past key) key }
+    ensures told { (rules : Rules) (past : List Entry) (run : ℕ) →
+        AreRight rules past → told rules past run ≡ told rules (alone past (key_of past run)) run }
 {}

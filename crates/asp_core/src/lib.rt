@@ -28,7 +28,7 @@ pub use admitted::Admitted;
 pub use kernel::Core;
 pub use laws::{
     answers_in_order, calls_follow, end_fits, holder_is_unfinished, lock_holds, runs_stay,
-    some_run_may_begin,
+    sessions_apart, some_run_may_begin,
 };
 pub use ready::{BODY_ROOM, MOST_BODIES};
 pub use run::{Progress, Run, StandIns};
