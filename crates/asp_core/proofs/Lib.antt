@@ -28,3 +28,9 @@ pub mod Once
 pub mod Opened
 pub mod Calling
 pub mod Called
+pub mod Holding
+pub mod Fitting
+pub mod Idling
+pub mod Wanting
+pub mod Ordering
+pub mod Alone
