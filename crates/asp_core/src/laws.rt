@@ -14,7 +14,7 @@ ghost use Rattle.asp_job.specs.Rules.{Rules};
 ghost use Rattle.asp_job.specs.Runs.{is_unfinished, key_of, unfinished, waiting};
 ghost use Rattle.asp_job.specs.Turns.{IsRunning, may_begin};
 ghost use Rattle.asp_core.specs.Alone.{alone};
-ghost use Rattle.asp_core.specs.Given.{AreOfFirst, given, handed, hands_out, made_by};
+ghost use Rattle.asp_core.specs.Given.{AreOfFirst, AreOfLaneFirst, for_lane, given, handed, hands_out, made_by};
 ghost use Rattle.asp_core.specs.Kernel.{IsWithin};
 ghost use Rattle.asp_core.specs.Laws.{AreOfOthers, RunStays, NoneIs, is_release_of, is_kept_out};
 ghost use Rattle.asp_core.specs.Waits.{AreThose, hand_outs};
@@ -78,7 +78,8 @@ pub fn calls_follow()
 
 /// Answers wait in the order in which their runs ended. Each entry but a hand-out adds the answer that it makes, if it
 /// makes one, to all answers and to those that wait. The hand-out of the first that waits leaves the others. Where all
-/// hand-outs were such, those that were handed out and then those that wait are all answers, in order.
+/// hand-outs were such, those that were handed out and then those that wait are all answers, in order. Where each was
+/// that of the first that waits for its lane, the same holds of the answers of each lane.
 pub fn answers_in_order()
     ensures made { (rules : Rules) (past : List Entry) (entry : Entry) →
         hands_out entry.what ≡ false →
@@ -91,6 +92,10 @@ pub fn answers_in_order()
         ≡ (before ++ (run, answer) ∷ []) ++ ready rules (with_lane lane (Take run) ∷ past) }
     ensures all { (rules : Rules) (past : List Entry) →
         AreOfFirst rules past → given rules past ≡ handed rules past ++ ready rules past }
+    ensures lanes { (rules : Rules) (past : List Entry) (lane : ℕ) →
+        AreRight rules past → AreOfLaneFirst rules past →
+        for_lane past lane (given rules past)
+        ≡ for_lane past lane (handed rules past) ++ for_lane past lane (ready rules past) }
 {}
 
 /// The runs of a session key decide its session, and no others do. Leave out of a journal all entries but those of the
