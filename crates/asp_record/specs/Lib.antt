@@ -1,4 +1,5 @@
 pub mod Entries
+pub mod EntryLines
 pub mod Fields
 pub mod Journal
 pub mod Lines

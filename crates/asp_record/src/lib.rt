@@ -21,7 +21,10 @@ mod writing;
 
 pub use entry::entry_line;
 pub use journal::{Line, LineWhat, read_lines};
-pub use laws::{one_recording, recording_not_refused, text_stands};
+pub use laws::{
+    entries_have_lines, journal_not_refused, one_journal, one_recording, recording_not_refused,
+    text_stands,
+};
 pub use reading::read_recording;
 pub use recording::{Item, Recording};
 pub use stop::RecordStop;
