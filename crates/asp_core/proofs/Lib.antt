@@ -22,4 +22,7 @@ pub mod Handing
 pub mod Counts
 pub mod Made
 pub mod Ending
+pub mod Opened
 pub mod Beginning
+pub mod Calling
+pub mod Called
