@@ -1,4 +1,7 @@
 //! The job of a page.
+ghost use Rattle.std.specs.Prelude.{◌≡◌, ◌<◌, ◌^◌, IfOk, length, true};
+ghost use Rattle.asp_job.specs.Running.{is_page};
+ghost use Rattle.asp_job.specs.Size.{IsSmall, request_size};
 
 use crate::said::{moment, number};
 use asp_job::{Asked, Job, Request, Verb, Work};
@@ -15,10 +18,16 @@ fn asked(written: Option<&str>) -> Result<Asked, CaseStop> {
     }
 }
 
-fn request(alloc: Global, page: u32) -> Result<Request, CaseStop> {
+fn request(alloc: Global, page: u32) -> Result<Request, CaseStop>
+    ensures { IfOk result (λ request. request_size request < 2 ^ 24) }
+{
+    let path = Text::from_str(alloc, format!(in alloc; "/{page}.asp")?.as_str())?;
+    if path.len() >= 1 << 24 {
+        return Err(CaseStop::Unreadable);
+    }
     Ok(Request {
         verb: Verb::Get,
-        path: Text::from_str(alloc, format!(in alloc; "/{page}.asp")?.as_str())?,
+        path,
         query: Bytes::new(alloc),
         minor: 1,
         headers: List::new(alloc),
@@ -28,12 +37,17 @@ fn request(alloc: Global, page: u32) -> Result<Request, CaseStop> {
 }
 
 /// The job that is written `PAGE KEY MOMENT`.
-pub fn read_job(alloc: Global, words: &mut Split<'_, char>) -> Result<Job, CaseStop> {
-    let work = Work::Page(request(alloc, number(words.next())?)?);
+pub fn read_job(alloc: Global, words: &mut Split<'_, char>) -> Result<Job, CaseStop>
+    ensures page { IfOk result (λ job. is_page job.work ≡ true) }
+    ensures small { IfOk result IsSmall }
+{
+    let page = number(words.next())?;
     let asked = asked(words.next())?;
+    let moment = moment(words.next())?;
+    let request = request(alloc, page)?;
     Ok(Job {
-        work,
-        moment: moment(words.next())?,
+        work: Work::Page(request),
+        moment,
         asked,
     })
 }

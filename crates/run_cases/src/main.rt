@@ -2,8 +2,8 @@
 #![tactic(auto)]
 
 mod calls;
+mod desk;
 mod jobs;
-mod lanes;
 mod pages;
 mod requests;
 mod said;

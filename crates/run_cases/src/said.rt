@@ -19,7 +19,6 @@ pub fn moment(written: Option<&str>) -> Result<u64, CaseStop> {
 /// What the calls of a case gave, in their order.
 #[derive(Drop)]
 pub struct Said {
-    pub alloc: Global,
     text: String,
 }
 
@@ -27,7 +26,6 @@ impl Said {
     /// Before the first call.
     pub fn new(alloc: Global) -> Said {
         Said {
-            alloc,
             text: String::new(alloc),
         }
     }
@@ -38,33 +36,6 @@ impl Said {
             self.text.push_str(", ")?;
         }
         Ok(self.text.push_str(word)?)
-    }
-
-    /// A call gave this number.
-    pub fn number(&mut self, number: u32) -> Result<(), CaseStop> {
-        let written = format!(in self.alloc; "{number}")?;
-        self.word(written.as_str())
-    }
-
-    /// A call gave a number or nothing.
-    pub fn maybe(&mut self, number: Option<u32>) -> Result<(), CaseStop> {
-        match number {
-            Some(number) => self.number(number),
-            None => self.word("none"),
-        }
-    }
-
-    /// A call gave these numbers.
-    pub fn numbers(&mut self, numbers: &[u32]) -> Result<(), CaseStop> {
-        let mut all = String::new(self.alloc);
-        for number in numbers {
-            if !all.is_empty() {
-                all.push(' ')?;
-            }
-            all.push_str(format!(in self.alloc; "{number}")?.as_str())?;
-        }
-        let written = format!(in self.alloc; "[{all}]")?;
-        self.word(written.as_str())
     }
 
     /// All that was given.

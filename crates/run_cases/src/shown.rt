@@ -1,7 +1,7 @@
 //! What the calls of a core tell, as cases write it.
 
-use asp_core::{AdmitStop, Admitted, AppStepStop, BeginStop, CollectStop, EventStop};
-use asp_job::Answer;
+use asp_core::{AdmitStop, Admitted, BeginStop, CollectStop, EventStop, Progress};
+use asp_job::{Answer, EndKind};
 use case_files::CaseStop;
 use std::alloc::Global;
 
@@ -10,8 +10,14 @@ fn full(alloc: Global, entries: u64, weight: u64) -> Result<String, CaseStop> {
     Ok(format!(in alloc; "full {entries} {weight}")?)
 }
 
-fn word(alloc: Global, word: &str) -> Result<String, CaseStop> {
+/// A word.
+pub fn word(alloc: Global, word: &str) -> Result<String, CaseStop> {
     Ok(format!(in alloc; "{word}")?)
+}
+
+/// The number of a run.
+pub fn number(alloc: Global, number: u32) -> Result<String, CaseStop> {
+    Ok(format!(in alloc; "{number}")?)
 }
 
 /// A job came, or did not.
@@ -23,6 +29,15 @@ pub fn admitted(alloc: Global, told: Result<Admitted, AdmitStop>) -> Result<Stri
         Err(AdmitStop::WaitingFull) => word(alloc, "waiting full"),
         Err(AdmitStop::JournalFull { entries, weight }) => full(alloc, entries, weight),
         Err(AdmitStop::Memory) => Err(CaseStop::Memory),
+    }
+}
+
+/// Time went on, with so many keys' sessions over by it, or did not.
+pub fn ticked(alloc: Global, told: Result<u32, EventStop>) -> Result<String, CaseStop> {
+    match told {
+        Ok(expired) => Ok(format!(in alloc; "{expired}")?),
+        Err(EventStop::JournalFull { entries, weight }) => full(alloc, entries, weight),
+        Err(EventStop::Memory) => Err(CaseStop::Memory),
     }
 }
 
@@ -44,12 +59,22 @@ pub fn begin_stop(alloc: Global, stop: BeginStop) -> Result<String, CaseStop> {
     }
 }
 
-/// Why a call was not made.
-pub fn call_stop(alloc: Global, stop: AppStepStop) -> Result<String, CaseStop> {
-    match stop {
-        AppStepStop::Blocked { holder } => Ok(format!(in alloc; "blocked by {holder}")?),
-        AppStepStop::JournalFull { entries, weight } => full(alloc, entries, weight),
-        AppStepStop::Memory => Err(CaseStop::Memory),
+/// How far a run came.
+pub fn progress(alloc: Global, progress: &Progress) -> Result<String, CaseStop> {
+    match progress {
+        Progress::Going => word(alloc, "more"),
+        Progress::Wants(_) => word(alloc, "wants"),
+        Progress::Ended => word(alloc, "ended"),
+        Progress::Dead => word(alloc, "dead"),
+    }
+}
+
+/// How a run ended.
+pub fn end_kind(alloc: Global, kind: EndKind) -> Result<String, CaseStop> {
+    match kind {
+        EndKind::Done => word(alloc, "ended"),
+        EndKind::Memory => word(alloc, "out of memory"),
+        EndKind::JournalFull => word(alloc, "journal full"),
     }
 }
 
@@ -67,5 +92,16 @@ pub fn collected(alloc: Global, told: Result<Answer, CollectStop>) -> Result<Str
         Err(CollectStop::NotEnded) => word(alloc, "not ended"),
         Err(CollectStop::NoAnswer) => word(alloc, "no answer"),
         Err(CollectStop::Taken) => word(alloc, "taken"),
+    }
+}
+
+/// The answer that was handed out first, with its run.
+pub fn first(alloc: Global, told: Option<(u32, Answer)>) -> Result<String, CaseStop> {
+    match told {
+        Some((run, found)) => {
+            let shown = answer(alloc, &found)?;
+            Ok(format!(in alloc; "{run}: {shown}")?)
+        }
+        None => word(alloc, "none"),
     }
 }
