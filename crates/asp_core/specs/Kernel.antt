@@ -1,5 +1,5 @@
 -- What contracts see of a core, and of a run that was moved out of it. All of it is the profile's.
-use Rattle.std.specs.Prelude.{◌≡◌, ℕ, ◌+◌, ◌*◌, ◌-◌, ◌≤◌, ◌<◌, ◌==◌, ◌⊎◌, ◌++◌, ◌∷◌, Bool, true, false, if◌then◌else◌}
+use Rattle.std.specs.Prelude.{◌≡◌, ℕ, ◌+◌, ◌*◌, ◌-◌, ◌≤◌, ◌<◌, ◌==◌, ◌⊎◌, ◌++◌, ◌∷◌, true, false, if◌then◌else◌}
 use Rattle.std.specs.Prelude.{nat_lt, min, ◌^◌}
 use Rattle.std.specs.Prelude.{List, [], length, reverse, slice_set, slice_index_or, All, Option, Some, None, IfSome}
 use Rattle.std.specs.Prelude.{Result, Ok, Err}
@@ -13,7 +13,6 @@ use Rattle.asp_job.specs.declared.entry.Entry.{Entry}
 use Rattle.asp_job.specs.declared.entry.TheConstants.{MOST_ENTRIES, MOST_WEIGHT, MOST_UNFINISHED}
 use Rattle.asp_job.specs.declared.entry.What.{What}
 use Rattle.asp_job.specs.declared.entry.What.TheVariants.{Admit, Refuse, Tick, Stop}
-use Rattle.asp_job.specs.declared.job.Job.{Job}
 use Rattle.asp_job.specs.declared.job.Work.TheVariants as work
 use Rattle.asp_job.specs.declared.request.Request.{Request}
 use Rattle.asp_job.specs.declared.runner.Step.{Step}
@@ -29,7 +28,7 @@ use Rattle.asp_job.specs.Runs.{unfinished, drawn, moment_of, is_halted, job_of}
 use Rattle.asp_job.specs.Session.{IsSession}
 use Rattle.asp_job.specs.Size.{IsSmall}
 use Rattle.asp_job.specs.Told.{Told, Outcome, Wants, Ends, Meaning}
-use Rattle.asp_job.specs.Turns.{IsRunning, IsNextRun, may_begin, closing_runs}
+use Rattle.asp_job.specs.Turns.{IsRunning, IsNextRun, IsBegin, may_begin, serial_of, closing_runs}
 use Rattle.asp_response.specs.declared.fixed.Unavailable.TheVariants as cause
 use Rattle.asp_response.specs.Fixed.{unavailable_of}
 use Rattle.asp_session.specs.Letters.{letters_of}
@@ -156,7 +155,12 @@ IsIdle rules past = NoneIsNext past ⊎ (MOST_BODIES < bodies_with_one (ready ru
 -- there would be too much with the Begin of the next run
 abbrev pub IsBeginTooMuch : Rules → List Entry → ℕ → ℕ → ℕ → Type 0
 IsBeginTooMuch rules past lane entries weight =
-    (run : ℕ) × IsNextRun past run × IsTooMuch (begin_entry rules past lane run ∷ past) entries weight
+    (run : ℕ) × IsBegin rules past run (serial_of rules past run)
+    × IsTooMuch (begin_entry rules past lane run ∷ past) entries weight
+
+-- there is room for the Begin of the next run
+abbrev pub NextFits : Rules → List Entry → ℕ → Type 0
+NextFits rules past lane = (run : ℕ) → IsNextRun past run → IsWithin (begin_entry rules past lane run ∷ past)
 
 -- ---- what events add, where these are the sessions of the keys
 
@@ -167,6 +171,13 @@ abbrev pub ticked : (ℕ → Option SessionState) → List Entry → ℕ → ℕ
 ticked sessions past lane moment =
     if nat_lt (moment_of past) moment then with_lane lane (Tick moment)
     ∷ queue_entries lane (drawn past + 1) (closing_runs (due_at sessions past moment)) else []
+
+-- how many keys' sessions are over by a Tick
+abbrev pub expired_by : (ℕ → Option SessionState) → List Entry → ℕ → ℕ
+expired_by sessions past moment = if nat_lt (moment_of past) moment then length (due_at sessions past moment) else 0
+
+abbrev pub expired : Rules → List Entry → ℕ → ℕ
+expired rules past moment = expired_by (session_of rules past) past moment
 
 abbrev pub stopped_by : (ℕ → Option SessionState) → List Entry → ℕ → List Entry
 stopped_by sessions past lane =
@@ -180,6 +191,7 @@ pub record RunView (State : Type 0) : Type 0 where
   pub progress : Progress
   pub state : State
   pub stand_ins : StandIns
+  pub turns : ℕ
 
 -- the runner's state waits for what the progress says; one without memory for anything
 abbrev pub IsAtPhase : Progress → Phase → Type 0
@@ -199,6 +211,11 @@ progress_of (Ok step.More) = progress.Going
 progress_of (Ok (step.Wants call)) = progress.Wants call
 progress_of (Ok step.Ended) = progress.Ended
 progress_of (Err e) = progress.Dead
+
+-- how many steps ended with more to do, at most 2^64 - 1
+abbrev pub turns_after : ℕ → Result Step memory.Memory → ℕ
+turns_after turns (Ok step.More) = min (turns + 1) (2 ^ 64 - 1)
+turns_after turns _ = turns
 
 -- the entry of the call that the run wants, and the run that keeps the call out
 abbrev pub called : {R Site State : Type 0} → CoreView R Site → ℕ → RunView State → List Entry
@@ -225,14 +242,16 @@ abbrev pub StandsAsBefore : {State : Type 0} → (State → Told → ℕ → Typ
     RunView State → RunView State → Type 0
 StandsAsBefore stands meaning old new = (t : Told) → StandsFor stands meaning old t → StandsFor stands meaning new t
 
--- The run is one of the core's unfinished runs, of that lane, and was told what the journal says. The answers that stand
+-- The run is one of the core's unfinished runs, of that lane, and was told what the journal says. The answers that
+-- stand
 -- in for its own are those of its work.
 pub record IsRunOf {R Site State : Type 0} (meaning : R → Site → Meaning)
-    (stands : R → Site → State → Told → ℕ → Type 0) (core : CoreView R Site) (lane : ℕ) (run : RunView State) : Type 0 where
-  pub running : IsRunning (past_of core) lane run.number
-  pub stands_for : StandsFor (stands core.runner core.site) (meaning core.runner core.site) run
-      (told (rules_of meaning core) (past_of core) run.number)
-  pub stand_ins_are : run.stand_ins ≡ stand_ins (job_of (past_of core) run.number).work
+    (stands : R → Site → State → Told → ℕ → Type 0) (core : CoreView R Site) (lane : ℕ) (run : RunView State) : Type 0
+  where
+    pub running : IsRunning (past_of core) lane run.number
+    pub stands_for : StandsFor (stands core.runner core.site) (meaning core.runner core.site) run
+        (told (rules_of meaning core) (past_of core) run.number)
+    pub stand_ins_are : run.stand_ins ≡ stand_ins (job_of (past_of core) run.number).work
 
 -- ---- how a run ends
 
@@ -251,9 +270,13 @@ table_after table kind.Done key session = if key == 0 then table else slice_set 
 table_after table kind.Memory key session = table
 table_after table kind.JournalFull key session = table
 
+-- at some point since the run's last entry, the entry of the call that it wants did not fit
+abbrev pub HasNotFitFor : {State : Type 0} → List Entry → ℕ → RunView State → Type 0
+HasNotFitFor past lane run = (call : AppCall) × (wanted_by run.progress ≡ Some call) × HasNotFit past lane run.number
+    call
+
 -- An End of this kind may come: the run has ended by itself, or at some point its call did not fit, or memory ran out.
 abbrev pub IsEndOf : {State : Type 0} → List Entry → ℕ → RunView State → EndKind → Type 0
 IsEndOf past lane run kind.Done = run.progress ≡ progress.Ended
 IsEndOf past lane run kind.Memory = Unit {0}
-IsEndOf past lane run kind.JournalFull =
-    (call : AppCall) × (wanted_by run.progress ≡ Some call) × HasNotFit past lane run.number call
+IsEndOf past lane run kind.JournalFull = HasNotFitFor past lane run

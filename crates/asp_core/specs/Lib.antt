@@ -5,4 +5,12 @@ pub mod Ready
 pub mod Drawing
 pub mod Stops
 pub mod Standing
+pub mod Opening
+pub mod Calling
 pub mod Taking
+pub mod Ends
+pub mod Telling
+pub mod Waits
+pub mod Wanted
+pub mod Given
+pub mod Alone

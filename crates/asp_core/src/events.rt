@@ -18,9 +18,31 @@ use crate::entries::{stop_entries, tick_entries};
 use crate::room::{append, fit};
 use crate::stop::EventStop;
 use asp_job::{Answer, Entry, Job, Runner, SessionState};
+use std::alloc::Global;
 use std::snapshot::Snapshot;
+use vb_value::{List, Memory};
 
-/// The journal after a Tick. A refusal leaves it.
+/// The entries of a Tick, and how many keys' sessions are over by it.
+#[tactic(auto, using(crate::proofs::Ticking::expired_is, crate::proofs::Ticking::tick_length))]
+fn ticked(
+    alloc: Global,
+    journal: &[Entry],
+    table: &[Option<SessionState>],
+    lane: u32,
+    moment: u64,
+) -> Result<(List<Entry>, u32), Memory>
+    requires { history.entries_in (reverse journal.now) ≤ MOST_ENTRIES }
+    ensures entries { IfOk result (λ made. made.0
+        ≡ kernel.ticked (kernel.session_at table.now) (reverse journal.now) lane moment) }
+    ensures count { IfOk result (λ made. made.1
+        ≡ kernel.expired_by (kernel.session_at table.now) (reverse journal.now) moment) }
+{
+    let entries = tick_entries(alloc, journal, table, lane, moment)?;
+    let expired = entries.len().saturating_sub(1) as u32;
+    Ok((entries, expired))
+}
+
+/// The journal after a Tick, and how many keys' sessions are over by it. A refusal leaves it.
 #[tactic(auto, using(crate::proofs::Kept::ticked_is, crate::proofs::Kept::grown_past, crate::proofs::Past::take_first))]
 pub fn with_tick<R: Runner>(
     runner: &Snapshot<R>,
@@ -31,7 +53,7 @@ pub fn with_tick<R: Runner>(
     table: &[Option<SessionState>],
     lane: u32,
     moment: u64,
-) -> Result<(), EventStop>
+) -> Result<u32, EventStop>
     requires sessions { kernel.session_at table.now
         ≡ spec.session_of
         (kernel.rules_by (R.meaning runner.now.value site.now.value) seed.now) (reverse journal.old.items) }
@@ -39,6 +61,8 @@ pub fn with_tick<R: Runner>(
     ensures entries { OnOk result (journal.new.items ≡ journal.old.items
         ++ journals.tick_entries
         (kernel.rules_by (R.meaning runner.now.value site.now.value) seed.now) (reverse journal.old.items) lane moment) }
+    ensures count { IfOk result (λ count. count ≡ kernel.expired
+        (kernel.rules_by (R.meaning runner.now.value site.now.value) seed.now) (reverse journal.old.items) moment) }
     ensures err { OnErr result (journal.new.items ≡ journal.old.items) }
     ensures answers { answers.new.items ≡ answers.old.items }
     ensures capacity { vec_capacity journal.old ≤ vec_capacity journal.new }
@@ -56,14 +80,17 @@ pub fn with_tick<R: Runner>(
 {
     let first = journal.len();
     let alloc = *journal.allocator();
-    let more = match tick_entries(alloc, journal.as_slice(), table, lane, moment) {
-        Ok(more) => more,
+    let (more, expired) = match ticked(alloc, journal.as_slice(), table, lane, moment) {
+        Ok(made) => made,
         Err(_) => return Err(EventStop::Memory),
     };
     if append(journal, more).is_err() {
         return Err(EventStop::Memory);
     }
-    fit(journal, answers, first)
+    match fit(journal, answers, first) {
+        Ok(()) => Ok(expired),
+        Err(stop) => Err(stop),
+    }
 }
 
 /// The journal after a Stop. A refusal leaves it.

@@ -8,7 +8,7 @@ ghost use Rattle.asp_job.specs.History as history;
 ghost use Rattle.asp_job.specs.Journal as journals;
 ghost use Rattle.asp_job.specs.Runs as runs;
 ghost use Rattle.asp_core.specs.Kernel.{CoreView, RunView, past_of, rules_of, grown, IsHostOf, IsTooMuch, IsWithin};
-ghost use Rattle.asp_core.specs.Kernel.{IsRunOf, HasRoom, HasAnswerRoom};
+ghost use Rattle.asp_core.specs.Kernel.{IsRunOf, HasRoom, HasAnswerRoom, expired};
 
 use crate::events::{with_stop, with_tick};
 use crate::keys::unfinished;
@@ -153,11 +153,13 @@ impl<R: Runner> Core<R> {
         is_halted(self.journal.as_slice())
     }
 
-    /// Time goes on to `moment`, in seconds since 1970, and sessions end. An earlier moment changes nothing and takes
-    /// no memory. A refusal changes nothing.
-    pub fn tick(&mut self, lane: u32, moment: u64) -> Result<(), EventStop>
+    /// Time goes on to `moment`, in seconds since 1970, and sessions end: it answers how many keys' sessions. An earlier
+    /// moment changes nothing and takes no memory. A refusal changes nothing.
+    pub fn tick(&mut self, lane: u32, moment: u64) -> Result<u32, EventStop>
         ensures ok { OnOk result (self.new ≡ grown self.old
             (journals.tick_entries (rules_of R.meaning self.old) (past_of self.old) lane moment)) }
+        ensures count { IfOk result (λ count. count
+            ≡ expired (rules_of R.meaning self.old) (past_of self.old) moment) }
         ensures full { (entries weight : ℕ) → result ≡ Err (EventStop.JournalFull entries weight) →
             IsTooMuch (journals.past_after (past_of self.old)
             (journals.tick_entries (rules_of R.meaning self.old) (past_of self.old) lane moment)) entries weight }
@@ -165,7 +167,7 @@ impl<R: Runner> Core<R> {
         ensures err { OnErr result (self.new ≡ self.old) }
     {
         if moment <= moment_of(self.journal.as_slice()) {
-            return Ok(());
+            return Ok(0);
         }
         with_tick(
             &self.runner,

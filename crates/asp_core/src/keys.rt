@@ -36,7 +36,8 @@ pub fn is_unfinished(journal: &[Entry], run: u64) -> bool
     matches!(stage_of(journal, run), Stage::Unfinished)
 }
 
-fn has_ended(journal: &[Entry], run: u64) -> bool
+/// Whether a run has ended.
+pub fn has_ended(journal: &[Entry], run: u64) -> bool
     ensures { result ≡ runs.has_ended (reverse journal.now) run }
 {
     matches!(stage_of(journal, run), Stage::Ended)

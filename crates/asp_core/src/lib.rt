@@ -3,26 +3,35 @@
 
 mod admit;
 mod admitted;
+mod begin;
+mod calls;
 mod cookie;
 mod drawing;
+mod ends;
 mod entries;
 mod events;
 mod hands;
 mod kernel;
 mod keys;
 mod laws;
+mod opening;
 mod places;
 mod ready;
 mod room;
 mod run;
 mod scan;
 mod stop;
+mod takes;
+mod tellers;
 mod weighing;
 mod works;
 
 pub use admitted::Admitted;
 pub use kernel::Core;
-pub use laws::{lock_holds, runs_stay};
+pub use laws::{
+    answers_in_order, answers_wait, calls_follow, end_fits, handed_out_once, holder_is_unfinished,
+    lock_holds, runs_stay, sessions_apart, some_run_may_begin,
+};
 pub use ready::{BODY_ROOM, MOST_BODIES};
 pub use run::{Progress, Run, StandIns};
 pub use stop::{AdmitStop, AppStepStop, BeginStop, CollectStop, EventStop};

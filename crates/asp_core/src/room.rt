@@ -77,6 +77,7 @@ pub fn fit(
         (length answers.old.items + 1) (vec_capacity answers.new)) }
     ensures full { (entries weight : ℕ) → result ≡ Err (EventStop.JournalFull entries weight) →
         kernel.IsTooMuch (reverse journal.old.items) entries weight }
+    ensures fits { result ≡ Err EventStop.Memory → kernel.IsWithin (reverse journal.old.items) }
 {
     if let Some((entries, weight)) = overfull(journal.as_slice()) {
         journal.truncate(first);

@@ -80,6 +80,26 @@ pub(crate) fn admit_stop(stop: EventStop) -> AdmitStop
     }
 }
 
+/// The same for a run that would begin.
+pub(crate) fn begin_stop(stop: EventStop) -> BeginStop
+    ensures { result ≡ spec.begin_stop stop }
+{
+    match stop {
+        EventStop::JournalFull { entries, weight } => BeginStop::JournalFull { entries, weight },
+        EventStop::Memory => BeginStop::Memory,
+    }
+}
+
+/// The same for a call of the Application object.
+pub(crate) fn app_stop(stop: EventStop) -> AppStepStop
+    ensures { result ≡ spec.app_stop stop }
+{
+    match stop {
+        EventStop::JournalFull { entries, weight } => AppStepStop::JournalFull { entries, weight },
+        EventStop::Memory => AppStepStop::Memory,
+    }
+}
+
 impl From<Memory> for EventStop {
     fn from(_: Memory) -> EventStop {
         EventStop::Memory

@@ -1,10 +1,16 @@
-//! Tries the cases of data/: pages, each with a request and what is answered.
+//! Tries the cases of data/: pages, each with a request and what is answered, and calls of a core over pages.
 #![tactic(auto)]
 
+mod calls;
+mod jobs;
+mod lanes;
 mod pages;
 mod requests;
+mod said;
+mod shown;
 mod site;
 
+use calls::Calls;
 use case_files::try_file;
 use pages::Pages;
 use std::io;
@@ -19,6 +25,9 @@ fn main(rt: HostRuntime) -> io::Result<()> {
         if !try_file(&rt, name, &Pages)? {
             all_passed = false;
         }
+    }
+    if !try_file(&rt, "calls.txt", &Calls)? {
+        all_passed = false;
     }
     if all_passed {
         Ok(())

@@ -1,0 +1,317 @@
+-- What a Begin leaves of a right journal.
+use Rattle.std.proofs.Common.{◌≡◌, ℕ, ◌+◌, ◌<◌, ◌≤◌, ◌==◌, ◌&&◌, ◌^◌, Bool, true, false, not}
+use Rattle.std.proofs.Common.{if◌then◌else◌, List, [], ◌∷◌, ◌++◌, length, reverse, Option}
+use Rattle.std.proofs.Common.{Result, Ok, Err, IfOk, OnOk, OnErr, refl, ap, sym, ◌∙◌, subst, arith}
+use Rattle.std.proofs.Common.{inl, inr}
+use Rattle.std.proofs.lemmas.Bool.{cases_lt}
+use Rattle.asp_core.specs.Kernel.{HasAnswerRoom, HasRoom, IsBeginTooMuch, IsKept, IsRunOf, IsTooMuch}
+use Rattle.asp_core.specs.Kernel.{IsWithin, NextFits, RunView, StandsAt, halts_to_come, rules_by, session_at, to_come}
+use Rattle.asp_core.specs.Opening.{CanBegin, CanOpen, HasBegun, HasOpened, IsIdleWith, IsNumberOf}
+use Rattle.asp_core.specs.Opening.{count_after}
+use Rattle.asp_core.specs.Ready.{bodies_with_one}
+use Rattle.asp_core.specs.Stops.{begin_stop}
+use Rattle.asp_core.specs.declared.opening.SessionNumber.{SessionNumber}
+use Rattle.asp_core.specs.declared.ready.TheConstants.{MOST_BODIES}
+use Rattle.asp_core.specs.declared.stop.BeginStop.TheVariants as stops
+use Rattle.asp_core.specs.declared.stop.EventStop.{EventStop}
+use Rattle.asp_core.specs.declared.stop.EventStop.TheVariants as event
+use Rattle.asp_job.specs.Application.{AppState}
+use Rattle.asp_job.specs.History.{entries_in, load, with_lane}
+use Rattle.asp_job.specs.Journal.{begin_entry}
+use Rattle.asp_job.specs.Keys.{given, opened, opens, session_of}
+use Rattle.asp_job.specs.Keys.{told}
+use Rattle.asp_job.specs.Rules.{Rules}
+use Rattle.asp_job.specs.Running.{is_page}
+use Rattle.asp_job.specs.Runs.{draw_of, drawn, is_halted, key_of}
+use Rattle.asp_job.specs.Runs.{unfinished}
+use Rattle.asp_job.specs.Told.{Meaning, Told}
+use Rattle.asp_job.specs.Turns.{IsNextRun, IsRunning}
+use Rattle.asp_job.specs.declared.answer.Answer.{Answer}
+use Rattle.asp_job.specs.declared.entry.Entry.{Entry}
+use Rattle.asp_job.specs.declared.entry.TheConstants.{MOST_ENTRIES, MOST_UNFINISHED}
+use Rattle.asp_job.specs.declared.entry.What.{What}
+use Rattle.asp_job.specs.declared.entry.What.TheVariants.{Admit, App, Begin, End, Halt, Queue, Refuse, Stop, Take, Tick}
+use Rattle.asp_job.specs.declared.session.SessionState.{SessionState}
+use Rattle.asp_core.proofs.Bounds.{drawn_small}
+use Rattle.asp_core.proofs.Jobs.{fresh_key, small_job}
+use Rattle.asp_core.proofs.Kept.{may_follow}
+use Rattle.asp_core.proofs.Least.{AreNumbered, are_numbered}
+use Rattle.asp_core.proofs.Others.{own_number}
+use Rattle.asp_core.proofs.Past.{length_past, past_push}
+use Rattle.asp_core.proofs.Same.{view_of}
+use Rattle.asp_core.proofs.Opened.{valid_at, session_valid, serial_right, number_right, told_right}
+
+one_more : (b : Bool) (n k : ℕ) → n ≤ k → (if b then n + 1 else n) ≤ k + 1
+one_more true n k h = omega arith
+one_more false n k h = omega arith
+
+opened_more : (m : Rules) (past : List Entry) (lane : ℕ) (what : What) → opened m past ≤ entries_in past →
+    opened m (with_lane lane what ∷ past) ≤ entries_in (with_lane lane what ∷ past)
+opened_more m past lane (Queue run work key) h = omega arith
+opened_more m past lane (Admit run key fresh job) h = omega arith
+opened_more m past lane (Refuse run job) h = omega arith
+opened_more m past lane (Tick moment) h = omega arith
+opened_more m past lane (Begin run serial) h =
+    one_more (opens (draw_of past run) (session_of m past (key_of past run))) (opened m past) (entries_in past) h
+opened_more m past lane (App run call reply) h = omega arith
+opened_more m past lane (End run kind status size n1 n2) h = omega arith
+opened_more m past lane (Take run) h = h
+opened_more m past lane Stop h = omega arith
+opened_more m past lane Halt h = h
+
+-- no more sessions were opened than there are entries that count
+opened_small : (m : Rules) (past : List Entry) → opened m past ≤ entries_in past
+opened_small m [] = omega arith
+opened_small m (entry ∷ past) = opened_more m past entry.lane entry.what (opened_small m past)
+
+-- ---- a core's parts suffice
+
+pub can_number : (m : Rules) (past : List Entry) (table : List (Option SessionState)) (count : ℕ)
+    (answers : List (ℕ × Answer)) (capacity : ℕ) → CanBegin m past table count answers capacity → AreNumbered past
+can_number m past table count answers capacity can = are_numbered m past can.kept.account.entries
+
+pub can_count : (m : Rules) (past : List Entry) (table : List (Option SessionState)) (count : ℕ)
+    (answers : List (ℕ × Answer)) (capacity : ℕ) → CanBegin m past table count answers capacity → count + 1 < 2 ^ 31
+can_count m past table count answers capacity can =
+    let is = can.kept.opened_is in
+    let small = opened_small m past in
+    let few : load past ≤ MOST_ENTRIES = can.within.few in
+    omega arith
+
+pub can_draw : (m : Rules) (past : List Entry) (table : List (Option SessionState)) (count : ℕ)
+    (answers : List (ℕ × Answer)) (capacity run : ℕ) → CanBegin m past table count answers capacity →
+    run ≤ drawn past → run < 2 ^ 32
+can_draw m past table count answers capacity run can low =
+    let small = drawn_small past in
+    let few : load past ≤ MOST_ENTRIES = can.within.few in
+    omega arith
+
+one_to_come : (halted : Bool) → halted ≡ false → 1 ≤ (if halted then 0 else 1)
+one_to_come true e = absurd cc
+one_to_come false e = omega arith
+
+-- while no Halt stands there is room for one
+pub can_push : (m : Rules) (journal : List Entry) (table : List (Option SessionState)) (count : ℕ)
+    (answers : List (ℕ × Answer)) (capacity : ℕ) → CanBegin m (reverse journal) table count answers capacity →
+    is_halted (reverse journal) ≡ false → length journal < capacity
+can_push m journal table count answers capacity can going =
+    let same = length_past journal in
+    let one : 1 ≤ halts_to_come (reverse journal) = one_to_come (is_halted (reverse journal)) going in
+    let room : length (reverse journal) + to_come (reverse journal) (length answers) ≤ capacity = can.room in
+    omega arith
+
+-- ---- the run that is begun
+
+-- what the runner needs is there
+pub can_open : (m : Rules) (past then_past : List Entry) (table : List (Option SessionState)) (count : ℕ)
+    (answers : List (ℕ × Answer)) (capacity lane run serial : ℕ) (number : SessionNumber) →
+    CanBegin m past table count answers capacity →
+    IsNumberOf (draw_of past run) (session_at table (key_of past run)) count number →
+    then_past ≡ with_lane lane (Begin run serial) ∷ past →
+    CanOpen (draw_of then_past run) (session_at table (key_of then_past run)) number
+can_open m past then_past table count answers capacity lane run serial number can is of =
+    let draw = draw_of past run in
+    let s = session_at table (key_of past run) in
+    let serial_is = is.serial_is ∙ serial_right count draw s in
+    let valid = session_valid (is_page draw.job.work && not (draw.key == 0)) s count
+    (valid_at table (key_of past run) can.kept.valid) (can_count m past table count answers capacity can) in
+    rw of (record {
+      fresh = fresh_key m past can.kept.account.entries run;
+      small = small_job m past can.kept.account.entries can.kept.small run;
+      valid = rw (is.new_is, serial_is) valid;
+    })
+
+-- ---- which run is next
+
+-- where a run is next and there is room for its body, the core is not idle
+pub not_idle : (past : List Entry) (answers : List (ℕ × Answer)) (run : ℕ) → IsNextRun past run →
+    length (unfinished past) < MOST_UNFINISHED → is_halted past ≡ false →
+    bodies_with_one answers past ≤ MOST_BODIES → IsIdleWith answers past → ⊥
+not_idle past answers run next few going light (inl (inl halted)) = cc
+not_idle past answers run next few going light (inl (inr (inl many))) = omega arith
+not_idle past answers run next few going light (inl (inr (inr none))) =
+    let begins = next.begins in let may = none run in cc
+not_idle past answers run next few going light (inr heavy) = omega arith
+
+-- only one run is next
+one_next : (past : List Entry) (run other : ℕ) → IsNextRun past run → IsNextRun past other → other ≡ run
+one_next past run other next then_next = elim (cases_lt run other) [
+  | inl less ↦ absurd (let begins = next.begins in let may = then_next.least run less in cc)
+  | inr most ↦ elim (cases_lt other run) [
+    | inl less ↦ absurd (let begins = then_next.begins in let may = next.least other less in cc)
+    | inr least ↦ omega arith
+  ]
+]
+
+-- ---- the Begin
+
+kept_begin : (m : Rules) (past : List Entry) (table : List (Option SessionState)) (count : ℕ) (held : AppState)
+    (answers : List (ℕ × Answer)) (lane run : ℕ) → IsKept m past table count held answers → IsNextRun past run →
+    length (unfinished past) < MOST_UNFINISHED → is_halted past ≡ false →
+    IsKept m (begin_entry m past lane run ∷ past) table (count_after m past run count) held answers
+kept_begin m past table count held answers lane run kept next few going =
+    let entry = begin_entry m past lane run in
+    let turn = may_follow m past entry kept.account.settled
+    (record { next = next; few = few; going = going; session = refl }) in
+    record {
+      account = record {
+        entries = (record { turn = turn; legal = tt; follows = tt }, kept.account.entries);
+        settled = refl;
+      };
+      sessions = kept.sessions;
+      keys = kept.keys;
+      opened_is =
+          ap (λ n. if opens (draw_of past run) (session_of m past (key_of past run)) then n + 1 else n) kept.opened_is;
+      held_is = kept.held_is;
+      answers_are = kept.answers_are;
+      answered = (tt, kept.answered);
+      small = (tt, kept.small);
+      valid = kept.valid;
+    }
+
+-- the run is unfinished, and the lane is its own
+begun_running : (m : Rules) (past : List Entry) (lane run : ℕ) → IsRunning (begin_entry m past lane run ∷ past) lane run
+begun_running m past lane run =
+    let own = own_number run in record { unfinished = rw own refl; begun_by = rw own refl }
+
+-- what was begun, where the run has this number
+pub has_begun : {State : Type 0} → (m : Meaning) (seed : List ℕ) (stands : State → Told → ℕ → Type 0) (lane : ℕ)
+    (journal mid : List Entry) (table : List (Option SessionState)) (count then_count : ℕ)
+    (answers : List (ℕ × Answer)) (run : RunView State) (next : ℕ) (number : SessionNumber)
+    (old capacity capacity_of : ℕ) → let rules = rules_by m seed in let past = reverse journal in
+    CanBegin rules past table count answers old → IsNextRun past next →
+    length (unfinished past) < MOST_UNFINISHED → is_halted past ≡ false → bodies_with_one answers past ≤ MOST_BODIES →
+    IsNumberOf (draw_of past next) (session_at table (key_of past next)) count number →
+    mid ≡ journal ++ with_lane lane (Begin next number.serial) ∷ [] →
+    IsWithin (reverse mid) → HasRoom (reverse mid) (length answers + 1) capacity →
+    HasAnswerRoom (reverse mid) (length answers + 1) capacity_of →
+    then_count ≡ (if number.is_new then count + 1 else count) →
+    HasOpened stands seed (draw_of (reverse mid) next) (session_at table (key_of (reverse mid) next)) number next run →
+    HasBegun rules stands lane journal count answers mid then_count capacity capacity_of run
+has_begun m seed stands lane journal mid table count then_count answers run next number old capacity capacity_of can
+    is_next few going light is made within room room_of counted told =
+    let rules = rules_by m seed in
+    let past = reverse journal in
+    let entry = with_lane lane (Begin next number.serial) in
+    let of : reverse mid ≡ entry ∷ past = ap reverse made ∙ past_push journal entry in
+    let is_right = number_right rules past table count next number can.kept.sessions can.kept.opened_is is in
+    let same = told_right m seed past table count lane next number can.kept.account.entries is_next.begins
+    can.kept.sessions can.kept.opened_is is in
+    let after : HasOpened stands seed (draw_of past next) (session_at table (key_of past next)) number next run =
+    subst (λ p. HasOpened stands seed (draw_of p next) (session_at table (key_of p next)) number next run) of told in
+    let has : HasRoom (reverse mid) (length answers) capacity = omega arith in
+    let has_of : HasAnswerRoom (reverse mid) (length answers) capacity_of = omega arith in
+    rw after.number_is (record {
+      is_next = is_next;
+      few = few;
+      going = going;
+      light = light;
+      journal_is = made ∙ ap (λ s. journal ++ with_lane lane (Begin next s) ∷ []) is_right.0;
+      count_is = counted ∙ ap (λ b. if b then count + 1 else count) is_right.1;
+      within = within;
+      room = has;
+      answer_room = has_of;
+      progress_is = after.progress_is;
+      told_is = subst (λ t. stands run.state t 0) same after.told_is;
+      stand_ins_are = after.stand_ins_are;
+      turns_is = after.turns_is;
+    })
+
+-- what is kept then
+kept_begun : {State : Type 0} → (m : Rules) (stands : State → Told → ℕ → Type 0) (lane : ℕ)
+    (journal next : List Entry) (table : List (Option SessionState)) (count then_count : ℕ) (held : AppState)
+    (answers : List (ℕ × Answer)) (capacity capacity_of : ℕ) (run : RunView State) →
+    IsKept m (reverse journal) table count held answers →
+    HasBegun m stands lane journal count answers next then_count capacity capacity_of run →
+    IsKept m (reverse next) table then_count held answers
+kept_begun m stands lane journal next table count then_count held answers capacity capacity_of run kept has =
+    let past = reverse journal in
+    let of : reverse next ≡ begin_entry m past lane run.number ∷ past =
+    ap reverse has.journal_is ∙ past_push journal (begin_entry m past lane run.number) in
+    rw (of, has.count_is)
+    (kept_begin m past table count held answers lane run.number kept has.is_next has.few has.going)
+
+-- a core's parts after a run that may not have begun
+pub kept_either_begun : {State E : Type 0} → (result : Result (RunView State) E) (m : Rules)
+    (stands : State → Told → ℕ → Type 0) (lane : ℕ) (journal next : List Entry) (table : List (Option SessionState))
+    (count then_count : ℕ) (held : AppState) (answers then_answers : List (ℕ × Answer)) (old new old_of new_of : ℕ) →
+    IsKept m (reverse journal) table count held answers → IsWithin (reverse journal) →
+    HasRoom (reverse journal) (length answers) old → HasAnswerRoom (reverse journal) (length answers) old_of →
+    IfOk result (HasBegun m stands lane journal count answers next then_count new new_of) →
+    OnErr result ((next ≡ journal) × (then_count ≡ count)) → old ≤ new → old_of ≤ new_of → then_answers ≡ answers →
+    IsKept m (reverse next) table then_count held then_answers × IsWithin (reverse next)
+    × HasRoom (reverse next) (length then_answers) new × HasAnswerRoom (reverse next) (length then_answers) new_of
+kept_either_begun (Ok run) m stands lane journal next table count then_count held answers then_answers old new old_of
+    new_of kept within room room_of has same more more_of still =
+    let all = kept_begun m stands lane journal next table count then_count held answers new new_of run kept has in
+    rw still (all, has.within, has.room, has.answer_room)
+kept_either_begun (Err stop) m stands lane journal next table count then_count held answers then_answers old new old_of
+    new_of kept within room room_of has same more more_of still =
+    let wide : HasRoom (reverse journal) (length answers) new = omega arith in
+    let wide_of : HasAnswerRoom (reverse journal) (length answers) new_of = omega arith in
+    rw (same.0, same.1, still) (kept, within, wide, wide_of)
+
+-- the run is one of the core
+pub begun_run : {R Site State : Type 0} → (meaning : R → Site → Meaning)
+    (stands : R → Site → State → Told → ℕ → Type 0) (runner : R) (site : Site) (seed : List ℕ) (lane : ℕ)
+    (journal next : List Entry) (count then_count : ℕ) (answers : List (ℕ × Answer)) (capacity capacity_of : ℕ)
+    (run : RunView State) →
+    HasBegun (rules_by (meaning runner site) seed) (stands runner site) lane journal count answers
+    next then_count capacity capacity_of run →
+    IsRunOf meaning stands (view_of runner site seed next) lane run
+begun_run meaning stands runner site seed lane journal next count then_count answers capacity capacity_of run has =
+    let m = rules_by (meaning runner site) seed in
+    let past = reverse journal in
+    let entry = begin_entry m past lane run.number in
+    let of : reverse next ≡ entry ∷ past = ap reverse has.journal_is ∙ past_push journal entry in
+    let here : stands runner site run.state (told m (reverse next) run.number) 0 =
+    subst (λ p. stands runner site run.state (told m p run.number) 0) (sym of) has.told_is in
+    record {
+      running = rw of (begun_running m past lane run.number);
+      stands_for = subst (λ p. StandsAt p (stands runner site run.state (told m (reverse next) run.number))
+          ((meaning runner site).does (told m (reverse next) run.number))) (sym has.progress_is) (0, here);
+      stand_ins_are = rw of has.stand_ins_are;
+    }
+
+-- ---- a Begin that does not fit, and one that does
+
+pub begin_too_much : (m : Rules) (past : List Entry) (table : List (Option SessionState)) (count : ℕ)
+    (answers : List (ℕ × Answer)) (capacity lane run entries weight : ℕ) (number : SessionNumber) →
+    CanBegin m past table count answers capacity → IsNextRun past run → length (unfinished past) < MOST_UNFINISHED →
+    is_halted past ≡ false → IsNumberOf (draw_of past run) (session_at table (key_of past run)) count number →
+    IsTooMuch (with_lane lane (Begin run number.serial) ∷ past) entries weight →
+    IsBeginTooMuch m past lane entries weight
+begin_too_much m past table count answers capacity lane run entries weight number can next few going is much =
+    let is_right = number_right m past table count run number can.kept.sessions can.kept.opened_is is in (
+      run,
+      record { next = next; few = few; going = going; session = refl },
+      subst (λ s. IsTooMuch (with_lane lane (Begin run s) ∷ past) entries weight) is_right.0 much,
+    )
+
+pub begin_fits : (m : Rules) (past : List Entry) (table : List (Option SessionState)) (count : ℕ)
+    (answers : List (ℕ × Answer)) (capacity lane run : ℕ) (number : SessionNumber) →
+    CanBegin m past table count answers capacity → IsNextRun past run →
+    IsNumberOf (draw_of past run) (session_at table (key_of past run)) count number →
+    IsWithin (with_lane lane (Begin run number.serial) ∷ past) → NextFits m past lane
+begin_fits m past table count answers capacity lane run number can next is within other then_next =
+    let is_right = number_right m past table count run number can.kept.sessions can.kept.opened_is is in
+    let one = one_next past run other next then_next in
+    rw one (subst (λ s. IsWithin (with_lane lane (Begin run s) ∷ past)) is_right.0 within)
+
+-- a fact of a result that was given becomes one that does not name it
+pub on_each_ok : {T E : Type 0} → (result : Result T E) (P : T → Type 0) (Q : Type 0) → ((x : T) → P x → Q) →
+    IfOk result P → OnOk result Q
+on_each_ok (Ok given) P Q f p = f given p
+on_each_ok (Err stop) P Q f p = tt
+
+-- a run that did not begin for want of memory was refused so
+pub memory_back : (stop : EventStop) → begin_stop stop ≡ stops.Memory → stop ≡ event.Memory
+memory_back (event.JournalFull entries weight) e = absurd cc
+memory_back event.Memory e = refl
+
+-- the rules of the runner and the site that a core was given
+pub rules_same : {R Site : Type 0} → (meaning : R → Site → Meaning) (runner then_runner : R) (site then_site : Site)
+    (seed : List ℕ) → runner ≡ then_runner → site ≡ then_site →
+    rules_by (meaning runner site) seed ≡ rules_by (meaning then_runner then_site) seed
+rules_same meaning runner then_runner site then_site seed same_runner same_site =
+    ap (λ r. rules_by (meaning r site) seed) same_runner ∙ ap (λ s. rules_by (meaning then_runner s) seed) same_site

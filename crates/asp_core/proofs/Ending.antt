@@ -1,0 +1,340 @@
+-- What an End leaves of a right journal.
+use Rattle.std.proofs.Common.{◌≡◌, ℕ, ◌+◌, ◌-◌, ◌^◌, ◌<◌, ◌≤◌, ◌==◌, ◌&&◌, Bool, true, false, not}
+use Rattle.std.proofs.Common.{if◌then◌else◌, List, [], ◌∷◌, ◌++◌, All, length, reverse, Option, Some, None, IfSome}
+use Rattle.std.proofs.Common.{is_some, refl, ap, sym, ◌∙◌, subst, arith, inl, inr, length-set, slice_set, get_or}
+use lib.Utf8.{encode}
+use Rattle.std.specs.Prelude.{codes, encode_utf8_all}
+use Rattle.std.proofs.Math.Path.{fun_ext}
+use Rattle.std.proofs.lemmas.Bool.{cases_Bool, eqb-true}
+use Rattle.std.proofs.lemmas.Grind.{get_or-set_at}
+use Rattle.std.proofs.lemmas.List.{get_or-set_other, length-reverse}
+use Rattle.std.proofs.lemmas.List.Elements.{All-set}
+use Rattle.asp_core.specs.Ends.{end_what, left_of}
+use Rattle.asp_core.specs.Kernel.{CoreView, HasAnswerRoom, HasRoom, IsEndOf, IsKept, IsRunOf, IsSessionIn, IsWithin}
+use Rattle.asp_core.specs.Kernel.{RunView, StandsAt, past_of, rules_by, rules_of, session_at, table_after}
+use Rattle.asp_core.specs.Kernel.{wanted_by}
+use Rattle.asp_core.specs.Ready.{ready, with_answer}
+use Rattle.asp_core.specs.Standing.{stand_in, stand_ins}
+use Rattle.asp_core.specs.declared.ends.Left.{Left}
+use Rattle.asp_core.specs.declared.run.Progress.{Progress}
+use Rattle.asp_core.specs.declared.run.Progress.TheVariants as progress
+use Rattle.asp_core.specs.declared.run.StandIns.{StandIns}
+use Rattle.asp_job.specs.Application.{AppState, freed}
+use Rattle.asp_job.specs.History.{with_lane}
+use Rattle.asp_job.specs.Journal.{MayEnd, end_entry}
+use Rattle.asp_job.specs.Keys.{session_left, session_of, told}
+use Rattle.asp_job.specs.Output.{answer_by, answer_in, counted, end_of, finished_in, length_in, made_in, status_in}
+use Rattle.asp_job.specs.Output.{unavailable_in}
+use Rattle.asp_job.specs.Rules.{Rules, JournalFull, OutOfMemory}
+use Rattle.asp_job.specs.Running.{IsBounded, IsFinish, Over, is_page}
+use Rattle.asp_job.specs.Runs.{is_unfinished, job_of, key_of, unfinished}
+use Rattle.asp_job.specs.Told.{Ends, Meaning, Outcome, Told, Wants}
+use Rattle.asp_job.specs.Turns.{IsRunning}
+use Rattle.asp_job.specs.declared.answer.Answer.{Answer}
+use Rattle.asp_job.specs.declared.answer.Finished.{Finished}
+use Rattle.asp_job.specs.declared.entry.EndKind.{EndKind}
+use Rattle.asp_job.specs.declared.entry.EndKind.TheVariants as how
+use Rattle.asp_job.specs.declared.entry.Entry.{Entry}
+use Rattle.asp_job.specs.declared.entry.What.TheVariants.{End}
+use Rattle.asp_job.specs.declared.job.Work.{Work}
+use Rattle.asp_job.specs.declared.job.Work.TheVariants as work
+use Rattle.asp_job.specs.declared.session.SessionState.{SessionState}
+use Rattle.asp_response.specs.Fixed.{why}
+use Rattle.asp_response.specs.declared.fixed.Unavailable.{Unavailable}
+use Rattle.asp_response.specs.declared.fixed.Unavailable.TheVariants as cause
+use Rattle.vb_value.specs.declared.application.AppCall.{AppCall}
+use Rattle.asp_core.proofs.Admitting.{answers_few}
+use Rattle.asp_core.proofs.Answering.{page_answered}
+use Rattle.asp_core.proofs.Counts.{fewer_unfinished}
+use Rattle.asp_core.proofs.Kept.{may_follow}
+use Rattle.asp_core.proofs.Made.{keys_made}
+use Rattle.asp_core.proofs.Past.{past_push}
+
+-- ---- what the run leaves is what its meaning has
+
+-- an End of this kind may come, and what the run leaves is what its entry and its answer tell
+pub record IsEnding (m : Rules) (past : List Entry) (lane run : ℕ) (kind : EndKind) (left : Left) : Type 0 where
+  pub may : MayEnd m past lane run kind
+  pub session_is : kind ≡ how.Done → left.session ≡ session_left (m.meaning.does (told m past run))
+  pub answer_is : left.answer ≡ answer_by m past run kind
+  pub made_is : left.made ≡ counted kind (made_in (m.meaning.does (told m past run)))
+  pub finished_is : left.finished ≡ counted kind (finished_in (m.meaning.does (told m past run)))
+  pub answered : is_some (answer_by m past run kind) ≡ is_page (job_of past run).work
+  pub bounded : IfSome left.answer IsBounded
+  pub valid : IsSessionIn left.session
+
+short : (c : Unavailable) → length (encode_utf8_all (why c) ++ codes "\n") < 2 ^ 32
+unfolding encode
+short cause.TooManySessions = omega arith
+short cause.OutOfMemory = omega arith
+short cause.JournalFull = omega arith
+
+bounded_in : (c : Unavailable) (w : Work) → IfSome (stand_in c w) IsBounded
+bounded_in c (work.Page request) = short c
+bounded_in c work.Start = tt
+bounded_in c work.SessionEnd = tt
+bounded_in c work.Stop = tt
+
+memory_in : (m : Meaning) (seed : List ℕ) (w : Work) → stand_in cause.OutOfMemory w ≡ unavailable_in (rules_by m seed)
+    OutOfMemory w
+memory_in m seed (work.Page request) = refl
+memory_in m seed work.Start = refl
+memory_in m seed work.SessionEnd = refl
+memory_in m seed work.Stop = refl
+
+full_in : (m : Meaning) (seed : List ℕ) (w : Work) → stand_in cause.JournalFull w ≡ unavailable_in (rules_by m seed)
+    JournalFull w
+full_in m seed (work.Page request) = refl
+full_in m seed work.Start = refl
+full_in m seed work.SessionEnd = refl
+full_in m seed work.Stop = refl
+
+done_ending : (m : Rules) (past : List Entry) (lane run : ℕ) (finished : Option Finished) (ins : StandIns)
+    → IsFinish Over finished (told m past run) (m.meaning.does (told m past run)) → IsEnding m past lane run how.Done
+    (left_of how.Done finished ins)
+done_ending m past lane run None ins is = absurd is
+done_ending m past lane run (Some f) ins is =
+    let does : m.meaning.does (told m past run) ≡ Ends f = is.0 in
+    record {
+      may = (f, does);
+      session_is = λ done. ap session_left (sym does);
+      answer_is = ap answer_in (sym does);
+      made_is = ap made_in (sym does);
+      finished_is = ap finished_in (sym does);
+      answered = ap is_some (ap answer_in does) ∙ is.1.answered;
+      bounded = is.1.bounded;
+      valid = is.1.session_is;
+    }
+
+-- a run that stands and wants a call has a meaning that wants it
+pub stands_wants : (p : Progress) (Stands : ℕ → Type 0) (outcome : Outcome) (call : AppCall) → wanted_by p ≡ Some call
+    → StandsAt p Stands outcome → outcome ≡ Wants call
+stands_wants progress.Going Stands outcome call w s = absurd cc
+stands_wants (progress.Wants other) Stands outcome call w s = let same : other ≡ call = cc in s.1
+    ∙ ap (λ k. Wants k) same
+stands_wants progress.Ended Stands outcome call w s = absurd cc
+stands_wants progress.Dead Stands outcome call w s = absurd cc
+
+pub ending : {State : Type 0} → (m : Meaning) (seed : List ℕ) (past : List Entry) (lane : ℕ) (run : RunView State)
+    (Stands : ℕ → Type 0) (kind : EndKind) (finished : Option Finished) → let rules = rules_by m seed in
+    IsEndOf past lane run kind → StandsAt run.progress Stands (m.does (told rules past run.number))
+    → (run.progress ≡ progress.Ended → (spent : ℕ) → Stands spent → IsFinish Over finished (told rules past run.number)
+    (m.does (told rules past run.number))) → run.stand_ins ≡ stand_ins (job_of past run.number).work
+    → IsEnding rules past lane run.number kind (left_of kind finished run.stand_ins)
+ending m seed past lane run Stands how.Done finished of s told_at ins =
+    let rules = rules_by m seed in
+    let ended = subst (λ (p : Progress). StandsAt p Stands (m.does (told rules past run.number))) of s in
+    done_ending rules past lane run.number finished run.stand_ins (told_at of ended.0.0 ended.0.1)
+ending m seed past lane run Stands how.Memory finished of s told_at ins =
+    let w = (job_of past run.number).work in
+    let answer : run.stand_ins.memory ≡ stand_in cause.OutOfMemory w = ap (λ (i : StandIns). i.memory) ins in
+    record {
+      may = tt;
+      session_is = λ done. absurd cc;
+      answer_is = answer ∙ memory_in m seed w;
+      made_is = refl;
+      finished_is = refl;
+      answered = page_answered (rules_by m seed) OutOfMemory w;
+      bounded = subst (λ (a : Option Answer). IfSome a IsBounded) (sym answer) (bounded_in cause.OutOfMemory w);
+      valid = tt;
+    }
+ending m seed past lane run Stands how.JournalFull finished of s told_at ins =
+    let w = (job_of past run.number).work in
+    let rules = rules_by m seed in
+    let answer : run.stand_ins.full ≡ stand_in cause.JournalFull w = ap (λ (i : StandIns). i.full) ins in
+    record {
+      may = (of.0, stands_wants run.progress Stands (m.does (told rules past run.number)) of.0 of.1 s, of.2);
+      session_is = λ done. absurd cc;
+      answer_is = answer ∙ full_in m seed w;
+      made_is = refl;
+      finished_is = refl;
+      answered = page_answered rules JournalFull w;
+      bounded = subst (λ (a : Option Answer). IfSome a IsBounded) (sym answer) (bounded_in cause.JournalFull w);
+      valid = tt;
+    }
+
+-- the run of a core that ends so is unfinished, and leaves this where the runner told that
+pub ending_of : {R Site State : Type 0} → (meaning : R → Site → Meaning)
+    (stands : R → Site → State → Told → ℕ → Type 0) (core old : CoreView R Site) (lane : ℕ) (run : RunView State)
+    (kind : EndKind) (finished : Option Finished) (left : Left) → old ≡ core → IsRunOf meaning stands core lane run
+    → IsEndOf (past_of core) lane run kind
+    → (run.progress ≡ progress.Ended → (t : Told) (spent : ℕ) → stands core.runner core.site run.state t spent
+    → IsFinish Over finished t ((meaning core.runner core.site).does t)) → left ≡ left_of kind finished run.stand_ins
+    → IsRunning (past_of old) lane run.number
+    × IsEnding (rules_of meaning old) (past_of old) lane run.number kind left
+ending_of {R} {Site} meaning stands core old lane run kind finished left same is of finish leaves =
+    let t = told (rules_of meaning core) (past_of core) run.number in
+    let ends = ending (meaning core.runner core.site) core.seed (past_of core) lane run
+    (stands core.runner core.site run.state t) kind finished of is.stands_for (λ e spent. finish e t spent)
+    is.stand_ins_are in
+    let here = subst (IsEnding (rules_of meaning core) (past_of core) lane run.number kind) (sym leaves) ends in (
+      subst (λ (v : CoreView R Site). IsRunning (past_of v) lane run.number) (sym same) is.running,
+      subst (λ (v : CoreView R Site). IsEnding (rules_of meaning v) (past_of v) lane run.number kind left)
+          (sym same) here,
+    )
+
+-- the entry tells what the run leaves
+end_is : (m : Rules) (past : List Entry) (lane run : ℕ) (kind : EndKind) (left : Left)
+    → IsEnding m past lane run kind left → end_what run kind left ≡ end_of m past run kind
+end_is m past lane run kind left is =
+    ap (λ (a : Option Answer). End run kind (status_in a) (length_in a) left.made left.finished) is.answer_is
+    ∙ ap (λ n. End run kind (status_in (answer_by m past run kind)) (length_in (answer_by m past run kind)) n
+    left.finished) is.made_is
+    ∙ ap (End run kind (status_in (answer_by m past run kind)) (length_in (answer_by m past run kind))
+    (counted kind (made_in (m.meaning.does (told m past run))))) is.finished_is
+
+-- ---- the table of sessions
+
+and_false : (b : Bool) → (b && false) ≡ false
+and_false true = refl
+and_false false = refl
+
+eqb_of : (a b : ℕ) → a ≡ b → (a == b) ≡ true
+eqb_of a b e = grind arith
+
+positive : (k : ℕ) → (k == 0) ≡ false → 0 < k
+positive k e = grind arith
+
+apart : (a b : ℕ) → (a == b) ≡ false → 0 < a → 0 < b → a - 1 ≡ b - 1 → ⊥
+apart a b e l m f = let same : a ≡ b = omega arith in cc (eqb_of a b same)
+
+-- a session that is set is found under its key alone
+session_set : (table : List (Option SessionState)) (key : ℕ) (session : Option SessionState) (k : ℕ)
+    → key ≤ length table → session_at (table_after table how.Done key session) k
+    ≡ (if key == k && not (k == 0) then session else session_at table k)
+session_set table key session k small = elim (cases_Bool (k == 0)) [
+  | inl zero_k ↦ rw (zero_k, and_false (key == k)) refl
+  | inr some_k ↦ elim (cases_Bool (key == 0)) [
+    | inl zero_key ↦ (let key_is : key ≡ 0 = eqb-true key 0 zero_key in
+        let other : (key == k) ≡ false = grind arith in rw (zero_key, other) refl)
+    | inr some_key ↦ elim (cases_Bool (key == k)) [
+      | inl same ↦ (let is : key ≡ k = eqb-true key k same in
+          let low : 0 < key = positive key some_key in
+          let found : get_or (slice_set table (key - 1) session) (k - 1) None ≡ session = get_or-set_at table (key - 1)
+          (k - 1) session None (omega arith) (omega arith) in
+          rw (some_key, same, some_k) found)
+      | inr other ↦ (let low : 0 < key = positive key some_key in let low_k : 0 < k = positive k some_k in
+          let found : get_or (slice_set table (key - 1) session) (k - 1) None ≡ get_or table (k - 1) None =
+          get_or-set_other table (key - 1) (k - 1) session None (λ e. apart key k other low low_k (sym e)) in
+          rw (some_key, other, some_k) found)
+    ]
+  ]
+]
+
+table_sessions : (m : Rules) (past : List Entry) (table : List (Option SessionState)) (lane run status size n1 n2 : ℕ)
+    (kind : EndKind) (session : Option SessionState) → session_at table ≡ session_of m past
+    → key_of past run ≤ length table → (kind ≡ how.Done → session ≡ session_left (m.meaning.does (told m past run)))
+    → session_at (table_after table kind (key_of past run) session)
+    ≡ session_of m (with_lane lane (End run kind status size n1 n2) ∷ past)
+table_sessions m past table lane run status size n1 n2 how.Done session e small left = fun_ext (λ k.
+    session_set table (key_of past run) session k small
+    ∙ ap (λ s. if key_of past run == k && not (k == 0) then s else session_at table k) (left refl)
+    ∙ ap (λ f. if key_of past run == k && not (k == 0) then session_left (m.meaning.does (told m past run)) else f k) e)
+table_sessions m past table lane run status size n1 n2 how.Memory session e small left = e
+table_sessions m past table lane run status size n1 n2 how.JournalFull session e small left = e
+
+set_length : (b : Bool) (table : List (Option SessionState)) (at : ℕ) (session : Option SessionState)
+    → length (if b then table else slice_set table at session) ≡ length table
+set_length true table at session = refl
+set_length false table at session = length-set table at session
+
+table_length : (table : List (Option SessionState)) (kind : EndKind) (key : ℕ) (session : Option SessionState)
+    → length (table_after table kind key session) ≡ length table
+table_length table how.Done key session = set_length (key == 0) table (key - 1) session
+table_length table how.Memory key session = refl
+table_length table how.JournalFull key session = refl
+
+set_valid : (b : Bool) (table : List (Option SessionState)) (at : ℕ) (session : Option SessionState)
+    → All IsSessionIn table → IsSessionIn session → All IsSessionIn (if b then table else slice_set table at session)
+set_valid true table at session all v = all
+set_valid false table at session all v = All-set IsSessionIn table at session v all
+
+table_valid : (table : List (Option SessionState)) (kind : EndKind) (key : ℕ) (session : Option SessionState)
+    → All IsSessionIn table → IsSessionIn session → All IsSessionIn (table_after table kind key session)
+table_valid table how.Done key session all v = set_valid (key == 0) table (key - 1) session all v
+table_valid table how.Memory key session all v = all
+table_valid table how.JournalFull key session all v = all
+
+-- ---- the End
+
+kept_end : (m : Rules) (past : List Entry) (table : List (Option SessionState)) (count : ℕ) (held : AppState)
+    (answers : List (ℕ × Answer)) (lane run : ℕ) (kind : EndKind) (left : Left) → IsKept m past table count held answers
+    → IsRunning past lane run → IsEnding m past lane run kind left → IsKept m (end_entry m past lane run kind ∷ past)
+    (table_after table kind (key_of past run) left.session) count (freed run held) (with_answer answers run left.answer)
+kept_end m past table count held answers lane run kind left kept running is =
+    let entry = end_entry m past lane run kind in
+    let answer = answer_by m past run kind in
+    let outcome = m.meaning.does (told m past run) in
+    let turn = may_follow m past entry kept.account.settled running in
+    let made_key = keys_made m past kept.account.entries run in
+    let keys = kept.keys in
+    let small : key_of past run ≤ length table = omega arith in
+    record {
+      account = record {
+        entries = (record { turn = turn; legal = tt; follows = (is.may, refl) }, kept.account.entries);
+        settled = refl;
+      };
+      sessions = table_sessions m past table lane run (status_in answer) (length_in answer)
+          (counted kind (made_in outcome)) (counted kind (finished_in outcome)) kind left.session kept.sessions small
+          is.session_is;
+      keys = table_length table kind (key_of past run) left.session ∙ kept.keys;
+      opened_is = kept.opened_is;
+      held_is = ap (freed run) kept.held_is;
+      answers_are = ap (λ list. with_answer list run left.answer) kept.answers_are ∙ ap (with_answer (ready m past) run)
+          is.answer_is;
+      answered = (is.answered, kept.answered);
+      small = (tt, kept.small);
+      valid = table_valid table kind (key_of past run) left.session kept.valid is.valid;
+    }
+
+-- there is room for the End of an unfinished run and for its answer
+pub end_room : (m : Rules) (journal : List Entry) (run answers capacity capacity_of : ℕ)
+    (table : List (Option SessionState)) (count : ℕ) (held : AppState) (list : List (ℕ × Answer))
+    → IsKept m (reverse journal) table count held list → is_unfinished (reverse journal) run ≡ true
+    → HasRoom (reverse journal) answers capacity → HasAnswerRoom (reverse journal) answers capacity_of
+    → (length journal < capacity) × (answers < capacity_of) × (key_of (reverse journal) run ≤ length table)
+end_room m journal run answers capacity capacity_of table count held list kept open_ room room_of =
+    let past = reverse journal in
+    let fewer = fewer_unfinished m past 0 run how.Memory 0 0 0 0 kept.account.entries open_ in
+    let same : length past ≡ length journal = length-reverse journal in
+    let made_key = keys_made m past kept.account.entries run in
+    let keys = kept.keys in
+    (omega arith, omega arith, omega arith)
+
+-- the journal grows by the entry of the End
+pub end_grown : (m : Rules) (journal next : List Entry) (lane run : ℕ) (kind : EndKind) (left : Left)
+    → IsEnding m (reverse journal) lane run kind left → next ≡ journal ++ with_lane lane (end_what run kind left) ∷ []
+    → next ≡ journal ++ end_entry m (reverse journal) lane run kind ∷ []
+end_grown m journal next lane run kind left is e = e ∙ ap (λ what. journal ++ with_lane lane what ∷ [])
+    (end_is m (reverse journal) lane run kind left is)
+
+-- a journal with an End is kept
+pub kept_after_end : (m : Rules) (journal next : List Entry) (table : List (Option SessionState)) (count : ℕ)
+    (held : AppState) (answers : List (ℕ × Answer)) (lane run : ℕ) (kind : EndKind) (left : Left)
+    (capacity capacity_of : ℕ) → IsKept m (reverse journal) table count held answers → IsWithin (reverse journal)
+    → HasRoom (reverse journal) (length answers) capacity → HasAnswerRoom (reverse journal) (length answers) capacity_of
+    → IsRunning (reverse journal) lane run → IsEnding m (reverse journal) lane run kind left
+    → next ≡ journal ++ with_lane lane (end_what run kind left) ∷ []
+    → IsKept m (reverse next) (table_after table kind (key_of (reverse journal) run) left.session) count
+    (freed run held) (with_answer answers run left.answer) × IsWithin (reverse next) × HasRoom (reverse next)
+    (length (with_answer answers run left.answer)) capacity × HasAnswerRoom (reverse next)
+    (length (with_answer answers run left.answer)) capacity_of
+kept_after_end m journal next table count held answers lane run kind left capacity capacity_of kept within room room_of
+    running is e =
+    let past = reverse journal in
+    let entry = end_entry m past lane run kind in
+    let of : reverse next ≡ entry ∷ past = ap reverse (end_grown m journal next lane run kind left is e)
+    ∙ past_push journal entry in
+    let answer = answer_by m past run kind in
+    let outcome = m.meaning.does (told m past run) in
+    let fewer : length (unfinished (entry ∷ past)) + 1 ≡ length (unfinished past) = fewer_unfinished m past lane run
+    kind (status_in answer) (length_in answer) (counted kind (made_in outcome)) (counted kind (finished_in outcome))
+    kept.account.entries running.unfinished in
+    let more = answers_few answers run left.answer in
+    let few = within.few in
+    let light = within.light in
+    let then_within : IsWithin (entry ∷ past) = record { few = omega arith; light = omega arith } in
+    let has : HasRoom (entry ∷ past) (length (with_answer answers run left.answer)) capacity = omega arith in
+    let has_of : HasAnswerRoom (entry ∷ past) (length (with_answer answers run left.answer)) capacity_of =
+    omega arith in
+    rw of (kept_end m past table count held answers lane run kind left kept running is, then_within, has, has_of)

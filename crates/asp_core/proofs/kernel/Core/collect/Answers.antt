@@ -1,0 +1,51 @@
+use Rattle.std.proofs.Common.{◌≡◌, reverse, length, nat_eq, None, Some, IsSome, ap, sym}
+use Rattle.std.proofs.Common.{subst, ◌∙◌, arith, vec_capacity, vec_len}
+use Rattle.std.specs.Map.{lookup}
+use Rattle.std.proofs.lemmas.Grind.{common_steps}
+use Rattle.asp_core.specs.Kernel.{CoreView, past_of, rules_by, rules_of}
+use Rattle.asp_core.specs.Ready.{collect_stop}
+use Rattle.asp_job.specs.Output.{answer_of_run}
+use Rattle.asp_core.proofs.Handing.{can_take, kept_after_take, take_room}
+use Rattle.asp_core.proofs.kernel.Core.collect.Goals as goal
+
+pub take_run-requires : goal.take_run-requires
+take_run-requires g c =
+    let core = c.self.inside in
+    let past = reverse core.journal.items in
+    let rules = rules_by (g.R.Runner.meaning core.runner.value core.site.value) core.seed in
+    let none : collect_stop past c.args.lane c.args.run ≡ None = grind (arith, common_steps) in
+    let can = can_take rules past c.args.lane c.args.run c.self.invariant.0.account.entries c.self.invariant.0.answered
+    none in
+    let some : IsSome (lookup (nat_eq c.args.run) core.answers.items) =
+    subst (λ list. IsSome (lookup (nat_eq c.args.run) list)) (sym c.self.invariant.0.answers_are) can.some in
+    let room = take_room core.journal.items core.answers.items c.args.run (vec_capacity core.journal) c.self.invariant.2
+    some in
+    let len : length core.journal.items ≡ vec_len core.journal = grind (arith, common_steps) in
+    record { waits = some; room = omega arith }
+
+pub invariant_of-self : goal.invariant_of-self
+invariant_of-self g c =
+    let core = c.self.inside in
+    let past = reverse core.journal.items in
+    let rules = rules_by (g.R.Runner.meaning core.runner.value core.site.value) core.seed in
+    let none : collect_stop past c.args.lane c.args.run ≡ None = grind (arith, common_steps) in
+    let can = can_take rules past c.args.lane c.args.run c.self.invariant.0.account.entries c.self.invariant.0.answered
+    none in
+    let all = kept_after_take rules core.journal.items c.take_run.new.journal.items core.table.items core.opened
+    core.application core.answers.items c.args.lane c.args.run (vec_capacity core.journal)
+    (vec_capacity core.answers)
+    c.self.invariant.0 c.self.invariant.1 c.self.invariant.2 c.self.invariant.3 can c.take_run.ensures.journal in
+    rw (c.take_run.ensures.answers, c.take_run.ensures.capacity, c.take_run.ensures.capacity_of_answers) all
+
+pub returns-clause-answer : goal.returns-clause-answer
+returns-clause-answer g c =
+    let core = c.self.inside in
+    let past = reverse core.journal.items in
+    let rules = rules_by (g.R.Runner.meaning core.runner.value core.site.value) core.seed in
+    let none : collect_stop past c.args.lane c.args.run ≡ None = grind (arith, common_steps) in
+    let can = can_take rules past c.args.lane c.args.run c.self.invariant.0.account.entries c.self.invariant.0.answered
+    none in
+    let given = sym can.found ∙ ap (lookup (nat_eq c.args.run)) (sym c.self.invariant.0.answers_are)
+    ∙ c.take_run.ensures.answer in
+    subst (λ (v : CoreView g.row.R.Denot g.row.R-Site.Denot). answer_of_run (rules_of g.R.Runner.meaning v) (past_of v)
+    c.args.run ≡ Some c.take_run.result) c.self.view_is given

@@ -1,0 +1,69 @@
+use Rattle.std.proofs.Common.{◌≡◌, reverse, length, nat_eq, Some, IsSome, ap, sym}
+use Rattle.std.proofs.Common.{subst, ◌∙◌, arith, vec_capacity, vec_len}
+use Rattle.std.specs.Map.{lookup}
+use Rattle.std.proofs.lemmas.Grind.{common_steps}
+use Rattle.asp_job.specs.Output.{answer_of_run}
+use Rattle.asp_core.specs.Kernel.{CoreView, past_of, rules_by, rules_of}
+use Rattle.asp_core.specs.Ready.{first_for, ready}
+use Rattle.asp_core.proofs.Handing.{IsFirst, can_take_run, first_is, kept_after_take, take_room}
+use Rattle.asp_core.proofs.kernel.Core.collect_first.Goals as goal
+
+pub take_run-answer-requires : goal.take_run-answer-requires
+take_run-answer-requires g c =
+    let core = c.self.inside in
+    let past = reverse core.journal.items in
+    let rules = rules_by (g.R.Runner.meaning core.runner.value core.site.value) core.seed in
+    let run = c.in-Some.run' in
+    let kept = c.self.invariant.0 in
+    let first : IsFirst past c.args.lane core.answers.items run = grind (arith, common_steps) in
+    let can = can_take_run rules past c.args.lane run core.answers.items kept.account.entries kept.answered
+    kept.answers_are first in
+    let some : IsSome (lookup (nat_eq run) core.answers.items) =
+    subst (λ list. IsSome (lookup (nat_eq run) list)) (sym kept.answers_are) can.some in
+    let room = take_room core.journal.items core.answers.items run (vec_capacity core.journal) c.self.invariant.2
+    some in
+    let len : length core.journal.items ≡ vec_len core.journal = grind (arith, common_steps) in
+    record { waits = some; room = omega arith }
+
+pub invariant_of-self : goal.invariant_of-self
+invariant_of-self g c =
+    let core = c.self.inside in
+    let past = reverse core.journal.items in
+    let rules = rules_by (g.R.Runner.meaning core.runner.value core.site.value) core.seed in
+    let run = c.in-Some.run' in
+    let kept = c.self.invariant.0 in
+    let first : IsFirst past c.args.lane core.answers.items run = grind (arith, common_steps) in
+    let can = can_take_run rules past c.args.lane run core.answers.items kept.account.entries kept.answered
+    kept.answers_are first in
+    let taken = c.take_run-answer in
+    let all = kept_after_take rules core.journal.items taken.new.journal.items core.table.items core.opened
+    core.application core.answers.items c.args.lane run (vec_capacity core.journal) (vec_capacity core.answers)
+    kept c.self.invariant.1 c.self.invariant.2 c.self.invariant.3 can taken.ensures.journal in
+    rw (taken.ensures.answers, taken.ensures.capacity, taken.ensures.capacity_of_answers) all
+
+pub returns-clause-first : goal.returns-clause-first
+returns-clause-first g c =
+    let core = c.self.inside in
+    let past = reverse core.journal.items in
+    let rules = rules_by (g.R.Runner.meaning core.runner.value core.site.value) core.seed in
+    let run = c.in-Some.run' in
+    let kept = c.self.invariant.0 in
+    let first : IsFirst past c.args.lane core.answers.items run = grind (arith, common_steps) in
+    let is = first_is rules past c.args.lane run c.take_run-answer.result core.answers.items kept.account.entries
+    kept.answered kept.answers_are first c.take_run-answer.ensures.answer in
+    subst (λ (v : CoreView g.row.R.Denot g.row.R-Site.Denot). Some (run, c.take_run-answer.result)
+    ≡ first_for (past_of v) c.args.lane (ready (rules_of g.R.Runner.meaning v) (past_of v))) c.self.view_is is
+
+pub returns-clause-answer : goal.returns-clause-answer
+returns-clause-answer g c =
+    let core = c.self.inside in
+    let past = reverse core.journal.items in
+    let rules = rules_by (g.R.Runner.meaning core.runner.value core.site.value) core.seed in
+    let run = c.in-Some.run' in
+    let kept = c.self.invariant.0 in
+    let first : IsFirst past c.args.lane core.answers.items run = grind (arith, common_steps) in
+    let can = can_take_run rules past c.args.lane run core.answers.items kept.account.entries kept.answered
+    kept.answers_are first in
+    let given = sym can.found ∙ ap (lookup (nat_eq run)) (sym kept.answers_are) ∙ c.take_run-answer.ensures.answer in
+    subst (λ (v : CoreView g.row.R.Denot g.row.R-Site.Denot). answer_of_run (rules_of g.R.Runner.meaning v) (past_of v)
+    run ≡ Some c.take_run-answer.result) c.self.view_is given

@@ -1,0 +1,105 @@
+-- How a run begins that was drawn so, where its key has that session and so many were opened.
+use Rattle.std.specs.Prelude.{◌≡◌, ℕ, ◌+◌, ◌≤◌, ◌<◌, ◌⊎◌, ◌++◌, ◌∷◌, Bool, true, false, if◌then◌else◌}
+use Rattle.std.specs.Prelude.{List, [], length, reverse, Option, Some, None, IfSome}
+use Rattle.asp_job.specs.declared.answer.Answer.{Answer}
+use Rattle.asp_job.specs.declared.entry.Entry.{Entry}
+use Rattle.asp_job.specs.declared.entry.TheConstants.{MOST_UNFINISHED}
+use Rattle.asp_job.specs.declared.session.SessionState.{SessionState}
+use Rattle.asp_job.specs.Application.{AppState}
+use Rattle.asp_job.specs.Journal.{begin_entry}
+use Rattle.asp_job.specs.Keys as keys
+use Rattle.asp_job.specs.Rules.{Rules}
+use Rattle.asp_job.specs.Runs.{Draw, draw_of, key_of, job_of, unfinished, is_halted}
+use Rattle.asp_job.specs.Session.{IsSession}
+use Rattle.asp_job.specs.Size.{IsSmall}
+use Rattle.asp_job.specs.Told.{Told, begun}
+use Rattle.asp_job.specs.Turns.{IsNextRun}
+use Rattle.asp_session.specs.Letters.{letters_of}
+use Rattle.asp_core.specs.declared.opening.Opening.{Opening}
+use Rattle.asp_core.specs.declared.opening.SessionNumber.{SessionNumber}
+use Rattle.asp_core.specs.declared.ready.TheConstants.{MOST_BODIES}
+use Rattle.asp_core.specs.declared.run.Progress.TheVariants as progress
+use Rattle.asp_core.specs.Kernel.{RunView, IsKept, IsWithin, HasRoom, HasAnswerRoom, NoneIsNext}
+use Rattle.asp_core.specs.Ready.{bodies_with_one}
+use Rattle.asp_core.specs.Standing.{stand_ins}
+
+-- ---- what it begins with
+
+-- the number of its session, where it opens one or has that one, and the session
+abbrev pub serial_if : ℕ → Bool → Option SessionState → ℕ
+serial_if opened opens None = if opens then opened + 1 else 0
+serial_if opened opens (Some session) = session.serial
+
+abbrev pub session_if : Bool → Option SessionState → ℕ → Option SessionState
+session_if opens session serial = if opens then Some (keys.new_session serial) else session
+
+-- the letters of its key, where its job made the key
+abbrev pub cookie_if : List ℕ → Bool → ℕ → Option (List ℕ)
+cookie_if seed fresh key = if fresh then Some (letters_of seed key) else None
+
+-- the number of its session, and whether it opens that
+pub record IsNumberOf (draw : Draw) (session : Option SessionState) (count : ℕ) (number : SessionNumber) : Type 0 where
+  pub serial_is : number.serial ≡ keys.serial_by count draw session
+  pub new_is : number.is_new ≡ keys.opens draw session
+
+-- what a run begins with that has this number of its session
+pub record IsOpening (seed : List ℕ) (draw : Draw) (session : Option SessionState) (number : SessionNumber)
+    (opening : Opening) : Type 0 where
+  pub job_is : opening.job ≡ draw.job
+  pub session_is : opening.session ≡ session_if number.is_new session number.serial
+  pub cookie_is : opening.cookie ≡ cookie_if seed draw.fresh draw.key
+  pub stand_ins_are : opening.stand_ins ≡ stand_ins draw.job.work
+
+-- what a runner needs to begin it
+pub record CanOpen (draw : Draw) (session : Option SessionState) (number : SessionNumber) : Type 0 where
+  pub fresh : draw.fresh ≡ true → 0 < draw.key
+  pub small : IsSmall draw.job
+  pub valid : IfSome (session_if number.is_new session number.serial) IsSession
+
+-- the run with this number has just begun, and was told what it begins with
+pub record HasOpened {State : Type 0} (stands : State → Told → ℕ → Type 0) (seed : List ℕ) (draw : Draw)
+    (session : Option SessionState) (number : SessionNumber) (run : ℕ) (opened : RunView State) : Type 0 where
+  pub number_is : opened.number ≡ run
+  pub progress_is : opened.progress ≡ progress.Going
+  pub told_is : stands opened.state (begun draw.job (session_if number.is_new session number.serial) number.is_new
+      (cookie_if seed draw.fresh draw.key)) 0
+  pub stand_ins_are : opened.stand_ins ≡ stand_ins draw.job.work
+  pub turns_is : opened.turns ≡ 0
+
+-- ---- what its Begin leaves
+
+-- none is next, or there is no room for the body of one more where these answers wait
+abbrev pub IsIdleWith : List (ℕ × Answer) → List Entry → Type 0
+IsIdleWith answers past = NoneIsNext past ⊎ (MOST_BODIES < bodies_with_one answers past)
+
+-- what a run needs to begin: the parts of a core are those of its journal
+pub record CanBegin (rules : Rules) (past : List Entry) (table : List (Option SessionState)) (count : ℕ)
+    (answers : List (ℕ × Answer)) (capacity : ℕ) : Type 0 where
+  pub held : AppState
+  pub kept : IsKept rules past table count held answers
+  pub within : IsWithin past
+  pub room : HasRoom past (length answers) capacity
+
+-- how many sessions were opened after the Begin of a run
+abbrev pub count_after : Rules → List Entry → ℕ → ℕ → ℕ
+count_after rules past run count =
+    if keys.opens (draw_of past run) (keys.session_of rules past (key_of past run)) then count + 1 else count
+
+-- what the Begin of a run leaves of a journal and of the count of sessions, and the run
+pub record HasBegun {State : Type 0} (rules : Rules) (stands : State → Told → ℕ → Type 0) (lane : ℕ)
+    (journal : List Entry) (count : ℕ) (answers : List (ℕ × Answer)) (next : List Entry) (then_count : ℕ)
+    (capacity capacity_of : ℕ) (run : RunView State) : Type 0 where
+  pub is_next : IsNextRun (reverse journal) run.number
+  pub few : length (unfinished (reverse journal)) < MOST_UNFINISHED
+  pub going : is_halted (reverse journal) ≡ false
+  pub light : bodies_with_one answers (reverse journal) ≤ MOST_BODIES
+  pub journal_is : next ≡ journal ++ begin_entry rules (reverse journal) lane run.number ∷ []
+  pub count_is : then_count ≡ count_after rules (reverse journal) run.number count
+  pub within : IsWithin (reverse next)
+  pub room : HasRoom (reverse next) (length answers) capacity
+  pub answer_room : HasAnswerRoom (reverse next) (length answers) capacity_of
+  pub progress_is : run.progress ≡ progress.Going
+  pub told_is : stands run.state
+      (keys.told rules (begin_entry rules (reverse journal) lane run.number ∷ reverse journal) run.number) 0
+  pub stand_ins_are : run.stand_ins ≡ stand_ins (job_of (reverse journal) run.number).work
+  pub turns_is : run.turns ≡ 0

@@ -1,0 +1,226 @@
+//! The call of the core that begins a run.
+#![tactic(auto)]
+
+ghost use Rattle.std.specs.Prelude.{◌≡◌, ◌≤◌, ◌<◌, ◌+◌, ◌++◌, ◌∷◌, ◌↔◌, [], ℕ, reverse, length, true, false};
+ghost use Rattle.std.specs.Prelude.{OnOk, OnErr, IfOk, IfErr, IfNone, IfSome, OnSome, Err, vec_capacity, vec_len};
+ghost use Rattle.asp_job.specs.History as history;
+ghost use Rattle.asp_job.specs.Journal as journals;
+ghost use Rattle.asp_job.specs.Runs as runs;
+ghost use Rattle.asp_job.specs.Turns as turns;
+ghost use Rattle.asp_job.specs.declared.entry.TheConstants.{MOST_UNFINISHED};
+ghost use Rattle.asp_core.specs.Kernel as kernel;
+ghost use Rattle.asp_core.specs.Opening as spec;
+ghost use Rattle.asp_core.specs.Ready as waits;
+ghost use Rattle.asp_core.specs.Stops as stops;
+ghost use Rattle.asp_core.specs.declared.ready.TheConstants.{MOST_BODIES};
+
+use crate::kernel::Core;
+use crate::keys::least_run;
+use crate::opening::{Opening, SessionNumber, open_run, session_number};
+use crate::ready::has_body_room;
+use crate::room::fit;
+use crate::run::{Progress, Run};
+use crate::stop::{BeginStop, EventStop, begin_stop};
+use asp_job::{Answer, Entry, Runner, SessionState, What};
+use std::alloc::Global;
+
+/// The run that is next, where there is room for the body of one more.
+#[tactic(auto, using(crate::proofs::Beginning::not_idle))]
+fn next_to_begin(journal: &[Entry], answers: &[(u32, Answer)]) -> Option<u64>
+    requires { (run : ℕ) → turns.may_begin (reverse journal.now) run ≡ true →
+        (0 < run) × (run ≤ runs.drawn (reverse journal.now)) }
+    ensures none { IfNone result (spec.IsIdleWith answers.now (reverse journal.now)) }
+    ensures next { IfSome result (λ run. turns.IsNextRun (reverse journal.now) run) }
+    ensures within { IfSome result (λ run. run ≤ runs.drawn (reverse journal.now)) }
+    ensures few { OnSome result (length (runs.unfinished (reverse journal.now)) < MOST_UNFINISHED) }
+    ensures going { OnSome result (runs.is_halted (reverse journal.now) ≡ false) }
+    ensures light { OnSome result (waits.bodies_with_one answers.now (reverse journal.now) ≤ MOST_BODIES) }
+{
+    if has_body_room(journal, answers) {
+        least_run(journal)
+    } else {
+        None
+    }
+}
+
+/// The journal after the Begin of a run. A refusal leaves it.
+#[tactic(auto, using(crate::proofs::Past::take_first, crate::proofs::Past::past_push))]
+fn with_begin(
+    journal: &mut Vec<Entry>,
+    answers: &mut Vec<(u32, Answer)>,
+    lane: u32,
+    run: u32,
+    serial: u32,
+) -> Result<(), EventStop>
+    requires { length journal.old.items < vec_capacity journal.old }
+    ensures entries { OnOk result (journal.new.items ≡ journal.old.items
+        ++ history.with_lane lane (What.Begin run serial) ∷ []) }
+    ensures err { OnErr result (journal.new.items ≡ journal.old.items) }
+    ensures answers { answers.new.items ≡ answers.old.items }
+    ensures capacity { vec_capacity journal.old ≤ vec_capacity journal.new }
+    ensures capacity_of_answers { vec_capacity answers.old ≤ vec_capacity answers.new }
+    ensures within { OnOk result (kernel.IsWithin (reverse journal.new.items)) }
+    ensures room { OnOk result (kernel.HasRoom (reverse journal.new.items)
+        (length answers.old.items + 1) (vec_capacity journal.new)) }
+    ensures answer_room { OnOk result (kernel.HasAnswerRoom (reverse journal.new.items)
+        (length answers.old.items + 1) (vec_capacity answers.new)) }
+    ensures full { (entries weight : ℕ) → result ≡ Err (EventStop.JournalFull entries weight) →
+        kernel.IsTooMuch (history.with_lane lane (What.Begin run serial) ∷ reverse journal.old.items) entries weight }
+    ensures fits { result ≡ Err EventStop.Memory →
+        kernel.IsWithin (history.with_lane lane (What.Begin run serial) ∷ reverse journal.old.items) }
+{
+    let first = journal.len();
+    journal.push_reserved(Entry {
+        lane,
+        what: What::Begin { run, serial },
+    });
+    fit(journal, answers, first)
+}
+
+/// The run, with the runner's state of it. Without memory the store comes back.
+fn start_run<R: Runner>(
+    runner: &R,
+    site: &R::Site,
+    alloc: Global,
+    seed: &[u8; 32],
+    journal: &[Entry],
+    table: &[Option<SessionState>],
+    number: SessionNumber,
+    run: u32,
+    store: R::Store,
+) -> Result<Run<R>, R::Store>
+    requires { spec.CanOpen (runs.draw_of (reverse journal.now) run)
+        (kernel.session_at table.now (runs.key_of (reverse journal.now) run)) number }
+    ensures { IfOk result (spec.HasOpened (R.stands runner.now site.now) seed.now
+        (runs.draw_of (reverse journal.now) run)
+        (kernel.session_at table.now (runs.key_of (reverse journal.now) run)) number run) }
+{
+    let Ok(opening) = open_run(alloc, seed, journal, table, number, run as u64) else {
+        return Err(store);
+    };
+    let Opening {
+        job,
+        session,
+        cookie,
+        stand_ins,
+    } = opening;
+    match runner.start(site, &job, session, number.is_new, cookie, store) {
+        Ok(state) => Ok(Run {
+            number: run,
+            progress: Progress::Going,
+            state,
+            stand_ins,
+            turns: 0,
+        }),
+        Err((store, _)) => Err(store),
+    }
+}
+
+/// A run that is next, the journal with its Begin and the count of sessions. A refusal leaves both.
+fn begin_run<R: Runner>(
+    runner: &R,
+    site: &R::Site,
+    seed: &[u8; 32],
+    journal: &mut Vec<Entry>,
+    answers: &mut Vec<(u32, Answer)>,
+    table: &[Option<SessionState>],
+    opened: &mut u32,
+    lane: u32,
+    store: R::Store,
+) -> Result<Run<R>, (R::Store, BeginStop)>
+    requires { spec.CanBegin (kernel.rules_by (R.meaning runner.now site.now) seed.now)
+        (reverse journal.old.items) table.now opened.old answers.old.items (vec_capacity journal.old) }
+    ensures ok { IfOk result (spec.HasBegun (kernel.rules_by (R.meaning runner.now site.now) seed.now)
+        (R.stands runner.now site.now) lane journal.old.items opened.old answers.old.items
+        journal.new.items opened.new (vec_capacity journal.new) (vec_capacity answers.new)) }
+    ensures err { OnErr result ((journal.new.items ≡ journal.old.items) × (opened.new ≡ opened.old)) }
+    ensures answers { answers.new.items ≡ answers.old.items }
+    ensures capacity { vec_capacity journal.old ≤ vec_capacity journal.new }
+    ensures capacity_of_answers { vec_capacity answers.old ≤ vec_capacity answers.new }
+    ensures idle { IfErr result (λ stop. stop.1 ≡ BeginStop.Idle ↔
+        spec.IsIdleWith answers.old.items (reverse journal.old.items)) }
+    ensures full { (entries weight : ℕ) → IfErr result (λ stop. stop.1 ≡ BeginStop.JournalFull entries weight →
+        kernel.IsBeginTooMuch (kernel.rules_by (R.meaning runner.now site.now) seed.now)
+        (reverse journal.old.items) lane entries weight) }
+    ensures fits { IfErr result (λ stop. stop.1 ≡ BeginStop.Memory →
+        kernel.NextFits (kernel.rules_by (R.meaning runner.now site.now) seed.now)
+        (reverse journal.old.items) lane) }
+{
+    let Some(next) = next_to_begin(journal.as_slice(), answers.as_slice()) else {
+        return Err((store, BeginStop::Idle));
+    };
+    let first = journal.len();
+    let alloc = *journal.allocator();
+    let run = next as u32;
+    let number = session_number(journal.as_slice(), table, *opened, next);
+    if let Err(stop) = with_begin(journal, answers, lane, run, number.serial) {
+        return Err((store, begin_stop(stop)));
+    }
+    match start_run(
+        runner,
+        site,
+        alloc,
+        seed,
+        journal.as_slice(),
+        table,
+        number,
+        run,
+        store,
+    ) {
+        Ok(begun) => {
+            if number.is_new {
+                *opened += 1;
+            }
+            Ok(begun)
+        }
+        Err(store) => {
+            journal.truncate(first);
+            Err((store, BeginStop::Memory))
+        }
+    }
+}
+
+impl<R: Runner> Core<R> {
+    /// Begins the run of the least number that may begin, and moves it out. It looks for room in the journal before
+    /// memory. Any refusal changes nothing and gives the store back.
+    pub fn begin(
+        &mut self,
+        lane: u32,
+        runner: &R,
+        site: &R::Site,
+        store: R::Store,
+    ) -> Result<Run<R>, (R::Store, BeginStop)>
+        requires host { kernel.IsHostOf self.old runner.now site.now }
+        ensures next { IfOk result (λ run. turns.IsBegin (kernel.rules_of R.meaning self.old) (kernel.past_of self.old)
+            run.number (turns.serial_of (kernel.rules_of R.meaning self.old) (kernel.past_of self.old) run.number)) }
+        ensures light { OnOk result (waits.HasBodyRoom (kernel.rules_of R.meaning self.old) (kernel.past_of self.old)) }
+        ensures begun { IfOk result (λ run. self.new ≡ kernel.grown self.old (journals.begin_entry
+            (kernel.rules_of R.meaning self.old) (kernel.past_of self.old) lane run.number ∷ [])) }
+        ensures run { IfOk result (λ run. kernel.IsRunOf R.meaning R.stands self.new lane run) }
+        ensures going { IfOk result (λ run. run.progress ≡ Progress.Going) }
+        ensures turns { IfOk result (λ run. run.turns ≡ 0) }
+
+        // Idle exactly where none is next or there is no room for one more body.
+        ensures idle { IfErr result (λ stop. stop.1 ≡ BeginStop.Idle ↔
+            kernel.IsIdle (kernel.rules_of R.meaning self.old) (kernel.past_of self.old)) }
+
+        // JournalFull where the Begin of the next run does not fit, and Memory only where it does.
+        ensures full { (entries weight : ℕ) → IfErr result (λ stop. stop.1 ≡ BeginStop.JournalFull entries weight →
+            kernel.IsBeginTooMuch (kernel.rules_of R.meaning self.old) (kernel.past_of self.old) lane entries weight) }
+        ensures fits { IfErr result (λ stop. stop.1 ≡ BeginStop.Memory →
+            kernel.NextFits (kernel.rules_of R.meaning self.old) (kernel.past_of self.old) lane) }
+        ensures err { OnErr result (self.new ≡ self.old) }
+    {
+        begin_run(
+            runner,
+            site,
+            &self.seed,
+            &mut self.journal,
+            &mut self.answers,
+            self.table.as_slice(),
+            &mut self.opened,
+            lane,
+            store,
+        )
+    }
+}

@@ -1,0 +1,163 @@
+//! The call of the core that ends a run.
+#![tactic(auto)]
+
+ghost use Rattle.std.specs.Prelude.{◌≡◌, ◌≤◌, ◌<◌, ◌++◌, ◌∷◌, [], reverse, length, IfSome, vec_capacity, vec_len};
+ghost use Rattle.std.specs.Option.{option_copied};
+ghost use Rattle.asp_job.specs.History as history;
+ghost use Rattle.asp_job.specs.Journal as journals;
+ghost use Rattle.asp_job.specs.Output as output;
+ghost use Rattle.asp_job.specs.Runs as runs;
+ghost use Rattle.asp_job.specs.Running.{IsBounded};
+ghost use Rattle.asp_core.specs.Ends as spec;
+ghost use Rattle.asp_core.specs.Kernel as kernel;
+ghost use Rattle.asp_core.specs.Ready as waits;
+
+use crate::kernel::Core;
+use crate::places::add_answer;
+use crate::run::{Run, StandIns};
+use crate::scan::key_of;
+use asp_job::{Answer, EndKind, Entry, Finished, Runner, SessionState, What};
+
+/// What a run leaves: its answer, its session, and how many objects it made and ended.
+#[derive(Debug, Drop)]
+pub struct Left {
+    pub answer: Option<Answer>,
+    pub session: Option<SessionState>,
+    pub made: u32,
+    pub finished: u32,
+}
+
+/// What a run leaves where it ends so.
+fn left_of(kind: EndKind, told: Option<Finished>, stand_ins: StandIns) -> Left
+    ensures { result ≡ spec.left_of kind told stand_ins }
+{
+    let answer = match kind {
+        EndKind::Done => match told {
+            Some(told) => return Left {
+                answer: told.answer,
+                session: told.session,
+                made: told.made,
+                finished: told.finished,
+            },
+            None => None,
+        },
+        EndKind::Memory => stand_ins.memory,
+        EndKind::JournalFull => stand_ins.full,
+    };
+    Left {
+        answer,
+        session: None,
+        made: 0,
+        finished: 0,
+    }
+}
+
+fn status_of(answer: Option<&Answer>) -> u16
+    ensures { result ≡ output.status_in (option_copied answer.entry) }
+{
+    match answer {
+        Some(answer) => answer.status,
+        None => 0,
+    }
+}
+
+fn length_of(answer: Option<&Answer>) -> u32
+    requires { IfSome (option_copied answer) IsBounded }
+    ensures { result ≡ output.length_in (option_copied answer.entry) }
+{
+    match answer {
+        Some(answer) => answer.body.len() as u32,
+        None => 0,
+    }
+}
+
+/// The entry of a run's end.
+fn end_what(run: u32, kind: EndKind, left: &Left) -> What
+    requires { IfSome left.now.answer IsBounded }
+    ensures { result ≡ spec.end_what run kind left.now }
+{
+    What::End {
+        run,
+        kind,
+        status: status_of(left.answer.as_ref()),
+        length: length_of(left.answer.as_ref()),
+        made: left.made,
+        finished: left.finished,
+    }
+}
+
+/// Keeps the session that a run leaves, if it ended by itself.
+fn keep_session(
+    table: &mut [Option<SessionState>],
+    kind: EndKind,
+    key: u32,
+    session: Option<SessionState>,
+)
+    requires { key ≤ length table.old }
+    ensures { table.new ≡ kernel.table_after table.old kind key session }
+{
+    if matches!(kind, EndKind::Done) && key != 0 {
+        table[(key - 1) as usize] = session;
+    }
+}
+
+/// The parts of a core after the End of a run.
+fn end_run(
+    journal: &mut Vec<Entry>,
+    answers: &mut Vec<(u32, Answer)>,
+    table: &mut Vec<Option<SessionState>>,
+    lane: u32,
+    run: u32,
+    kind: EndKind,
+    left: Left,
+)
+    requires bounded { IfSome left.answer IsBounded }
+    requires key { runs.key_of (reverse journal.old.items) run ≤ length table.old.items }
+    requires room { vec_len journal.old < vec_capacity journal.old }
+    requires answer_room { vec_len answers.old < vec_capacity answers.old }
+    ensures journal { journal.new.items
+        ≡ journal.old.items ++ history.with_lane lane (spec.end_what run kind left) ∷ [] }
+    ensures capacity { vec_capacity journal.new ≡ vec_capacity journal.old }
+    ensures answers { answers.new.items ≡ waits.with_answer answers.old.items run left.answer }
+    ensures capacity_of_answers { vec_capacity answers.new ≡ vec_capacity answers.old }
+    ensures table { table.new.items ≡ kernel.table_after table.old.items kind
+        (runs.key_of (reverse journal.old.items) run) left.session }
+{
+    let key = key_of(journal.as_slice(), run as u64);
+    let what = end_what(run, kind, &left);
+    let Left {
+        answer,
+        session,
+        made: _,
+        finished: _,
+    } = left;
+    keep_session(table.as_mut_slice(), kind, key, session);
+    add_answer(answers, run, answer);
+    journal.push_reserved(Entry { lane, what });
+}
+
+impl<R: Runner> Core<R> {
+    /// Ends an unfinished run, and gives its store back. It takes no memory.
+    pub fn end(&mut self, lane: u32, runner: &R, run: Run<R>, kind: EndKind) -> R::Store
+        requires host { runner.now ≡ self.old.runner }
+        requires run { kernel.IsRunOf R.meaning R.stands self.old lane run }
+        requires kind { kernel.IsEndOf (kernel.past_of self.old) lane run kind }
+        ensures { self.new ≡ kernel.grown self.old (journals.end_entry
+            (kernel.rules_of R.meaning self.old) (kernel.past_of self.old) lane run.number kind ∷ []) }
+    {
+        let number = run.number();
+        let (told, store, stand_ins) = run.finish(runner);
+        let left = left_of(kind, told, stand_ins);
+        self.application.free(number);
+        end_run(
+            &mut self.journal,
+            &mut self.answers,
+            &mut self.table,
+            lane,
+            number,
+            kind,
+            left,
+        );
+        store
+    }
+}

@@ -1,0 +1,71 @@
+//! What the calls of a core tell, as cases write it.
+
+use asp_core::{AdmitStop, Admitted, AppStepStop, BeginStop, CollectStop, EventStop};
+use asp_job::Answer;
+use case_files::CaseStop;
+use std::alloc::Global;
+
+/// Too many or too heavy entries.
+fn full(alloc: Global, entries: u64, weight: u64) -> Result<String, CaseStop> {
+    Ok(format!(in alloc; "full {entries} {weight}")?)
+}
+
+fn word(alloc: Global, word: &str) -> Result<String, CaseStop> {
+    Ok(format!(in alloc; "{word}")?)
+}
+
+/// A job came, or did not.
+pub fn admitted(alloc: Global, told: Result<Admitted, AdmitStop>) -> Result<String, CaseStop> {
+    match told {
+        Ok(told) if told.refused => Ok(format!(in alloc; "{} refused", told.run)?),
+        Ok(told) => Ok(format!(in alloc; "{} key {} at {}", told.run, told.key, told.moment)?),
+        Err(AdmitStop::Stopping) => word(alloc, "stopping"),
+        Err(AdmitStop::WaitingFull) => word(alloc, "waiting full"),
+        Err(AdmitStop::JournalFull { entries, weight }) => full(alloc, entries, weight),
+        Err(AdmitStop::Memory) => Err(CaseStop::Memory),
+    }
+}
+
+/// An event came, or did not.
+pub fn event(alloc: Global, told: Result<(), EventStop>) -> Result<String, CaseStop> {
+    match told {
+        Ok(()) => word(alloc, "done"),
+        Err(EventStop::JournalFull { entries, weight }) => full(alloc, entries, weight),
+        Err(EventStop::Memory) => Err(CaseStop::Memory),
+    }
+}
+
+/// Why no run began.
+pub fn begin_stop(alloc: Global, stop: BeginStop) -> Result<String, CaseStop> {
+    match stop {
+        BeginStop::Idle => word(alloc, "idle"),
+        BeginStop::JournalFull { entries, weight } => full(alloc, entries, weight),
+        BeginStop::Memory => Err(CaseStop::Memory),
+    }
+}
+
+/// Why a call was not made.
+pub fn call_stop(alloc: Global, stop: AppStepStop) -> Result<String, CaseStop> {
+    match stop {
+        AppStepStop::Blocked { holder } => Ok(format!(in alloc; "blocked by {holder}")?),
+        AppStepStop::JournalFull { entries, weight } => full(alloc, entries, weight),
+        AppStepStop::Memory => Err(CaseStop::Memory),
+    }
+}
+
+/// The status of an answer and its content.
+pub fn answer(alloc: Global, answer: &Answer) -> Result<String, CaseStop> {
+    let body = String::from_utf8_lossy(alloc, answer.body.as_slice())?;
+    Ok(format!(in alloc; "{} {body}", answer.status)?)
+}
+
+/// An answer was handed out, or was not.
+pub fn collected(alloc: Global, told: Result<Answer, CollectStop>) -> Result<String, CaseStop> {
+    match told {
+        Ok(found) => answer(alloc, &found),
+        Err(CollectStop::Foreign { lane }) => Ok(format!(in alloc; "of lane {lane}")?),
+        Err(CollectStop::NotEnded) => word(alloc, "not ended"),
+        Err(CollectStop::NoAnswer) => word(alloc, "no answer"),
+        Err(CollectStop::Taken) => word(alloc, "taken"),
+    }
+}
