@@ -1,6 +1,7 @@
 pub mod Entries
 pub mod EntryLines
 pub mod Fields
+pub mod Generated
 pub mod Journal
 pub mod Lines
 pub mod Reading

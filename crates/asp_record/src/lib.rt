@@ -6,6 +6,7 @@ mod call;
 mod call_reading;
 mod entry;
 mod fields;
+mod generated;
 mod journal;
 mod laws;
 mod line;
@@ -20,6 +21,7 @@ mod value_reading;
 mod writing;
 
 pub use entry::entry_line;
+pub use generated::generate;
 pub use journal::{Line, LineWhat, read_lines};
 pub use laws::{
     entries_have_lines, journal_not_refused, one_journal, one_recording, recording_not_refused,

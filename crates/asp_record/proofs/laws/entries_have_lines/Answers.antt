@@ -6,8 +6,8 @@ use Rattle.asp_record.specs.EntryLines.{line_what}
 use Rattle.asp_record.specs.Journal.{line_text}
 use Rattle.asp_record.proofs.laws.entries_have_lines.Goals as goal
 
-by_what : (lane : ℕ) (done : What) → MatchOption (line_what done) (entry_text (record { lane = lane; what = done })
-    ≡ [])
+by_what : (lane : ℕ) (done : What) → MatchOption (line_what done)
+    (entry_text (record { lane = lane; what = done }) ≡ [])
     (λ said. entry_text (record { lane = lane; what = done }) ≡ line_text (record { lane = lane; what = said }))
 by_what lane (entry.Queue run work key) = refl
 by_what lane (entry.Admit run key fresh job) = refl

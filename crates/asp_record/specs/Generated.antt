@@ -1,0 +1,18 @@
+-- The recording of so many requests that `gen` replays. It is the profile's.
+use Rattle.std.specs.Prelude.{ℕ, ◌+◌, ◌/◌, ◌%◌, List, map, codes, replicate}
+use Rattle.std.specs.List.{range_with_len}
+use Rattle.asp_record.specs.declared.recording.Item.{Item}
+use Rattle.asp_record.specs.declared.recording.Item.TheVariants.{Request}
+use Rattle.asp_record.specs.declared.recording.Recording.{Recording}
+
+-- the bytes of each request
+abbrev pub count_bytes : List ℕ
+count_bytes = codes "GET /count.asp HTTP/1.1\r\nHost: x\r\n\r\n"
+
+-- request i, counted from 0: from client i mod 7 + 1, at the moment i divided by 100 and cut
+abbrev pub generated_item : ℕ → Item
+generated_item i = Request (i % 7 + 1) (i / 100) count_bytes
+
+-- a seed of 32 zero bytes, and the requests from 0 on, so many as they are to be
+unfoldable pub generated : ℕ → Recording
+generated count = record { seed = replicate 32 0; items = map generated_item (range_with_len 0 count) }
