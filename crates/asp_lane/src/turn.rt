@@ -1,0 +1,130 @@
+//! The turns of a lane.
+#![tactic(auto)]
+
+ghost use Rattle.std.specs.Prelude.{◌≡◌, ℕ, [], length, IfSome};
+ghost use Rattle.asp_core.specs.Kernel as kernel;
+ghost use Rattle.asp_job.specs.Runs as runs;
+ghost use Rattle.asp_lane.specs.Turns as spec;
+
+use asp_core::{AppStepStop, BeginStop, Core, Run, holder_is_unfinished};
+use asp_job::{EndKind, Runner, Step};
+
+/// How many ticks a run spends in a turn, at most.
+pub const QUANTUM: u32 = 10_000;
+
+/// What a lane has in hand.
+#[derive(Drop)]
+pub enum Hand<R: Runner> {
+    /// Room for a run.
+    Free(R::Store),
+    /// A run that may go on.
+    Runs(Run<R>),
+}
+
+/// What a turn came to.
+#[derive(Clone, Copy, Debug, PartialEq, Eq)]
+pub enum Turn {
+    /// The journal has one entry more: a run began, made a call, or ended.
+    Done,
+    /// The run in hand has spent its ticks, and has more to do.
+    More,
+    /// No run may begin.
+    Idle,
+    /// An entry did not fit. The run in hand, if there was one, has ended.
+    JournalFull {
+        /// How many entries there would be, with one end for each unfinished run.
+        entries: u64,
+        /// What they would weigh; 2^64 - 1 stands for a greater weight.
+        weight: u64,
+    },
+    /// Memory ran out before a run began.
+    Memory,
+}
+
+/// Begins the next run.
+fn begin<R: Runner>(
+    core: &mut Core<R>,
+    runner: &R,
+    site: &R::Site,
+    lane: u32,
+    store: R::Store,
+) -> (Hand<R>, Turn)
+    requires host { kernel.IsHostOf core.old runner.now site.now }
+    requires free { runs.unfinished (kernel.past_of core.old) ≡ [] }
+    ensures { spec.IsTurn R.meaning R.stands core.old core.new lane result.0 result.1 }
+{
+    match core.begin(lane, runner, site, store) {
+        Ok(run) => (Hand::Runs(run), Turn::Done),
+        Err((store, BeginStop::Idle)) => (Hand::Free(store), Turn::Idle),
+        Err((store, BeginStop::JournalFull { entries, weight })) => {
+            (Hand::Free(store), Turn::JournalFull { entries, weight })
+        }
+        Err((store, BeginStop::Memory)) => (Hand::Free(store), Turn::Memory),
+    }
+}
+
+/// Makes the call that a run wants, or ends the run where there is no room or memory for it.
+fn call<R: Runner>(core: &mut Core<R>, runner: &R, lane: u32, mut run: Run<R>) -> (Hand<R>, Turn)
+    requires host { runner.now ≡ core.old.runner }
+    requires hand { spec.IsAlone R.meaning R.stands core.old lane run }
+    requires wants { spec.Wants run }
+    ensures { spec.IsTurn R.meaning R.stands core.old core.new lane result.0 result.1 }
+{
+    match core.app_step(lane, runner, &mut run) {
+        Ok(()) => (Hand::Runs(run), Turn::Done),
+        Err(AppStepStop::Blocked { holder: _ }) => unreachable!(),
+        Err(AppStepStop::JournalFull { entries, weight }) => {
+            let store = core.end(lane, runner, run, EndKind::JournalFull);
+            (Hand::Free(store), Turn::JournalFull { entries, weight })
+        }
+        Err(AppStepStop::Memory) => {
+            let store = core.end(lane, runner, run, EndKind::Memory);
+            (Hand::Free(store), Turn::Done)
+        }
+    }
+}
+
+/// Goes on with a run to its next call or its end.
+fn go<R: Runner>(
+    core: &mut Core<R>,
+    runner: &R,
+    site: &R::Site,
+    lane: u32,
+    mut run: Run<R>,
+) -> (Hand<R>, Turn)
+    requires host { kernel.IsHostOf core.old runner.now site.now }
+    requires hand { spec.IsInHand R.meaning R.stands core.old lane run }
+    ensures { spec.IsTurn R.meaning R.stands core.old core.new lane result.0 result.1 }
+{
+    match run.go(runner, site, QUANTUM) {
+        Ok(Step::More) => (Hand::Runs(run), Turn::More),
+        Ok(Step::Wants(_)) => call(core, runner, lane, run),
+        Ok(Step::Ended) => (
+            Hand::Free(core.end(lane, runner, run, EndKind::Done)),
+            Turn::Done,
+        ),
+        Err(_) => (
+            Hand::Free(core.end(lane, runner, run, EndKind::Memory)),
+            Turn::Done,
+        ),
+    }
+}
+
+/// One turn of a lane, where no other lane has a run: it begins the next run, or takes the run in hand to its next call
+/// or to its end. Where memory runs out for a run that is under way, the run ends so.
+pub fn turn<R: Runner>(
+    core: &mut Core<R>,
+    runner: &R,
+    site: &R::Site,
+    lane: u32,
+    hand: Hand<R>,
+) -> (Hand<R>, Turn)
+    requires host { kernel.IsHostOf core.old runner.now site.now }
+    requires hand { spec.IsHand R.meaning R.stands core.old lane hand }
+    ensures { spec.IsTurn R.meaning R.stands core.old core.new lane result.0 result.1 }
+{
+    match hand {
+        Hand::Free(store) => begin(core, runner, site, lane, store),
+        Hand::Runs(run) => go(core, runner, site, lane, run),
+    }
+}
