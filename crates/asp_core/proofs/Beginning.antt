@@ -319,6 +319,7 @@ has_begun m seed stands lane journal mid table count then_count answers run next
       progress_is = after.progress_is;
       told_is = subst (λ t. stands run.state t 0) same after.told_is;
       stand_ins_are = after.stand_ins_are;
+      turns_is = after.turns_is;
     })
 
 -- what is kept then

@@ -22,9 +22,6 @@ pub mod Handing
 pub mod Counts
 pub mod Made
 pub mod Ending
-<<<<<<< HEAD
 pub mod Beginning
-=======
 pub mod Telling
 pub mod Once
->>>>>>> 268a467d2f51f50425cec5094bf4d2dc287b5396

@@ -192,6 +192,7 @@ pub record RunView (State : Type 0) : Type 0 where
   pub progress : Progress
   pub state : State
   pub stand_ins : StandIns
+  pub turns : ℕ
 
 -- the runner's state waits for what the progress says; one without memory for anything
 abbrev pub IsAtPhase : Progress → Phase → Type 0
@@ -211,6 +212,11 @@ progress_of (Ok step.More) = progress.Going
 progress_of (Ok (step.Wants call)) = progress.Wants call
 progress_of (Ok step.Ended) = progress.Ended
 progress_of (Err e) = progress.Dead
+
+-- how many steps ended with more to do, at most 2^64 - 1
+abbrev pub turns_after : ℕ → Result Step memory.Memory → ℕ
+turns_after turns (Ok step.More) = min (turns + 1) (2 ^ 64 - 1)
+turns_after turns _ = turns
 
 -- the entry of the call that the run wants, and the run that keeps the call out
 abbrev pub called : {R Site State : Type 0} → CoreView R Site → ℕ → RunView State → List Entry

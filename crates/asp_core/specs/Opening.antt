@@ -64,6 +64,7 @@ pub record HasOpened {State : Type 0} (stands : State → Told → ℕ → Type 
   pub told_is : stands opened.state (begun draw.job (session_if number.is_new session number.serial) number.is_new
       (cookie_if seed draw.fresh draw.key)) 0
   pub stand_ins_are : opened.stand_ins ≡ stand_ins draw.job.work
+  pub turns_is : opened.turns ≡ 0
 
 -- ---- what its Begin leaves
 
@@ -101,3 +102,4 @@ pub record HasBegun {State : Type 0} (rules : Rules) (stands : State → Told �
   pub told_is : stands run.state
       (keys.told rules (begin_entry rules (reverse journal) lane run.number ∷ reverse journal) run.number) 0
   pub stand_ins_are : run.stand_ins ≡ stand_ins (job_of (reverse journal) run.number).work
+  pub turns_is : run.turns ≡ 0

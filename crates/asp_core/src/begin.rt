@@ -110,6 +110,7 @@ fn start_run<R: Runner>(
             progress: Progress::Going,
             state,
             stand_ins,
+            turns: 0,
         }),
         Err((store, _)) => Err(store),
     }
@@ -197,6 +198,7 @@ impl<R: Runner> Core<R> {
             (kernel.rules_of R.meaning self.old) (kernel.past_of self.old) lane run.number ∷ [])) }
         ensures run { IfOk result (λ run. kernel.IsRunOf R.meaning R.stands self.new lane run) }
         ensures going { IfOk result (λ run. run.progress ≡ Progress.Going) }
+        ensures turns { IfOk result (λ run. run.turns ≡ 0) }
 
         // Idle exactly where none is next or there is no room for one more body.
         ensures idle { IfErr result (λ stop. stop.1 ≡ BeginStop.Idle ↔

@@ -41,6 +41,7 @@ pub struct Run<R: Runner> {
     pub(crate) progress: Progress,
     pub(crate) state: R::State,
     pub(crate) stand_ins: StandIns,
+    pub(crate) turns: u64,
 }
 
 impl<R: Runner> Model for Run<R> {
@@ -55,7 +56,7 @@ impl<R: Runner> Model for Run<R> {
     ghost coded = { Prim.hlevel (codes, contract.the_row.coded, R.State.code) };
 
     ghost view = { λ r.
-        record { number = r.number; progress = r.progress; state = r.state; stand_ins = r.stand_ins } };
+        record { number = r.number; progress = r.progress; state = r.state; stand_ins = r.stand_ins; turns = r.turns } };
 
     ghost invariant = { λ r. IsAtPhase r.progress (R.phase r.state) × IfSome (wanted_by r.progress) IsAppCall };
 }
@@ -67,6 +68,15 @@ fn progress_after(step: &Step) -> Result<Progress, Memory>
         Step::More => Ok(Progress::Going),
         Step::Wants(call) => Ok(Progress::Wants(copy_call(call)?)),
         Step::Ended => Ok(Progress::Ended),
+    }
+}
+
+fn turns_after(turns: u64, step: &Step) -> u64
+    ensures { result ≡ kernel.turns_after turns (Ok step.now) }
+{
+    match step {
+        Step::More => turns.saturating_add(1),
+        _ => turns,
     }
 }
 
@@ -85,6 +95,13 @@ impl<R: Runner> Run<R> {
         &self.progress
     }
 
+    /// How many of its steps ended with more to do. 2^64 - 1 stands for more.
+    pub fn turns(&self) -> u64
+        ensures { result ≡ self.now.turns }
+    {
+        self.turns
+    }
+
     /// Goes on until the run wants a call, has ended, or has spent `quantum` ticks and has more to do. Without memory
     /// the run can only be ended.
     pub fn go(&mut self, runner: &R, site: &R::Site, quantum: u32) -> Result<Step, Memory>
@@ -93,12 +110,14 @@ impl<R: Runner> Run<R> {
         ensures number { self.new.number ≡ self.old.number }
         ensures stand_ins { self.new.stand_ins ≡ self.old.stand_ins }
         ensures progress { self.new.progress ≡ kernel.progress_of result }
+        ensures turns { self.new.turns ≡ kernel.turns_after self.old.turns result }
         ensures stands { kernel.StandsAsBefore
             (R.stands runner.now site.now) (R.meaning runner.now site.now) self.old self.new }
     {
         match runner.go(site, &mut self.state, quantum) {
             Ok(step) => match progress_after(&step) {
                 Ok(progress) => {
+                    self.turns = turns_after(self.turns, &step);
                     self.progress = progress;
                     Ok(step)
                 }
@@ -133,6 +152,7 @@ impl<R: Runner> Run<R> {
         ensures number { self.new.number ≡ self.old.number }
         ensures stand_ins { self.new.stand_ins ≡ self.old.stand_ins }
         ensures going { self.new.progress ≡ Progress.Going }
+        ensures turns { self.new.turns ≡ self.old.turns }
         ensures stands { (site : R.Site) (told : Told) (spent : ℕ) →
             R.stands runner.now site self.old.state told spent →
             R.stands runner.now site self.new.state (heard told reply) spent }
@@ -156,6 +176,7 @@ impl<R: Runner> Run<R> {
             progress: _,
             state,
             stand_ins,
+            turns: _,
         } = self;
         let (finished, store) = runner.finish(state);
         (finished, store, stand_ins)
