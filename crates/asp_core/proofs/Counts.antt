@@ -18,7 +18,7 @@ use Rattle.asp_core.proofs.Right.{is_drawn, numbered, unfinished_is}
 not_same : (r other n : ℕ) → r ≡ suc n → other ≤ n → (r == other) ≡ false
 not_same r other n is l = grind arith
 
-smaller : (r n : ℕ) → r ≤ suc n → (r == suc n) ≡ false → r ≤ n
+pub smaller : (r n : ℕ) → r ≤ suc n → (r == suc n) ≡ false → r ≤ n
 smaller r n l e = grind arith
 
 joined_own : (x y xs : List ℕ) (last : ℕ) → x ≡ xs → y ≡ xs ++ last ∷ [] → length x + 1 ≡ length y

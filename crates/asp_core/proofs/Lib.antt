@@ -25,3 +25,9 @@ pub mod Ending
 pub mod Beginning
 pub mod Telling
 pub mod Once
+pub mod Holding
+pub mod Fitting
+pub mod Idling
+pub mod Wanting
+pub mod Ordering
+pub mod Alone

@@ -15,7 +15,7 @@ use Rattle.asp_core.proofs.Others.{stage_other, lane_other, told_other}
 use Rattle.asp_core.proofs.Right.{numbered, drawn_next, begin_right, call_running, end_running, may_begin_waits, unfinished_is, is_drawn}
 use Rattle.asp_core.proofs.Kept.{past_of_more}
 
-unequal : (a b : ℕ) → (a ≡ b → ⊥) → (a == b) ≡ false
+pub unequal : (a b : ℕ) → (a ≡ b → ⊥) → (a == b) ≡ false
 unequal a b n = elim (cases_Bool (a == b)) [ inl e ↦ absurd (n (eqb-true a b e)) | inr e ↦ e ]
 
 -- an entry that is no step of an unfinished run is not about it

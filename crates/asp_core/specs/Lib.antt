@@ -10,3 +10,6 @@ pub mod Taking
 pub mod Ends
 pub mod Telling
 pub mod Waits
+pub mod Wanted
+pub mod Given
+pub mod Alone

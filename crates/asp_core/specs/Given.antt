@@ -1,0 +1,54 @@
+-- All answers of a journal, and those that were handed out. All of it is the profile's.
+use Rattle.std.specs.Prelude.{◌≡◌, ℕ, ◌==◌, Bool, true, false, List, [], ◌∷◌, ◌++◌, Some, None}
+use Rattle.std.specs.List.{find}
+use Rattle.asp_job.specs.declared.answer.Answer.{Answer}
+use Rattle.asp_job.specs.declared.entry.Entry.{Entry}
+use Rattle.asp_job.specs.declared.entry.What.{What}
+use Rattle.asp_job.specs.declared.entry.What.TheVariants.{Refuse, End, Take}
+use Rattle.asp_job.specs.Output.{answer_by, unavailable_in}
+use Rattle.asp_job.specs.Rules.{Rules, TooManySessions}
+use Rattle.asp_core.specs.Ready.{ready, with_answer}
+
+-- All answers, each with its run, in the order in which their runs ended or were refused: those that wait, and those
+-- that were handed out.
+abbrev pub given : Rules → List Entry → List (ℕ × Answer)
+given rules [] = []
+given rules (entry ∷ past) = elim entry.what [
+  | End run kind status size made finished ↦ with_answer (given rules past) run (answer_by rules past run kind)
+  | Refuse run job ↦ with_answer (given rules past) run (unavailable_in rules TooManySessions job.work)
+  | _ ↦ given rules past
+]
+
+-- the answer that an entry makes, if it makes one
+abbrev pub made_by : Rules → List Entry → What → List (ℕ × Answer)
+made_by rules past (End run kind status size made finished) = with_answer [] run (answer_by rules past run kind)
+made_by rules past (Refuse run job) = with_answer [] run (unavailable_in rules TooManySessions job.work)
+made_by rules past _ = []
+
+-- whether the entry is a hand-out
+abbrev pub hands_out : What → Bool
+hands_out (Take run) = true
+hands_out _ = false
+
+-- the answer of the run, if it is among these
+abbrev pub answer_among : ℕ → List (ℕ × Answer) → List (ℕ × Answer)
+answer_among run answers = elim (find (λ ready. ready.0 == run) answers) [ Some ready ↦ ready ∷ [] | None ↦ [] ]
+
+-- the answers that were handed out, in the order of the hand-outs
+abbrev pub handed : Rules → List Entry → List (ℕ × Answer)
+handed rules [] = []
+handed rules (entry ∷ past) = elim entry.what [
+  | Take run ↦ handed rules past ++ answer_among run (ready rules past)
+  | _ ↦ handed rules past
+]
+
+-- a hand-out is that of the first answer that waits
+abbrev pub IsOfFirst : List (ℕ × Answer) → What → Type 0
+IsOfFirst answers (Take run) =
+    (answer : Answer) × ((rest : List (ℕ × Answer)) × (answers ≡ (run, answer) ∷ rest))
+IsOfFirst answers _ = Unit {0}
+
+-- so is each
+abbrev pub AreOfFirst : Rules → List Entry → Type 0
+AreOfFirst rules [] = Unit {0}
+AreOfFirst rules (entry ∷ past) = IsOfFirst (ready rules past) entry.what × AreOfFirst rules past
