@@ -31,3 +31,6 @@ pub mod Idling
 pub mod Wanting
 pub mod Ordering
 pub mod Alone
+pub mod Opened
+pub mod Calling
+pub mod Called

@@ -6,6 +6,7 @@ pub mod Drawing
 pub mod Stops
 pub mod Standing
 pub mod Opening
+pub mod Calling
 pub mod Taking
 pub mod Ends
 pub mod Telling

@@ -4,6 +4,7 @@
 mod admit;
 mod admitted;
 mod begin;
+mod calls;
 mod cookie;
 mod drawing;
 mod ends;

@@ -90,6 +90,16 @@ pub(crate) fn begin_stop(stop: EventStop) -> BeginStop
     }
 }
 
+/// The same for a call of the Application object.
+pub(crate) fn app_stop(stop: EventStop) -> AppStepStop
+    ensures { result ≡ spec.app_stop stop }
+{
+    match stop {
+        EventStop::JournalFull { entries, weight } => AppStepStop::JournalFull { entries, weight },
+        EventStop::Memory => AppStepStop::Memory,
+    }
+}
+
 impl From<Memory> for EventStop {
     fn from(_: Memory) -> EventStop {
         EventStop::Memory

@@ -1,0 +1,179 @@
+-- What the core's contract says of a call, and the steps of the code.
+use Rattle.std.proofs.Common.{◌≡◌, ◌↔◌, ℕ, ◌+◌, ◌<◌, ◌≤◌}
+use Rattle.std.proofs.Common.{List, [], ◌∷◌, ◌++◌, length, reverse, Option, Some, None, IsSome, Result}
+use Rattle.std.proofs.Common.{Ok, Err, refl, ap, sym, ◌∙◌, subst, arith}
+use Rattle.asp_core.specs.Calling.{HasCalled, IsCallTooMuch, IsReplied, blocker_by}
+use Rattle.asp_core.specs.Kernel.{CoreView, HasRoom, IsKept, IsRunOf, IsTooMuch, RunView}
+use Rattle.asp_core.specs.Kernel.{HasNotFitFor, to_come, called, grown, past_of, wanted_by}
+use Rattle.asp_core.specs.Stops.{app_stop}
+use Rattle.asp_core.specs.declared.stop.AppStepStop.{AppStepStop}
+use Rattle.asp_core.specs.declared.stop.AppStepStop.TheVariants as step
+use Rattle.asp_core.specs.declared.stop.EventStop.{EventStop}
+use Rattle.asp_core.specs.declared.stop.EventStop.TheVariants as event
+use Rattle.asp_core.specs.declared.run.Progress.TheVariants as progress
+use Rattle.asp_job.specs.Application.{AppState, apply, blocker_of}
+use Rattle.asp_job.specs.History.{call_entry, held_by}
+use Rattle.asp_job.specs.History.{with_lane}
+use Rattle.asp_job.specs.Rules.{Rules}
+use Rattle.asp_job.specs.Told.{Meaning, Told, heard}
+use Rattle.asp_job.specs.declared.answer.Answer.{Answer}
+use Rattle.asp_job.specs.declared.entry.Entry.{Entry}
+use Rattle.asp_job.specs.declared.entry.What.TheVariants.{App}
+use Rattle.asp_job.specs.declared.session.SessionState.{SessionState}
+use Rattle.vb_value.specs.declared.application.AppCall.{AppCall}
+use Rattle.vb_value.specs.declared.application.AppReply.{AppReply}
+use Rattle.asp_core.proofs.Past.{length_past, past_push}
+use Rattle.asp_core.proofs.Same.{view_of}
+use Rattle.asp_job.specs.Journal.{past_after}
+use Rattle.asp_core.proofs.Calling.{call_grown, run_called, not_fit}
+
+-- ---- what the core's contract says of it
+
+called_is : {R Site State : Type 0} → (core : CoreView R Site) (lane : ℕ) (run : RunView State) (c : AppCall) →
+    wanted_by run.progress ≡ Some c → called core lane run ≡ call_entry (past_of core) lane run.number c ∷ []
+called_is core lane run c wants = rw (wants, called) refl
+
+-- the core has the entry of the call more
+pub core_called : {R Site State : Type 0} → (runner : R) (site : Site) (seed : List ℕ)
+    (stands : Site → State → Told → ℕ → Type 0) (lane : ℕ) (journal : List Entry) (held : AppState) (answers : ℕ)
+    (run : RunView State) (next : List Entry) (then_held : AppState) (capacity : ℕ) (then_run : RunView State) →
+    held ≡ held_by (reverse journal) →
+    HasCalled stands lane journal held answers run next then_held capacity then_run →
+    view_of runner site seed next
+    ≡ grown (view_of runner site seed journal) (called (view_of runner site seed journal) lane run)
+core_called runner site seed stands lane journal held answers run next then_held capacity then_run held_is has =
+    let core = view_of runner site seed journal in
+    let made = call_grown stands lane journal held answers run next then_held capacity then_run held_is has in
+    ap (view_of runner site seed) made ∙ ap (grown core) (sym (called_is core lane run has.call has.wanted))
+
+-- the run that made it is the core's still
+pub run_of_called : {R Site State : Type 0} → (meaning : R → Site → Meaning)
+    (stands : R → Site → State → Told → ℕ → Type 0) (runner : R) (site : Site) (seed : List ℕ) (lane : ℕ)
+    (journal : List Entry) (held : AppState) (answers : ℕ) (run : RunView State) (next : List Entry)
+    (then_held : AppState) (capacity : ℕ) (then_run : RunView State) → held ≡ held_by (reverse journal) →
+    IsRunOf meaning stands (view_of runner site seed journal) lane run →
+    HasCalled (stands runner) lane journal held answers run next then_held capacity then_run →
+    IsRunOf meaning stands (view_of runner site seed next) lane then_run
+run_of_called meaning stands runner site seed lane journal held answers run next then_held capacity then_run held_is is
+    has =
+    let made = call_grown (stands runner) lane journal held answers run next then_held capacity then_run held_is has in
+    run_called meaning stands (view_of runner site seed journal) lane run then_run next has.call
+    (apply held run.number has.call).1 is has.wanted made (ap (λ h. (apply h run.number has.call).1) held_is)
+    has.number_is has.stand_ins_are has.progress_is (has.heard_so site)
+
+-- it was let through
+pub free_called : {Site State : Type 0} → (stands : Site → State → Told → ℕ → Type 0) (lane : ℕ) (journal : List Entry)
+    (held : AppState) (answers : ℕ) (run : RunView State) (next : List Entry) (then_held : AppState) (capacity : ℕ)
+    (then_run : RunView State) → HasCalled stands lane journal held answers run next then_held capacity then_run →
+    blocker_by held run ≡ None
+free_called stands lane journal held answers run next then_held capacity then_run has =
+    let wants = has.wanted in rw (wants, blocker_by) has.free
+
+-- its entry does not fit
+pub full_called : {R Site State : Type 0} → (m : Rules) (core : CoreView R Site)
+    (table : List (Option SessionState)) (count : ℕ) (held : AppState) (answers : List (ℕ × Answer)) (lane : ℕ)
+    (run : RunView State) (entries weight : ℕ) → IsKept m (past_of core) table count held answers →
+    IsCallTooMuch (past_of core) lane held run entries weight →
+    IsTooMuch (past_after (past_of core) (called core lane run)) entries weight × HasNotFitFor (past_of core) lane run
+full_called m core table count held answers lane run entries weight kept is =
+    let past = past_of core in
+    let both = not_fit m past table count held answers lane run.number entries weight is.call kept is.free is.much in (
+      subst (λ es. IsTooMuch (past_after past es) entries weight)
+          (sym (called_is core lane run is.call is.wanted)) both.0,
+      (is.call, is.wanted, both.1),
+    )
+
+-- ---- the steps of the code
+
+abbrev stopped : AppStepStop → Result (Unit {0}) AppStepStop
+stopped stop = Err stop
+
+abbrev done : Result (Unit {0}) AppStepStop
+done = Ok tt
+
+pub no_call : (o : Option AppCall) → IsSome o → o ≡ None → ⊥
+no_call None some none = cc
+no_call (Some c) some none = cc
+
+pub blocker_known : {State : Type 0} → (held : AppState) (run : RunView State) (number : ℕ) (c : AppCall)
+    (b : Option ℕ) → wanted_by run.progress ≡ Some c → number ≡ run.number → b ≡ blocker_of held number c →
+    blocker_by held run ≡ b
+blocker_known held run number c b wants same is =
+    rw (wants, blocker_by) (sym (is ∙ ap (λ n. blocker_of held n c) same))
+
+pub blocked_exact : (b : Option ℕ) (mine holder : ℕ) → b ≡ Some mine →
+    (stopped (step.Blocked mine) ≡ stopped (step.Blocked holder)) ↔ (b ≡ Some holder)
+blocked_exact b mine holder is = (
+  λ e. let same : mine ≡ holder = cc in is ∙ ap Some same,
+  λ e. let same : mine ≡ holder = cc in ap (λ h. stopped (step.Blocked h)) same,
+)
+
+no_block : (stop : EventStop) (holder : ℕ) → app_stop stop ≡ step.Blocked holder → ⊥
+no_block (event.JournalFull entries weight) holder e = cc
+no_block event.Memory holder e = cc
+
+pub unblocked_exact : (b : Option ℕ) (stop : EventStop) (told_stop : AppStepStop) (holder : ℕ) → b ≡ None →
+    told_stop ≡ app_stop stop → (stopped told_stop ≡ stopped (step.Blocked holder)) ↔ (b ≡ Some holder)
+unblocked_exact b stop told_stop holder none is = (
+  λ e. absurd (let same : told_stop ≡ step.Blocked holder = cc in no_block stop holder (sym is ∙ same)),
+  λ e. absurd cc,
+)
+
+pub done_exact : (b : Option ℕ) (holder : ℕ) → b ≡ None →
+    (done ≡ stopped (step.Blocked holder)) ↔ (b ≡ Some holder)
+done_exact b holder none = (λ e. absurd cc, λ e. absurd cc)
+
+full_back : (stop : EventStop) (entries weight : ℕ) → app_stop stop ≡ step.JournalFull entries weight →
+    stop ≡ event.JournalFull entries weight
+full_back (event.JournalFull most heaviest) entries weight e = cc
+full_back event.Memory entries weight e = absurd cc
+
+pub full_told : (stop : EventStop) (told_stop : AppStepStop) (entries weight : ℕ) → told_stop ≡ app_stop stop →
+    stopped told_stop ≡ stopped (step.JournalFull entries weight) → stop ≡ event.JournalFull entries weight
+full_told stop told_stop entries weight is e =
+    let same : told_stop ≡ step.JournalFull entries weight = cc in full_back stop entries weight (sym is ∙ same)
+
+-- the room that was made is room for the entry
+pub room_one : (journal next : List Entry) (entry : Entry) (answers capacity : ℕ) →
+    HasRoom (entry ∷ reverse journal) answers capacity → next ≡ journal → length next < capacity
+room_one journal next entry answers capacity room same =
+    let long = length_past journal in
+    let is : length next ≡ length journal = ap length same in
+    let has : length (entry ∷ reverse journal) + to_come (entry ∷ reverse journal) answers ≤ capacity = room in
+    omega arith
+
+-- what was made of the call
+pub has_called : {Site State : Type 0} → (stands : Site → State → Told → ℕ → Type 0) (lane : ℕ)
+    (journal mid next : List Entry) (held then_held : AppState) (answers : ℕ) (run then_run : RunView State)
+    (number : ℕ) (c taken : AppCall) (replies : AppReply × AppReply) (capacity then_capacity : ℕ) →
+    wanted_by run.progress ≡ Some c → Some taken ≡ wanted_by run.progress → number ≡ run.number →
+    IsReplied (reverse journal) lane number c held then_held answers capacity replies → mid ≡ journal →
+    next ≡ mid ++ with_lane lane (App number taken replies.0) ∷ [] → then_capacity ≡ capacity →
+    then_run.number ≡ run.number → then_run.stand_ins ≡ run.stand_ins → then_run.progress ≡ progress.Going →
+    ((site : Site) (t : Told) (spent : ℕ) → stands site run.state t spent →
+    stands site then_run.state (heard t replies.1) spent) →
+    HasCalled stands lane journal held answers run next then_held then_capacity then_run
+has_called stands lane journal mid next held then_held answers run then_run number c taken replies capacity
+    then_capacity wants took same is mid_is next_is capacity_is number_is ins going heard_so =
+    let taken_is : taken ≡ c = cc in
+    let entry = with_lane lane (App number c replies.0) in
+    let made : next ≡ journal ++ entry ∷ [] =
+    next_is ∙ ap (λ items. items ++ with_lane lane (App number taken replies.0) ∷ []) mid_is
+    ∙ ap (λ x. journal ++ with_lane lane (App number x replies.0) ∷ []) taken_is in
+    let of : reverse next ≡ entry ∷ reverse journal = ap reverse made ∙ past_push journal entry in
+    let free = is.free in
+    record {
+      call = c;
+      wanted = wants;
+      free = subst (λ n. blocker_of held n c ≡ None) same free;
+      journal_is = made ∙ ap (λ r. journal ++ with_lane lane (App number c r) ∷ []) is.reply_is
+          ∙ ap (λ n. journal ++ with_lane lane (App n c (apply held n c).1) ∷ []) same;
+      held_is = is.held_is ∙ ap (λ n. (apply held n c).0) same;
+      within = rw of is.within;
+      room = rw (of, capacity_is) is.room;
+      number_is = number_is;
+      stand_ins_are = ins;
+      progress_is = going;
+      heard_so = λ site t spent s. subst (λ r. stands site then_run.state (heard t r) spent)
+          (is.copy_is ∙ is.reply_is ∙ ap (λ n. (apply held n c).1) same) (heard_so site t spent s);
+    }

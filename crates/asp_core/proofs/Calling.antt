@@ -1,0 +1,276 @@
+-- What a call of the Application object leaves of a right journal.
+use Rattle.std.proofs.Common.{◌≡◌, ℕ, ◌-◌, ◌^◌, ◌<◌, ◌≤◌, ◌⊎◌, min, Bool, true, false}
+use Rattle.std.proofs.Common.{if◌then◌else◌, List, [], ◌∷◌, ◌++◌, length, reverse, Option, Some, None, Result}
+use Rattle.std.proofs.Common.{Ok, Err, OnOk, OnErr, refl, ap, sym, ◌∙◌, subst, arith, inl, inr}
+use Rattle.asp_core.specs.Calling.{HasCalled, IsShort, is_read}
+use Rattle.asp_core.specs.Kernel.{CoreView, HasAnswerRoom, HasRoom, IsKept, IsRunOf, IsTooMuch, IsWithin, RunView}
+use Rattle.asp_core.specs.Kernel.{StandsAt, past_of, rules_of, wanted_by}
+use Rattle.asp_core.specs.declared.run.Progress.{Progress}
+use Rattle.asp_core.specs.declared.run.Progress.TheVariants as progress
+use Rattle.asp_job.specs.Application.{AppState, apply, blocker_of, has_lock, is_full, with_value}
+use Rattle.asp_job.specs.History.{HasNoRoom, HasNotFit, call_entry, held_by, load, reply_weight, weight_load}
+use Rattle.asp_job.specs.History.{with_lane}
+use Rattle.asp_job.specs.Keys.{told}
+use Rattle.asp_job.specs.Rules.{Rules}
+use Rattle.asp_job.specs.Runs.{replies_of}
+use Rattle.asp_job.specs.Told.{Meaning, Outcome, Told, Wants, heard}
+use Rattle.asp_job.specs.Turns.{IsRunning}
+use Rattle.asp_job.specs.declared.answer.Answer.{Answer}
+use Rattle.asp_job.specs.declared.entry.Entry.{Entry}
+use Rattle.asp_job.specs.declared.entry.TheConstants.{MOST_ENTRIES, MOST_WEIGHT}
+use Rattle.asp_job.specs.declared.entry.What.TheVariants.{App}
+use Rattle.asp_job.specs.declared.session.SessionState.{SessionState}
+use Rattle.vb_value.specs.declared.application.AppCall.{AppCall}
+use Rattle.vb_value.specs.declared.application.AppCall.TheVariants as call
+use Rattle.vb_value.specs.declared.application.AppReply.{AppReply}
+use Rattle.vb_value.specs.declared.application.AppReply.TheVariants as reply
+use Rattle.asp_core.proofs.Kept.{may_follow}
+use Rattle.asp_core.proofs.Others.{own_number}
+use Rattle.asp_core.proofs.Past.{past_push}
+
+-- ---- calls that read, and calls that write
+
+pub read_same : (state : AppState) (run : ℕ) (c : AppCall) → is_read c ≡ true → (apply state run c).0 ≡ state
+read_same state run (call.Get name) e = refl
+read_same state run call.Count e = refl
+read_same state run (call.KeyAt place) e = refl
+read_same state run call.Names e = refl
+read_same state run (call.Put name value) e = absurd cc
+read_same state run (call.Remove name) e = absurd cc
+read_same state run call.RemoveAll e = absurd cc
+read_same state run call.Lock e = absurd cc
+read_same state run call.Unlock e = absurd cc
+
+if_none : (b : Bool) (n : Option ℕ) → n ≡ None → (if b then None else n) ≡ None
+if_none true n e = refl
+if_none false n e = e
+
+pub read_free : (state : AppState) (run : ℕ) (c : AppCall) → is_read c ≡ true → blocker_of state run c ≡ None
+read_free state run (call.Get name) e = if_none (has_lock run state) None refl
+read_free state run call.Count e = if_none (has_lock run state) None refl
+read_free state run (call.KeyAt place) e = if_none (has_lock run state) None refl
+read_free state run call.Names e = if_none (has_lock run state) None refl
+read_free state run (call.Put name value) e = absurd cc
+read_free state run (call.Remove name) e = absurd cc
+read_free state run call.RemoveAll e = absurd cc
+read_free state run call.Lock e = absurd cc
+read_free state run call.Unlock e = absurd cc
+
+abbrev filled_if : Bool → AppState → AppState → AppState × AppReply
+filled_if full state other = if full then (state, reply.Full) else (other, reply.Done)
+
+short_filled : (full : Bool) (state other : AppState) → IsShort (filled_if full state other).1
+short_filled true state other = tt
+short_filled false state other = tt
+
+pub write_short : (state : AppState) (run : ℕ) (c : AppCall) → is_read c ≡ false → IsShort (apply state run c).1
+write_short state run (call.Get name) e = absurd cc
+write_short state run call.Count e = absurd cc
+write_short state run (call.KeyAt place) e = absurd cc
+write_short state run call.Names e = absurd cc
+write_short state run (call.Put name value) e =
+    let entries = with_value name value state.entries in
+    short_filled (is_full entries) state (record state { entries = entries })
+write_short state run (call.Remove name) e = tt
+write_short state run call.RemoveAll e = tt
+write_short state run call.Lock e = tt
+write_short state run call.Unlock e = tt
+
+short_weight : (r : AppReply) → IsShort r → reply_weight r ≡ 0
+short_weight reply.Done s = refl
+short_weight reply.Full s = refl
+short_weight (reply.Value value) s = absurd s
+short_weight (reply.Number n) s = absurd s
+short_weight (reply.Name name) s = absurd s
+short_weight reply.NoName s = absurd s
+short_weight (reply.Names names) s = absurd s
+
+-- a short reply weighs as much as another
+same_load : (past : List Entry) (lane run : ℕ) (c : AppCall) (r : AppReply) → IsShort r →
+    weight_load (with_lane lane (App run c r) ∷ past) ≡ weight_load (with_lane lane (App run c reply.Done) ∷ past)
+same_load past lane run c r short = let none = short_weight r short in omega arith
+
+pub short_within : (past : List Entry) (lane run : ℕ) (c : AppCall) (r : AppReply) → IsShort r →
+    IsWithin (with_lane lane (App run c reply.Done) ∷ past) → IsWithin (with_lane lane (App run c r) ∷ past)
+short_within past lane run c r short within =
+    let same = same_load past lane run c r short in
+    let few = within.few in
+    let light = within.light in
+    record { few = few; light = rw same light }
+
+pub short_much : (past : List Entry) (lane run entries weight : ℕ) (c : AppCall) (r : AppReply) → IsShort r →
+    IsTooMuch (with_lane lane (App run c reply.Done) ∷ past) entries weight →
+    IsTooMuch (with_lane lane (App run c r) ∷ past) entries weight
+short_much past lane run entries weight c r short much =
+    let same = same_load past lane run c r short in
+    record {
+      entries_are = much.entries_are;
+      weight_is = much.weight_is ∙ ap (λ w. min w (2 ^ 64 - 1)) (sym same);
+      much = much.much;
+    }
+
+-- of calls that read, and of those that write
+pub ruleset of_reads = (read_same, read_free)
+
+pub ruleset of_writes = (write_short, short_within, short_much)
+
+-- ---- the entry of a call
+
+kept_call : (m : Rules) (past : List Entry) (table : List (Option SessionState)) (count : ℕ) (held : AppState)
+    (answers : List (ℕ × Answer)) (lane run : ℕ) (c : AppCall) → IsKept m past table count held answers →
+    IsRunning past lane run → m.meaning.does (told m past run) ≡ Wants c → blocker_of held run c ≡ None →
+    IsKept m (call_entry past lane run c ∷ past) table count (apply held run c).0 answers
+kept_call m past table count held answers lane run c kept running wants free =
+    let entry = call_entry past lane run c in
+    let turn = may_follow m past entry kept.account.settled running in
+    let free_now : blocker_of (held_by past) run c ≡ None = ap (λ h. blocker_of h run c) (sym kept.held_is) ∙ free in
+    record {
+      account = record {
+        entries = (record { turn = turn; legal = (free_now, refl); follows = wants }, kept.account.entries);
+        settled = refl;
+      };
+      sessions = kept.sessions;
+      keys = kept.keys;
+      opened_is = kept.opened_is;
+      held_is = ap (λ h. (apply h run c).0) kept.held_is;
+      answers_are = kept.answers_are;
+      answered = (tt, kept.answered);
+      small = (tt, kept.small);
+      valid = kept.valid;
+    }
+
+-- what a run was told after a reply
+pub called_told : (m : Rules) (past : List Entry) (lane run : ℕ) (c : AppCall) →
+    told m (call_entry past lane run c ∷ past) run ≡ heard (told m past run) (apply (held_by past) run c).1
+called_told m past lane run c =
+    let own = own_number run in
+    let replies : replies_of (call_entry past lane run c ∷ past) run
+    ≡ replies_of past run ++ (apply (held_by past) run c).1 ∷ [] = rw own refl in
+    ap (λ r. record (told m past run) { replies = r }) replies
+
+-- the journal grows by the entry of the call
+pub call_grown : {Site State : Type 0} → (stands : Site → State → Told → ℕ → Type 0) (lane : ℕ) (journal : List Entry)
+    (held : AppState) (answers : ℕ) (run : RunView State) (next : List Entry) (then_held : AppState) (capacity : ℕ)
+    (then_run : RunView State) → held ≡ held_by (reverse journal) →
+    (has : HasCalled stands lane journal held answers run next then_held capacity then_run) →
+    next ≡ journal ++ call_entry (reverse journal) lane run.number has.call ∷ []
+call_grown stands lane journal held answers run next then_held capacity then_run held_is has =
+    has.journal_is
+    ∙ ap (λ h. journal ++ with_lane lane (App run.number has.call (apply h run.number has.call).1) ∷ []) held_is
+
+-- what a run that is the core's wants, its meaning wants
+abbrev pub MeansIt : {State : Type 0} → Rules → List Entry → RunView State → Type 0
+MeansIt m past run = (c : AppCall) → wanted_by run.progress ≡ Some c → m.meaning.does (told m past run.number) ≡ Wants c
+
+-- a core's parts after a call that may have been refused
+pub kept_either_called : {T E Site State : Type 0} → (result : Result T E) (m : Rules)
+    (stands : Site → State → Told → ℕ → Type 0) (lane : ℕ) (journal next : List Entry)
+    (table : List (Option SessionState)) (count : ℕ) (held then_held : AppState) (answers : List (ℕ × Answer))
+    (run then_run : RunView State) (old new capacity_of : ℕ) → IsKept m (reverse journal) table count held answers →
+    IsWithin (reverse journal) → HasRoom (reverse journal) (length answers) old →
+    HasAnswerRoom (reverse journal) (length answers) capacity_of → IsRunning (reverse journal) lane run.number →
+    MeansIt m (reverse journal) run →
+    OnOk result (HasCalled stands lane journal held (length answers) run next then_held new then_run) →
+    OnErr result ((next ≡ journal) × (then_held ≡ held) × (then_run ≡ run)) → old ≤ new →
+    IsKept m (reverse next) table count then_held answers × IsWithin (reverse next)
+    × HasRoom (reverse next) (length answers) new × HasAnswerRoom (reverse next) (length answers) capacity_of
+kept_either_called (Ok done) m stands lane journal next table count held then_held answers run then_run old new
+    capacity_of kept within room room_of running means has same more =
+    let past = reverse journal in
+    let entry = call_entry past lane run.number has.call in
+    let made = call_grown stands lane journal held (length answers) run next then_held new then_run kept.held_is has in
+    let of : reverse next ≡ entry ∷ past = ap reverse made ∙ past_push journal entry in
+    let all : IsKept m (entry ∷ past) table count (apply held run.number has.call).0 answers =
+    kept_call m past table count held answers lane run.number has.call kept running
+    (means has.call has.wanted) has.free in
+    let then_kept : IsKept m (reverse next) table count then_held answers = rw (of, has.held_is) all in
+    let has_of : HasAnswerRoom (reverse next) (length answers) capacity_of = rw of room_of in
+    (then_kept, has.within, has.room, has_of)
+kept_either_called (Err stop) m stands lane journal next table count held then_held answers run then_run old new
+    capacity_of kept within room room_of running means has same more =
+    let wide : HasRoom (reverse journal) (length answers) new = omega arith in
+    rw (same.0, same.1) (kept, within, wide, room_of)
+
+-- ---- the run that made the call
+
+wants_is : (p : Progress) (c : AppCall) → wanted_by p ≡ Some c → p ≡ progress.Wants c
+wants_is progress.Going c e = absurd cc
+wants_is (progress.Wants other) c e = cc
+wants_is progress.Ended c e = absurd cc
+wants_is progress.Dead c e = absurd cc
+
+-- its meaning wants the call
+wants_call : (p : Progress) (Stands : ℕ → Type 0) (o : Outcome) (c : AppCall) → wanted_by p ≡ Some c →
+    StandsAt p Stands o → ((spent : ℕ) × Stands spent) × (o ≡ Wants c)
+wants_call p Stands o c e s = subst (λ q. StandsAt q Stands o) (wants_is p c e) s
+
+pub run_wants : {R Site State : Type 0} → (meaning : R → Site → Meaning)
+    (stands : R → Site → State → Told → ℕ → Type 0) (core : CoreView R Site) (lane : ℕ) (run : RunView State)
+    (c : AppCall) → IsRunOf meaning stands core lane run → wanted_by run.progress ≡ Some c →
+    (meaning core.runner core.site).does (told (rules_of meaning core) (past_of core) run.number) ≡ Wants c
+run_wants meaning stands core lane run c is wants =
+    let t = told (rules_of meaning core) (past_of core) run.number in
+    (wants_call run.progress (stands core.runner core.site run.state t) ((meaning core.runner core.site).does t) c wants
+    is.stands_for).1
+
+-- it was told the reply, and is the core's still
+pub run_called : {R Site State : Type 0} → (meaning : R → Site → Meaning)
+    (stands : R → Site → State → Told → ℕ → Type 0) (core : CoreView R Site) (lane : ℕ) (run then_run : RunView State)
+    (next : List Entry) (c : AppCall) (answer : AppReply) → IsRunOf meaning stands core lane run →
+    wanted_by run.progress ≡ Some c → next ≡ core.journal ++ call_entry (past_of core) lane run.number c ∷ [] →
+    answer ≡ (apply (held_by (past_of core)) run.number c).1 → then_run.number ≡ run.number →
+    then_run.stand_ins ≡ run.stand_ins → then_run.progress ≡ progress.Going →
+    ((t : Told) (spent : ℕ) → stands core.runner core.site run.state t spent →
+    stands core.runner core.site then_run.state (heard t answer) spent) →
+    IsRunOf meaning stands (record core { journal = next }) lane then_run
+run_called meaning stands core lane run then_run next c answer is wants made replied number_is ins going heard_so =
+    let rules = rules_of meaning core in
+    let past = past_of core in
+    let entry = call_entry past lane run.number c in
+    let of : reverse next ≡ entry ∷ past = ap reverse made ∙ past_push core.journal entry in
+    let t = told rules past run.number in
+    let stood = (wants_call run.progress (stands core.runner core.site run.state t)
+    ((meaning core.runner core.site).does t) c wants is.stands_for).0 in
+    let heard_is : heard t answer ≡ told rules (entry ∷ past) run.number =
+    ap (heard t) replied ∙ sym (called_told rules past lane run.number c) in
+    let told_so : told rules (entry ∷ past) run.number ≡ told rules (reverse next) then_run.number =
+    ap (λ p. told rules p run.number) (sym of) ∙ ap (told rules (reverse next)) (sym number_is) in
+    let here = subst (λ x. stands core.runner core.site then_run.state x stood.0) (heard_is ∙ told_so)
+    (heard_so t stood.0 stood.1) in
+    record {
+      running = rw (of, number_is) (record { unfinished = is.running.unfinished; begun_by = is.running.begun_by });
+      stands_for = subst (λ p. StandsAt p
+          (stands core.runner core.site then_run.state (told rules (reverse next) then_run.number))
+          ((meaning core.runner core.site).does (told rules (reverse next) then_run.number))) (sym going)
+          (stood.0, here);
+      stand_ins_are = rw (of, number_is) (ins ∙ is.stand_ins_are);
+    }
+
+-- ---- a call that does not fit
+
+-- a call that has no room now has not fitted
+not_fit_now : (past : List Entry) (lane run : ℕ) (c : AppCall) → HasNoRoom past lane run c → HasNotFit past lane run c
+not_fit_now [] lane run c h = h
+not_fit_now (entry ∷ past) lane run c h = inl h
+
+too_much : (past : List Entry) (entries weight : ℕ) → IsTooMuch past entries weight →
+    (MOST_ENTRIES < load past) ⊎ (MOST_WEIGHT < weight_load past)
+too_much past entries weight is = elim is.much [
+  | inl many ↦ (let same = is.entries_are in inl (omega arith))
+  | inr heavy ↦ (let same = is.weight_is in inr (omega arith))
+]
+
+pub not_fit : (m : Rules) (past : List Entry) (table : List (Option SessionState)) (count : ℕ) (held : AppState)
+    (answers : List (ℕ × Answer)) (lane run entries weight : ℕ) (c : AppCall) →
+    IsKept m past table count held answers → blocker_of held run c ≡ None →
+    IsTooMuch (with_lane lane (App run c (apply held run c).1) ∷ past) entries weight →
+    IsTooMuch (call_entry past lane run c ∷ past) entries weight × HasNotFit past lane run c
+not_fit m past table count held answers lane run entries weight c kept free much =
+    let here : IsTooMuch (call_entry past lane run c ∷ past) entries weight =
+    subst (λ h. IsTooMuch (with_lane lane (App run c (apply h run c).1) ∷ past) entries weight) kept.held_is much in (
+      here,
+      not_fit_now past lane run c (record {
+        free = ap (λ h. blocker_of h run c) (sym kept.held_is) ∙ free;
+        overfull = too_much (call_entry past lane run c ∷ past) entries weight here;
+      }),
+    )

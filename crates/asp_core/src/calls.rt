@@ -1,0 +1,244 @@
+//! The call of the core that makes a run's call of the Application object.
+#![tactic(auto)]
+
+ghost use Rattle.std.specs.Prelude.{◌≡◌, ◌↔◌, ◌+◌, ◌*◌, ◌-◌, ◌^◌, ◌<◌, ◌≤◌, ◌∷◌, ◌++◌, ℕ, min, reverse, length};
+ghost use Rattle.std.specs.Prelude.{false, true};
+ghost use Rattle.std.specs.Prelude.{Some, None, Err, IsSome, IfOk, OnOk, OnErr, vec_capacity};
+ghost use Rattle.asp_job.specs.Application as object;
+ghost use Rattle.asp_job.specs.Calls.{IsAppCall, IsReply};
+ghost use Rattle.asp_job.specs.History as history;
+ghost use Rattle.asp_job.specs.Journal as journals;
+ghost use Rattle.asp_core.specs.Calling as spec;
+ghost use Rattle.asp_core.specs.Kernel as kernel;
+ghost use Rattle.asp_core.specs.Stops as stops;
+
+use crate::kernel::Core;
+use crate::keys::{load, unfinished, weight_load};
+use crate::run::{Progress, Run};
+use crate::stop::{AppStepStop, EventStop, app_stop};
+use crate::weighing::{call_weight, reply_weight};
+use asp_app::Application;
+use asp_job::{Answer, Entry, MOST_ENTRIES, MOST_WEIGHT, Runner, What, copy_reply};
+use vb_value::{AppCall, AppReply};
+
+/// Makes room for the entry of a call and for all that is to come for sure, if the entry fits.
+#[tactic(auto, using(crate::proofs::Past::length_past, crate::proofs::Past::halts_few))]
+fn room_for_call(
+    journal: &mut Vec<Entry>,
+    answers: &[(u32, Answer)],
+    lane: u32,
+    run: u32,
+    call: &AppCall,
+    reply: &AppReply,
+) -> Result<(), EventStop>
+    ensures items { journal.new.items ≡ journal.old.items }
+    ensures capacity { vec_capacity journal.old ≤ vec_capacity journal.new }
+    ensures within { OnOk result (kernel.IsWithin
+        (history.with_lane lane (What.App run call.now reply.now) ∷ reverse journal.old.items)) }
+    ensures room { OnOk result (kernel.HasRoom
+        (history.with_lane lane (What.App run call.now reply.now) ∷ reverse journal.old.items)
+        (length answers.now) (vec_capacity journal.new)) }
+    ensures full { (entries weight : ℕ) → result ≡ Err (EventStop.JournalFull entries weight) → kernel.IsTooMuch
+        (history.with_lane lane (What.App run call.now reply.now) ∷ reverse journal.old.items) entries weight }
+{
+    let entries = load(journal.as_slice()) + 1;
+    let weight = weight_load(journal.as_slice())
+        .saturating_add(call_weight(call))
+        .saturating_add(reply_weight(reply))
+        .saturating_add(64);
+    if entries > MOST_ENTRIES || weight > MOST_WEIGHT {
+        return Err(EventStop::JournalFull { entries, weight });
+    }
+    let open = unfinished(journal.as_slice()) as usize;
+    if journal.reserve(2 * open + 3 + answers.len()).is_err() {
+        return Err(EventStop::Memory);
+    }
+    Ok(())
+}
+
+fn is_read(call: &AppCall) -> bool
+    ensures { result ≡ spec.is_read call.now }
+{
+    matches!(
+        call,
+        AppCall::Get(_) | AppCall::Count | AppCall::KeyAt(_) | AppCall::Names
+    )
+}
+
+fn short_copy(reply: &AppReply) -> AppReply
+    requires { spec.IsShort reply.now }
+    ensures { result ≡ reply.now }
+{
+    match reply {
+        AppReply::Done => AppReply::Done,
+        AppReply::Full => AppReply::Full,
+        _ => unreachable!(),
+    }
+}
+
+/// The reply to a call that reads, twice.
+#[tactic(auto, using(crate::proofs::Calling::of_reads))]
+fn read_reply(
+    journal: &mut Vec<Entry>,
+    answers: &[(u32, Answer)],
+    application: &mut Application,
+    lane: u32,
+    run: u32,
+    call: &AppCall,
+) -> Result<(AppReply, AppReply), EventStop>
+    requires call { IsAppCall call.now }
+    requires read { spec.is_read call.now ≡ true }
+    ensures ok { IfOk result (spec.IsReplied (reverse journal.old.items) lane run call.now
+        application.old application.new (length answers.now) (vec_capacity journal.new)) }
+    ensures items { journal.new.items ≡ journal.old.items }
+    ensures capacity { vec_capacity journal.old ≤ vec_capacity journal.new }
+    ensures err { OnErr result (application.new ≡ application.old) }
+    ensures full { (entries weight : ℕ) → result ≡ Err (EventStop.JournalFull entries weight) → kernel.IsTooMuch
+        (history.with_lane lane (What.App run call.now (object.apply application.old run call.now).1)
+        ∷ reverse journal.old.items) entries weight }
+{
+    let reply = match application.call(run, call) {
+        Ok(reply) => reply,
+        Err(_) => return Err(EventStop::Memory),
+    };
+    room_for_call(journal, answers, lane, run, call, &reply)?;
+    match copy_reply(*journal.allocator(), &reply) {
+        Ok(copy) => Ok((reply, copy)),
+        Err(_) => Err(EventStop::Memory),
+    }
+}
+
+/// The reply to a call that writes, twice.
+#[tactic(auto, using(crate::proofs::Calling::of_writes))]
+fn write_reply(
+    journal: &mut Vec<Entry>,
+    answers: &[(u32, Answer)],
+    application: &mut Application,
+    lane: u32,
+    run: u32,
+    call: &AppCall,
+) -> Result<(AppReply, AppReply), EventStop>
+    requires call { IsAppCall call.now }
+    requires write { spec.is_read call.now ≡ false }
+    requires free { object.blocker_of application.old run call.now ≡ None }
+    ensures ok { IfOk result (spec.IsReplied (reverse journal.old.items) lane run call.now
+        application.old application.new (length answers.now) (vec_capacity journal.new)) }
+    ensures items { journal.new.items ≡ journal.old.items }
+    ensures capacity { vec_capacity journal.old ≤ vec_capacity journal.new }
+    ensures err { OnErr result (application.new ≡ application.old) }
+    ensures full { (entries weight : ℕ) → result ≡ Err (EventStop.JournalFull entries weight) → kernel.IsTooMuch
+        (history.with_lane lane (What.App run call.now (object.apply application.old run call.now).1)
+        ∷ reverse journal.old.items) entries weight }
+{
+    room_for_call(journal, answers, lane, run, call, &AppReply::Done)?;
+    match application.call(run, call) {
+        Ok(reply) => {
+            let copy = short_copy(&reply);
+            Ok((reply, copy))
+        }
+        Err(_) => Err(EventStop::Memory),
+    }
+}
+
+/// The reply to a call that the lock lets through, twice.
+fn replies_to(
+    journal: &mut Vec<Entry>,
+    answers: &[(u32, Answer)],
+    application: &mut Application,
+    lane: u32,
+    run: u32,
+    call: &AppCall,
+) -> Result<(AppReply, AppReply), EventStop>
+    requires call { IsAppCall call.now }
+    requires free { object.blocker_of application.old run call.now ≡ None }
+    ensures ok { IfOk result (spec.IsReplied (reverse journal.old.items) lane run call.now
+        application.old application.new (length answers.now) (vec_capacity journal.new)) }
+    ensures items { journal.new.items ≡ journal.old.items }
+    ensures capacity { vec_capacity journal.old ≤ vec_capacity journal.new }
+    ensures err { OnErr result (application.new ≡ application.old) }
+    ensures full { (entries weight : ℕ) → result ≡ Err (EventStop.JournalFull entries weight) → kernel.IsTooMuch
+        (history.with_lane lane (What.App run call.now (object.apply application.old run call.now).1)
+        ∷ reverse journal.old.items) entries weight }
+{
+    if is_read(call) {
+        read_reply(journal, answers, application, lane, run, call)
+    } else {
+        write_reply(journal, answers, application, lane, run, call)
+    }
+}
+
+/// The journal, the Application object and the run after the call that the run wants. A refusal leaves them.
+fn make_call<R: Runner>(
+    runner: &R,
+    journal: &mut Vec<Entry>,
+    answers: &[(u32, Answer)],
+    application: &mut Application,
+    lane: u32,
+    run: &mut Run<R>,
+) -> Result<(), AppStepStop>
+    requires { IsSome (kernel.wanted_by run.old.progress) }
+    ensures ok { OnOk result (spec.HasCalled (R.stands runner.now) lane journal.old.items application.old
+        (length answers.now) run.old journal.new.items application.new (vec_capacity journal.new) run.new) }
+    ensures err { OnErr result ((journal.new.items ≡ journal.old.items) × (application.new ≡ application.old)
+        × (run.new ≡ run.old)) }
+    ensures capacity { vec_capacity journal.old ≤ vec_capacity journal.new }
+    ensures blocked { (holder : ℕ) → result ≡ Err (AppStepStop.Blocked holder) ↔
+        (spec.blocker_by application.old run.old ≡ Some holder) }
+    ensures full { (entries weight : ℕ) → result ≡ Err (AppStepStop.JournalFull entries weight) →
+        spec.IsCallTooMuch (reverse journal.old.items) lane application.old run.old entries weight }
+{
+    let number = run.number();
+    let Some(call) = run.wanted() else {
+        unreachable!()
+    };
+    if let Some(holder) = application.blocker(number, call) {
+        return Err(AppStepStop::Blocked { holder });
+    }
+    let (reply, copy) = match replies_to(journal, answers, application, lane, number, call) {
+        Ok(replies) => replies,
+        Err(stop) => return Err(app_stop(stop)),
+    };
+    let Some(call) = run.take_reply(runner, copy) else {
+        unreachable!()
+    };
+    journal.push_reserved(Entry {
+        lane,
+        what: What::App {
+            run: number,
+            call,
+            reply,
+        },
+    });
+    Ok(())
+}
+
+impl<R: Runner> Core<R> {
+    /// Makes the call that the run wants, and gives the run the reply. A refusal leaves the core and the run as they
+    /// were.
+    pub fn app_step(&mut self, lane: u32, runner: &R, run: &mut Run<R>) -> Result<(), AppStepStop>
+        requires host { runner.now ≡ self.old.runner }
+        requires run { kernel.IsRunOf R.meaning R.stands self.old lane run.old }
+        requires wants { IsSome (kernel.wanted_by run.old.progress) }
+        ensures ok { OnOk result (self.new ≡ kernel.grown self.old (kernel.called self.old lane run.old)) }
+        ensures run { OnOk result (kernel.IsRunOf R.meaning R.stands self.new lane run.new) }
+        ensures going { OnOk result ((run.new.number ≡ run.old.number) × (run.new.progress ≡ Progress.Going)) }
+        ensures free { OnOk result (kernel.blocker self.old run.old ≡ None) }
+        ensures blocked { (holder : ℕ) → result ≡ Err (AppStepStop.Blocked holder) ↔
+            (kernel.blocker self.old run.old ≡ Some holder) }
+        ensures full { (entries weight : ℕ) → result ≡ Err (AppStepStop.JournalFull entries weight) →
+            kernel.IsTooMuch (journals.past_after (kernel.past_of self.old) (kernel.called self.old lane run.old))
+            entries weight }
+        ensures not_fit { (entries weight : ℕ) → result ≡ Err (AppStepStop.JournalFull entries weight) →
+            kernel.HasNotFitFor (kernel.past_of self.old) lane run.old }
+        ensures err { OnErr result ((self.new ≡ self.old) × (run.new ≡ run.old)) }
+    {
+        make_call(
+            runner,
+            &mut self.journal,
+            self.answers.as_slice(),
+            &mut self.application,
+            lane,
+            run,
+        )
+    }
+}
