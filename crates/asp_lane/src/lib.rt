@@ -1,6 +1,6 @@
-//! One lane of a host: it begins a run, takes it from call to call, and ends it.
+//! One lane of a host, where no other lane has a run: it begins a run, takes it from call to call, and ends it.
 #![tactic(auto)]
 
 mod turn;
 
-pub use turn::{Hand, Turn, turn};
+pub use turn::{Hand, QUANTUM, Turn, turn};

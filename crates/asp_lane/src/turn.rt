@@ -1,19 +1,20 @@
 //! The turns of a lane.
 #![tactic(auto)]
 
-ghost use Rattle.std.specs.Prelude.{◌≡◌, ℕ, [], length, IfSome};
-ghost use Rattle.asp_core.specs.Kernel as kernel;
+ghost use Rattle.std.specs.Prelude.{◌≡◌, [], false, Some, None, IsSome};
+ghost use Rattle.asp_job.specs.Journal as journals;
 ghost use Rattle.asp_job.specs.Runs as runs;
+ghost use Rattle.asp_core.specs.Kernel as kernel;
+ghost use Rattle.asp_core.specs.Ready as waits;
 ghost use Rattle.asp_lane.specs.Turns as spec;
 
-use asp_core::{AppStepStop, BeginStop, Core, Run, holder_is_unfinished};
+use asp_core::{AppStepStop, BeginStop, Core, Run};
 use asp_job::{EndKind, Runner, Step};
 
 /// How many ticks a run spends in a turn, at most.
 pub const QUANTUM: u32 = 10_000;
 
 /// What a lane has in hand.
-#[derive(Drop)]
 pub enum Hand<R: Runner> {
     /// Room for a run.
     Free(R::Store),
@@ -50,8 +51,9 @@ fn begin<R: Runner>(
     store: R::Store,
 ) -> (Hand<R>, Turn)
     requires host { kernel.IsHostOf core.old runner.now site.now }
+    requires valid { journals.AreRight (kernel.rules_of R.meaning core.old) (kernel.past_of core.old) }
     requires free { runs.unfinished (kernel.past_of core.old) ≡ [] }
-    ensures { spec.IsTurn R.meaning R.stands core.old core.new lane result.0 result.1 }
+    ensures { spec.IsTurn R.meaning R.stands lane core.old None core.new (spec.run_in result.0) result.1 }
 {
     match core.begin(lane, runner, site, store) {
         Ok(run) => (Hand::Runs(run), Turn::Done),
@@ -66,9 +68,10 @@ fn begin<R: Runner>(
 /// Makes the call that a run wants, or ends the run where there is no room or memory for it.
 fn call<R: Runner>(core: &mut Core<R>, runner: &R, lane: u32, mut run: Run<R>) -> (Hand<R>, Turn)
     requires host { runner.now ≡ core.old.runner }
+    requires valid { journals.AreRight (kernel.rules_of R.meaning core.old) (kernel.past_of core.old) }
     requires hand { spec.IsAlone R.meaning R.stands core.old lane run }
-    requires wants { spec.Wants run }
-    ensures { spec.IsTurn R.meaning R.stands core.old core.new lane result.0 result.1 }
+    requires wants { IsSome (kernel.wanted_by run.progress) }
+    ensures { spec.IsTurn R.meaning R.stands lane core.old (Some run) core.new (spec.run_in result.0) result.1 }
 {
     match core.app_step(lane, runner, &mut run) {
         Ok(()) => (Hand::Runs(run), Turn::Done),
@@ -93,20 +96,21 @@ fn go<R: Runner>(
     mut run: Run<R>,
 ) -> (Hand<R>, Turn)
     requires host { kernel.IsHostOf core.old runner.now site.now }
-    requires hand { spec.IsInHand R.meaning R.stands core.old lane run }
-    ensures { spec.IsTurn R.meaning R.stands core.old core.new lane result.0 result.1 }
+    requires valid { journals.AreRight (kernel.rules_of R.meaning core.old) (kernel.past_of core.old) }
+    requires hand { spec.Fits R.meaning R.stands core.old lane (Some run) }
+    ensures { spec.IsTurn R.meaning R.stands lane core.old (Some run) core.new (spec.run_in result.0) result.1 }
 {
     match run.go(runner, site, QUANTUM) {
         Ok(Step::More) => (Hand::Runs(run), Turn::More),
         Ok(Step::Wants(_)) => call(core, runner, lane, run),
-        Ok(Step::Ended) => (
-            Hand::Free(core.end(lane, runner, run, EndKind::Done)),
-            Turn::Done,
-        ),
-        Err(_) => (
-            Hand::Free(core.end(lane, runner, run, EndKind::Memory)),
-            Turn::Done,
-        ),
+        Ok(Step::Ended) => {
+            let store = core.end(lane, runner, run, EndKind::Done);
+            (Hand::Free(store), Turn::Done)
+        }
+        Err(_) => {
+            let store = core.end(lane, runner, run, EndKind::Memory);
+            (Hand::Free(store), Turn::Done)
+        }
     }
 }
 
@@ -120,9 +124,17 @@ pub fn turn<R: Runner>(
     hand: Hand<R>,
 ) -> (Hand<R>, Turn)
     requires host { kernel.IsHostOf core.old runner.now site.now }
-    requires hand { spec.IsHand R.meaning R.stands core.old lane hand }
-    ensures { spec.IsTurn R.meaning R.stands core.old core.new lane result.0 result.1 }
+    requires hand { spec.Fits R.meaning R.stands core.old lane (spec.run_in hand) }
+    ensures turn { spec.IsTurn R.meaning R.stands lane
+        core.old (spec.run_in hand) core.new (spec.run_in result.0) result.1 }
+
+    // Where it comes to idle with no answer left to hand out and no Halt, no run waits.
+    ensures idle { result.1 ≡ Turn.Idle →
+        waits.ready (kernel.rules_of R.meaning core.new) (kernel.past_of core.new) ≡ [] →
+        runs.is_halted (kernel.past_of core.new) ≡ false → runs.waiting (kernel.past_of core.new) ≡ [] }
 {
+    // The journal is valid.
+    let _ = core.journal();
     match hand {
         Hand::Free(store) => begin(core, runner, site, lane, store),
         Hand::Runs(run) => go(core, runner, site, lane, run),
