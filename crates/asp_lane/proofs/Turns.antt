@@ -1,6 +1,6 @@
 -- What each turn leaves of a core.
 use Rattle.std.proofs.Common.{◌≡◌, ℕ, List, [], ◌∷◌, ◌++◌, reverse, refl, ap, sym, ◌∙◌, subst, append-nil, inl, inr}
-use Rattle.std.proofs.Common.{Option, Some, None}
+use Rattle.std.proofs.Common.{Option, Some, None, IsSome}
 use Rattle.vb_value.specs.declared.application.AppCall.{AppCall}
 use Rattle.asp_job.specs.declared.entry.EndKind.{EndKind}
 use Rattle.asp_job.specs.declared.entry.EndKind.TheVariants as kind
@@ -9,19 +9,21 @@ use Rattle.asp_job.specs.Application.{blocker_of}
 use Rattle.asp_job.specs.History.{call_entry, held_by}
 use Rattle.asp_job.specs.Journal.{AreRight, MayEnd, begin_entry, end_entry, past_after}
 use Rattle.asp_job.specs.Keys.{told}
-use Rattle.asp_job.specs.Output.{end_of}
+use Rattle.asp_job.specs.Output.{answer_by, counted, finished_in, length_in, made_in, status_in}
 use Rattle.asp_job.specs.Rules.{Rules}
 use Rattle.asp_job.specs.Runs.{unfinished}
 use Rattle.asp_job.specs.Told.{Meaning, Told, Wants}
 use Rattle.asp_job.specs.Turns.{IsBegin, serial_of}
 use Rattle.asp_core.specs.declared.run.Progress.{Progress}
 use Rattle.asp_core.specs.declared.run.Progress.TheVariants as progress
-use Rattle.asp_core.specs.Kernel.{CoreView, RunView, IsRunOf, IsTooMuch, StandsAsBefore, StandsAt, StandsFor, blocker}
-use Rattle.asp_core.specs.Kernel.{called, grown, past_of, rules_of, wanted_by}
+use Rattle.asp_core.specs.declared.stop.BeginStop.{BeginStop}
+use Rattle.asp_core.specs.declared.stop.BeginStop.TheVariants as begin
+use Rattle.asp_core.specs.Kernel.{CoreView, RunView, IsBeginTooMuch, IsIdle, IsRunOf, IsTooMuch, StandsAsBefore, StandsAt}
+use Rattle.asp_core.specs.Kernel.{blocker, called, grown, past_of, rules_of, wanted_by}
 use Rattle.asp_core.proofs.Past.{past_push}
 use Rattle.asp_lane.specs.declared.turn.Turn.{Turn}
 use Rattle.asp_lane.specs.declared.turn.Turn.TheVariants as turn
-use Rattle.asp_lane.specs.Turns.{Adds, Fits, IsAlone, IsCallTooMuch, IsTurn}
+use Rattle.asp_lane.specs.Turns.{Adds, Fits, IsAlone, IsCallTooMuch, IsTurn, turn_of}
 use Rattle.asp_lane.proofs.Unfinished.{begun_alone, ended_none, never_blocked}
 
 -- ---- cores
@@ -35,13 +37,24 @@ past_grown : {R Site : Type 0} → (old new : CoreView R Site) (entry : Entry) �
     → past_of new ≡ entry ∷ past_of old
 past_grown old new entry e = ap past_of e ∙ past_push old.journal entry
 
+-- the entry of the call that a run wants
+one_call : {R Site : Type 0} → (core : CoreView R Site) (lane run : ℕ) (wanted : Option AppCall) (call : AppCall)
+    → wanted ≡ Some call
+    → (elim wanted [ Some made ↦ call_entry (past_of core) lane run made ∷ [] | None ↦ [] ])
+    ≡ call_entry (past_of core) lane run call ∷ []
+one_call core lane run wanted call e = rw e refl
+
 -- ---- what a run wants
 
-wants_is : (progress : Progress) (call : AppCall) → wanted_by progress ≡ Some call → progress ≡ progress.Wants call
+wants_is : (at : Progress) (call : AppCall) → wanted_by at ≡ Some call → at ≡ progress.Wants call
 wants_is progress.Going call e = absurd cc
 wants_is (progress.Wants made) call e = cc
 wants_is progress.Ended call e = absurd cc
 wants_is progress.Dead call e = absurd cc
+
+pub some_is : {A : Type 0} → (o : Option A) → IsSome o → (x : A) × (o ≡ Some x)
+some_is None wants = absurd cc
+some_is (Some x) wants = (x, refl)
 
 module _ {R Site State : Type 0} (meaning : R → Site → Meaning) (stands : R → Site → State → Told → ℕ → Type 0) where
 
@@ -87,13 +100,13 @@ module _ {R Site State : Type 0} (meaning : R → Site → Meaning) (stands : R 
       record {
         entries = entry ∷ [];
         new_is = new_is;
-        adds = (run.number, (begins, refl));
+        adds = (run.number, begins, refl);
         fits = (record { is_of = is_of; alone = alone }, going);
       }
 
   -- nothing was added
   pub none_turn : (lane : ℕ) (old new : CoreView R Site) (turn : Turn) → unfinished (past_of old) ≡ []
-      → new ≡ old → Adds {State} (rules_of meaning old) (past_of old) lane None [] turn
+      → new ≡ old → Adds {State = State} (rules_of meaning old) (past_of old) lane None [] turn
       → IsTurn meaning stands lane old None new None turn
   none_turn lane old new turn none same adds = record {
       entries = [];
@@ -101,6 +114,18 @@ module _ {R Site State : Type 0} (meaning : R → Site → Meaning) (stands : R 
       adds = adds;
       fits = ap (λ core. unfinished (past_of core)) same ∙ none;
     }
+
+  -- no run has begun
+  pub stopped_turn : (lane : ℕ) (old new : CoreView R Site) (stop : BeginStop) → unfinished (past_of old) ≡ []
+      → new ≡ old → (stop ≡ begin.Idle → IsIdle (rules_of meaning old) (past_of old))
+      → ((entries weight : ℕ) → stop ≡ begin.JournalFull entries weight
+      → IsBeginTooMuch (rules_of meaning old) (past_of old) lane entries weight)
+      → IsTurn meaning stands lane old None new None (turn_of stop)
+  stopped_turn lane old new begin.Idle none same idle full =
+      none_turn lane old new turn.Idle none same (idle refl, refl)
+  stopped_turn lane old new (begin.JournalFull entries weight) none same idle full =
+      none_turn lane old new (turn.JournalFull entries weight) none same (full entries weight refl, refl)
+  stopped_turn lane old new begin.Memory none same idle full = none_turn lane old new turn.Memory none same refl
 
   -- ---- turns with a run in hand
 
@@ -141,7 +166,8 @@ module _ {R Site State : Type 0} (meaning : R → Site → Meaning) (stands : R 
       → IsTurn meaning stands lane old (Some run) new (Some then_run) turn.Done
   called_turn lane old new run then_run call alone wanted new_is is_of number going =
       let entry = call_entry (past_of old) lane run.number call in
-      let made : called old lane run ≡ entry ∷ [] = rw wanted refl in
+      let made : called old lane run ≡ entry ∷ [] =
+      one_call old lane run.number (wanted_by run.progress) call wanted in
       let grows : new ≡ grown old (entry ∷ []) = new_is ∙ ap (λ entries. grown old entries) made in
       let past : past_of new ≡ entry ∷ past_of old = past_grown old new entry grows in
       let then_alone : unfinished (past_of new) ≡ then_run.number ∷ [] =
@@ -149,7 +175,7 @@ module _ {R Site State : Type 0} (meaning : R → Site → Meaning) (stands : R 
       record {
         entries = entry ∷ [];
         new_is = grows;
-        adds = (entry, (inl (call, (wants_so old lane run call alone.is_of wanted, refl)), refl));
+        adds = (entry, inl (call, wants_so old lane run call alone.is_of wanted, refl), refl);
         fits = (record { is_of = is_of; alone = then_alone }, going);
       }
 
@@ -164,12 +190,15 @@ module _ {R Site State : Type 0} (meaning : R → Site → Meaning) (stands : R 
       let rules = rules_of meaning old in
       let past = past_of old in
       let entry = end_entry rules past lane run.number kind in
+      let answer = answer_by rules past run.number kind in
+      let does = rules.meaning.does (told rules past run.number) in
       record {
         entries = entry ∷ [];
         new_is = new_is;
         adds = adds;
         fits = ap unfinished (past_grown old new entry new_is)
-        ∙ ended_none rules past lane run.number kind _ _ _ _ right alone.is_of.running.unfinished alone.alone;
+        ∙ ended_none rules past lane run.number kind (status_in answer) (length_in answer)
+        (counted kind (made_in does)) (counted kind (finished_in does)) right alone.is_of.running.unfinished alone.alone;
       }
 
   -- by itself
@@ -180,7 +209,8 @@ module _ {R Site State : Type 0} (meaning : R → Site → Meaning) (stands : R 
       → IsTurn meaning stands lane old (Some run) new None turn.Done
   done_turn lane old new run right alone ended new_is =
       ended_turn lane old new run kind.Done turn.Done right alone new_is
-      (_, (inr (inl (ends_so old lane run alone.is_of ended, refl)), refl))
+      (end_entry (rules_of meaning old) (past_of old) lane run.number kind.Done,
+      inr (inl (ends_so old lane run alone.is_of ended, refl)), refl)
 
   -- for want of memory
   pub dead_turn : (lane : ℕ) (old new : CoreView R Site) (run : RunView State)
@@ -188,7 +218,8 @@ module _ {R Site State : Type 0} (meaning : R → Site → Meaning) (stands : R 
       → new ≡ grown old (end_entry (rules_of meaning old) (past_of old) lane run.number kind.Memory ∷ [])
       → IsTurn meaning stands lane old (Some run) new None turn.Done
   dead_turn lane old new run right alone new_is =
-      ended_turn lane old new run kind.Memory turn.Done right alone new_is (_, (inr (inr refl), refl))
+      ended_turn lane old new run kind.Memory turn.Done right alone new_is
+      (end_entry (rules_of meaning old) (past_of old) lane run.number kind.Memory, inr (inr refl), refl)
 
   -- because its call does not fit
   pub full_turn : (lane : ℕ) (old new : CoreView R Site) (run : RunView State) (call : AppCall) (entries weight : ℕ)
@@ -199,11 +230,12 @@ module _ {R Site State : Type 0} (meaning : R → Site → Meaning) (stands : R 
       → IsTurn meaning stands lane old (Some run) new None (turn.JournalFull entries weight)
   full_turn lane old new run call entries weight right alone wanted much new_is =
       let entry = call_entry (past_of old) lane run.number call in
-      let made : called old lane run ≡ entry ∷ [] = rw wanted refl in
+      let made : called old lane run ≡ entry ∷ [] =
+      one_call old lane run.number (wanted_by run.progress) call wanted in
       let too : IsTooMuch (entry ∷ past_of old) entries weight =
       subst (λ (list : List Entry). IsTooMuch (past_after (past_of old) list) entries weight) made much in
       ended_turn lane old new run kind.JournalFull (turn.JournalFull entries weight) right alone new_is
-      ((call, (wants_so old lane run call alone.is_of wanted, too)), refl)
+      ((call, wants_so old lane run call alone.is_of wanted, too), refl)
 
   -- what a run's turn adds depends on its number alone
   pub same_turn : (lane : ℕ) (old new : CoreView R Site) (run then_run : RunView State)

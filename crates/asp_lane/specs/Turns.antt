@@ -11,6 +11,8 @@ use Rattle.asp_job.specs.Runs.{unfinished}
 use Rattle.asp_job.specs.Told.{Meaning, Told, Wants}
 use Rattle.asp_job.specs.Turns.{IsBegin, serial_of}
 use Rattle.asp_core.specs.declared.run.Progress.TheVariants as progress
+use Rattle.asp_core.specs.declared.stop.BeginStop.{BeginStop}
+use Rattle.asp_core.specs.declared.stop.BeginStop.TheVariants as stop
 use Rattle.asp_core.specs.Kernel.{CoreView, RunView, IsRunOf, IsIdle, IsTooMuch, IsBeginTooMuch, past_of, rules_of}
 use Rattle.asp_core.specs.Kernel.{grown}
 use Rattle.asp_lane.specs.declared.turn.Hand.{Hand}
@@ -39,6 +41,12 @@ Fits meaning stands core lane None = unfinished (past_of core) ≡ []
 Fits meaning stands core lane (Some run) = IsAlone meaning stands core lane run × (run.progress ≡ progress.Going)
 
 -- ---- what a turn adds
+
+-- what a turn comes to where no run begins
+abbrev pub turn_of : BeginStop → Turn
+turn_of stop.Idle = turn.Idle
+turn_of (stop.JournalFull entries weight) = turn.JournalFull entries weight
+turn_of stop.Memory = turn.Memory
 
 -- With the call that the run's meaning wants there would be so many entries of that weight, too many or too heavy.
 abbrev pub IsCallTooMuch : Rules → List Entry → ℕ → ℕ → ℕ → ℕ → Type 0

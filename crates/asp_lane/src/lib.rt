@@ -3,4 +3,4 @@
 
 mod turn;
 
-pub use turn::{Hand, QUANTUM, Turn, turn};
+pub use turn::{Hand, QUANTUM, Turn, take_turn};

@@ -42,6 +42,17 @@ pub enum Turn {
     Memory,
 }
 
+/// What a turn comes to where no run begins.
+fn turn_of(stop: BeginStop) -> Turn
+    ensures { result ≡ spec.turn_of stop }
+{
+    match stop {
+        BeginStop::Idle => Turn::Idle,
+        BeginStop::JournalFull { entries, weight } => Turn::JournalFull { entries, weight },
+        BeginStop::Memory => Turn::Memory,
+    }
+}
+
 /// Begins the next run.
 fn begin<R: Runner>(
     core: &mut Core<R>,
@@ -57,11 +68,7 @@ fn begin<R: Runner>(
 {
     match core.begin(lane, runner, site, store) {
         Ok(run) => (Hand::Runs(run), Turn::Done),
-        Err((store, BeginStop::Idle)) => (Hand::Free(store), Turn::Idle),
-        Err((store, BeginStop::JournalFull { entries, weight })) => {
-            (Hand::Free(store), Turn::JournalFull { entries, weight })
-        }
-        Err((store, BeginStop::Memory)) => (Hand::Free(store), Turn::Memory),
+        Err((store, stop)) => (Hand::Free(store), turn_of(stop)),
     }
 }
 
@@ -116,7 +123,7 @@ fn go<R: Runner>(
 
 /// One turn of a lane, where no other lane has a run: it begins the next run, or takes the run in hand to its next call
 /// or to its end. Where memory runs out for a run that is under way, the run ends so.
-pub fn turn<R: Runner>(
+pub fn take_turn<R: Runner>(
     core: &mut Core<R>,
     runner: &R,
     site: &R::Site,
