@@ -7,7 +7,8 @@ use Rattle.asp_job.specs.declared.entry.Entry.{Entry}
 use Rattle.asp_job.specs.declared.entry.What.{What}
 use Rattle.asp_job.specs.declared.entry.What.TheVariants.{Admit, App, Begin, End, Halt, Queue, Refuse, Stop, Take, Tick}
 
-drawn_more : (past : List Entry) (lane : ℕ) (what : What) → drawn past ≤ entries_in past → drawn (with_lane lane what ∷ past) ≤ entries_in (with_lane lane what ∷ past)
+drawn_more : (past : List Entry) (lane : ℕ) (what : What) → drawn past ≤ entries_in past
+    → drawn (with_lane lane what ∷ past) ≤ entries_in (with_lane lane what ∷ past)
 drawn_more past lane (Queue run work key) h = omega arith
 drawn_more past lane (Admit run key fresh job) h = omega arith
 drawn_more past lane (Refuse run job) h = omega arith
@@ -27,7 +28,8 @@ made_if : (fresh : Bool) (n k : ℕ) → n ≤ k → (if fresh then n + 1 else n
 made_if true n k h = omega arith
 made_if false n k h = omega arith
 
-made_more : (past : List Entry) (lane : ℕ) (what : What) → made past ≤ entries_in past → made (with_lane lane what ∷ past) ≤ entries_in (with_lane lane what ∷ past)
+made_more : (past : List Entry) (lane : ℕ) (what : What) → made past ≤ entries_in past
+    → made (with_lane lane what ∷ past) ≤ entries_in (with_lane lane what ∷ past)
 made_more past lane (Queue run work key) h = omega arith
 made_more past lane (Admit run key fresh job) h = made_if fresh (made past) (entries_in past) h
 made_more past lane (Refuse run job) h = omega arith

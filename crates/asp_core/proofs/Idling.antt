@@ -1,8 +1,7 @@
 -- Where nothing is under way and a run waits, one may begin.
 use Rattle.std.proofs.Common.{◌≡◌, ℕ, zero, suc, ◌+◌, ◌<◌, ◌≤◌, ◌==◌, ◌&&◌, ◌||◌, Bool, true, false, not, nat_lt}
-use Rattle.std.proofs.Common.{filter, drop}
-use Rattle.std.proofs.Common.{if◌then◌else◌, List, [], ◌∷◌, ◌++◌, Some, None, unwrap_or, refl, ap, sym, ◌∙◌}
-use Rattle.std.proofs.Common.{arith, inl, inr}
+use Rattle.std.proofs.Common.{filter, drop, if◌then◌else◌, List, [], ◌∷◌, ◌++◌, Some, None, unwrap_or, refl, ap, sym}
+use Rattle.std.proofs.Common.{◌∙◌, arith, inl, inr}
 use Rattle.std.specs.List.{list_any}
 use Rattle.std.proofs.lemmas.Bool.{cases_Bool, eqb-true, eq-eqb}
 use Rattle.std.proofs.lemmas.List.Elements.{filter-append}

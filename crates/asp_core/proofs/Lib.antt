@@ -25,12 +25,14 @@ pub mod Ending
 pub mod Beginning
 pub mod Telling
 pub mod Once
+pub mod Opened
+pub mod Calling
+pub mod Called
 pub mod Holding
 pub mod Fitting
 pub mod Idling
 pub mod Wanting
 pub mod Ordering
 pub mod Alone
-pub mod Opened
-pub mod Calling
-pub mod Called
+pub mod Grouping
+pub mod Lanes

@@ -1,6 +1,5 @@
 -- Answers are handed out in the order in which they were made, where each hand-out takes the first that waits.
-use Rattle.std.proofs.Common.{◌≡◌, ℕ, true, false, List, [], ◌∷◌, ◌++◌, Option, Some, None, refl, ap}
-use Rattle.std.proofs.Common.{sym, ◌∙◌}
+use Rattle.std.proofs.Common.{◌≡◌, ℕ, true, false, List, [], ◌∷◌, ◌++◌, Option, Some, None, refl, ap, sym, ◌∙◌}
 use Rattle.std.proofs.Common.{append-nil, append_assoc, arith, nat_eq}
 use Rattle.std.specs.Map.{remove_entry}
 use Rattle.asp_job.specs.declared.answer.Answer.{Answer}
@@ -35,7 +34,7 @@ given_more m past lane (Take run) = sym (append-nil (given m past))
 given_more m past lane Stop = sym (append-nil (given m past))
 given_more m past lane Halt = sym (append-nil (given m past))
 
-ready_more : (m : Rules) (past : List Entry) (lane : ℕ) (what : What) → hands_out what ≡ false
+pub ready_more : (m : Rules) (past : List Entry) (lane : ℕ) (what : What) → hands_out what ≡ false
     → ready m (with_lane lane what ∷ past) ≡ ready m past ++ made_by m past what
 ready_more m past lane (Queue run work key) e = sym (append-nil (ready m past))
 ready_more m past lane (Admit run key fresh job) e = sym (append-nil (ready m past))
@@ -56,11 +55,11 @@ both_more m past entry e =
 
 -- ---- a hand-out
 
-first_removed : (run : ℕ) (answer : Answer) (rest : List (ℕ × Answer))
+pub first_removed : (run : ℕ) (answer : Answer) (rest : List (ℕ × Answer))
     → remove_entry (nat_eq run) ((run, answer) ∷ rest) ≡ rest
 first_removed run answer rest = let own : nat_eq run run ≡ true = grind arith in rw own refl
 
-first_found : (run : ℕ) (answer : Answer) (rest : List (ℕ × Answer))
+pub first_found : (run : ℕ) (answer : Answer) (rest : List (ℕ × Answer))
     → answer_among run ((run, answer) ∷ rest) ≡ (run, answer) ∷ []
 first_found run answer rest = let own = own_number run in rw (own, answer_among) refl
 
@@ -75,7 +74,7 @@ hand_out m past lane run answer before rest e f =
     e ∙ ap (λ xs. before ++ xs) f ∙ sym (append_assoc before ((run, answer) ∷ []) rest)
     ∙ ap (λ xs. (before ++ (run, answer) ∷ []) ++ xs) (sym left)
 
-handed_more : (m : Rules) (past : List Entry) (lane : ℕ) (what : What) → hands_out what ≡ false
+pub handed_more : (m : Rules) (past : List Entry) (lane : ℕ) (what : What) → hands_out what ≡ false
     → handed m (with_lane lane what ∷ past) ≡ handed m past
 handed_more m past lane (Queue run work key) e = refl
 handed_more m past lane (Admit run key fresh job) e = refl

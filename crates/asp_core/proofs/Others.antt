@@ -15,7 +15,8 @@ other_number r n l = grind arith
 pub own_number : (n : ℕ) → (n == n) ≡ true
 own_number n = grind arith
 
-pub stage_other : (past : List Entry) (lane r : ℕ) (what : What) → (run_in what == r) ≡ false → stage_of (with_lane lane what ∷ past) r ≡ stage_of past r
+pub stage_other : (past : List Entry) (lane r : ℕ) (what : What) → (run_in what == r) ≡ false
+    → stage_of (with_lane lane what ∷ past) r ≡ stage_of past r
 stage_other past lane r (Queue run work key) e = rw e refl
 stage_other past lane r (Admit run key fresh job) e = rw e refl
 stage_other past lane r (Tick moment) e = refl
@@ -27,7 +28,8 @@ stage_other past lane r (Refuse run job) e = rw e refl
 stage_other past lane r (Take run) e = refl
 stage_other past lane r Halt e = refl
 
-pub job_other : (past : List Entry) (lane r : ℕ) (what : What) → (run_in what == r) ≡ false → job_of (with_lane lane what ∷ past) r ≡ job_of past r
+pub job_other : (past : List Entry) (lane r : ℕ) (what : What) → (run_in what == r) ≡ false
+    → job_of (with_lane lane what ∷ past) r ≡ job_of past r
 job_other past lane r (Queue run work key) e = rw e refl
 job_other past lane r (Admit run key fresh job) e = rw e refl
 job_other past lane r (Tick moment) e = refl
@@ -39,7 +41,8 @@ job_other past lane r (Refuse run job) e = rw e refl
 job_other past lane r (Take run) e = refl
 job_other past lane r Halt e = refl
 
-pub key_other : (past : List Entry) (lane r : ℕ) (what : What) → (run_in what == r) ≡ false → key_of (with_lane lane what ∷ past) r ≡ key_of past r
+pub key_other : (past : List Entry) (lane r : ℕ) (what : What) → (run_in what == r) ≡ false
+    → key_of (with_lane lane what ∷ past) r ≡ key_of past r
 key_other past lane r (Queue run work key) e = rw e refl
 key_other past lane r (Admit run key fresh job) e = rw e refl
 key_other past lane r (Tick moment) e = refl
@@ -51,7 +54,8 @@ key_other past lane r (Refuse run job) e = rw e refl
 key_other past lane r (Take run) e = refl
 key_other past lane r Halt e = refl
 
-pub fresh_other : (past : List Entry) (lane r : ℕ) (what : What) → (run_in what == r) ≡ false → is_fresh (with_lane lane what ∷ past) r ≡ is_fresh past r
+pub fresh_other : (past : List Entry) (lane r : ℕ) (what : What) → (run_in what == r) ≡ false
+    → is_fresh (with_lane lane what ∷ past) r ≡ is_fresh past r
 fresh_other past lane r (Queue run work key) e = rw e refl
 fresh_other past lane r (Admit run key fresh job) e = rw e refl
 fresh_other past lane r (Tick moment) e = refl
@@ -63,14 +67,16 @@ fresh_other past lane r (Refuse run job) e = rw e refl
 fresh_other past lane r (Take run) e = refl
 fresh_other past lane r Halt e = refl
 
-pub draw_other : (past : List Entry) (lane r : ℕ) (what : What) → (run_in what == r) ≡ false → draw_of (with_lane lane what ∷ past) r ≡ draw_of past r
+pub draw_other : (past : List Entry) (lane r : ℕ) (what : What) → (run_in what == r) ≡ false
+    → draw_of (with_lane lane what ∷ past) r ≡ draw_of past r
 draw_other past lane r what e =
     let job : job_of (with_lane lane what ∷ past) r ≡ job_of past r = job_other past lane r what e in
     let key : key_of (with_lane lane what ∷ past) r ≡ key_of past r = key_other past lane r what e in
     let fresh : is_fresh (with_lane lane what ∷ past) r ≡ is_fresh past r = fresh_other past lane r what e in
     cc (job, key, fresh)
 
-pub lane_other : (past : List Entry) (lane r : ℕ) (what : What) → (run_in what == r) ≡ false → lane_of (with_lane lane what ∷ past) r ≡ lane_of past r
+pub lane_other : (past : List Entry) (lane r : ℕ) (what : What) → (run_in what == r) ≡ false
+    → lane_of (with_lane lane what ∷ past) r ≡ lane_of past r
 lane_other past lane r (Queue run work key) e = refl
 lane_other past lane r (Admit run key fresh job) e = refl
 lane_other past lane r (Tick moment) e = refl
@@ -82,7 +88,8 @@ lane_other past lane r (Refuse run job) e = refl
 lane_other past lane r (Take run) e = refl
 lane_other past lane r Halt e = refl
 
-pub replies_other : (past : List Entry) (lane r : ℕ) (what : What) → (run_in what == r) ≡ false → replies_of (with_lane lane what ∷ past) r ≡ replies_of past r
+pub replies_other : (past : List Entry) (lane r : ℕ) (what : What) → (run_in what == r) ≡ false
+    → replies_of (with_lane lane what ∷ past) r ≡ replies_of past r
 replies_other past lane r (Queue run work key) e = append-nil (replies_of past r)
 replies_other past lane r (Admit run key fresh job) e = append-nil (replies_of past r)
 replies_other past lane r (Tick moment) e = append-nil (replies_of past r)
@@ -94,7 +101,8 @@ replies_other past lane r (Refuse run job) e = append-nil (replies_of past r)
 replies_other past lane r (Take run) e = append-nil (replies_of past r)
 replies_other past lane r Halt e = append-nil (replies_of past r)
 
-pub began_other : (m : Rules) (past : List Entry) (lane r : ℕ) (what : What) → (run_in what == r) ≡ false → began_with m (with_lane lane what ∷ past) r ≡ began_with m past r
+pub began_other : (m : Rules) (past : List Entry) (lane r : ℕ) (what : What) → (run_in what == r) ≡ false
+    → began_with m (with_lane lane what ∷ past) r ≡ began_with m past r
 began_other m past lane r (Queue run work key) e = refl
 began_other m past lane r (Admit run key fresh job) e = refl
 began_other m past lane r (Tick moment) e = refl
@@ -106,10 +114,17 @@ began_other m past lane r (Refuse run job) e = refl
 began_other m past lane r (Take run) e = refl
 began_other m past lane r Halt e = refl
 
-pub told_other : (m : Rules) (past : List Entry) (lane r : ℕ) (what : What) → (run_in what == r) ≡ false → told m (with_lane lane what ∷ past) r ≡ told m past r
+pub told_other : (m : Rules) (past : List Entry) (lane r : ℕ) (what : What) → (run_in what == r) ≡ false
+    → told m (with_lane lane what ∷ past) r ≡ told m past r
 told_other m past lane r what e =
     let new = with_lane lane what ∷ past in
     let draw : draw_of new r ≡ draw_of past r = draw_other past lane r what e in
     let began : began_with m new r ≡ began_with m past r = began_other m past lane r what e in
     let replies : replies_of new r ≡ replies_of past r = replies_other past lane r what e in
-    cc (ap (λ d. d.job) draw, ap (λ d. letters_of m d) draw, ap (λ b. b.session) began, ap (λ b. b.is_new) began, replies)
+    cc (
+      ap (λ d. d.job) draw,
+      ap (λ d. letters_of m d) draw,
+      ap (λ b. b.session) began,
+      ap (λ b. b.is_new) began,
+      replies,
+    )

@@ -1,5 +1,6 @@
 -- A past that grows by one entry.
-use Rattle.std.proofs.Common.{◌≡◌, ℕ, ◌+◌, ◌<◌, ◌≤◌, Bool, true, false, if◌then◌else◌, arith, List, [], ◌∷◌, ◌++◌, length, get_or, take, reverse, refl, ap, ◌∙◌, Option, Some, None, unwrap_or, sum_by}
+use Rattle.std.proofs.Common.{◌≡◌, ℕ, ◌+◌, ◌<◌, ◌≤◌, Bool, true, false, if◌then◌else◌, arith, List, [], ◌∷◌, ◌++◌}
+use Rattle.std.proofs.Common.{length, get_or, take, reverse, refl, ap, ◌∙◌, Option, Some, None, unwrap_or, sum_by}
 use Rattle.std.proofs.lemmas.List.{reverse-append, take_more, length-reverse}
 use Rattle.std.proofs.lemmas.List.Sums.{sum_by_push}
 use Rattle.std.proofs.Math.Seq.{take-append_seam}
@@ -12,7 +13,8 @@ use Rattle.asp_job.specs.declared.entry.Entry.{Entry}
 use Rattle.asp_job.specs.Runs.{is_halted}
 
 -- the past of one entry more
-pub past_more : {A : Type 0} → (xs : List A) (i : ℕ) (d : A) → i < length xs → (get_or xs i d ≡ get_or xs i d) × (reverse (take (i + 1) xs) ≡ get_or xs i d ∷ reverse (take i xs))
+pub past_more : {A : Type 0} → (xs : List A) (i : ℕ) (d : A) → i < length xs → (get_or xs i d ≡ get_or xs i d)
+    × (reverse (take (i + 1) xs) ≡ get_or xs i d ∷ reverse (take i xs))
 past_more xs i d h = (refl, ap reverse (take_more xs i d h) ∙ reverse-append (take i xs) (get_or xs i d ∷ []))
 
 pub past_push : {A : Type 0} → (xs : List A) (x : A) → reverse (xs ++ x ∷ []) ≡ x ∷ reverse xs
@@ -25,16 +27,19 @@ pub length_past : {A : Type 0} → (xs : List A) → length (reverse xs) ≡ len
 length_past xs = length-reverse xs
 
 -- what is told of the job that is found
-pub page_more : (found : Option Job) (before : Job) → is_page (unwrap_or found before).work ≡ unwrap_or (option_map (λ job. is_page job.work) found) (is_page before.work)
+pub page_more : (found : Option Job) (before : Job) → is_page (unwrap_or found before).work
+    ≡ unwrap_or (option_map (λ job. is_page job.work) found) (is_page before.work)
 page_more None before = refl
 page_more (Some job) before = refl
 
-pub last_more : (found : Option Job) (before : Job) → is_last_work (unwrap_or found before).work ≡ unwrap_or (option_map (λ job. is_last_work job.work) found) (is_last_work before.work)
+pub last_more : (found : Option Job) (before : Job) → is_last_work (unwrap_or found before).work
+    ≡ unwrap_or (option_map (λ job. is_last_work job.work) found) (is_last_work before.work)
 last_more None before = refl
 last_more (Some job) before = refl
 
 -- the sum of one item more
-pub sum_more : {A : Type 0} → (f : A → ℕ) (xs : List A) (i : ℕ) (d : A) → i < length xs → sum_by f (take (i + 1) xs) ≡ sum_by f (take i xs) + f (get_or xs i d)
+pub sum_more : {A : Type 0} → (f : A → ℕ) (xs : List A) (i : ℕ) (d : A) → i < length xs → sum_by f (take (i + 1) xs)
+    ≡ sum_by f (take i xs) + f (get_or xs i d)
 sum_more f xs i d h = ap (sum_by f) (take_more xs i d h) ∙ sum_by_push f (take i xs) (get_or xs i d)
 
 one_at_most : (b : Bool) → (if b then 0 else 1) ≤ 1

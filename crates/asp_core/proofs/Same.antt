@@ -1,5 +1,6 @@
 -- What is kept after an event that may have been refused.
-use Rattle.std.proofs.Common.{◌≡◌, ℕ, ◌+◌, ◌≤◌, List, reverse, length, Option, Result, Ok, Err, IfOk, OnOk, OnErr, arith}
+use Rattle.std.proofs.Common.{◌≡◌, ℕ, ◌+◌, ◌≤◌, List, reverse, length, Option, Result, Ok, Err, IfOk, OnOk, OnErr}
+use Rattle.std.proofs.Common.{arith}
 use Rattle.asp_job.specs.declared.answer.Answer.{Answer}
 use Rattle.asp_job.specs.declared.entry.Entry.{Entry}
 use Rattle.asp_job.specs.declared.session.SessionState.{SessionState}
@@ -8,12 +9,23 @@ use Rattle.asp_job.specs.Rules.{Rules}
 use Rattle.asp_core.specs.Kernel.{CoreView, IsKept, IsWithin, HasRoom, HasAnswerRoom}
 
 -- all of it, in a journal and a list of answers with as much room or more
-pub kept_either : {T E : Type 0} → (result : Result T E) (m : Rules) (journal next : List Entry) (table : List (Option SessionState)) (count : ℕ) (held : AppState) (answers then_answers : List (ℕ × Answer)) (old new old_of new_of : ℕ) → IsKept m (reverse journal) table count held answers → IsWithin (reverse journal) → HasRoom (reverse journal) (length answers) old → HasAnswerRoom (reverse journal) (length answers) old_of → OnOk result (IsKept m (reverse next) table count held answers) → OnOk result (IsWithin (reverse next)) → OnOk result (HasRoom (reverse next) (length answers + 1) new) → OnOk result (HasAnswerRoom (reverse next) (length answers + 1) new_of) → OnErr result (next ≡ journal) → old ≤ new → old_of ≤ new_of → then_answers ≡ answers → IsKept m (reverse next) table count held then_answers × IsWithin (reverse next) × HasRoom (reverse next) (length then_answers) new × HasAnswerRoom (reverse next) (length then_answers) new_of
-kept_either (Ok done) m journal next table count held answers then_answers old new old_of new_of kept within room room_of then_kept then_within then_room then_room_of same more more_of still =
+pub kept_either : {T E : Type 0} → (result : Result T E) (m : Rules) (journal next : List Entry)
+    (table : List (Option SessionState)) (count : ℕ) (held : AppState) (answers then_answers : List (ℕ × Answer))
+    (old new old_of new_of : ℕ) → IsKept m (reverse journal) table count held answers → IsWithin (reverse journal)
+    → HasRoom (reverse journal) (length answers) old → HasAnswerRoom (reverse journal) (length answers) old_of
+    → OnOk result (IsKept m (reverse next) table count held answers) → OnOk result (IsWithin (reverse next))
+    → OnOk result (HasRoom (reverse next) (length answers + 1) new)
+    → OnOk result (HasAnswerRoom (reverse next) (length answers + 1) new_of) → OnErr result (next ≡ journal) → old ≤ new
+    → old_of ≤ new_of → then_answers ≡ answers → IsKept m (reverse next) table count held then_answers
+    × IsWithin (reverse next) × HasRoom (reverse next) (length then_answers) new × HasAnswerRoom (reverse next)
+    (length then_answers) new_of
+kept_either (Ok done) m journal next table count held answers then_answers old new old_of new_of kept within room
+    room_of then_kept then_within then_room then_room_of same more more_of still =
     let has : HasRoom (reverse next) (length answers) new = omega arith in
     let has_of : HasAnswerRoom (reverse next) (length answers) new_of = omega arith in
     rw still (then_kept, then_within, has, has_of)
-kept_either (Err stop) m journal next table count held answers then_answers old new old_of new_of kept within room room_of then_kept then_within then_room then_room_of same more more_of still =
+kept_either (Err stop) m journal next table count held answers then_answers old new old_of new_of kept within room
+    room_of then_kept then_within then_room then_room_of same more more_of still =
     let has : HasRoom (reverse journal) (length answers) new = omega arith in
     let has_of : HasAnswerRoom (reverse journal) (length answers) new_of = omega arith in
     rw (same, still) (kept, within, has, has_of)
@@ -28,6 +40,7 @@ abbrev pub view_of : {R Site : Type 0} → R → Site → List ℕ → List Entr
 view_of runner site seed journal = record { journal = journal; runner = runner; site = site; seed = seed }
 
 -- a fact of what was given becomes another
-pub on_each : {T E : Type 0} → (result : Result T E) (P Q : T → Type 0) → ((x : T) → P x → Q x) → IfOk result P → IfOk result Q
+pub on_each : {T E : Type 0} → (result : Result T E) (P Q : T → Type 0) → ((x : T) → P x → Q x) → IfOk result P
+    → IfOk result Q
 on_each (Ok given) P Q f p = f given p
 on_each (Err stop) P Q f p = tt

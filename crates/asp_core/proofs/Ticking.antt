@@ -1,5 +1,7 @@
 -- How many entries a Tick adds, with the runs that are then owed.
-use Rattle.std.proofs.Common.{◌≡◌, ℕ, zero, suc, ◌+◌, ◌-◌, ◌≤◌, Bool, true, false, if◌then◌else◌, List, [], ◌∷◌, ◌++◌, length, reverse, filter, Option, Result, Ok, Err, OnOk, append_assoc, ap, ◌∙◌, refl, sym, arith, length-append, nat_lt, subst}
+use Rattle.std.proofs.Common.{◌≡◌, ℕ, zero, suc, ◌+◌, ◌-◌, ◌≤◌, Bool, true, false, if◌then◌else◌, List, [], ◌∷◌, ◌++◌}
+use Rattle.std.proofs.Common.{length, reverse, filter, Option, Result, Ok, Err, OnOk, append_assoc, ap, ◌∙◌, refl, sym}
+use Rattle.std.proofs.Common.{arith, length-append, nat_lt, subst}
 use Rattle.asp_core.specs.Drawing.{drawn_by, drawn_then, entries_by, tick_before}
 use Rattle.asp_core.specs.Kernel.{expired_by, ticked}
 use Rattle.asp_job.specs.History.{counts, entries_in, with_lane}
@@ -12,7 +14,6 @@ use Rattle.asp_job.specs.declared.entry.Entry.{Entry}
 use Rattle.asp_job.specs.declared.entry.TheConstants.{MOST_ENTRIES}
 use Rattle.asp_job.specs.declared.entry.What.TheVariants.{Tick}
 use Rattle.asp_job.specs.declared.job.Job.{Job}
-use Rattle.asp_job.specs.declared.job.Work.{Work}
 use Rattle.asp_job.specs.declared.session.SessionState.{SessionState}
 use Rattle.asp_core.proofs.Bounds.{made_small}
 use Rattle.vb_value.specs.Outcome.{Changes}
@@ -33,7 +34,8 @@ queue_length : (lane run : ℕ) (keys : List ℕ) → length (queue_entries lane
 queue_length lane run [] = refl
 queue_length lane run (k ∷ keys) = ap suc (queue_length lane (run + 1) keys)
 
-kept_or_not : (b : Bool) (x : ℕ) (xs ys : List ℕ) → length xs ≤ length ys → length (if b then x ∷ xs else xs) ≤ length ys + 1
+kept_or_not : (b : Bool) (x : ℕ) (xs ys : List ℕ) → length xs ≤ length ys → length (if b then x ∷ xs else xs) ≤ length
+    ys + 1
 kept_or_not true x xs ys h = omega arith
 kept_or_not false x xs ys h = omega arith
 
@@ -52,7 +54,8 @@ due_if : (b : Bool) (keys : List ℕ) (n : ℕ) → length keys ≤ n → length
 due_if true keys n h = omega arith
 due_if false keys n h = h
 
-due_length : (sessions : ℕ → Option SessionState) (past : List Entry) (moment : ℕ) → length (due_at sessions past moment) ≤ made past
+due_length : (sessions : ℕ → Option SessionState) (past : List Entry) (moment : ℕ)
+    → length (due_at sessions past moment) ≤ made past
 due_length sessions past moment =
     let all = filter_length (is_due_key sessions past moment) (numbers (made past)) in
     let size = numbers_length (made past) in
@@ -62,13 +65,16 @@ ticked_if : (b : Bool) (entries : List Entry) (n : ℕ) → length entries ≤ n
 ticked_if true entries n h = h
 ticked_if false entries n h = omega arith
 
-pub tick_length : (sessions : ℕ → Option SessionState) (past : List Entry) (lane moment : ℕ) → length (ticked sessions past lane moment) ≤ entries_in past + 1
+pub tick_length : (sessions : ℕ → Option SessionState) (past : List Entry) (lane moment : ℕ)
+    → length (ticked sessions past lane moment) ≤ entries_in past + 1
 tick_length sessions past lane moment =
     let queued = queue_entries lane (drawn past + 1) (closing_runs (due_at sessions past moment)) in
-    let size : length queued ≡ length (due_at sessions past moment) = queue_length lane (drawn past + 1) (due_at sessions past moment) in
+    let size : length queued ≡ length (due_at sessions past moment) = queue_length lane (drawn past + 1)
+    (due_at sessions past moment) in
     let due = due_length sessions past moment in
     let few = made_small past in
-    ticked_if (nat_lt (moment_of past) moment) (with_lane lane (Tick moment) ∷ queued) (entries_in past + 1) (omega arith)
+    ticked_if (nat_lt (moment_of past) moment) (with_lane lane (Tick moment) ∷ queued) (entries_in past + 1)
+    (omega arith)
 
 counted_if : (b : Bool) (first : Entry) (queued : List Entry) (keys : List ℕ) → length queued ≡ length keys
     → length (if b then first ∷ queued else []) - 1 ≡ (if b then length keys else 0)
@@ -84,7 +90,9 @@ expired_is sessions past lane moment =
     (queue_entries lane (drawn past + 1) (closing_runs keys)) keys (queue_length lane (drawn past + 1) keys)
 
 -- after the Tick of a job
-pub few_after_tick : (sessions : ℕ → Option SessionState) (journal next : List Entry) (lane moment : ℕ) → next ≡ journal ++ ticked sessions (reverse journal) lane moment → entries_in (reverse journal) ≤ MOST_ENTRIES → entries_in (reverse next) ≤ MOST_ENTRIES + MOST_ENTRIES + 1
+pub few_after_tick : (sessions : ℕ → Option SessionState) (journal next : List Entry) (lane moment : ℕ)
+    → next ≡ journal ++ ticked sessions (reverse journal) lane moment → entries_in (reverse journal) ≤ MOST_ENTRIES
+    → entries_in (reverse next) ≤ MOST_ENTRIES + MOST_ENTRIES + 1
 few_after_tick sessions journal next lane moment e few =
     let past = reverse journal in
     let entries = ticked sessions past lane moment in
@@ -95,14 +103,21 @@ few_after_tick sessions journal next lane moment e few =
     subst (λ p. entries_in p ≤ MOST_ENTRIES + MOST_ENTRIES + 1) (sym whole) all
 
 -- the entry after the Tick is that of the job
-pub then_drawn : (rules : Rules) (sessions : ℕ → Option SessionState) (journal next : List Entry) (lane : ℕ) (job : Job) → next ≡ journal ++ tick_before sessions (reverse journal) lane job → drawn_by rules sessions (reverse next) lane job ≡ drawn_then rules sessions (reverse journal) lane job
+pub then_drawn : (rules : Rules) (sessions : ℕ → Option SessionState) (journal next : List Entry) (lane : ℕ) (job : Job)
+    → next ≡ journal ++ tick_before sessions (reverse journal) lane job → drawn_by rules sessions (reverse next) lane
+    job ≡ drawn_then rules sessions (reverse journal) lane job
 then_drawn rules sessions journal next lane job e =
-    ap (λ p. drawn_by rules sessions p lane job) (ap reverse e ∙ past_of_more journal (tick_before sessions (reverse journal) lane job))
+    ap (λ p. drawn_by rules sessions p lane job)
+    (ap reverse e ∙ past_of_more journal (tick_before sessions (reverse journal) lane job))
 
 -- both are added
-pub job_added : {T E : Type 0} → (result : Result T E) (rules : Rules) (sessions : ℕ → Option SessionState) (journal mid new : List Entry) (lane : ℕ) (job : Job) → mid ≡ journal ++ tick_before sessions (reverse journal) lane job → Changes result mid new (mid ++ drawn_by rules sessions (reverse mid) lane job ∷ []) → OnOk result (new ≡ journal ++ entries_by rules sessions (reverse journal) lane job)
+pub job_added : {T E : Type 0} → (result : Result T E) (rules : Rules) (sessions : ℕ → Option SessionState)
+    (journal mid new : List Entry) (lane : ℕ) (job : Job) → mid ≡ journal ++ tick_before sessions (reverse journal) lane
+    job → Changes result mid new (mid ++ drawn_by rules sessions (reverse mid) lane job ∷ [])
+    → OnOk result (new ≡ journal ++ entries_by rules sessions (reverse journal) lane job)
 job_added (Ok done) rules sessions journal mid new lane job more is =
     let entry = drawn_then rules sessions (reverse journal) lane job in
-    is ∙ ap (λ last. mid ++ last ∷ []) (then_drawn rules sessions journal mid lane job more) ∙ ap (λ xs. xs ++ entry ∷ []) more
+    is ∙ ap (λ last. mid ++ last ∷ []) (then_drawn rules sessions journal mid lane job more)
+    ∙ ap (λ xs. xs ++ entry ∷ []) more
     ∙ append_assoc journal (tick_before sessions (reverse journal) lane job) (entry ∷ [])
 job_added (Err stop) rules sessions journal mid new lane job more is = tt

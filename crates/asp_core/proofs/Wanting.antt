@@ -1,7 +1,6 @@
 -- The calls of a run are the ones that its meaning wants.
 use Rattle.std.proofs.Common.{◌≡◌, ℕ, ◌+◌, ◌<◌, ◌≤◌, ◌==◌, false, true, List, [], ◌∷◌, ◌++◌, length, take, get_or}
-use Rattle.std.proofs.Common.{Some}
-use Rattle.std.proofs.Common.{slice_get, refl, ap, sym, ◌∙◌, subst, append-nil, arith, inl, inr, length-append}
+use Rattle.std.proofs.Common.{Some, slice_get, refl, ap, sym, ◌∙◌, subst, append-nil, arith, inl, inr, length-append}
 use Rattle.std.proofs.lemmas.Bool.{cases_Bool, cases_lt, eqb-true, eq-eqb}
 use Rattle.std.proofs.lemmas.List.{take-append-le}
 use Rattle.std.proofs.lemmas.Option.{slice_get-get_or, slice_get_within}

@@ -1,5 +1,5 @@
 -- All answers of a journal, and those that were handed out. All of it is the profile's.
-use Rattle.std.specs.Prelude.{◌≡◌, ℕ, ◌==◌, Bool, true, false, List, [], ◌∷◌, ◌++◌, Some, None}
+use Rattle.std.specs.Prelude.{◌≡◌, ℕ, ◌==◌, Bool, true, false, List, [], ◌∷◌, ◌++◌, filter, Some, None}
 use Rattle.std.specs.List.{find}
 use Rattle.asp_job.specs.declared.answer.Answer.{Answer}
 use Rattle.asp_job.specs.declared.entry.Entry.{Entry}
@@ -7,7 +7,7 @@ use Rattle.asp_job.specs.declared.entry.What.{What}
 use Rattle.asp_job.specs.declared.entry.What.TheVariants.{Refuse, End, Take}
 use Rattle.asp_job.specs.Output.{answer_by, unavailable_in}
 use Rattle.asp_job.specs.Rules.{Rules, TooManySessions}
-use Rattle.asp_core.specs.Ready.{ready, with_answer}
+use Rattle.asp_core.specs.Ready.{asked_by, first_for, ready, with_answer}
 
 -- All answers, each with its run, in the order in which their runs ended or were refused: those that wait, and those
 -- that were handed out.
@@ -52,3 +52,20 @@ IsOfFirst answers _ = Unit {0}
 abbrev pub AreOfFirst : Rules → List Entry → Type 0
 AreOfFirst rules [] = Unit {0}
 AreOfFirst rules (entry ∷ past) = IsOfFirst (ready rules past) entry.what × AreOfFirst rules past
+
+-- ---- what each lane is handed
+
+-- the answers of the runs for which the lane asked
+abbrev pub for_lane : List Entry → ℕ → List (ℕ × Answer) → List (ℕ × Answer)
+for_lane past lane answers = filter (λ ready. asked_by past lane ready.0) answers
+
+-- a hand-out to a lane is that of the first answer that waits for it
+abbrev pub IsOfLaneFirst : Rules → List Entry → ℕ → What → Type 0
+IsOfLaneFirst rules past lane (Take run) =
+    (answer : Answer) × (first_for past lane (ready rules past) ≡ Some (run, answer))
+IsOfLaneFirst rules past lane _ = Unit {0}
+
+-- so is each
+abbrev pub AreOfLaneFirst : Rules → List Entry → Type 0
+AreOfLaneFirst rules [] = Unit {0}
+AreOfLaneFirst rules (entry ∷ past) = IsOfLaneFirst rules past entry.lane entry.what × AreOfLaneFirst rules past

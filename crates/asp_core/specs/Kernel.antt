@@ -1,5 +1,5 @@
 -- What contracts see of a core, and of a run that was moved out of it. All of it is the profile's.
-use Rattle.std.specs.Prelude.{◌≡◌, ℕ, ◌+◌, ◌*◌, ◌-◌, ◌≤◌, ◌<◌, ◌==◌, ◌⊎◌, ◌++◌, ◌∷◌, Bool, true, false, if◌then◌else◌}
+use Rattle.std.specs.Prelude.{◌≡◌, ℕ, ◌+◌, ◌*◌, ◌-◌, ◌≤◌, ◌<◌, ◌==◌, ◌⊎◌, ◌++◌, ◌∷◌, true, false, if◌then◌else◌}
 use Rattle.std.specs.Prelude.{nat_lt, min, ◌^◌}
 use Rattle.std.specs.Prelude.{List, [], length, reverse, slice_set, slice_index_or, All, Option, Some, None, IfSome}
 use Rattle.std.specs.Prelude.{Result, Ok, Err}
@@ -13,7 +13,6 @@ use Rattle.asp_job.specs.declared.entry.Entry.{Entry}
 use Rattle.asp_job.specs.declared.entry.TheConstants.{MOST_ENTRIES, MOST_WEIGHT, MOST_UNFINISHED}
 use Rattle.asp_job.specs.declared.entry.What.{What}
 use Rattle.asp_job.specs.declared.entry.What.TheVariants.{Admit, Refuse, Tick, Stop}
-use Rattle.asp_job.specs.declared.job.Job.{Job}
 use Rattle.asp_job.specs.declared.job.Work.TheVariants as work
 use Rattle.asp_job.specs.declared.request.Request.{Request}
 use Rattle.asp_job.specs.declared.runner.Step.{Step}
@@ -243,14 +242,16 @@ abbrev pub StandsAsBefore : {State : Type 0} → (State → Told → ℕ → Typ
     RunView State → RunView State → Type 0
 StandsAsBefore stands meaning old new = (t : Told) → StandsFor stands meaning old t → StandsFor stands meaning new t
 
--- The run is one of the core's unfinished runs, of that lane, and was told what the journal says. The answers that stand
+-- The run is one of the core's unfinished runs, of that lane, and was told what the journal says. The answers that
+-- stand
 -- in for its own are those of its work.
 pub record IsRunOf {R Site State : Type 0} (meaning : R → Site → Meaning)
-    (stands : R → Site → State → Told → ℕ → Type 0) (core : CoreView R Site) (lane : ℕ) (run : RunView State) : Type 0 where
-  pub running : IsRunning (past_of core) lane run.number
-  pub stands_for : StandsFor (stands core.runner core.site) (meaning core.runner core.site) run
-      (told (rules_of meaning core) (past_of core) run.number)
-  pub stand_ins_are : run.stand_ins ≡ stand_ins (job_of (past_of core) run.number).work
+    (stands : R → Site → State → Told → ℕ → Type 0) (core : CoreView R Site) (lane : ℕ) (run : RunView State) : Type 0
+  where
+    pub running : IsRunning (past_of core) lane run.number
+    pub stands_for : StandsFor (stands core.runner core.site) (meaning core.runner core.site) run
+        (told (rules_of meaning core) (past_of core) run.number)
+    pub stand_ins_are : run.stand_ins ≡ stand_ins (job_of (past_of core) run.number).work
 
 -- ---- how a run ends
 
@@ -271,7 +272,8 @@ table_after table kind.JournalFull key session = table
 
 -- at some point since the run's last entry, the entry of the call that it wants did not fit
 abbrev pub HasNotFitFor : {State : Type 0} → List Entry → ℕ → RunView State → Type 0
-HasNotFitFor past lane run = (call : AppCall) × (wanted_by run.progress ≡ Some call) × HasNotFit past lane run.number call
+HasNotFitFor past lane run = (call : AppCall) × (wanted_by run.progress ≡ Some call) × HasNotFit past lane run.number
+    call
 
 -- An End of this kind may come: the run has ended by itself, or at some point its call did not fit, or memory ran out.
 abbrev pub IsEndOf : {State : Type 0} → List Entry → ℕ → RunView State → EndKind → Type 0

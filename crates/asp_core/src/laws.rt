@@ -14,11 +14,11 @@ ghost use Rattle.asp_job.specs.Rules.{Rules};
 ghost use Rattle.asp_job.specs.Runs.{is_unfinished, key_of, unfinished, waiting};
 ghost use Rattle.asp_job.specs.Turns.{IsRunning, may_begin};
 ghost use Rattle.asp_core.specs.Alone.{alone};
-ghost use Rattle.asp_core.specs.Given.{AreOfFirst, given, handed, hands_out, made_by};
+ghost use Rattle.asp_core.specs.Given.{AreOfFirst, AreOfLaneFirst, for_lane, given, handed, hands_out, made_by};
 ghost use Rattle.asp_core.specs.Kernel.{IsWithin};
 ghost use Rattle.asp_core.specs.Laws.{AreOfOthers, RunStays, NoneIs, is_release_of, is_kept_out};
-ghost use Rattle.asp_core.specs.Ready.{ready};
 ghost use Rattle.asp_core.specs.Waits.{AreThose, hand_outs};
+ghost use Rattle.asp_core.specs.Ready.{ready};
 ghost use Rattle.asp_core.specs.Wanted.{AreWanted};
 
 /// The entries of other lanes leave an unfinished run as it is: it stays unfinished, and is told nothing.
@@ -33,6 +33,16 @@ pub fn lock_holds()
     ensures { (rules : Rules) (past entries : List Entry) (run : ℕ) →
         AreRight rules (past_after past entries) → (held_by past).holder ≡ Some run →
         NoneIs (is_release_of run) entries → NoneIs (is_kept_out run) entries }
+{}
+
+/// The answers that wait are those of the runs that have ended and were not handed out, each once.
+pub fn answers_wait()
+    ensures { (rules : Rules) (past : List Entry) → AreRight rules past → AreThose rules past }
+{}
+
+/// The answer of a run is handed out once at most.
+pub fn handed_out_once()
+    ensures { (rules : Rules) (past : List Entry) (run : ℕ) → AreRight rules past → hand_outs past run ≤ 1 }
 {}
 
 /// The run that has the lock of the Application object is unfinished: no lock stays when its run has ended.
@@ -68,7 +78,8 @@ pub fn calls_follow()
 
 /// Answers wait in the order in which their runs ended. Each entry but a hand-out adds the answer that it makes, if it
 /// makes one, to all answers and to those that wait. The hand-out of the first that waits leaves the others. Where all
-/// hand-outs were such, those that were handed out and then those that wait are all answers, in order.
+/// hand-outs were such, those that were handed out and then those that wait are all answers, in order. Where each was
+/// that of the first that waits for its lane, the same holds of the answers of each lane.
 pub fn answers_in_order()
     ensures made { (rules : Rules) (past : List Entry) (entry : Entry) →
         hands_out entry.what ≡ false →
@@ -81,6 +92,10 @@ pub fn answers_in_order()
         ≡ (before ++ (run, answer) ∷ []) ++ ready rules (with_lane lane (Take run) ∷ past) }
     ensures all { (rules : Rules) (past : List Entry) →
         AreOfFirst rules past → given rules past ≡ handed rules past ++ ready rules past }
+    ensures lanes { (rules : Rules) (past : List Entry) (lane : ℕ) →
+        AreRight rules past → AreOfLaneFirst rules past →
+        for_lane past lane (given rules past)
+        ≡ for_lane past lane (handed rules past) ++ for_lane past lane (ready rules past) }
 {}
 
 /// The runs of a session key decide its session, and no others do. Leave out of a journal all entries but those of the
@@ -92,14 +107,4 @@ pub fn sessions_apart()
         AreRight rules past → session_of rules past key ≡ session_of rules (alone past key) key }
     ensures told { (rules : Rules) (past : List Entry) (run : ℕ) →
         AreRight rules past → told rules past run ≡ told rules (alone past (key_of past run)) run }
-{}
-
-/// The answers that wait are those of the runs that have ended and were not handed out, each once.
-pub fn answers_wait()
-    ensures { (rules : Rules) (past : List Entry) → AreRight rules past → AreThose rules past }
-{}
-
-/// The answer of a run is handed out once at most.
-pub fn handed_out_once()
-    ensures { (rules : Rules) (past : List Entry) (run : ℕ) → AreRight rules past → hand_outs past run ≤ 1 }
 {}

@@ -79,7 +79,7 @@ plain_tells (d ∷ f ∷ digits) e = (
 own : IsNumeralModel (AllDigits 10) (digits_value 10)
 own = numerals_by_value (AllDigits 10) tells_digits
 
-decimal_plain : (n : ℕ) → n < 1099511627776 → is_plain (decimal n) ≡ true
+decimal_plain : (n : ℕ) → n < 18446744073709551616 → is_plain (decimal n) ≡ true
 decimal_plain n small =
     let numeral = decimal_is_IsNumeral n (omega arith) in
     plain_is (decimal n) numeral.0.0 (elim (cases_lt 0 n) [
@@ -89,7 +89,7 @@ decimal_plain n small =
           inl (ap (λ m. length (decimal m)) none ∙ ap length (decimal_digit 0 (omega arith)))
     ])
 
-pub number_again : (n mark : ℕ) (rest : List ℕ) → n < 1099511627776 → is_digit mark ≡ false
+pub number_again : (n mark : ℕ) (rest : List ℕ) → n < 18446744073709551616 → is_digit mark ≡ false
     → number_at (decimal n ++ mark ∷ rest) ≡ Some (n, mark ∷ rest)
 unfolding number_at
 number_again n mark rest small none =
@@ -97,21 +97,21 @@ number_again n mark rest small none =
     let count = run_is (decimal n) mark rest numeral.0.1 none in
     let front = take_at (decimal n) (mark ∷ rest) (length (decimal n)) refl in
     let back = drop_at (decimal n) (mark ∷ rest) (length (decimal n)) refl in
-    let below : ltb n 1099511627776 ≡ true = lt-ltb n 1099511627776 small in
+    let below : ltb n 18446744073709551616 ≡ true = lt-ltb n 18446744073709551616 small in
     rw (count, front, back, decimal_plain n small, numeral.1, below) refl
 
 pub number_is : (bytes : List ℕ) (n : ℕ) (rest : List ℕ) → number_at bytes ≡ Some (n, rest)
-    → (bytes ≡ decimal n ++ rest) × (n < 1099511627776)
+    → (bytes ≡ decimal n ++ rest) × (n < 18446744073709551616)
 unfolding number_at
 number_is bytes n rest e =
     let count = prefix_len is_digit bytes in
     let digits = take count bytes in
-    let g = cond_some (is_plain digits && ltb (digits_value 10 digits) 1099511627776)
+    let g = cond_some (is_plain digits && ltb (digits_value 10 digits) 18446744073709551616)
     (digits_value 10 digits, drop count bytes) (n, rest) e in
-    let tests = both (is_plain digits) (ltb (digits_value 10 digits) 1099511627776) g.0 in
+    let tests = both (is_plain digits) (ltb (digits_value 10 digits) 18446744073709551616) g.0 in
     let value : digits_value 10 digits ≡ n = ap (λ (p : ℕ × List ℕ). p.0) g.1 in
     let back : drop count bytes ≡ rest = ap (λ (p : ℕ × List ℕ). p.1) g.1 in
-    let small : digits_value 10 digits < 1099511627776 = ltb-true _ _ tests.1 in
+    let small : digits_value 10 digits < 18446744073709551616 = ltb-true _ _ tests.1 in
     let tells = plain_tells digits tests.0 in
     let text : decimal (digits_value 10 digits) ≡ digits =
     decimal-digits_value own digits (run_digits bytes) tells.0 tells.1 (omega (arith, small)) in (
@@ -120,14 +120,14 @@ number_is bytes n rest e =
       omega (arith, small, value),
     )
 
-pub marked_again : (n mark : ℕ) (word rest : List ℕ) → n < 1099511627776 → is_digit mark ≡ false
+pub marked_again : (n mark : ℕ) (word rest : List ℕ) → n < 18446744073709551616 → is_digit mark ≡ false
     → marked_at (mark ∷ word) (decimal n ++ mark ∷ (word ++ rest)) ≡ Some (n, rest)
 unfolding marked_at
 marked_again n mark word rest small none =
     rw (number_again n mark (word ++ rest) small none, behind_again (mark ∷ word) rest) refl
 
 pub marked_is : (word bytes : List ℕ) (n : ℕ) (rest : List ℕ) → marked_at word bytes ≡ Some (n, rest)
-    → (bytes ≡ decimal n ++ (word ++ rest)) × (n < 1099511627776)
+    → (bytes ≡ decimal n ++ (word ++ rest)) × (n < 18446744073709551616)
 unfolding marked_at
 marked_is word bytes n rest e =
     let first = step_is (number_at bytes) (λ m. behind word m.1 >>= λ later. Some (m.0, later)) (n, rest) e in

@@ -15,11 +15,11 @@ use Rattle.asp_record.proofs.FieldLaws.{behind_is, counted_again, counted_is, ma
 
 -- the numbers of an item are those that a line may have
 abbrev pub IsSmall : Item → Type 0
-IsSmall (Request client moment bytes) = (client < 4294967296) × (moment < 1099511627776)
-    × (length bytes < 1099511627776)
-IsSmall (Tick moment) = moment < 1099511627776
+IsSmall (Request client moment bytes) = (client < 4294967296) × (moment < 18446744073709551616)
+    × (length bytes < 18446744073709551616)
+IsSmall (Tick moment) = moment < 18446744073709551616
 
-tick_again : (moment : ℕ) (rest : List ℕ) → moment < 1099511627776
+tick_again : (moment : ℕ) (rest : List ℕ) → moment < 18446744073709551616
     → tick_at (decimal moment ++ 10 ∷ rest) ≡ Some (Tick moment, rest)
 unfolding tick_at
 tick_again moment rest small = rw (marked_again moment 10 [] rest small refl) refl

@@ -6,14 +6,15 @@ use Rattle.std.specs.Str.Parse.{digits_value}
 use Rattle.std.proofs.lemmas.Int.Digits.{digits_value_more}
 
 -- one digit more, where the value so far is cut
-saturated : (value digit : ℕ) → min (min value 1099511627776 * 10 + digit) 1099511627776
-    ≡ min (value * 10 + digit) 1099511627776
+saturated : (value digit : ℕ) → min (min value 18446744073709551616 * 10 + digit) 18446744073709551616
+    ≡ min (value * 10 + digit) 18446744073709551616
 saturated value digit = omega arith
 
 -- the value up to one digit more
 pub value_more : (digits : List ℕ) (i : ℕ) → i < length digits
-    → min (digits_value 10 (take (i + 1) digits)) 1099511627776
-    ≡ min (min (digits_value 10 (take i digits)) 1099511627776 * 10 + digit_value (get_or digits i 0)) 1099511627776
+    → min (digits_value 10 (take (i + 1) digits)) 18446744073709551616
+    ≡ min (min (digits_value 10 (take i digits)) 18446744073709551616 * 10 + digit_value (get_or digits i 0))
+    18446744073709551616
 value_more digits i within =
     let more = digits_value_more 10 digits i within in
     let cut = saturated (digits_value 10 (take i digits)) (digit_value (get_or digits i 0)) in

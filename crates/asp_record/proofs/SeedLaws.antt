@@ -28,7 +28,7 @@ glyph =
     (λ n. get_or lower_digits n 0 ≡ digit_glyph false n) all_same
     (λ n. Decides-eqb (get_or lower_digits n 0) (digit_glyph false n)) refl (λ _. refl) 16).0 refl
 
-hex_is : (bytes : List ℕ) → IsBytes bytes → encode_lower bytes ≡ hex bytes
+pub hex_is : (bytes : List ℕ) → IsBytes bytes → encode_lower bytes ≡ hex bytes
 unfolding hex encode_with
 hex_is [] fits = refl
 hex_is (b ∷ bytes) fits =

@@ -32,12 +32,12 @@ is_plain [] = false
 is_plain (first ∷ []) = true
 is_plain (first ∷ second ∷ more) = not (first == 48)
 
--- a number below 2 ^ 40, which is past each that a line may have
+-- a number of 64 bits
 unfoldable pub number_at : List ℕ → Option (ℕ × List ℕ)
 number_at bytes =
     let count = prefix_len is_digit bytes in
     let value = digits_value 10 (take count bytes) in
-    if is_plain (take count bytes) && nat_lt value 1099511627776 then Some (value, drop count bytes) else None
+    if is_plain (take count bytes) && nat_lt value 18446744073709551616 then Some (value, drop count bytes) else None
 
 -- a number, and a word behind it
 unfoldable pub marked_at : List ℕ → List ℕ → Option (ℕ × List ℕ)

@@ -1,7 +1,11 @@
 pub mod Entries
+pub mod EntryLines
 pub mod Fields
+pub mod Journal
 pub mod Lines
 pub mod Reading
+pub mod ReadingLines
+pub mod ReadingValues
 pub mod Recorded
 pub mod Recording
 pub mod Values

@@ -1,6 +1,11 @@
 //! What holds of the definitions, whoever reads the bytes.
-ghost use Rattle.std.specs.Prelude.{◌≡◌, ◌≤◌, ◌++◌, ℕ, List, length};
+ghost use Rattle.std.specs.Prelude.{◌≡◌, ◌≤◌, ◌++◌, ℕ, List, [], length, MatchOption};
+ghost use Rattle.asp_job.specs.declared.entry.Entry.{Entry};
+ghost use Rattle.asp_record.specs.declared.journal.Line.{Line};
 ghost use Rattle.asp_record.specs.declared.recording.Recording.{Recording as Recorded};
+ghost use Rattle.asp_record.specs.Entries.{entry_text};
+ghost use Rattle.asp_record.specs.EntryLines.{line_what};
+ghost use Rattle.asp_record.specs.Journal.{IsJournal, IsNoJournalAt, line_text};
 ghost use Rattle.asp_record.specs.Recorded.{IsRefusedAt, IsSound, Stands};
 ghost use Rattle.asp_record.specs.Recording.{recording_text};
 
@@ -21,4 +26,22 @@ pub fn text_stands()
 pub fn recording_not_refused()
     ensures { (bytes : List ℕ) (recording : Recorded) (end offset : ℕ) → Stands bytes recording end
         → IsRefusedAt bytes offset → ⊥ }
+{}
+
+/// The text of an entry is that of its line, and nothing where it has none.
+pub fn entries_have_lines()
+    ensures { (entry : Entry) → MatchOption (line_what entry.what) (entry_text entry ≡ [])
+        (λ said. entry_text entry ≡ line_text (record { lane = entry.lane; what = said })) }
+{}
+
+/// Bytes are the lines of at most one list.
+pub fn one_journal()
+    ensures { (bytes : List ℕ) (lines others : List Line) → IsJournal bytes lines
+        → IsJournal bytes others → lines ≡ others }
+{}
+
+/// Bytes that are lines are refused nowhere.
+pub fn journal_not_refused()
+    ensures { (bytes : List ℕ) (lines : List Line) (offset : ℕ) → IsJournal bytes lines
+        → IsNoJournalAt bytes offset → ⊥ }
 {}

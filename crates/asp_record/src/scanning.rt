@@ -10,7 +10,7 @@ ghost use Rattle.asp_record.specs.Fields as spec;
 use hex::{decode_to_slice, encode_to_slice};
 
 /// Past each number that a line may have.
-const TOO_GREAT: u64 = 1 << 40;
+const TOO_GREAT: u128 = 1 << 64;
 
 /// What stands behind a word at the front of bytes.
 pub fn behind<'a>(word: &[u8], bytes: &'a [u8]) -> Option<&'a [u8]>
@@ -39,12 +39,12 @@ fn run(bytes: &[u8]) -> usize
 
 /// The value of digits, or the number past every value where it is greater.
 #[tactic(auto, using(crate::proofs::Numbers::value_more))]
-fn value(digits: &[u8]) -> u64
+fn value(digits: &[u8]) -> u128
     ensures { result ≡ min (digits_value 10 digits.now) TOO_GREAT }
 {
     let mut value = 0;
     for c in digits {
-        value = (value * 10 + digit(*c)).min(TOO_GREAT);
+        value = (value * 10 + u128::from(digit(*c))).min(TOO_GREAT);
     }
     value
 }
@@ -61,14 +61,14 @@ fn is_plain(digits: &[u8]) -> bool
 
 /// The number at the front of bytes.
 #[tactic(auto, unfolding(crate::specs::Fields::number_at))]
-fn number_at(bytes: &[u8]) -> Option<(u64, &[u8])>
+pub fn number_at(bytes: &[u8]) -> Option<(u64, &[u8])>
     ensures { Reads (λ read. (read.0, read.1.now)) result (spec.number_at bytes.now) }
 {
     let count = run(bytes);
     let (digits, rest) = bytes.split_at(count);
     let value = value(digits);
     if is_plain(digits) && value < TOO_GREAT {
-        Some((value, rest))
+        Some((value as u64, rest))
     } else {
         None
     }

@@ -18,5 +18,6 @@ returns c =
     (ap split_rest same ∙ split.rest) (ap split_done same ∙ split.done) (ap split_callee same ∙ split.closure)
     (λ x b q k. search (rules, tests)))
     c.loop-piece.yielded _ c.loop-piece.yielded_by _ _ c.in-None.is c.next.ensures.steps in
-    let Found : List (List ℕ) → Type 0 = λ l. option_map (λ piece. piece.now) c.loop-piece.found ≡ find is_cookie (map trimmed l) in
+    let Found : List (List ℕ) → Type 0 = λ l. option_map (λ piece. piece.now) c.loop-piece.found
+    ≡ find is_cookie (map trimmed l) in
     subst Found pieces.0 (c.loop-piece.invariant ∙ ap (find is_cookie) (sym (map_twice _ trimmed c.loop-piece.yielded)))

@@ -5,4 +5,5 @@ use Rattle.asp_core.specs.Cookie.{is_cookie, trimmed}
 use Rattle.asp_core.proofs.cookie.cookie_in.Given as goal
 
 abbrev pub invariant-loop-piece : goal.invariant-loop-piece
-invariant-loop-piece l = option_map (λ piece. piece.now) l.found ≡ find is_cookie (map (λ piece. trimmed piece.now) l.yielded)
+invariant-loop-piece l = option_map (λ piece. piece.now) l.found
+    ≡ find is_cookie (map (λ piece. trimmed piece.now) l.yielded)

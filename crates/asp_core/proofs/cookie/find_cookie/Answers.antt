@@ -1,4 +1,4 @@
-use Rattle.std.proofs.Common.{◌≡◌, ◌∙◌, ℕ, List, Option, ap, sym, take}
+use Rattle.std.proofs.Common.{◌∙◌, ℕ, List, Option, ap, sym, take}
 use Rattle.std.specs.List.{flat_map, find}
 use Rattle.std.specs.Option.{option_or}
 use Rattle.asp_job.specs.declared.request.Header.{Header}

@@ -5,4 +5,5 @@ use Rattle.asp_core.specs.Cookie.{is_cookie, cookie_pieces}
 use Rattle.asp_core.proofs.cookie.find_cookie.Given as goal
 
 abbrev pub invariant-loop-header : goal.invariant-loop-header
-invariant-loop-header l = option_map (λ piece. piece.now) l.found ≡ find is_cookie (flat_map cookie_pieces (take l.header-index l.headers))
+invariant-loop-header l = option_map (λ piece. piece.now) l.found
+    ≡ find is_cookie (flat_map cookie_pieces (take l.header-index l.headers))

@@ -1,4 +1,4 @@
-use Rattle.std.proofs.Common.{◌≡◌, ◌∙◌, ℕ, List, Option, Bor, ap, sym}
+use Rattle.std.proofs.Common.{◌∙◌, ℕ, List, Option, Bor, ap, sym}
 use Rattle.std.specs.Option.{option_map}
 use Rattle.asp_session.specs.Letters.{key_of_letters}
 use Rattle.asp_core.specs.Cookie as spec

@@ -11,5 +11,7 @@ returns-clause-items g c =
     let sessions = session_at c.args.table.now in
     let journal = c.args.journal.now.items in
     let mid = c.append.new.journal.items in
-    let more : mid ≡ journal ++ tick_before sessions (reverse journal) c.args.lane c.args.job.now = grind (arith, common_steps) in
-    job_added c.add_admission.result rules sessions journal mid c.add_admission.new.journal.items c.args.lane c.args.job.now more c.add_admission.ensures.items
+    let more : mid ≡ journal ++ tick_before sessions (reverse journal) c.args.lane c.args.job.now =
+    grind (arith, common_steps) in
+    job_added c.add_admission.result rules sessions journal mid c.add_admission.new.journal.items c.args.lane
+    c.args.job.now more c.add_admission.ensures.items

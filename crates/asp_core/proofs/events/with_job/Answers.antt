@@ -1,4 +1,4 @@
-use Rattle.std.proofs.Common.{◌≡◌, ◌∙◌, Ok, Err, Result, ap, reverse, subst}
+use Rattle.std.proofs.Common.{◌∙◌, Ok, Err, Result, ap, reverse, subst}
 use Rattle.asp_job.specs.declared.entry.Entry.{Entry}
 use Rattle.asp_core.specs.Drawing.{IsDrawn}
 use Rattle.asp_core.specs.Kernel.{rules_by, IsTooMuch}
@@ -26,7 +26,8 @@ returns-in-Ok-fit-clause-drawn g c =
 pub returns-in-Err-fit-clause-full : goal.returns-in-Err-fit-clause-full
 returns-in-Err-fit-clause-full g c entries weight same =
     let m = rules_by (g.R.Runner.meaning c.args.runner.now c.args.site.now) c.args.seed.now in
-    let made = job_made m c.args.journal.now.items c.add_job.new.journal.items c.args.table.now c.args.lane c.args.job.now
+    let made = job_made m c.args.journal.now.items c.add_job.new.journal.items c.args.table.now c.args.lane
+    c.args.job.now
     c.requires.sessions c.in-Ok.ensures.items in
     subst (λ past. IsTooMuch past entries weight) made.1
     (c.in-Err-fit.ensures.full entries weight (ap Err (ap (stop_in c.in-Err-fit.stop) same)))

@@ -11,10 +11,12 @@ returns-in-Err-fit-clause-full g c entries weight e =
     let m = rules_by (g.R.Runner.meaning c.args.runner.now.value c.args.site.now.value) c.args.seed.now in
     let journal = c.args.journal.now.items in
     let ticked = ticked_is m (reverse journal) c.args.table.now c.args.lane c.args.moment c.requires.sessions in
-    let made : c.append.new.journal.items ≡ journal ++ tick_entries m (reverse journal) c.args.lane c.args.moment = grind (arith, common_steps, ticked) in
+    let made : c.append.new.journal.items ≡ journal ++ tick_entries m (reverse journal) c.args.lane c.args.moment =
+    grind (arith, common_steps, ticked) in
     let same : c.fit.result ≡ Err (event.JournalFull entries weight) = cc in
     let much = c.fit.ensures.full entries weight same in
-    subst (λ past. IsTooMuch past entries weight) (grown_past journal c.append.new.journal.items (tick_entries m (reverse journal) c.args.lane c.args.moment) made) much
+    subst (λ past. IsTooMuch past entries weight) (grown_past journal c.append.new.journal.items
+    (tick_entries m (reverse journal) c.args.lane c.args.moment) made) much
 
 pub returns-in-Ok-fit-clause-count : goal.returns-in-Ok-fit-clause-count
 returns-in-Ok-fit-clause-count g c =

@@ -5,4 +5,9 @@ use Rattle.asp_core.specs.Kernel as kernel
 use Rattle.asp_core.proofs.keys.has_most_keys.Given as goal
 
 abbrev pub invariant-loop-i : goal.invariant-loop-i
-invariant-loop-i l = record { so_far : l.live ≡ length (filter (keys.is_live (kernel.session_at l.table) (reverse l.journal)) (runs.numbers l.i)); within : l.live ≤ l.i }
+invariant-loop-i l =
+    record {
+      so_far : l.live ≡ length (filter (keys.is_live (kernel.session_at l.table) (reverse l.journal))
+          (runs.numbers l.i));
+      within : l.live ≤ l.i;
+    }

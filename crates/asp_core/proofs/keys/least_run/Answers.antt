@@ -6,4 +6,5 @@ pub returns-clause-none : goal.returns-clause-none
 returns-clause-none c = none_may (reverse c.args.journal.now) c.next_run.result c.requires c.next_run.ensures.none
 
 pub returns-clause-next : goal.returns-clause-next
-returns-clause-next c = least_may (reverse c.args.journal.now) c.next_run.result c.requires c.next_run.ensures.next c.next_run.ensures.least
+returns-clause-next c = least_may (reverse c.args.journal.now) c.next_run.result c.requires c.next_run.ensures.next
+    c.next_run.ensures.least

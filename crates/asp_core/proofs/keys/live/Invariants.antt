@@ -5,4 +5,8 @@ use Rattle.asp_core.specs.Kernel as kernel
 use Rattle.asp_core.proofs.keys.live.Given as goal
 
 abbrev pub invariant-loop-i : goal.invariant-loop-i
-invariant-loop-i l = record { so_far : l.keys ≡ filter (keys.is_live (kernel.session_at l.table) (reverse l.journal)) (runs.numbers l.i); within : length l.keys ≤ l.i }
+invariant-loop-i l = record {
+  so_far : l.keys ≡ filter (keys.is_live (kernel.session_at l.table) (reverse l.journal))
+      (runs.numbers l.i);
+  within : length l.keys ≤ l.i;
+}

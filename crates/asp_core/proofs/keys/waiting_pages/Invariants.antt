@@ -4,4 +4,8 @@ use Rattle.asp_job.specs.Turns as turns
 use Rattle.asp_core.proofs.keys.waiting_pages.Given as goal
 
 abbrev pub invariant-loop-i : goal.invariant-loop-i
-invariant-loop-i l = record { so_far : l.waiting ≡ length (filter (turns.is_waiting_page (reverse l.journal)) (runs.numbers l.i)); within : l.waiting ≤ l.i }
+invariant-loop-i l =
+    record {
+      so_far : l.waiting ≡ length (filter (turns.is_waiting_page (reverse l.journal)) (runs.numbers l.i));
+      within : l.waiting ≤ l.i;
+    }

@@ -1,3 +1,4 @@
+use Rattle.asp_core.proofs.Lanes as lanes
 use Rattle.asp_core.proofs.Ordering as ordering
 use Rattle.asp_core.proofs.laws.answers_in_order.Goals as goal
 
@@ -9,3 +10,6 @@ returns-clause-hand_out c = ordering.hand_out
 
 pub returns-clause-all : goal.returns-clause-all
 returns-clause-all c = ordering.in_order
+
+pub returns-clause-lanes : goal.returns-clause-lanes
+returns-clause-lanes c = lanes.lanes_in_order

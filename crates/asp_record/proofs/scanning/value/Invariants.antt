@@ -3,4 +3,4 @@ use Rattle.std.specs.Str.Parse.{digits_value}
 use Rattle.asp_record.proofs.scanning.value.Given as goal
 
 abbrev pub invariant-loop-c : goal.invariant-loop-c
-invariant-loop-c l = l.value ≡ min (digits_value 10 (take l.c-index l.digits)) 1099511627776
+invariant-loop-c l = l.value ≡ min (digits_value 10 (take l.c-index l.digits)) 18446744073709551616

@@ -1,17 +1,14 @@
-use Rattle.std.proofs.Common.{◌≡◌, ◌++◌, ◌<◌, reverse, length, ap, sym, subst, ◌∙◌, arith, None, false, vec_capacity}
-use Rattle.std.proofs.Common.{Result, Ok, Err, OnOk, IfOk}
-use Rattle.asp_core.specs.declared.stop.EventStop.{EventStop}
-use Rattle.asp_core.specs.declared.stop.EventStop.TheVariants as event
-use Rattle.asp_core.specs.declared.stop.AdmitStop.{AdmitStop}
+use Rattle.std.proofs.Common.{◌≡◌, reverse, ap, sym, subst, ◌∙◌, arith, None, vec_capacity}
+use Rattle.std.proofs.Common.{Err}
 use Rattle.asp_core.specs.declared.stop.AdmitStop.TheVariants as admit
 use Rattle.std.proofs.lemmas.Grind.{common_steps}
 use Rattle.asp_core.specs.Drawing.{entry_then, told_of}
-use Rattle.asp_core.specs.Kernel.{CoreView, IsTooMuch, rules_by, rules_of, past_of, grown}
-use Rattle.asp_core.specs.Taking.{HasTaken, refused_before}
+use Rattle.asp_core.specs.Kernel.{CoreView, IsTooMuch, rules_of, past_of, grown}
+use Rattle.asp_core.specs.Taking.{refused_before}
 use Rattle.asp_job.specs.Journal.{admit_entries, past_after}
 use Rattle.asp_core.proofs.Admitting.{kept_taken}
 use Rattle.asp_core.proofs.Refusing.{full_back, none_before}
-use Rattle.asp_core.proofs.Same.{on_ok, view_of}
+use Rattle.asp_core.proofs.Same.{view_of}
 use Rattle.asp_core.proofs.kernel.Core.admit.Goals as goal
 
 pub invariant_of-self : goal.invariant_of-self
@@ -19,19 +16,25 @@ invariant_of-self g c =
     let core = c.self.inside in
     let past = reverse core.journal.items in
     let m = g.R.Runner.meaning core.runner.value core.site.value in
-    let runner : c.args.runner.now ≡ core.runner.value = c.requires.host.runner_is ∙ sym (ap (λ v. v.runner) c.self.view_is) in
+    let runner : c.args.runner.now ≡ core.runner.value = c.requires.host.runner_is
+    ∙ sym (ap (λ v. v.runner) c.self.view_is) in
     let site : c.args.site.now ≡ core.site.value = c.requires.host.site_is ∙ sym (ap (λ v. v.site) c.self.view_is) in
     let none : refused_before past ≡ None = grind (arith, common_steps) in
     let free = none_before past none in
     let ok = rw (runner, site) at c.take_job-made.ensures.ok in
-    kept_taken c.take_job-made.result m core.seed core.journal.items c.take_job-made.new.journal.items core.table.items c.take_job-made.new.table.items core.opened core.application core.answers.items c.take_job-made.new.answers.items c.args.lane c.args.job.now
-    (vec_capacity core.journal) (vec_capacity c.take_job-made.new.journal) (vec_capacity core.answers) (vec_capacity c.take_job-made.new.answers)
-    c.self.invariant.0 c.self.invariant.1 c.self.invariant.2 c.self.invariant.3 free.0 c.requires.page c.requires.small free.1 ok c.take_job-made.ensures.err c.take_job-made.ensures.capacity
+    kept_taken c.take_job-made.result m core.seed core.journal.items c.take_job-made.new.journal.items core.table.items
+    c.take_job-made.new.table.items core.opened core.application core.answers.items
+    c.take_job-made.new.answers.items c.args.lane c.args.job.now
+    (vec_capacity core.journal) (vec_capacity c.take_job-made.new.journal) (vec_capacity core.answers)
+    (vec_capacity c.take_job-made.new.answers)
+    c.self.invariant.0 c.self.invariant.1 c.self.invariant.2 c.self.invariant.3 free.0 c.requires.page c.requires.small
+    free.1 ok c.take_job-made.ensures.err c.take_job-made.ensures.capacity
 
 pub returns-clause-ok : goal.returns-clause-ok
 returns-clause-ok g c =
     let core = c.self.inside in
-    let runner : c.args.runner.now ≡ core.runner.value = c.requires.host.runner_is ∙ sym (ap (λ v. v.runner) c.self.view_is) in
+    let runner : c.args.runner.now ≡ core.runner.value = c.requires.host.runner_is
+    ∙ sym (ap (λ v. v.runner) c.self.view_is) in
     let site : c.args.site.now ≡ core.site.value = c.requires.host.site_is ∙ sym (ap (λ v. v.site) c.self.view_is) in
     let old = ap (λ (v : CoreView g.row.R.Denot g.row.R-Site.Denot). grown v
     (admit_entries (rules_of g.R.Runner.meaning v) (past_of v) c.args.lane c.args.job.now)) c.self.view_is in
@@ -45,7 +48,8 @@ returns-clause-ok g c =
 pub returns-clause-told : goal.returns-clause-told
 returns-clause-told g c =
     let core = c.self.inside in
-    let runner : c.args.runner.now ≡ core.runner.value = c.requires.host.runner_is ∙ sym (ap (λ v. v.runner) c.self.view_is) in
+    let runner : c.args.runner.now ≡ core.runner.value = c.requires.host.runner_is
+    ∙ sym (ap (λ v. v.runner) c.self.view_is) in
     let site : c.args.site.now ≡ core.site.value = c.requires.host.site_is ∙ sym (ap (λ v. v.site) c.self.view_is) in
     let old = ap (λ (v : CoreView g.row.R.Denot g.row.R-Site.Denot). told_of
     (entry_then (rules_of g.R.Runner.meaning v) (past_of v) c.args.lane c.args.job.now).what) c.self.view_is in
@@ -57,7 +61,8 @@ returns-clause-told g c =
 pub returns-clause-full : goal.returns-clause-full
 returns-clause-full g c entries weight e =
     let core = c.self.inside in
-    let runner : c.args.runner.now ≡ core.runner.value = c.requires.host.runner_is ∙ sym (ap (λ v. v.runner) c.self.view_is) in
+    let runner : c.args.runner.now ≡ core.runner.value = c.requires.host.runner_is
+    ∙ sym (ap (λ v. v.runner) c.self.view_is) in
     let site : c.args.site.now ≡ core.site.value = c.requires.host.site_is ∙ sym (ap (λ v. v.site) c.self.view_is) in
     elim c.match-made.branch [
       | goal.in-Ok w ↦ let is = w.result-is in absurd cc

@@ -1,4 +1,4 @@
-use Rattle.std.proofs.Common.{◌≡◌, ◌++◌, ◌∷◌, [], reverse, arith, false, length, vec_capacity, vec_len}
+use Rattle.std.proofs.Common.{◌≡◌, ◌++◌, ◌∷◌, [], reverse, arith, false, vec_capacity}
 use Rattle.std.proofs.lemmas.Grind.{common_steps}
 use Rattle.asp_job.specs.History.{with_lane}
 use Rattle.asp_job.specs.Runs.{is_halted}
@@ -15,5 +15,7 @@ invariant_of-self g c =
     let next = c.push_reserved.new.self.items in
     let going : is_halted (reverse journal) ≡ false = grind (arith, common_steps) in
     let made : next ≡ journal ++ with_lane c.args.lane Halt ∷ [] = c.push_reserved.ensures.items in
-    let kept = kept_after_halt m journal next core.table.items core.opened core.application core.answers.items c.args.lane (vec_capacity core.journal) (vec_capacity core.answers) c.self.invariant.0 c.self.invariant.1 c.self.invariant.2 c.self.invariant.3 going made in
+    let kept = kept_after_halt m journal next core.table.items core.opened core.application core.answers.items
+    c.args.lane (vec_capacity core.journal) (vec_capacity core.answers) c.self.invariant.0 c.self.invariant.1
+    c.self.invariant.2 c.self.invariant.3 going made in
     rw c.push_reserved.ensures.capacity kept

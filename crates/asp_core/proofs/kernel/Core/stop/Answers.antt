@@ -14,21 +14,31 @@ invariant_of-self g c =
     let past = reverse core.journal.items in
     let next = c.with_stop.new.journal.items in
     let going : is_stopping past ≡ false = grind (arith, common_steps) in
-    let kept = on_ok c.with_stop.result (next ≡ core.journal.items ++ stop_entries m past c.args.lane) (IsKept m (reverse next) core.table.items core.opened core.application core.answers.items)
-    (λ made. kept_after_stop m core.journal.items next core.table.items core.opened core.application core.answers.items c.args.lane c.self.invariant.0 going made) c.with_stop.ensures.entries in
-    kept_either c.with_stop.result m core.journal.items next core.table.items core.opened core.application core.answers.items c.with_stop.new.answers.items (vec_capacity core.journal) (vec_capacity c.with_stop.new.journal) (vec_capacity core.answers) (vec_capacity c.with_stop.new.answers)
-    c.self.invariant.0 c.self.invariant.1 c.self.invariant.2 c.self.invariant.3 kept c.with_stop.ensures.within c.with_stop.ensures.room c.with_stop.ensures.answer_room c.with_stop.ensures.err c.with_stop.ensures.capacity c.with_stop.ensures.capacity_of_answers c.with_stop.ensures.answers
+    let kept = on_ok c.with_stop.result (next ≡ core.journal.items ++ stop_entries m past c.args.lane)
+    (IsKept m (reverse next) core.table.items core.opened core.application core.answers.items)
+    (λ made. kept_after_stop m core.journal.items next core.table.items core.opened core.application core.answers.items
+    c.args.lane c.self.invariant.0 going made) c.with_stop.ensures.entries in
+    kept_either c.with_stop.result m core.journal.items next core.table.items core.opened core.application
+    core.answers.items c.with_stop.new.answers.items (vec_capacity core.journal)
+    (vec_capacity c.with_stop.new.journal) (vec_capacity core.answers) (vec_capacity c.with_stop.new.answers)
+    c.self.invariant.0 c.self.invariant.1 c.self.invariant.2 c.self.invariant.3 kept c.with_stop.ensures.within
+    c.with_stop.ensures.room c.with_stop.ensures.answer_room c.with_stop.ensures.err c.with_stop.ensures.capacity
+    c.with_stop.ensures.capacity_of_answers c.with_stop.ensures.answers
 
 pub returns-clause-ok : goal.returns-clause-ok
 returns-clause-ok g c =
     let core = c.self.inside in
     let m = rules_by (g.R.Runner.meaning core.runner.value core.site.value) core.seed in
     let past = reverse core.journal.items in
-    let old = ap (λ (v : CoreView g.row.R.Denot g.row.R-Site.Denot). grown v (stop_entries (rules_of g.R.Runner.meaning v) (past_of v) c.args.lane)) c.self.view_is in
+    let old = ap (λ (v : CoreView g.row.R.Denot g.row.R-Site.Denot). grown v
+    (stop_entries (rules_of g.R.Runner.meaning v) (past_of v) c.args.lane)) c.self.view_is in
     on_ok c.with_stop.result (c.with_stop.new.journal.items ≡ core.journal.items ++ stop_entries m past c.args.lane) _
-    (λ made _. ap (λ items. view_of core.runner.value core.site.value core.seed items) made ∙ old) c.with_stop.ensures.entries
+    (λ made _. ap (λ items. view_of core.runner.value core.site.value core.seed items) made ∙ old)
+    c.with_stop.ensures.entries
 
 pub returns-clause-full : goal.returns-clause-full
 returns-clause-full g c entries weight e =
-    subst (λ (v : CoreView g.row.R.Denot g.row.R-Site.Denot). IsTooMuch (past_after (past_of v) (stop_entries (rules_of g.R.Runner.meaning v) (past_of v) c.args.lane)) entries weight) c.self.view_is
+    subst (λ (v : CoreView g.row.R.Denot g.row.R-Site.Denot). IsTooMuch
+    (past_after (past_of v) (stop_entries (rules_of g.R.Runner.meaning v) (past_of v) c.args.lane)) entries weight)
+    c.self.view_is
     (c.with_stop.ensures.full entries weight e)

@@ -11,23 +11,34 @@ invariant_of-self g c =
     let m = rules_by (g.R.Runner.meaning core.runner.value core.site.value) core.seed in
     let past = reverse core.journal.items in
     let next = c.with_tick.new.journal.items in
-    let kept = on_ok c.with_tick.result (next ≡ core.journal.items ++ tick_entries m past c.args.lane c.args.moment) (IsKept m (reverse next) core.table.items core.opened core.application core.answers.items)
-    (λ made. kept_after_tick m core.journal.items next core.table.items core.opened core.application core.answers.items c.args.lane c.args.moment c.self.invariant.0 made) c.with_tick.ensures.entries in
-    kept_either c.with_tick.result m core.journal.items next core.table.items core.opened core.application core.answers.items c.with_tick.new.answers.items (vec_capacity core.journal) (vec_capacity c.with_tick.new.journal) (vec_capacity core.answers) (vec_capacity c.with_tick.new.answers)
-    c.self.invariant.0 c.self.invariant.1 c.self.invariant.2 c.self.invariant.3 kept c.with_tick.ensures.within c.with_tick.ensures.room c.with_tick.ensures.answer_room c.with_tick.ensures.err c.with_tick.ensures.capacity c.with_tick.ensures.capacity_of_answers c.with_tick.ensures.answers
+    let kept = on_ok c.with_tick.result (next ≡ core.journal.items ++ tick_entries m past c.args.lane c.args.moment)
+    (IsKept m (reverse next) core.table.items core.opened core.application core.answers.items)
+    (λ made. kept_after_tick m core.journal.items next core.table.items core.opened core.application core.answers.items
+    c.args.lane c.args.moment c.self.invariant.0 made) c.with_tick.ensures.entries in
+    kept_either c.with_tick.result m core.journal.items next core.table.items core.opened core.application
+    core.answers.items c.with_tick.new.answers.items (vec_capacity core.journal)
+    (vec_capacity c.with_tick.new.journal) (vec_capacity core.answers) (vec_capacity c.with_tick.new.answers)
+    c.self.invariant.0 c.self.invariant.1 c.self.invariant.2 c.self.invariant.3 kept c.with_tick.ensures.within
+    c.with_tick.ensures.room c.with_tick.ensures.answer_room c.with_tick.ensures.err c.with_tick.ensures.capacity
+    c.with_tick.ensures.capacity_of_answers c.with_tick.ensures.answers
 
 pub returns-clause-ok : goal.returns-clause-ok
 returns-clause-ok g c =
     let core = c.self.inside in
     let m = rules_by (g.R.Runner.meaning core.runner.value core.site.value) core.seed in
     let past = reverse core.journal.items in
-    let old = ap (λ (v : CoreView g.row.R.Denot g.row.R-Site.Denot). grown v (tick_entries (rules_of g.R.Runner.meaning v) (past_of v) c.args.lane c.args.moment)) c.self.view_is in
-    on_ok c.with_tick.result (c.with_tick.new.journal.items ≡ core.journal.items ++ tick_entries m past c.args.lane c.args.moment) _
-    (λ made. ap (λ items. view_of core.runner.value core.site.value core.seed items) made ∙ old) c.with_tick.ensures.entries
+    let old = ap (λ (v : CoreView g.row.R.Denot g.row.R-Site.Denot). grown v
+    (tick_entries (rules_of g.R.Runner.meaning v) (past_of v) c.args.lane c.args.moment)) c.self.view_is in
+    on_ok c.with_tick.result (c.with_tick.new.journal.items ≡ core.journal.items ++ tick_entries m past c.args.lane
+    c.args.moment) _
+    (λ made. ap (λ items. view_of core.runner.value core.site.value core.seed items) made ∙ old)
+    c.with_tick.ensures.entries
 
 pub returns-clause-full : goal.returns-clause-full
 returns-clause-full g c entries weight e =
-    subst (λ (v : CoreView g.row.R.Denot g.row.R-Site.Denot). IsTooMuch (past_after (past_of v) (tick_entries (rules_of g.R.Runner.meaning v) (past_of v) c.args.lane c.args.moment)) entries weight) c.self.view_is
+    subst (λ (v : CoreView g.row.R.Denot g.row.R-Site.Denot). IsTooMuch
+    (past_after (past_of v) (tick_entries (rules_of g.R.Runner.meaning v) (past_of v) c.args.lane c.args.moment))
+    entries weight) c.self.view_is
     (c.with_tick.ensures.full entries weight e)
 
 pub returns-clause-count : goal.returns-clause-count
