@@ -30,7 +30,8 @@ nothing_waits m past right none (inl (inr (inl many))) answers going =
     absurd (let few : length (unfinished past) ≡ 0 = ap length none in omega arith)
 nothing_waits m past right none (inl (inr (inr stuck))) answers going = none_waits m past right none stuck
 nothing_waits m past right none (inr heavy) answers going =
-    absurd (light past none (subst (λ (list : List (ℕ × Answer)). MOST_BODIES < bodies_with_one list past) answers heavy))
+    absurd (light past none
+    (subst (λ (list : List (ℕ × Answer)). MOST_BODIES < bodies_with_one list past) answers heavy))
 
 -- an idle turn had no run in hand, and changed nothing
 pub idle_turn : {R Site State : Type 0} → (meaning : R → Site → Meaning)

@@ -18,8 +18,8 @@ use Rattle.asp_core.specs.declared.run.Progress.{Progress}
 use Rattle.asp_core.specs.declared.run.Progress.TheVariants as progress
 use Rattle.asp_core.specs.declared.stop.BeginStop.{BeginStop}
 use Rattle.asp_core.specs.declared.stop.BeginStop.TheVariants as begin
-use Rattle.asp_core.specs.Kernel.{CoreView, RunView, IsBeginTooMuch, IsIdle, IsRunOf, IsTooMuch, StandsAsBefore, StandsAt}
-use Rattle.asp_core.specs.Kernel.{blocker, called, grown, past_of, rules_of, wanted_by}
+use Rattle.asp_core.specs.Kernel.{CoreView, RunView, IsBeginTooMuch, IsIdle, IsRunOf, IsTooMuch, StandsAsBefore}
+use Rattle.asp_core.specs.Kernel.{StandsAt, blocker, called, grown, past_of, rules_of, wanted_by}
 use Rattle.asp_core.proofs.Past.{past_push}
 use Rattle.asp_lane.specs.declared.turn.Turn.{Turn}
 use Rattle.asp_lane.specs.declared.turn.Turn.TheVariants as turn
@@ -57,7 +57,6 @@ some_is None wants = absurd cc
 some_is (Some x) wants = (x, refl)
 
 module _ {R Site State : Type 0} (meaning : R → Site → Meaning) (stands : R → Site → State → Told → ℕ → Type 0) where
-
   -- the call that the run wants is the one that its meaning wants
   wants_so : (core : CoreView R Site) (lane : ℕ) (run : RunView State) (call : AppCall)
       → IsRunOf meaning stands core lane run → wanted_by run.progress ≡ Some call
@@ -109,11 +108,11 @@ module _ {R Site State : Type 0} (meaning : R → Site → Meaning) (stands : R 
       → new ≡ old → Adds {State = State} (rules_of meaning old) (past_of old) lane None [] turn
       → IsTurn meaning stands lane old None new None turn
   none_turn lane old new turn none same adds = record {
-      entries = [];
-      new_is = same ∙ sym (grown_none old);
-      adds = adds;
-      fits = ap (λ core. unfinished (past_of core)) same ∙ none;
-    }
+    entries = [];
+    new_is = same ∙ sym (grown_none old);
+    adds = adds;
+    fits = ap (λ core. unfinished (past_of core)) same ∙ none;
+  }
 
   -- no run has begun
   pub stopped_turn : (lane : ℕ) (old new : CoreView R Site) (stop : BeginStop) → unfinished (past_of old) ≡ []
@@ -152,11 +151,11 @@ module _ {R Site State : Type 0} (meaning : R → Site → Meaning) (stands : R 
       → IsAlone meaning stands core lane then_run → then_run.progress ≡ progress.Going
       → IsTurn meaning stands lane core (Some run) core (Some then_run) turn.More
   more_turn core lane run then_run alone going = record {
-      entries = [];
-      new_is = sym (grown_none core);
-      adds = refl;
-      fits = (alone, going);
-    }
+    entries = [];
+    new_is = sym (grown_none core);
+    adds = refl;
+    fits = (alone, going);
+  }
 
   -- it has made a call
   pub called_turn : (lane : ℕ) (old new : CoreView R Site) (run then_run : RunView State) (call : AppCall)
@@ -197,8 +196,9 @@ module _ {R Site State : Type 0} (meaning : R → Site → Meaning) (stands : R 
         new_is = new_is;
         adds = adds;
         fits = ap unfinished (past_grown old new entry new_is)
-        ∙ ended_none rules past lane run.number kind (status_in answer) (length_in answer)
-        (counted kind (made_in does)) (counted kind (finished_in does)) right alone.is_of.running.unfinished alone.alone;
+            ∙ ended_none rules past lane run.number kind (status_in answer) (length_in answer)
+            (counted kind (made_in does)) (counted kind (finished_in does)) right
+        alone.is_of.running.unfinished alone.alone;
       }
 
   -- by itself
@@ -208,9 +208,11 @@ module _ {R Site State : Type 0} (meaning : R → Site → Meaning) (stands : R 
       → new ≡ grown old (end_entry (rules_of meaning old) (past_of old) lane run.number kind.Done ∷ [])
       → IsTurn meaning stands lane old (Some run) new None turn.Done
   done_turn lane old new run right alone ended new_is =
-      ended_turn lane old new run kind.Done turn.Done right alone new_is
-      (end_entry (rules_of meaning old) (past_of old) lane run.number kind.Done,
-      inr (inl (ends_so old lane run alone.is_of ended, refl)), refl)
+      ended_turn lane old new run kind.Done turn.Done right alone new_is (
+        end_entry (rules_of meaning old) (past_of old) lane run.number kind.Done,
+        inr (inl (ends_so old lane run alone.is_of ended, refl)),
+        refl,
+      )
 
   -- for want of memory
   pub dead_turn : (lane : ℕ) (old new : CoreView R Site) (run : RunView State)
@@ -243,11 +245,11 @@ module _ {R Site State : Type 0} (meaning : R → Site → Meaning) (stands : R 
       → IsTurn meaning stands lane old (Some then_run) new in_hand turn
       → IsTurn meaning stands lane old (Some run) new in_hand turn
   same_turn lane old new run then_run in_hand turn number is = record {
-      entries = is.entries;
-      new_is = is.new_is;
-      adds = rw number at is.adds;
-      fits = is.fits;
-    }
+    entries = is.entries;
+    new_is = is.new_is;
+    adds = rw number at is.adds;
+    fits = is.fits;
+  }
 
 kept_out : (m : Rules) (past : List Entry) (run holder : ℕ) (wanted : Option AppCall) → AreRight m past
     → unfinished past ≡ run ∷ []
