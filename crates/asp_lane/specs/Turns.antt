@@ -1,0 +1,100 @@
+-- What a turn of a lane adds to a core, where no other lane has a run. All of it is the profile's.
+use Rattle.std.specs.Prelude.{◌≡◌, ◌⊎◌, ℕ, List, [], ◌∷◌, Option, Some, None}
+use Rattle.vb_value.specs.declared.application.AppCall.{AppCall}
+use Rattle.asp_job.specs.declared.entry.EndKind.TheVariants as kind
+use Rattle.asp_job.specs.declared.entry.Entry.{Entry}
+use Rattle.asp_job.specs.History.{call_entry}
+use Rattle.asp_job.specs.Journal.{begin_entry, end_entry, MayEnd}
+use Rattle.asp_job.specs.Keys.{told}
+use Rattle.asp_job.specs.Rules.{Rules}
+use Rattle.asp_job.specs.Runs.{unfinished}
+use Rattle.asp_job.specs.Told.{Meaning, Told, Wants}
+use Rattle.asp_job.specs.Turns.{IsBegin, serial_of}
+use Rattle.asp_core.specs.declared.run.Progress.TheVariants as progress
+use Rattle.asp_core.specs.declared.stop.BeginStop.{BeginStop}
+use Rattle.asp_core.specs.declared.stop.BeginStop.TheVariants as stop
+use Rattle.asp_core.specs.Kernel.{CoreView, RunView, IsRunOf, IsIdle, IsTooMuch, IsBeginTooMuch, past_of, rules_of}
+use Rattle.asp_core.specs.Kernel.{grown}
+use Rattle.asp_lane.specs.declared.turn.Hand.{Hand}
+use Rattle.asp_lane.specs.declared.turn.Hand.TheVariants as hand
+use Rattle.asp_lane.specs.declared.turn.Turn.{Turn}
+use Rattle.asp_lane.specs.declared.turn.Turn.TheVariants as turn
+
+-- ---- what is in hand
+
+-- the run in hand, if there is one
+abbrev pub run_in : {R Site Store State : Type 0} → Hand R Site Store State → Option (RunView State)
+run_in (hand.Free store) = None
+run_in (hand.Runs run) = Some run
+
+-- the run is one of the core's, of that lane, and no other is unfinished
+pub record IsAlone {R Site State : Type 0} (meaning : R → Site → Meaning)
+    (stands : R → Site → State → Told → ℕ → Type 0) (core : CoreView R Site) (lane : ℕ) (run : RunView State) :
+    Type 0 where
+  pub is_of : IsRunOf meaning stands core lane run
+  pub alone : unfinished (past_of core) ≡ run.number ∷ []
+
+-- What is in hand is all that is unfinished: no run, or one that may go on.
+abbrev pub Fits : {R Site State : Type 0} → (R → Site → Meaning) → (R → Site → State → Told → ℕ → Type 0) →
+    CoreView R Site → ℕ → Option (RunView State) → Type 0
+Fits meaning stands core lane None = unfinished (past_of core) ≡ []
+Fits meaning stands core lane (Some run) = IsAlone meaning stands core lane run × (run.progress ≡ progress.Going)
+
+-- ---- what a turn adds
+
+-- what a turn comes to where no run begins
+abbrev pub turn_of : BeginStop → Turn
+turn_of stop.Idle = turn.Idle
+turn_of (stop.JournalFull entries weight) = turn.JournalFull entries weight
+turn_of stop.Memory = turn.Memory
+
+-- With the call that the run's meaning wants there would be so many entries of that weight, too many or too heavy.
+abbrev pub IsCallTooMuch : Rules → List Entry → ℕ → ℕ → ℕ → ℕ → Type 0
+IsCallTooMuch rules past lane run entries weight =
+    (call : AppCall) × (rules.meaning.does (told rules past run) ≡ Wants call)
+    × IsTooMuch (call_entry past lane run call ∷ past) entries weight
+
+-- Where no run is in hand: the Begin of the next run; or nothing, where none is next, where that Begin does not fit, or
+-- for want of memory.
+abbrev pub AddsBegin : Rules → List Entry → ℕ → List Entry → Turn → Type 0
+AddsBegin rules past lane entries turn.Done =
+    (run : ℕ) × IsBegin rules past run (serial_of rules past run) × (entries ≡ begin_entry rules past lane run ∷ [])
+AddsBegin rules past lane entries turn.More = ⊥
+AddsBegin rules past lane entries turn.Idle = IsIdle rules past × (entries ≡ [])
+AddsBegin rules past lane entries (turn.JournalFull count weight) =
+    IsBeginTooMuch rules past lane count weight × (entries ≡ [])
+AddsBegin rules past lane entries turn.Memory = entries ≡ []
+
+-- the entry is the call that the run's meaning wants, the End that the meaning has, or an End for want of memory
+abbrev pub IsStep : Rules → List Entry → ℕ → ℕ → Entry → Type 0
+IsStep rules past lane run entry =
+    ((call : AppCall) × (rules.meaning.does (told rules past run) ≡ Wants call)
+    × (entry ≡ call_entry past lane run call))
+    ⊎ (MayEnd rules past lane run kind.Done × (entry ≡ end_entry rules past lane run kind.Done))
+    ⊎ (entry ≡ end_entry rules past lane run kind.Memory)
+
+-- Where a run is in hand: its next call or its End; nothing, where it has more to do; or its End because its next call
+-- does not fit.
+abbrev pub AddsStep : Rules → List Entry → ℕ → ℕ → List Entry → Turn → Type 0
+AddsStep rules past lane run entries turn.Done =
+    (entry : Entry) × IsStep rules past lane run entry × (entries ≡ entry ∷ [])
+AddsStep rules past lane run entries turn.More = entries ≡ []
+AddsStep rules past lane run entries turn.Idle = ⊥
+AddsStep rules past lane run entries (turn.JournalFull count weight) =
+    IsCallTooMuch rules past lane run count weight × (entries ≡ end_entry rules past lane run kind.JournalFull ∷ [])
+AddsStep rules past lane run entries turn.Memory = ⊥
+
+-- the entries of a turn, oldest first, where this run is in hand
+abbrev pub Adds : {State : Type 0} → Rules → List Entry → ℕ → Option (RunView State) → List Entry → Turn → Type 0
+Adds rules past lane None entries turn = AddsBegin rules past lane entries turn
+Adds rules past lane (Some run) entries turn = AddsStep rules past lane run.number entries turn
+
+-- The new core is the old one with the entries of the turn, and what is in hand then fits it.
+pub record IsTurn {R Site State : Type 0} (meaning : R → Site → Meaning)
+    (stands : R → Site → State → Told → ℕ → Type 0) (lane : ℕ) (old : CoreView R Site)
+    (in_hand : Option (RunView State)) (new : CoreView R Site) (then_in_hand : Option (RunView State)) (turn : Turn) :
+    Type 0 where
+  pub entries : List Entry
+  pub new_is : new ≡ grown old entries
+  pub adds : Adds (rules_of meaning old) (past_of old) lane in_hand entries turn
+  pub fits : Fits meaning stands new lane then_in_hand

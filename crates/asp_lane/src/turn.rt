@@ -1,0 +1,149 @@
+//! The turns of a lane.
+#![tactic(auto)]
+
+ghost use Rattle.std.specs.Prelude.{◌≡◌, [], false, Some, None, IsSome};
+ghost use Rattle.asp_job.specs.Journal as journals;
+ghost use Rattle.asp_job.specs.Runs as runs;
+ghost use Rattle.asp_core.specs.Kernel as kernel;
+ghost use Rattle.asp_core.specs.Ready as waits;
+ghost use Rattle.asp_lane.specs.Turns as spec;
+
+use asp_core::{AppStepStop, BeginStop, Core, Run};
+use asp_job::{EndKind, Runner, Step};
+
+/// How many ticks a run spends in a turn, at most.
+pub const QUANTUM: u32 = 10_000;
+
+/// What a lane has in hand.
+pub enum Hand<R: Runner> {
+    /// Room for a run.
+    Free(R::Store),
+    /// A run that may go on.
+    Runs(Run<R>),
+}
+
+/// What a turn came to.
+#[derive(Clone, Copy, Debug, PartialEq, Eq)]
+pub enum Turn {
+    /// The journal has one entry more: a run began, made a call, or ended.
+    Done,
+    /// The run in hand has spent its ticks, and has more to do.
+    More,
+    /// No run may begin.
+    Idle,
+    /// An entry did not fit. The run in hand, if there was one, has ended.
+    JournalFull {
+        /// How many entries there would be, with one end for each unfinished run.
+        entries: u64,
+        /// What they would weigh; 2^64 - 1 stands for a greater weight.
+        weight: u64,
+    },
+    /// Memory ran out before a run began.
+    Memory,
+}
+
+/// What a turn comes to where no run begins.
+fn turn_of(stop: BeginStop) -> Turn
+    ensures { result ≡ spec.turn_of stop }
+{
+    match stop {
+        BeginStop::Idle => Turn::Idle,
+        BeginStop::JournalFull { entries, weight } => Turn::JournalFull { entries, weight },
+        BeginStop::Memory => Turn::Memory,
+    }
+}
+
+/// Begins the next run.
+fn begin<R: Runner>(
+    core: &mut Core<R>,
+    runner: &R,
+    site: &R::Site,
+    lane: u32,
+    store: R::Store,
+) -> (Hand<R>, Turn)
+    requires host { kernel.IsHostOf core.old runner.now site.now }
+    requires valid { journals.AreRight (kernel.rules_of R.meaning core.old) (kernel.past_of core.old) }
+    requires free { runs.unfinished (kernel.past_of core.old) ≡ [] }
+    ensures { spec.IsTurn R.meaning R.stands lane core.old None core.new (spec.run_in result.0) result.1 }
+{
+    match core.begin(lane, runner, site, store) {
+        Ok(run) => (Hand::Runs(run), Turn::Done),
+        Err((store, stop)) => (Hand::Free(store), turn_of(stop)),
+    }
+}
+
+/// Makes the call that a run wants, or ends the run where there is no room or memory for it.
+fn call<R: Runner>(core: &mut Core<R>, runner: &R, lane: u32, mut run: Run<R>) -> (Hand<R>, Turn)
+    requires host { runner.now ≡ core.old.runner }
+    requires valid { journals.AreRight (kernel.rules_of R.meaning core.old) (kernel.past_of core.old) }
+    requires hand { spec.IsAlone R.meaning R.stands core.old lane run }
+    requires wants { IsSome (kernel.wanted_by run.progress) }
+    ensures { spec.IsTurn R.meaning R.stands lane core.old (Some run) core.new (spec.run_in result.0) result.1 }
+{
+    match core.app_step(lane, runner, &mut run) {
+        Ok(()) => (Hand::Runs(run), Turn::Done),
+        Err(AppStepStop::Blocked { holder: _ }) => unreachable!(),
+        Err(AppStepStop::JournalFull { entries, weight }) => {
+            let store = core.end(lane, runner, run, EndKind::JournalFull);
+            (Hand::Free(store), Turn::JournalFull { entries, weight })
+        }
+        Err(AppStepStop::Memory) => {
+            let store = core.end(lane, runner, run, EndKind::Memory);
+            (Hand::Free(store), Turn::Done)
+        }
+    }
+}
+
+/// Goes on with a run to its next call or its end.
+fn go<R: Runner>(
+    core: &mut Core<R>,
+    runner: &R,
+    site: &R::Site,
+    lane: u32,
+    mut run: Run<R>,
+) -> (Hand<R>, Turn)
+    requires host { kernel.IsHostOf core.old runner.now site.now }
+    requires valid { journals.AreRight (kernel.rules_of R.meaning core.old) (kernel.past_of core.old) }
+    requires hand { spec.Fits R.meaning R.stands core.old lane (Some run) }
+    ensures { spec.IsTurn R.meaning R.stands lane core.old (Some run) core.new (spec.run_in result.0) result.1 }
+{
+    match run.go(runner, site, QUANTUM) {
+        Ok(Step::More) => (Hand::Runs(run), Turn::More),
+        Ok(Step::Wants(_)) => call(core, runner, lane, run),
+        Ok(Step::Ended) => {
+            let store = core.end(lane, runner, run, EndKind::Done);
+            (Hand::Free(store), Turn::Done)
+        }
+        Err(_) => {
+            let store = core.end(lane, runner, run, EndKind::Memory);
+            (Hand::Free(store), Turn::Done)
+        }
+    }
+}
+
+/// One turn of a lane, where no other lane has a run: it begins the next run, or takes the run in hand to its next call
+/// or to its end. Where memory runs out for a run that is under way, the run ends so.
+pub fn take_turn<R: Runner>(
+    core: &mut Core<R>,
+    runner: &R,
+    site: &R::Site,
+    lane: u32,
+    hand: Hand<R>,
+) -> (Hand<R>, Turn)
+    requires host { kernel.IsHostOf core.old runner.now site.now }
+    requires hand { spec.Fits R.meaning R.stands core.old lane (spec.run_in hand) }
+    ensures turn { spec.IsTurn R.meaning R.stands lane
+        core.old (spec.run_in hand) core.new (spec.run_in result.0) result.1 }
+
+    // Where it comes to idle with no answer left to hand out and no Halt, no run waits.
+    ensures idle { result.1 ≡ Turn.Idle →
+        waits.ready (kernel.rules_of R.meaning core.new) (kernel.past_of core.new) ≡ [] →
+        runs.is_halted (kernel.past_of core.new) ≡ false → runs.waiting (kernel.past_of core.new) ≡ [] }
+{
+    // The journal is valid.
+    let _ = core.journal();
+    match hand {
+        Hand::Free(store) => begin(core, runner, site, lane, store),
+        Hand::Runs(run) => go(core, runner, site, lane, run),
+    }
+}
