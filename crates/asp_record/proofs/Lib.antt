@@ -3,6 +3,7 @@ mod CallsRead
 mod Commas
 mod Counting
 mod FieldLaws
+mod GeneratedSound
 mod ItemLaws
 mod Journals
 mod LineLaws

@@ -5,6 +5,7 @@ ghost use Rattle.asp_record.specs.declared.journal.Line.{Line};
 ghost use Rattle.asp_record.specs.declared.recording.Recording.{Recording as Recorded};
 ghost use Rattle.asp_record.specs.Entries.{entry_text};
 ghost use Rattle.asp_record.specs.EntryLines.{line_what};
+ghost use Rattle.asp_record.specs.Generated.{generated};
 ghost use Rattle.asp_record.specs.Journal.{IsJournal, IsNoJournalAt, line_text};
 ghost use Rattle.asp_record.specs.Recorded.{IsRefusedAt, IsSound, Stands};
 ghost use Rattle.asp_record.specs.Recording.{recording_text};
@@ -26,6 +27,11 @@ pub fn text_stands()
 pub fn recording_not_refused()
     ensures { (bytes : List ℕ) (recording : Recorded) (end offset : ℕ) → Stands bytes recording end
         → IsRefusedAt bytes offset → ⊥ }
+{}
+
+/// What is generated is sound.
+pub fn generated_sound()
+    ensures { (count : ℕ) → count ≤ 10000 → IsSound (generated count) }
 {}
 
 /// The text of an entry is that of its line, and nothing where it has none.

@@ -24,8 +24,8 @@ pub use entry::entry_line;
 pub use generated::generate;
 pub use journal::{Line, LineWhat, read_lines};
 pub use laws::{
-    entries_have_lines, journal_not_refused, one_journal, one_recording, recording_not_refused,
-    text_stands,
+    entries_have_lines, generated_sound, journal_not_refused, one_journal, one_recording,
+    recording_not_refused, text_stands,
 };
 pub use reading::read_recording;
 pub use recording::{Item, Recording};
