@@ -1,3 +1,4 @@
 pub mod Unfinished
 pub mod Turns
 pub mod Idle
+pub mod Many

@@ -198,7 +198,7 @@ module _ {R Site State : Type 0} (meaning : R → Site → Meaning) (stands : R 
         fits = ap unfinished (past_grown old new entry new_is)
             ∙ ended_none rules past lane run.number kind (status_in answer) (length_in answer)
             (counted kind (made_in does)) (counted kind (finished_in does)) right
-        alone.is_of.running.unfinished alone.alone;
+            alone.is_of.running.unfinished alone.alone;
       }
 
   -- by itself
