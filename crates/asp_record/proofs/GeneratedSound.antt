@@ -1,5 +1,6 @@
 -- What is generated is sound.
-use Rattle.std.proofs.Common.{◌≡◌, ℕ, zero, suc, ◌+◌, ◌/◌, ◌%◌, ◌^◌, ◌<◌, ◌≤◌, [], ◌∷◌, ◌++◌, length, map, slice_index, refl}
+use Rattle.std.proofs.Common.{◌≡◌, ℕ, zero, suc, ◌+◌, ◌/◌, ◌%◌, ◌^◌, ◌<◌, ◌≤◌, [], ◌∷◌, ◌++◌, length, map, slice_index}
+use Rattle.std.proofs.Common.{refl}
 use Rattle.std.proofs.Common.{arith, codes, replicate, IsUtf8}
 use Rattle.std.specs.Char.{encode_utf8}
 use Rattle.std.specs.List.{range_with_len}
@@ -61,7 +62,8 @@ head_length = refl
 
 -- its bytes give it first, and nothing is left
 comes : IsFront count_bytes (Request count_head [] [])
-unfolding print_request status_by fields_of trim_ows path_of normal_path_of has_whole_escapes percent_decode chars is_utf8 encode_utf8
+unfolding print_request status_by fields_of trim_ows path_of normal_path_of has_whole_escapes percent_decode chars
+    is_utf8 encode_utf8
 comes = record {
   opening = Whole count_head [];
   opens = ((is_head, refl), omega (arith, head_length));

@@ -261,7 +261,8 @@ module _ {R Site State : Type 0} (meaning : R → Site → Meaning) (stands : R 
       → HasGone (stands runner site) (meaning runner site) old new → next ≡ set left lane (Some new)
       → IsDesk meaning stands core runner site next
   desk_gone left next old new desk taken goes e =
-      let one = went meaning stands core lane runner site old new desk.host goes (desk.runs_are lane old taken.run_is) in
+      let one = went meaning stands core lane runner site old new desk.host goes
+      (desk.runs_are lane old taken.run_is) in
       rw e (put meaning stands core lane runner site left new (left_within runs left lane old taken) one
       (desk_taken left old desk taken))
 

@@ -11,5 +11,6 @@ invariant_of-self g c =
     let free = rw c.as_slice.ensures.value at (c.if-not-is_free.ensures refl) in
     let grows = first_grown c.collect_first-told.result lane core c.collect_first-told.new.self
     c.collect_first-told.ensures.some c.collect_first-told.ensures.none in
-    stays g.R.Runner.meaning g.R.Runner.stands core c.collect_first-told.new.self lane c.self.inside.runner c.self.inside.site
+    stays g.R.Runner.meaning g.R.Runner.stands core c.collect_first-told.new.self lane c.self.inside.runner
+    c.self.inside.site
     c.self.inside.runs.items c.self.invariant free.none grows c.journal.ensures.valid

@@ -12,7 +12,8 @@ invariant_of-self-2 g c =
     let next = c.end.new.self in
     let lane = c.args.lane in
     let run = c.in_ok-run.run' in
-    let grows = one_grown lane core next (end_of (rules_of g.R.Runner.meaning core) (past_of core) run.number c.end_kind-kind.result)
+    let grows = one_grown lane core next (end_of (rules_of g.R.Runner.meaning core) (past_of core) run.number
+    c.end_kind-kind.result)
     c.end.ensures in
     desk_ended g.R.Runner.meaning g.R.Runner.stands core lane c.self.inside.runner c.self.inside.site
     c.self.inside.runs.items next c.take_run.new.runs.items run c.self.invariant c.in_ok-run.ensures.ok grows
