@@ -1,14 +1,13 @@
 -- Where a turn comes to idle and no answer waits, no run waits.
-use Rattle.std.proofs.Common.{◌≡◌, ℕ, ◌+◌, ◌*◌, ◌<◌, ◌≤◌, true, false, List, [], ◌∷◌, length, refl, ap, sym, ◌∙◌, subst}
+use Rattle.std.proofs.Common.{◌≡◌, ℕ, ◌<◌, true, false, List, [], length, ap, sym, ◌∙◌, subst}
 use Rattle.std.proofs.Common.{arith, inl, inr, Option, Some, None}
 use Rattle.asp_job.specs.declared.answer.Answer.{Answer}
 use Rattle.asp_job.specs.declared.entry.Entry.{Entry}
-use Rattle.asp_job.specs.declared.entry.TheConstants.{MOST_UNFINISHED}
 use Rattle.asp_job.specs.Journal.{AreRight}
 use Rattle.asp_job.specs.Rules.{Rules}
 use Rattle.asp_job.specs.Runs.{is_halted, unfinished, waiting}
 use Rattle.asp_job.specs.Told.{Meaning, Told}
-use Rattle.asp_core.specs.declared.ready.TheConstants.{BODY_ROOM, MOST_BODIES}
+use Rattle.asp_core.specs.declared.ready.TheConstants.{MOST_BODIES}
 use Rattle.asp_core.specs.Kernel.{CoreView, RunView, IsIdle, grown, past_of, rules_of}
 use Rattle.asp_core.specs.Ready.{bodies_with_one, ready}
 use Rattle.asp_core.proofs.Idling.{none_waits}

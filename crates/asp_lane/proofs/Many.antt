@@ -1,5 +1,5 @@
 -- What many turns leave of a core.
-use Rattle.std.proofs.Common.{◌≡◌, ℕ, suc, ◌+◌, Option, refl, add-one}
+use Rattle.std.proofs.Common.{ℕ, ◌+◌, Option, add-one}
 use Rattle.asp_job.specs.Told.{Meaning, Told}
 use Rattle.asp_core.specs.Kernel.{CoreView, IsHostOf, RunView}
 use Rattle.asp_lane.specs.declared.turn.Turn.{Turn}

@@ -1,5 +1,5 @@
 -- What each turn leaves of a core.
-use Rattle.std.proofs.Common.{◌≡◌, ℕ, List, [], ◌∷◌, ◌++◌, reverse, refl, ap, sym, ◌∙◌, subst, append-nil, inl, inr}
+use Rattle.std.proofs.Common.{◌≡◌, ℕ, List, [], ◌∷◌, refl, ap, sym, ◌∙◌, subst, append-nil, inl, inr}
 use Rattle.std.proofs.Common.{Option, Some, None, IsSome}
 use Rattle.vb_value.specs.declared.application.AppCall.{AppCall}
 use Rattle.asp_job.specs.declared.entry.EndKind.{EndKind}
@@ -23,7 +23,7 @@ use Rattle.asp_core.specs.Kernel.{StandsAt, blocker, called, grown, past_of, rul
 use Rattle.asp_core.proofs.Past.{past_push}
 use Rattle.asp_lane.specs.declared.turn.Turn.{Turn}
 use Rattle.asp_lane.specs.declared.turn.Turn.TheVariants as turn
-use Rattle.asp_lane.specs.Turns.{Adds, Fits, IsAlone, IsCallTooMuch, IsTurn, turn_of}
+use Rattle.asp_lane.specs.Turns.{Adds, IsAlone, IsTurn, turn_of}
 use Rattle.asp_lane.proofs.Unfinished.{begun_alone, ended_none, never_blocked}
 
 -- ---- cores

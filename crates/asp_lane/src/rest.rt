@@ -19,8 +19,8 @@ fn goes_on(turn: Turn) -> bool
     matches!(turn, Turn::Done | Turn::More)
 }
 
-/// Takes turns until one comes to idle, an entry does not fit, or memory runs out before a run begins, and tells what the
-/// last one came to. After 2^32 turns it stops.
+/// Takes turns until one comes to idle, an entry does not fit, or memory runs out before a run begins, and tells what
+/// the last one came to. After 2^32 turns it stops.
 pub fn take_turns<R: Runner>(
     core: &mut Core<R>,
     runner: &R,

@@ -14,7 +14,8 @@ use asp_job::{EndKind, Runner, Step};
 /// How many ticks a run spends in a turn, at most.
 pub const QUANTUM: u32 = 10_000;
 
-/// What a lane has in hand.
+/// What a lane has in hand. A run that is let go stays unfinished for ever.
+#[derive(Drop)]
 pub enum Hand<R: Runner> {
     /// Room for a run.
     Free(R::Store),

@@ -1,4 +1,4 @@
-use Rattle.std.proofs.Common.{◌∙◌, arith}
+use Rattle.std.proofs.Common.{arith}
 use Rattle.asp_lane.specs.Turns.{run_in}
 use Rattle.asp_lane.proofs.Many.{host_stays, one_more}
 use Rattle.asp_lane.proofs.rest.take_turns.Goals as goal
