@@ -1,16 +1,10 @@
-//! Tries the cases of data/: pages, each with a request and what is answered, and calls of a core over pages.
+//! Tries the cases of data/: pages, each with a request and what is answered.
 #![tactic(auto)]
 
-mod calls;
-mod desk;
-mod jobs;
 mod pages;
 mod requests;
-mod said;
-mod shown;
 mod site;
 
-use calls::Calls;
 use case_files::try_file;
 use pages::Pages;
 use std::io;
@@ -25,9 +19,6 @@ fn main(rt: HostRuntime) -> io::Result<()> {
         if !try_file(&rt, name, &Pages)? {
             all_passed = false;
         }
-    }
-    if !try_file(&rt, "calls.txt", &Calls)? {
-        all_passed = false;
     }
     if all_passed {
         Ok(())

@@ -1,4 +1,4 @@
-//! The sites of cases.
+//! A site of one page and one static file.
 
 use asp_site::{LineSpot, Page, Site};
 use case_files::CaseStop;
@@ -26,17 +26,17 @@ fn lines(alloc: Global, path: &Text) -> Result<List<LineSpot>, CaseStop> {
     Ok(lines)
 }
 
-fn page(alloc: Global, path: &str, session: bool, script: &str) -> Result<Page, CaseStop> {
+fn page(alloc: Global, script: &str) -> Result<Page, CaseStop> {
     let text = Text::from_str(alloc, script)?;
     if text.len() >= 1 << 31 {
         return Err(CaseStop::Unreadable);
     }
-    let path = Text::from_str(alloc, path)?;
+    let path = Text::from_str(alloc, PAGE)?;
     match script_program(alloc, &text) {
         Ok(program) => Ok(Page {
             lines: lines(alloc, &path)?,
             path,
-            session,
+            session: false,
             program,
         }),
         Err(ScriptStop::Fault { .. }) => Err(CaseStop::Unreadable),
@@ -47,7 +47,7 @@ fn page(alloc: Global, path: &str, session: bool, script: &str) -> Result<Page, 
 /// The site whose page `/d/p.asp` has this script.
 pub fn site_of(alloc: Global, script: &str) -> Result<Site, CaseStop> {
     let mut pages = List::new(alloc);
-    pages.push(page(alloc, PAGE, false, script)?)?;
+    pages.push(page(alloc, script)?)?;
     let mut statics = List::new(alloc);
     statics.push(SiteFile {
         path: Text::from_str(alloc, FILE)?,
@@ -56,29 +56,6 @@ pub fn site_of(alloc: Global, script: &str) -> Result<Site, CaseStop> {
     Ok(Site {
         pages,
         statics,
-        events: None,
-    })
-}
-
-/// The page of this number. A `+` before its script gives it a session.
-fn numbered(alloc: Global, number: usize, written: &str) -> Result<Page, CaseStop> {
-    let path = format!(in alloc; "/{number}.asp")?;
-    match written.strip_prefix('+') {
-        Some(script) => page(alloc, path.as_str(), true, script),
-        None => page(alloc, path.as_str(), false, written),
-    }
-}
-
-/// The site whose pages `/1.asp`, `/2.asp` and so on have these scripts, with ` # ` between them.
-pub fn site_of_pages(alloc: Global, scripts: &str) -> Result<Site, CaseStop> {
-    let mut pages = List::new(alloc);
-    for script in scripts.split(" # ") {
-        let number = pages.len() + 1;
-        pages.push(numbered(alloc, number, script)?)?;
-    }
-    Ok(Site {
-        pages,
-        statics: List::new(alloc),
         events: None,
     })
 }
