@@ -34,3 +34,5 @@ pub mod Idling
 pub mod Wanting
 pub mod Ordering
 pub mod Alone
+pub mod Indexing
+pub mod Placing

@@ -14,3 +14,5 @@ pub mod Waits
 pub mod Wanted
 pub mod Given
 pub mod Alone
+pub mod Rows
+pub mod Books

@@ -4,6 +4,7 @@
 mod admit;
 mod admitted;
 mod begin;
+mod books;
 mod calls;
 mod cookie;
 mod drawing;

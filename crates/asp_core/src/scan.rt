@@ -23,7 +23,7 @@ pub fn moment_of(journal: &[Entry]) -> u64
     moment
 }
 
-fn queued(work: &Work) -> Result<Job, Memory>
+pub fn queued(work: &Work) -> Result<Job, Memory>
     ensures { Gives result (runs.queued_job work.now) }
 {
     Ok(Job {
@@ -33,7 +33,7 @@ fn queued(work: &Work) -> Result<Job, Memory>
     })
 }
 
-fn job_in(run: u64, what: &What) -> Result<Option<Job>, Memory>
+pub fn job_in(run: u64, what: &What) -> Result<Option<Job>, Memory>
     ensures { Gives result (runs.job_in run what.now) }
 {
     match what {
@@ -182,7 +182,7 @@ pub fn stage_of(journal: &[Entry], run: u64) -> Stage
     stage
 }
 
-fn counts(what: &What) -> bool
+pub fn counts(what: &What) -> bool
     ensures { result ≡ history.counts what.now }
 {
     !matches!(what, What::Take { .. } | What::Halt)
@@ -202,7 +202,7 @@ pub fn entries_in(journal: &[Entry]) -> u64
     entries
 }
 
-fn draws(what: &What) -> bool
+pub fn draws(what: &What) -> bool
     ensures { result ≡ runs.draws what.now }
 {
     matches!(

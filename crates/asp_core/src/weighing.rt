@@ -82,7 +82,7 @@ pub fn reply_weight(reply: &AppReply) -> u64
     }
 }
 
-fn what_weight(what: &What) -> u64
+pub fn what_weight(what: &What) -> u64
     ensures { result ≡ min (history.what_weight what.now) (2 ^ 64 - 1) }
 {
     match what {

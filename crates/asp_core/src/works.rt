@@ -9,7 +9,7 @@ ghost use Rattle.asp_job.specs.Turns as turns;
 
 use asp_job::{Entry, What, Work};
 
-fn is_page(work: &Work) -> bool
+pub fn is_page(work: &Work) -> bool
     ensures { result ≡ running.is_page work.now }
 {
     matches!(work, Work::Page(_))
@@ -56,7 +56,7 @@ pub fn is_page_run(journal: &[Entry], run: u64) -> bool
     page
 }
 
-fn is_last_work(work: &Work) -> bool
+pub fn is_last_work(work: &Work) -> bool
     ensures { result ≡ turns.is_last_work work.now }
 {
     matches!(work, Work::Stop)

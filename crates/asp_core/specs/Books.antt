@@ -1,0 +1,38 @@
+-- A journal with tables of what it tells.
+use Rattle.std.specs.Prelude.{◌≡◌, ℕ, ◌+◌, ◌-◌, ◌^◌, ◌||◌, min, Bool, false, if◌then◌else◌, List, length, unwrap_or}
+use Rattle.asp_job.specs.declared.entry.Entry.{Entry}
+use Rattle.asp_job.specs.declared.entry.What.{What}
+use Rattle.asp_job.specs.History.{counts, entries_in, weight_in, what_weight}
+use Rattle.asp_job.specs.Keys.{made as made_in, makes_key}
+use Rattle.asp_job.specs.Runs.{drawn, is_halt, is_halted, is_stop, is_stopping, moment_in, moment_of}
+use Rattle.asp_core.specs.Rows.{row_at, row_of}
+use Rattle.asp_core.specs.declared.books.rows.Row.{Row}
+use Rattle.asp_core.specs.declared.books.tally.Tally.{Tally}
+
+-- what the journal tells of all runs together; 2^64 - 1 stands for a greater weight
+abbrev pub tally_of : List Entry → Tally
+tally_of past = record {
+  made = made_in past;
+  moment = moment_of past;
+  entries = entries_in past;
+  weight = min (weight_in past) (2 ^ 64 - 1);
+  stopping = is_stopping past;
+  halted = is_halted past;
+}
+
+-- the same after an entry
+abbrev pub tally_after : What → Tally → Tally
+tally_after what tally = record {
+  made = if makes_key what then tally.made + 1 else tally.made;
+  moment = unwrap_or (moment_in what) tally.moment;
+  entries = if counts what then tally.entries + 1 else tally.entries;
+  weight = min (tally.weight + what_weight what) (2 ^ 64 - 1);
+  stopping = is_stop what || tally.stopping;
+  halted = is_halt what || tally.halted;
+}
+
+-- the tables say what the journal says
+pub record IsIndexed (past : List Entry) (rows : List Row) (tally : Tally) : Type 0 where
+  pub rows_are : row_at rows ≡ row_of past
+  pub drawn_is : length rows ≡ drawn past
+  pub tally_is : tally ≡ tally_of past
