@@ -16,12 +16,12 @@ use Rattle.asp_job.specs.declared.entry.Entry.{Entry}
 use Rattle.asp_job.specs.declared.entry.What.{What}
 use Rattle.asp_job.specs.declared.entry.What.TheVariants.{Admit, App, Begin, End, Halt, Queue, Refuse, Stop, Take, Tick}
 use Rattle.asp_core.specs.Rows.{IsNumberedFor, changed, marked, no_row, row_after, row_at, row_of, rows_after, with_row}
-use Rattle.asp_core.specs.Books.{IsIndexed, tally_after, tally_of}
+use Rattle.asp_core.specs.Books.{tally_after, tally_of}
 use Rattle.asp_core.specs.declared.books.rows.Row.{Row}
 use Rattle.asp_core.specs.declared.books.tally.Tally.{Tally}
 use Rattle.asp_core.proofs.Bounds.{made_small}
 use Rattle.asp_core.proofs.Others.{own_number}
-use Rattle.asp_core.proofs.Past.{page_more, last_more, past_push, length_past}
+use Rattle.asp_core.proofs.Past.{page_more, last_more, length_past}
 
 -- ---- a list with one item more
 
@@ -225,22 +225,3 @@ tally_few journal tally e =
     let one : tally.entries ≡ entries_in (reverse journal) = ap (λ t. t.entries) e in
     let two : tally.made ≡ made_in (reverse journal) = ap (λ t. t.made) e in
     (omega arith, omega arith)
-
--- ---- the books after an entry
-
-pub indexed_more : (journal next : List Entry) (rows marked : List Row) (tally later : Tally) (place : ℕ) (entry : Entry)
-    → IsIndexed (reverse journal) rows tally → next ≡ journal ++ entry ∷ [] → place ≡ length journal
-    → row_at marked ≡ rows_after place entry.lane entry.what (row_at rows)
-    → length marked ≡ (if draws entry.what then length rows + 1 else length rows)
-    → later ≡ tally_after entry.what tally → IsIndexed (reverse next) marked later
-indexed_more journal next rows marked tally later place entry is e at f g h =
-    let of : reverse next ≡ entry ∷ reverse journal = ap reverse e ∙ past_push journal entry in
-    let here : place ≡ length (reverse journal) = at ∙ sym (length_past journal) in
-    let whole : IsIndexed (entry ∷ reverse journal) marked later = record {
-      rows_are = f ∙ ap (rows_after place entry.lane entry.what) is.rows_are
-          ∙ ap (λ n. rows_after n entry.lane entry.what (row_of (reverse journal))) here
-          ∙ sym (fun_ext (λ r. row_more (reverse journal) entry r));
-      drawn_is = g ∙ ap (λ n. if draws entry.what then n + 1 else n) is.drawn_is;
-      tally_is = h ∙ ap (tally_after entry.what) is.tally_is ∙ sym (tally_more (reverse journal) entry);
-    } in
-    rw of whole

@@ -36,3 +36,6 @@ pub mod Ordering
 pub mod Alone
 pub mod Indexing
 pub mod Placing
+pub mod Listing
+pub mod Open
+pub mod Entering

@@ -1,10 +1,12 @@
 -- A journal with tables of what it tells.
-use Rattle.std.specs.Prelude.{◌≡◌, ℕ, ◌+◌, ◌-◌, ◌^◌, ◌||◌, min, Bool, false, if◌then◌else◌, List, length, unwrap_or}
+use Rattle.std.specs.Prelude.{◌≡◌, ℕ, ◌+◌, ◌-◌, ◌^◌, ◌||◌, ◌==◌, ◌++◌, min, Bool, true, false, not, if◌then◌else◌, unwrap_or}
+use Rattle.std.specs.Prelude.{List, [], ◌∷◌, length, filter}
 use Rattle.asp_job.specs.declared.entry.Entry.{Entry}
 use Rattle.asp_job.specs.declared.entry.What.{What}
 use Rattle.asp_job.specs.History.{counts, entries_in, weight_in, what_weight}
 use Rattle.asp_job.specs.Keys.{made as made_in, makes_key}
-use Rattle.asp_job.specs.Runs.{drawn, is_halt, is_halted, is_stop, is_stopping, moment_in, moment_of}
+use Rattle.asp_job.specs.declared.entry.What.TheVariants.{Queue, Admit, Begin, End}
+use Rattle.asp_job.specs.Runs.{drawn, is_halt, is_halted, is_open, is_stop, is_stopping, moment_in, moment_of, numbers}
 use Rattle.asp_core.specs.Rows.{row_at, row_of}
 use Rattle.asp_core.specs.declared.books.rows.Row.{Row}
 use Rattle.asp_core.specs.declared.books.tally.Tally.{Tally}
@@ -31,8 +33,26 @@ tally_after what tally = record {
   halted = is_halt what || tally.halted;
 }
 
+-- the runs that wait or are unfinished, in order
+abbrev pub open_runs : List Entry → List ℕ
+open_runs past = filter (is_open past) (numbers (drawn past))
+
+-- the same after an entry
+abbrev pub open_after : What → List ℕ → List ℕ
+open_after (Queue run work key) listed = listed ++ run ∷ []
+open_after (Admit run key fresh job) listed = listed ++ run ∷ []
+open_after (End run kind status size made finished) listed = filter (λ r. not (r == run)) listed
+open_after _ listed = listed
+
+-- A run that begins or ends waited or was unfinished.
+abbrev pub IsTimely : List Entry → What → Type 0
+IsTimely past (Begin run serial) = is_open past run ≡ true
+IsTimely past (End run kind status size made finished) = is_open past run ≡ true
+IsTimely past _ = Unit {0}
+
 -- the tables say what the journal says
-pub record IsIndexed (past : List Entry) (rows : List Row) (tally : Tally) : Type 0 where
+pub record IsIndexed (past : List Entry) (rows : List Row) (tally : Tally) (listed : List ℕ) : Type 0 where
   pub rows_are : row_at rows ≡ row_of past
   pub drawn_is : length rows ≡ drawn past
   pub tally_is : tally ≡ tally_of past
+  pub open_are : listed ≡ open_runs past

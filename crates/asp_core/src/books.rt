@@ -12,11 +12,14 @@ ghost use Rattle.asp_job.specs.Turns as turns;
 ghost use Rattle.asp_core.specs.Books as spec;
 ghost use Rattle.asp_core.specs.Rows as rows;
 
+mod listing;
+mod next;
 mod rows;
 mod tally;
 
 use crate::scan::{job_in, queued};
 use asp_job::{Entry, Job, Stage, Work};
+use listing::list;
 use rows::{Row, look_up, mark};
 use std::alloc::Global;
 use std::marker::Model;
@@ -29,6 +32,8 @@ pub struct Books {
     journal: Vec<Entry>,
     rows: Vec<Row>,
     tally: Tally,
+    /// The runs that wait or are unfinished, in order.
+    listed: Vec<u32>,
 }
 
 impl Model for Books {
@@ -44,7 +49,7 @@ impl Model for Books {
 
     ghost view = { λ b. b.journal.items };
 
-    ghost invariant = { λ b. IsIndexed (reverse b.journal.items) b.rows.items b.tally };
+    ghost invariant = { λ b. IsIndexed (reverse b.journal.items) b.rows.items b.tally b.listed.items };
 }
 
 /// The job of the run that was drawn by the entry at the place; of no run a Start.
@@ -77,6 +82,7 @@ impl Books {
                 stopping: false,
                 halted: false,
             },
+            listed: Vec::new(alloc),
         }
     }
 
@@ -85,6 +91,13 @@ impl Books {
         ensures { result.now ≡ self.now }
     {
         self.journal.as_slice()
+    }
+
+    /// The runs that wait or are unfinished, in order.
+    pub fn open_runs(&self) -> &[u32]
+        ensures { result.now ≡ spec.open_runs (reverse self.now) }
+    {
+        self.listed.as_slice()
     }
 
     fn row_of(&self, run: u64) -> Row
@@ -215,7 +228,8 @@ impl Books {
     /// Adds an entry.
     #[tactic(auto, using(crate::proofs::Indexing::tally_few))]
     pub fn push(&mut self, entry: Entry) -> Result<(), Memory>
-        requires { rows.IsNumberedFor (runs.drawn (reverse self.old)) entry.what }
+        requires numbered { rows.IsNumberedFor (runs.drawn (reverse self.old)) entry.what }
+        requires timely { spec.IsTimely (reverse self.old) entry.what }
         ensures ok { OnOk result (self.new ≡ self.old ++ entry ∷ []) }
         ensures err { OnErr result (self.new ≡ self.old) }
     {
@@ -225,8 +239,12 @@ impl Books {
         if self.rows.reserve(1).is_err() {
             return Err(Memory);
         }
+        if self.listed.reserve(1).is_err() {
+            return Err(Memory);
+        }
         mark(&mut self.rows, self.journal.len(), &entry);
         self.tally = tallied(self.tally, &entry.what);
+        list(&mut self.listed, &entry.what);
         self.journal.push_reserved(entry);
         Ok(())
     }

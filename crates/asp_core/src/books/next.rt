@@ -1,0 +1,213 @@
+//! The runs that wait or are unfinished, and the one that may begin next.
+#![tactic(auto)]
+
+ghost use Rattle.std.specs.Prelude.{◌≡◌, ◌≤◌, ◌+◌, ◌-◌, ◌<◌, ◌*◌, ◌^◌, ◌==◌, ◌&&◌, ℕ, false, true, reverse, length, filter, min};
+ghost use Rattle.std.specs.Prelude.{IfNone, IfSome, OnSome};
+ghost use Rattle.std.specs.List.{find, list_any};
+ghost use Rattle.asp_job.specs.History as history;
+ghost use Rattle.asp_job.specs.Keys as keys;
+ghost use Rattle.asp_job.specs.Runs as runs;
+ghost use Rattle.asp_job.specs.Turns as turns;
+ghost use Rattle.asp_job.specs.declared.entry.TheConstants.{MOST_UNFINISHED};
+ghost use Rattle.asp_core.specs.Kernel as kernel;
+
+use super::Books;
+use asp_job::{MOST_UNFINISHED, Stage};
+
+impl Books {
+    /// Whether a run waits.
+    pub fn is_waiting(&self, run: u64) -> bool
+        ensures { result ≡ runs.is_waiting (reverse self.now) run }
+    {
+        matches!(self.stage_of(run), Stage::Waiting)
+    }
+
+    /// Whether a run is unfinished.
+    pub fn is_unfinished(&self, run: u64) -> bool
+        ensures { result ≡ runs.is_unfinished (reverse self.now) run }
+    {
+        matches!(self.stage_of(run), Stage::Unfinished)
+    }
+
+    /// Whether a run has ended.
+    pub fn has_ended(&self, run: u64) -> bool
+        ensures { result ≡ runs.has_ended (reverse self.now) run }
+    {
+        matches!(self.stage_of(run), Stage::Ended)
+    }
+
+    fn is_open(&self, run: u64) -> bool
+        ensures { result ≡ runs.is_open (reverse self.now) run }
+    {
+        self.is_waiting(run) || self.is_unfinished(run)
+    }
+
+    fn is_waiting_page(&self, run: u64) -> bool
+        ensures { result ≡ turns.is_waiting_page (reverse self.now) run }
+    {
+        self.is_waiting(run) && self.is_page_run(run)
+    }
+
+    fn keeps_busy(&self, key: u64, run: u64) -> bool
+        ensures { result ≡ keys.keeps_busy (reverse self.now) key run }
+    {
+        self.key_of(run) as u64 == key && self.is_open(run)
+    }
+
+    /// How many runs are unfinished.
+    #[tactic(auto, using(crate::proofs::Listing::count_take, crate::proofs::Open::unfinished_listed))]
+    pub fn unfinished(&self) -> u64
+        ensures { result ≡ length (runs.unfinished (reverse self.now)) }
+    {
+        let listed = self.open_runs();
+        let mut unfinished = 0;
+        for run in listed {
+            if self.is_unfinished(*run as u64) {
+                unfinished += 1;
+            }
+        }
+        unfinished
+    }
+
+    /// How many runs wait.
+    #[tactic(auto, using(crate::proofs::Listing::count_take, crate::proofs::Open::waiting_listed))]
+    pub fn waiting(&self) -> u64
+        ensures { result ≡ length (runs.waiting (reverse self.now)) }
+    {
+        let listed = self.open_runs();
+        let mut waiting = 0;
+        for run in listed {
+            if self.is_waiting(*run as u64) {
+                waiting += 1;
+            }
+        }
+        waiting
+    }
+
+    /// How many page runs wait.
+    #[tactic(auto, using(crate::proofs::Listing::count_take, crate::proofs::Open::pages_listed))]
+    pub fn waiting_pages(&self) -> u64
+        ensures { result ≡ length (turns.waiting_pages (reverse self.now)) }
+    {
+        let listed = self.open_runs();
+        let mut waiting = 0;
+        for run in listed {
+            if self.is_waiting_page(*run as u64) {
+                waiting += 1;
+            }
+        }
+        waiting
+    }
+
+    /// Whether a run of a key waits or is unfinished.
+    #[tactic(auto, using(crate::proofs::Listing::any_take, crate::proofs::Open::busy_listed))]
+    pub fn is_busy(&self, key: u64) -> bool
+        ensures { result ≡ keys.is_busy (reverse self.now) key }
+    {
+        let listed = self.open_runs();
+        let mut busy = false;
+        for run in listed {
+            if self.keeps_busy(key, *run as u64) {
+                busy = true;
+            }
+        }
+        busy
+    }
+
+    fn goes_before(&self, run: u64, other: u64) -> bool
+        ensures { result ≡ turns.goes_before (reverse self.now) run other }
+    {
+        self.key_of(other) == self.key_of(run)
+            && (self.is_unfinished(other) || self.is_waiting(other) && other < run)
+    }
+
+    #[tactic(auto, using(crate::proofs::Listing::any_take))]
+    fn any_before(&self, run: u64) -> bool
+        ensures { result ≡ list_any (turns.goes_before (reverse self.now) run) (runs.numbers (runs.drawn (reverse self.now))) }
+    {
+        let listed = self.open_runs();
+        let mut before = false;
+        for other in listed {
+            if self.goes_before(run, *other as u64) {
+                before = true;
+            }
+        }
+        before
+    }
+
+    fn is_behind(&self, run: u64) -> bool
+        ensures { result ≡ turns.is_behind (reverse self.now) run }
+    {
+        self.key_of(run) != 0 && self.any_before(run)
+    }
+
+    fn is_other_open(&self, run: u64, other: u64) -> bool
+        ensures { result ≡ turns.is_other_open (reverse self.now) run other }
+    {
+        other != run && self.is_open(other)
+    }
+
+    #[tactic(auto, using(crate::proofs::Listing::any_take, crate::proofs::Open::company_listed))]
+    fn has_company(&self, run: u64) -> bool
+        ensures { result ≡ turns.has_company (reverse self.now) run }
+    {
+        let listed = self.open_runs();
+        let mut company = false;
+        for other in listed {
+            if self.is_other_open(run, *other as u64) {
+                company = true;
+            }
+        }
+        company
+    }
+
+    fn may_begin(&self, run: u64) -> bool
+        ensures { result ≡ turns.may_begin (reverse self.now) run }
+    {
+        self.is_waiting(run)
+            && (run == 1 || self.has_ended(1))
+            && !self.is_behind(run)
+            && !(self.is_last_run(run) && self.has_company(run))
+    }
+
+    #[tactic(auto, using(crate::proofs::Listing::find_take, crate::proofs::Listing::find_here, crate::proofs::Open::first_listed))]
+    fn first_run(&self) -> Option<u64>
+        ensures { result ≡ find (turns.may_begin (reverse self.now)) (runs.numbers (runs.drawn (reverse self.now))) }
+    {
+        let listed = self.open_runs();
+        for run in listed {
+            if self.may_begin(*run as u64) {
+                return Some(*run as u64);
+            }
+        }
+        None
+    }
+
+    /// The least of the runs that may begin.
+    pub fn next_run(&self) -> Option<u64>
+        ensures none { IfNone result ((run : ℕ) → run < runs.drawn (reverse self.now) →
+            turns.may_begin (reverse self.now) (run + 1) ≡ false) }
+        ensures next { IfSome result (λ run. turns.may_begin (reverse self.now) run ≡ true) }
+        ensures within { IfSome result (λ run. run ≤ runs.drawn (reverse self.now)) }
+        ensures least { IfSome result (λ run. (other : ℕ) → other + 1 < run →
+            turns.may_begin (reverse self.now) (other + 1) ≡ false) }
+    {
+        self.first_run()
+    }
+
+    /// The least of the runs that may begin, where few are unfinished and no Halt stands.
+    pub fn least_run(&self) -> Option<u64>
+        requires { (run : ℕ) → turns.may_begin (reverse self.now) run ≡ true →
+            (0 < run) × (run ≤ runs.drawn (reverse self.now)) }
+        ensures none { IfNone result (kernel.NoneIsNext (reverse self.now)) }
+        ensures next { IfSome result (λ run. turns.IsNextRun (reverse self.now) run) }
+        ensures within { IfSome result (λ run. run ≤ runs.drawn (reverse self.now)) }
+        ensures few { OnSome result (length (runs.unfinished (reverse self.now)) < MOST_UNFINISHED) }
+        ensures going { OnSome result (runs.is_halted (reverse self.now) ≡ false) }
+    {
+        if self.is_halted() || self.unfinished() >= MOST_UNFINISHED as u64 {
+            return None;
+        }
+        self.next_run()
+    }
+}
