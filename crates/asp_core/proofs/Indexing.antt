@@ -216,6 +216,12 @@ entries_few (entry ∷ past) =
     one_more (counts entry.what) (entries_in past) (length past) (entries_few past) in
     omega arith
 
+pub entries_within : (journal : List Entry) (n : ℕ) → n ≡ entries_in (reverse journal) → n ≤ length journal
+entries_within journal n e =
+    let long = length_past journal in
+    let few = entries_few (reverse journal) in
+    omega arith
+
 pub tally_few : (journal : List Entry) (tally : Tally) → tally ≡ tally_of (reverse journal)
     → (tally.entries ≤ length journal) × (tally.made ≤ length journal)
 tally_few journal tally e =

@@ -20,6 +20,10 @@ use Rattle.asp_core.proofs.Listing.{any_narrow, filter_narrow, filter_without, f
 use Rattle.asp_core.proofs.Numbers.{filter_more, filter_same}
 use Rattle.asp_core.proofs.Others.{other_number, own_number, stage_other}
 use Rattle.asp_core.proofs.Right.{may_begin_waits}
+use Rattle.std.proofs.Common.{zero, suc, reverse, length-append, add-one}
+use Rattle.asp_core.proofs.Bounds.{drawn_small}
+use Rattle.asp_core.proofs.Indexing.{entries_few}
+use Rattle.asp_core.proofs.Past.{length_past}
 
 -- whether a run at this stage waits or is unfinished
 is_open_at : Stage → Bool
@@ -218,3 +222,30 @@ pub first_listed : (past : List Entry) (listed : List ℕ) → listed ≡ open_r
     → find (may_begin past) listed ≡ find (may_begin past) (numbers (drawn past))
 first_listed past listed e = ap (find (may_begin past)) e
     ∙ find_narrow (is_open past) (may_begin past) (may_open past) (numbers (drawn past))
+
+-- ---- how many are unfinished at most
+
+length_numbers : (n : ℕ) → length (numbers n) ≡ n
+length_numbers zero = refl
+length_numbers (suc n) =
+    let one = length-append (numbers n) (suc n ∷ []) in
+    let before = length_numbers n in
+    one ∙ ap (λ k. k + 1) before ∙ add-one
+
+passed_few : (p : ℕ → Bool) (xs : List ℕ) → length (filter p xs) ≤ length xs
+passed_few p [] = omega arith
+passed_few p (x ∷ xs) = elim (cases_Bool (p x)) [
+  | inl passes ↦ (let rest = passed_few p xs in rw passes (omega arith))
+  | inr stops ↦ (let rest = passed_few p xs in rw stops (omega arith))
+]
+
+pub unfinished_within : (journal : List Entry) → length (unfinished (reverse journal)) ≤ length journal
+unfinished_within journal =
+    let past = reverse journal in
+    let one : length (unfinished past) ≤ length (numbers (drawn past)) =
+    passed_few (is_unfinished past) (numbers (drawn past)) in
+    let two = length_numbers (drawn past) in
+    let three = drawn_small past in
+    let four = entries_few past in
+    let five = length_past journal in
+    omega arith

@@ -198,8 +198,10 @@ impl Books {
     }
 
     /// How many entries count.
+    #[tactic(auto, using(crate::proofs::Indexing::entries_within))]
     pub fn entries_in(&self) -> u64
-        ensures { result ≡ history.entries_in (reverse self.now) }
+        ensures entries { result ≡ history.entries_in (reverse self.now) }
+        ensures within { result ≤ length self.now }
     {
         self.tally_of().entries
     }

@@ -55,9 +55,10 @@ impl Books {
     }
 
     /// How many runs are unfinished.
-    #[tactic(auto, using(crate::proofs::Listing::count_take, crate::proofs::Open::unfinished_listed))]
+    #[tactic(auto, using(crate::proofs::Listing::count_take))]
     pub fn unfinished(&self) -> u64
-        ensures { result ≡ length (runs.unfinished (reverse self.now)) }
+        ensures unfinished { result ≡ length (runs.unfinished (reverse self.now)) }
+        ensures within { result ≤ length self.now }
     {
         let listed = self.open_runs();
         let mut unfinished = 0;
@@ -70,7 +71,7 @@ impl Books {
     }
 
     /// How many runs wait.
-    #[tactic(auto, using(crate::proofs::Listing::count_take, crate::proofs::Open::waiting_listed))]
+    #[tactic(auto, using(crate::proofs::Listing::count_take))]
     pub fn waiting(&self) -> u64
         ensures { result ≡ length (runs.waiting (reverse self.now)) }
     {
@@ -85,7 +86,7 @@ impl Books {
     }
 
     /// How many page runs wait.
-    #[tactic(auto, using(crate::proofs::Listing::count_take, crate::proofs::Open::pages_listed))]
+    #[tactic(auto, using(crate::proofs::Listing::count_take))]
     pub fn waiting_pages(&self) -> u64
         ensures { result ≡ length (turns.waiting_pages (reverse self.now)) }
     {
@@ -100,7 +101,7 @@ impl Books {
     }
 
     /// Whether a run of a key waits or is unfinished.
-    #[tactic(auto, using(crate::proofs::Listing::any_take, crate::proofs::Open::busy_listed))]
+    #[tactic(auto, using(crate::proofs::Listing::any_take))]
     pub fn is_busy(&self, key: u64) -> bool
         ensures { result ≡ keys.is_busy (reverse self.now) key }
     {
@@ -123,7 +124,8 @@ impl Books {
 
     #[tactic(auto, using(crate::proofs::Listing::any_take))]
     fn any_before(&self, run: u64) -> bool
-        ensures { result ≡ list_any (turns.goes_before (reverse self.now) run) (runs.numbers (runs.drawn (reverse self.now))) }
+        ensures { result ≡ list_any (turns.goes_before (reverse self.now) run)
+            (runs.numbers (runs.drawn (reverse self.now))) }
     {
         let listed = self.open_runs();
         let mut before = false;
@@ -147,7 +149,7 @@ impl Books {
         other != run && self.is_open(other)
     }
 
-    #[tactic(auto, using(crate::proofs::Listing::any_take, crate::proofs::Open::company_listed))]
+    #[tactic(auto, using(crate::proofs::Listing::any_take))]
     fn has_company(&self, run: u64) -> bool
         ensures { result ≡ turns.has_company (reverse self.now) run }
     {
@@ -170,7 +172,6 @@ impl Books {
             && !(self.is_last_run(run) && self.has_company(run))
     }
 
-    #[tactic(auto, using(crate::proofs::Listing::find_take, crate::proofs::Listing::find_here, crate::proofs::Open::first_listed))]
     fn first_run(&self) -> Option<u64>
         ensures { result ≡ find (turns.may_begin (reverse self.now)) (runs.numbers (runs.drawn (reverse self.now))) }
     {
@@ -209,5 +210,21 @@ impl Books {
             return None;
         }
         self.next_run()
+    }
+
+    /// How many entries there would be with one End for each unfinished run.
+    pub fn load(&self) -> u64
+        requires { length self.now < 2 ^ 63 }
+        ensures load { result ≡ history.load (reverse self.now) }
+        ensures within { result ≤ 2 * length self.now }
+    {
+        self.entries_in() + self.unfinished()
+    }
+
+    /// What they would weigh. 2^64 - 1 stands for a greater weight.
+    pub fn weight_load(&self) -> u64
+        ensures { result ≡ min (history.weight_load (reverse self.now)) (2 ^ 64 - 1) }
+    {
+        self.weight_in().saturating_add(self.unfinished().saturating_mul(64))
     }
 }
