@@ -177,10 +177,10 @@ module _ {R Site State : Type 0} (meaning : R → Site → Meaning) (stands : R 
       → IsDesk meaning stands old runner site runs → get_or runs lane None ≡ None → HasGrown lane old new
       → IsValidJournal (rules_of meaning new) (past_of new) → IsDesk meaning stands new runner site runs
   stays old new lane runner site runs desk free grows valid =
-      let then : IsValidJournal (rules_of meaning (grown old grows.entries)) (past_of (grown old grows.entries)) =
+      let after : IsValidJournal (rules_of meaning (grown old grows.entries)) (past_of (grown old grows.entries)) =
       subst (λ core. IsValidJournal (rules_of meaning core) (past_of core)) grows.new_is valid in
       subst (λ core. IsDesk meaning stands core runner site runs) (sym grows.new_is)
-      (grown_desk old grows.entries lane runner site runs then grows.of_lane free desk)
+      (grown_desk old grows.entries lane runner site runs after grows.of_lane free desk)
 
   -- a lane takes its run out
   without : (core : CoreView R Site) (lane : ℕ) (runner : R) (site : Site) (runs : List (Option (RunView State)))
