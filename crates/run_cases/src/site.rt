@@ -73,7 +73,7 @@ fn numbered(alloc: Global, number: usize, written: &str) -> Result<Page, CaseSto
 pub fn site_of_pages(alloc: Global, scripts: &str) -> Result<Site, CaseStop> {
     let mut pages = List::new(alloc);
     for script in scripts.split(" # ") {
-        let number = pages.len() + 1;
+        let number = pages.len().saturating_add(1);
         pages.push(numbered(alloc, number, script)?)?;
     }
     Ok(Site {
