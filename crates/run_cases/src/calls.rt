@@ -81,6 +81,7 @@ fn of_lane(
         "first" => desk.collect_first(lane),
         "begin" => desk.begin(lane),
         "go" => desk.go(lane),
+        "call" => desk.call(lane),
         "end" => desk.end(lane),
         "run" => desk.run(lane),
         _ => Err(CaseStop::Unreadable),

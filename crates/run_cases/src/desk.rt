@@ -6,7 +6,7 @@ ghost use Rattle.asp_job.specs.Size.{IsSmall};
 ghost use Rattle.run_cases.specs.Lanes as spec;
 
 use crate::shown;
-use asp_core::{Core, Progress, Run};
+use asp_core::{AppStepStop, Core, Progress, Run};
 use asp_job::{EndKind, Job, Runner};
 use case_files::CaseStop;
 use std::alloc::Global;
@@ -250,6 +250,35 @@ where
         told
     }
 
+    /// Whether the run of a lane waits for the reply to a call.
+    fn is_wanting(&self, lane: u32) -> bool {
+        match self.runs.get(lane as usize) {
+            Some(Some(run)) => matches!(run.progress(), Progress::Wants(_)),
+            _ => false,
+        }
+    }
+
+    /// Makes the call that the run of a lane wants. A run whose call does not fit is ended.
+    pub fn call(&mut self, lane: u32) -> Result<String, CaseStop> {
+        let mut run = take_run(&mut self.runs, lane)?;
+        if !matches!(run.progress(), Progress::Wants(_)) {
+            return Err(CaseStop::Unreadable);
+        }
+        let told = self.core.app_step(lane, &self.runner, &mut run);
+        let _ = self.core.journal();
+        match told {
+            Err(AppStepStop::JournalFull { entries, weight }) => {
+                let _ = self.core.end(lane, &self.runner, run, EndKind::JournalFull);
+                let _ = self.core.journal();
+                shown::full(self.alloc, entries, weight)
+            }
+            told => {
+                put_run(&mut self.runs, lane, run);
+                shown::called(self.alloc, told)
+            }
+        }
+    }
+
     /// Ends the run of a lane.
     pub fn end(&mut self, lane: u32) -> Result<String, CaseStop> {
         let run = take_run(&mut self.runs, lane)?;
@@ -259,13 +288,16 @@ where
         shown::end_kind(self.alloc, kind)
     }
 
-    /// Lets the run of a lane go on until it has ended or wants a call, and ends it.
+    /// Lets the run of a lane go on to its end, makes its calls, and ends it.
     pub fn run(&mut self, lane: u32) -> Result<String, CaseStop> {
         for _ in 0..TURNS {
-            if !self.is_going(lane) {
+            if self.is_going(lane) {
+                let _ = self.go(lane)?;
+            } else if self.is_wanting(lane) {
+                let _ = self.call(lane)?;
+            } else {
                 return self.end(lane);
             }
-            let _ = self.go(lane)?;
         }
         Err(CaseStop::Unreadable)
     }

@@ -1,12 +1,12 @@
 //! What the calls of a core tell, as cases write it.
 
-use asp_core::{AdmitStop, Admitted, BeginStop, CollectStop, EventStop, Progress};
+use asp_core::{AdmitStop, Admitted, AppStepStop, BeginStop, CollectStop, EventStop, Progress};
 use asp_job::{Answer, EndKind};
 use case_files::CaseStop;
 use std::alloc::Global;
 
 /// Too many or too heavy entries.
-fn full(alloc: Global, entries: u64, weight: u64) -> Result<String, CaseStop> {
+pub fn full(alloc: Global, entries: u64, weight: u64) -> Result<String, CaseStop> {
     Ok(format!(in alloc; "full {entries} {weight}")?)
 }
 
@@ -66,6 +66,16 @@ pub fn progress(alloc: Global, progress: &Progress) -> Result<String, CaseStop> 
         Progress::Wants(_) => word(alloc, "wants"),
         Progress::Ended => word(alloc, "ended"),
         Progress::Dead => word(alloc, "dead"),
+    }
+}
+
+/// A call was made, or was not.
+pub fn called(alloc: Global, told: Result<(), AppStepStop>) -> Result<String, CaseStop> {
+    match told {
+        Ok(()) => word(alloc, "done"),
+        Err(AppStepStop::Blocked { holder }) => Ok(format!(in alloc; "blocked by {holder}")?),
+        Err(AppStepStop::JournalFull { entries, weight }) => full(alloc, entries, weight),
+        Err(AppStepStop::Memory) => Err(CaseStop::Memory),
     }
 }
 
