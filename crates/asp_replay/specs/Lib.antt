@@ -1,0 +1,4 @@
+pub mod Feeding
+pub mod Sequential
+pub mod Shown
+pub mod Underway

@@ -1,0 +1,183 @@
+-- This crate's own: where a feed stands, and what each of its parts adds.
+use Rattle.std.specs.Prelude.{◌≡◌, ◌⊎◌, ℕ, Bool, true, false, ⊤, List, [], ◌∷◌, ◌++◌, All, reverse, Option, Some, Result, Ok, Err}
+use Rattle.asp_core.specs.declared.stop.AdmitStop.{AdmitStop}
+use Rattle.asp_core.specs.declared.stop.AdmitStop.TheVariants as admit
+use Rattle.asp_core.specs.declared.stop.EventStop.{EventStop}
+use Rattle.asp_core.specs.declared.stop.EventStop.TheVariants as event
+use Rattle.asp_core.specs.Kernel.{CoreView, RunView, IsBeginTooMuch, IsTooMuch, grown, past_of, rules_of}
+use Rattle.asp_core.specs.Laws.{NoneIs}
+use Rattle.asp_core.specs.Ready.{ready}
+use Rattle.asp_io.specs.Copying.{AddsPart}
+use Rattle.asp_io.specs.Sink.{with_bytes}
+use Rattle.asp_job.specs.declared.entry.EndKind.TheVariants as kind
+use Rattle.asp_job.specs.declared.entry.Entry.{Entry}
+use Rattle.asp_job.specs.declared.entry.What.{What}
+use Rattle.asp_job.specs.declared.entry.What.TheVariants as what
+use Rattle.asp_job.specs.Journal.{end_entry, past_after}
+use Rattle.asp_job.specs.Rules.{Rules}
+use Rattle.asp_job.specs.Running.{is_page}
+use Rattle.asp_job.specs.Runs.{is_halted, is_open, is_stopping, job_of, moment_of}
+use Rattle.asp_job.specs.Told.{Meaning, Told}
+use Rattle.asp_lane.specs.declared.turn.Turn.{Turn}
+use Rattle.asp_lane.specs.declared.turn.Turn.TheVariants as turn
+use Rattle.asp_lane.specs.Turns.{Fits, IsCallTooMuch, IsStep}
+use Rattle.asp_record.specs.declared.recording.Item.{Item}
+use Rattle.asp_replay.specs.declared.stop.FeedStop.{FeedStop}
+use Rattle.asp_replay.specs.declared.stop.FeedStop.TheVariants as stop
+use Rattle.asp_replay.specs.Feeding.{Clients, HasCome, IsFed, moment_by}
+use Rattle.asp_replay.specs.Sequential.{Adds, AreTurns, HasInHand, Place, first_place, is_memory_end}
+use Rattle.asp_replay.specs.Shown.{AreRecords, Shown, shown_of}
+
+-- ---- stops
+
+abbrev pub event_stop : EventStop → FeedStop
+event_stop (event.JournalFull entries weight) = stop.JournalFull entries weight
+event_stop event.Memory = stop.Memory
+
+-- a job that comes where it may is not refused as too many, nor after a Stop
+abbrev pub admit_stop : AdmitStop → FeedStop
+admit_stop (admit.JournalFull entries weight) = stop.JournalFull entries weight
+admit_stop _ = stop.Memory
+
+-- ---- what comes
+
+-- an item came: its entries are the core's, and the clients are as it leaves them
+abbrev pub HasGrown : {R Site : Type 0} → (R → Site → Meaning) → CoreView R Site → Clients → Item → CoreView R Site →
+    Clients → Type 0
+HasGrown meaning old clients item new then_clients = (entries : List Entry)
+    × Adds (rules_of meaning old) (past_of old) clients item entries then_clients × (new ≡ grown old entries)
+
+-- the entries that an item would add are too many or too heavy
+abbrev pub IsItemTooMuch : Rules → List Entry → Clients → Item → ℕ → ℕ → Type 0
+IsItemTooMuch rules past clients item entries weight = (added : List Entry) × (then_clients : Clients)
+    × Adds rules past clients item added then_clients × IsTooMuch (past_after past added) entries weight
+
+-- ---- what work adds
+
+-- the run in hand, or the next, makes its next call or ends, by itself or for want of memory
+pub record WorkAdds (rules : Rules) (past entries : List Entry) : Type 0 where
+  pub mid : List Entry
+  pub run : ℕ
+  pub in_hand : HasInHand rules past mid run
+  pub entry : Entry
+  pub step : IsStep rules mid 0 run entry
+  pub entries_are : past_after past entries ≡ entry ∷ mid
+
+-- the Begin of the next run is too much, or the next call of the run, which then ends
+pub record EndsFull (rules : Rules) (past entries : List Entry) (count weight : ℕ) : Type 0 where
+  pub mid : List Entry
+  pub run : ℕ
+  pub in_hand : HasInHand rules past mid run
+  pub much : IsCallTooMuch rules mid 0 run count weight
+  pub entries_are : past_after past entries ≡ end_entry rules mid 0 run kind.JournalFull ∷ mid
+
+abbrev pub WorkIsTooMuch : Rules → List Entry → List Entry → ℕ → ℕ → Type 0
+WorkIsTooMuch rules past entries count weight =
+    (IsBeginTooMuch rules past 0 count weight × (entries ≡ [])) ⊎ EndsFull rules past entries count weight
+
+-- a run begins, or nothing comes
+abbrev pub OnlyBegins : Rules → List Entry → List Entry → Type 0
+OnlyBegins rules past entries =
+    (entries ≡ []) ⊎ ((mid : List Entry) × (run : ℕ) × HasInHand rules past mid run × (past_after past entries ≡ mid))
+
+-- the entries of work that came to this
+abbrev pub Works : Rules → List Entry → List Entry → Turn → Type 0
+Works rules past entries turn.Done = WorkAdds rules past entries
+Works rules past entries (turn.JournalFull count weight) = WorkIsTooMuch rules past entries count weight
+Works rules past entries turn.Memory = OnlyBegins rules past entries
+Works rules past entries turn.More = ⊥
+Works rules past entries turn.Idle = ⊥
+
+-- the core has the entries of the work, and what is in hand then fits it
+pub record HasWorked {R Site State : Type 0} (meaning : R → Site → Meaning)
+    (stands : R → Site → State → Told → ℕ → Type 0) (old new : CoreView R Site) (in_hand : Option (RunView State))
+    (came_to : Turn) : Type 0 where
+  pub entries : List Entry
+  pub new_is : new ≡ grown old entries
+  pub works : Works (rules_of meaning old) (past_of old) entries came_to
+  pub fits : Fits meaning stands new 0 in_hand
+
+-- ---- what is written
+
+-- a piece was written whole, or a first part of it, or nothing
+abbrev pub HasWritten : {T : Type 0} → Result T FeedStop → Option (List ℕ) → Option (List ℕ) → List ℕ → Type 0
+HasWritten (Ok given) old new piece = new ≡ with_bytes old piece
+HasWritten (Err stop.WriteFault) old new piece = AddsPart old new piece
+HasWritten (Err stop.Memory) old new piece = new ≡ old
+HasWritten (Err (stop.JournalFull entries weight)) old new piece = ⊥
+
+-- the records of the journal's answers were written
+pub record AreWritten (rules : Rules) (past : List Entry) (before after : Option (List ℕ)) : Type 0 where
+  pub records : List ℕ
+  pub are_records : AreRecords (shown_of rules past) records
+  pub wrote : after ≡ with_bytes before records
+
+-- the records of the journal's first answers were written, the last one maybe in part
+pub record ArePartWritten (rules : Rules) (past : List Entry) (before after : Option (List ℕ)) : Type 0 where
+  pub first : List Shown
+  pub later : List Shown
+  pub shown_are : shown_of rules past ≡ first ++ later
+  pub records : List ℕ
+  pub are_records : AreRecords first records
+  pub wrote : AddsPart before after records
+
+-- ---- where a feed stands
+
+-- the job of each page that waits or is unfinished came at the journal's moment
+abbrev pub AreCurrent : List Entry → Type 0
+AreCurrent past = (run : ℕ) → is_open past run ≡ true → is_page (job_of past run).work ≡ true
+    → (job_of past run).moment ≡ moment_of past
+
+-- all entries are of lane 0
+abbrev pub AreOfLane : List Entry → Type 0
+AreOfLane past = All (λ entry. entry.lane ≡ 0) past
+
+-- a run ended because the journal was full
+abbrev pub is_full_end : What → Bool
+is_full_end (what.End run kind.JournalFull status size made finished) = true
+is_full_end _ = false
+
+-- A journal to which one lane adds alone. Between turns no answer waits.
+pub record IsOfOneLane (rules : Rules) (past : List Entry) : Type 0 where
+  pub none_ready : ready rules past ≡ []
+  pub current : AreCurrent past
+  pub lanes : AreOfLane past
+  pub going : is_halted past ≡ false
+  pub none_full : NoneIs is_full_end past
+
+-- the first items came, and the others are left
+pub record IsFeeding (items : List Item) (past : List Entry) (clients : Clients) (left : List Item) : Type 0 where
+  pub open_still : is_stopping past ≡ false
+  pub done : List Item
+  pub split : items ≡ done ++ left
+  pub came : HasCome (reverse done) past clients
+  pub now : moment_of past ≡ moment_by (reverse done)
+
+-- all items came, and the Stop
+pub record HasFed (items : List Item) (past : List Entry) (left : List Item) : Type 0 where
+  pub stopped : is_stopping past ≡ true
+  pub none_left : left ≡ []
+  pub fed : IsFed items past
+
+abbrev pub StandsAt : List Item → List Entry → Clients → List Item → Type 0
+StandsAt items past clients left = IsFeeding items past clients left ⊎ HasFed items past left
+
+-- turns led here, unless memory ran out for a run
+abbrev pub AreTurnsTo : Rules → List Item → List Entry → Clients → List Item → Type 0
+AreTurnsTo rules items past clients left = (NoneIs is_memory_end past
+    → (count : ℕ) × AreTurns rules count (first_place items)
+    (record { past = past; items = left; clients = clients }))
+
+-- where a feed stands between two turns
+pub record IsUnderWay (rules : Rules) (items : List Item) (past : List Entry) (clients : Clients) (left : List Item)
+    (before after : Option (List ℕ)) : Type 0 where
+  pub lane : IsOfOneLane rules past
+  pub stands : StandsAt items past clients left
+  pub turns : AreTurnsTo rules items past clients left
+  pub written : AreWritten rules past before after
+
+-- the core is that of the runner, the site and the seed
+pub record IsCoreOf {R Site : Type 0} (runner : R) (site : Site) (seed : List ℕ) (core : CoreView R Site) : Type 0 where
+  pub runner_is : core.runner ≡ runner
+  pub site_is : core.site ≡ site
+  pub seed_is : core.seed ≡ seed

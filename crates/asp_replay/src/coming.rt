@@ -1,0 +1,148 @@
+//! What comes to a host from outside: the items of a recording, and the Stop.
+#![tactic(auto)]
+
+ghost use Rattle.std.specs.Prelude.{◌≡◌, ℕ, Err, true, false, OnOk, OnErr};
+ghost use Rattle.asp_job.specs.Journal.{stop_entries, past_after};
+ghost use Rattle.asp_job.specs.Runs.{has_ended, is_stopping};
+ghost use Rattle.asp_core.specs.Kernel.{IsHostOf, grown, past_of, rules_of};
+ghost use Rattle.asp_record.specs.Recorded.{IsHeld, moment_of};
+ghost use Rattle.asp_replay.specs.Feeding as feeding;
+ghost use Rattle.asp_replay.specs.Sequential as spec;
+ghost use Rattle.asp_replay.specs.Underway as way;
+
+use crate::clients::{Clients, reserve_one};
+use crate::job::job_of;
+use crate::stop::FeedStop;
+use asp_core::{AdmitStop, Admitted, Core, EventStop};
+use asp_job::{MOST_WAITING, Runner};
+use asp_record::Item;
+use std::alloc::Global;
+
+/// Whether no run waits and none is unfinished.
+pub fn is_calm<R: Runner>(core: &Core<R>) -> bool
+    ensures { result ≡ feeding.is_calm (past_of core.now) }
+{
+    core.waiting() == 0 && core.unfinished() == 0
+}
+
+/// The moment of an item, in seconds since 1970.
+pub fn moment_of(item: &Item) -> u64
+    ensures { result ≡ moment_of item.now }
+{
+    match item {
+        Item::Request { moment, .. } => *moment,
+        Item::Tick { moment } => *moment,
+    }
+}
+
+/// Whether an item of this moment may come, once the first run has ended.
+pub fn may_come<R: Runner>(core: &Core<R>, moment: u64) -> bool
+    requires { has_ended (past_of core.now) 1 ≡ true }
+    ensures { result ≡ spec.may_come (past_of core.now) moment }
+{
+    (moment <= core.moment() || is_calm(core)) && core.waiting_pages() < MOST_WAITING as u32
+}
+
+fn event_stop(stop: EventStop) -> FeedStop
+    ensures { result ≡ way.event_stop stop }
+{
+    match stop {
+        EventStop::JournalFull { entries, weight } => FeedStop::JournalFull { entries, weight },
+        EventStop::Memory => FeedStop::Memory,
+    }
+}
+
+fn admit_stop(stop: AdmitStop) -> FeedStop
+    ensures { result ≡ way.admit_stop stop }
+{
+    match stop {
+        AdmitStop::JournalFull { entries, weight } => FeedStop::JournalFull { entries, weight },
+        _ => FeedStop::Memory,
+    }
+}
+
+/// A client goes by the key that its job was admitted with.
+fn note(clients: &mut Clients, client: u32, told: Admitted) {
+    if !told.refused && told.key != 0 {
+        let _ = clients.insert(client, told.key);
+    }
+}
+
+fn come_request<R: Runner>(
+    alloc: Global,
+    core: &mut Core<R>,
+    runner: &R,
+    site: &R::Site,
+    clients: &mut Clients,
+    client: u32,
+    moment: u64,
+    bytes: &[u8],
+) -> Result<(), FeedStop> {
+    let job = job_of(alloc, clients, client, moment, bytes)?;
+    reserve_one(clients)?;
+    match core.admit(0, runner, site, &job) {
+        Ok(told) => {
+            note(clients, client, told);
+            Ok(())
+        }
+        Err(stop) => Err(admit_stop(stop)),
+    }
+}
+
+/// An item comes. A refusal leaves the core.
+pub fn come<R: Runner>(
+    alloc: Global,
+    core: &mut Core<R>,
+    runner: &R,
+    site: &R::Site,
+    clients: &mut Clients,
+    item: &Item,
+) -> Result<(), FeedStop>
+    requires host { IsHostOf core.old runner.now site.now }
+    requires may { spec.may_come (past_of core.old) (moment_of item.now) ≡ true }
+    requires going { is_stopping (past_of core.old) ≡ false }
+    requires held { IsHeld item.now }
+    ensures ok { OnOk result (way.HasGrown R.meaning core.old clients.old.entries item.now core.new clients.new.entries) }
+    ensures full { (entries weight : ℕ) → result ≡ Err (FeedStop.JournalFull entries weight) →
+        way.IsItemTooMuch (rules_of R.meaning core.old) (past_of core.old) clients.old.entries item.now entries weight }
+    ensures err { OnErr result (core.new ≡ core.old) }
+    ensures no_fault { result ≡ Err FeedStop.WriteFault → ⊥ }
+{
+    match item {
+        Item::Request {
+            client,
+            moment,
+            bytes,
+        } => come_request(
+            alloc,
+            core,
+            runner,
+            site,
+            clients,
+            *client,
+            *moment,
+            bytes.as_slice(),
+        ),
+        Item::Tick { moment } => match core.tick(0, *moment) {
+            Ok(_) => Ok(()),
+            Err(stop) => Err(event_stop(stop)),
+        },
+    }
+}
+
+/// The host stops. A refusal leaves the core.
+pub fn stop<R: Runner>(core: &mut Core<R>) -> Result<(), FeedStop>
+    requires once { is_stopping (past_of core.old) ≡ false }
+    ensures ok { OnOk result (core.new ≡ grown core.old
+        (stop_entries (rules_of R.meaning core.old) (past_of core.old) 0)) }
+    ensures full { (entries weight : ℕ) → result ≡ Err (FeedStop.JournalFull entries weight) →
+        IsTooMuch (past_after (past_of core.old) (stop_entries (rules_of R.meaning core.old) (past_of core.old) 0))
+        entries weight }
+    ensures err { OnErr result (core.new ≡ core.old) }
+    ensures no_fault { result ≡ Err FeedStop.WriteFault → ⊥ }
+{
+    match core.stop(0) {
+        Ok(()) => Ok(()),
+        Err(stop) => Err(event_stop(stop)),
+    }
+}

@@ -1,0 +1,15 @@
+//! A recording is fed to a site by one lane, and the answers are written as they come.
+#![tactic(auto)]
+
+mod clients;
+mod coming;
+mod feed;
+mod handing;
+mod job;
+mod stop;
+mod working;
+mod writing;
+
+pub use feed::feed;
+pub use stop::FeedStop;
+pub use writing::{write_done, write_lines};

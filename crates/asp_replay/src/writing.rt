@@ -1,0 +1,74 @@
+//! What a replay writes.
+#![tactic(auto)]
+
+ghost use Rattle.std.specs.Prelude.{◌≡◌, ℕ, List, reverse, Err, OnOk, IfOk, IfErr, true};
+ghost use Rattle.std.specs.String.{string_bytes};
+ghost use Rattle.asp_io.specs.Copying.{AddsPart};
+ghost use Rattle.asp_io.specs.Faults.{HasRisen};
+ghost use Rattle.asp_io.specs.Sink.{with_bytes};
+ghost use Rattle.asp_replay.specs.Shown as spec;
+ghost use Rattle.asp_replay.specs.Underway as way;
+
+use crate::stop::FeedStop;
+use asp_io::{Failed, Sink, write_all};
+use asp_job::{Answer, Entry};
+use asp_record::entry_line;
+use asp_response::answer_bytes;
+use std::alloc::Global;
+use vb_value::{Bytes, Memory};
+
+/// Writes a piece whole.
+fn write_piece<K: Sink>(sink: &mut K, piece: &[u8]) -> Result<(), FeedStop>
+    ensures wrote { way.HasWritten result (K.held sink.old) (K.held sink.new) piece.now }
+    ensures cause { result ≡ Err FeedStop.WriteFault → HasRisen (K.faults sink.old) (K.faults sink.new) }
+    ensures only { way.IsWriteResult result }
+{
+    match write_all(sink, piece) {
+        Ok(()) => Ok(()),
+        Err(Failed) => Err(FeedStop::WriteFault),
+    }
+}
+
+/// The record of an answer.
+fn record_of(alloc: Global, run: u32, moment: u64, answer: &Answer) -> Result<Bytes, Memory>
+    ensures { IfOk result (spec.IsRecord (record { run = run; moment = moment; answer = answer.now })) }
+{
+    let text = answer_bytes(alloc, answer, moment)?;
+    let length = text.len();
+    let head = format!(in alloc; "answer {run} {length}\n")?;
+    let mut bytes = Bytes::from_slice(alloc, head.as_bytes())?;
+    bytes.append_slice(text.as_slice())?;
+    bytes.append_slice(b"\n")?;
+    Ok(bytes)
+}
+
+/// Writes the record of an answer, as one piece.
+pub fn write_record<K: Sink>(
+    alloc: Global,
+    sink: &mut K,
+    run: u32,
+    moment: u64,
+    answer: &Answer,
+) -> Result<(), FeedStop> {
+    let bytes = record_of(alloc, run, moment, answer)?;
+    write_piece(sink, bytes.as_slice())
+}
+
+/// Writes the lines of the entries, each as one piece.
+pub fn write_lines<K: Sink>(
+    alloc: Global,
+    sink: &mut K,
+    journal: &[Entry],
+) -> Result<(), FeedStop> {
+    for entry in journal {
+        let line = entry_line(alloc, entry)?;
+        write_piece(sink, line.as_slice())?;
+    }
+    Ok(())
+}
+
+/// Writes how many answers there were.
+pub fn write_done<K: Sink>(alloc: Global, sink: &mut K, count: u32) -> Result<(), FeedStop> {
+    let line = format!(in alloc; "done {count}\n")?;
+    write_piece(sink, line.as_bytes())
+}
