@@ -1,5 +1,5 @@
 -- This crate's own: where a feed stands, and what each of its parts adds.
-use Rattle.std.specs.Prelude.{◌≡◌, ◌⊎◌, ℕ, Bool, true, false, ⊤, List, [], ◌∷◌, ◌++◌, All, reverse, Option, Some, Result, Ok, Err}
+use Rattle.std.specs.Prelude.{◌≡◌, ◌⊎◌, ℕ, Bool, true, false, ⊤, List, [], ◌∷◌, ◌++◌, All, map, reverse, Option, Some, Result, Ok, Err}
 use Rattle.asp_core.specs.declared.stop.AdmitStop.{AdmitStop}
 use Rattle.asp_core.specs.declared.stop.AdmitStop.TheVariants as admit
 use Rattle.asp_core.specs.declared.stop.EventStop.{EventStop}
@@ -9,6 +9,7 @@ use Rattle.asp_core.specs.Laws.{NoneIs}
 use Rattle.asp_core.specs.Ready.{ready}
 use Rattle.asp_io.specs.Copying.{AddsPart}
 use Rattle.asp_io.specs.Sink.{with_bytes}
+use Rattle.asp_job.specs.declared.answer.Answer.{Answer}
 use Rattle.asp_job.specs.declared.entry.EndKind.TheVariants as kind
 use Rattle.asp_job.specs.declared.entry.Entry.{Entry}
 use Rattle.asp_job.specs.declared.entry.What.{What}
@@ -24,9 +25,10 @@ use Rattle.asp_lane.specs.Turns.{Fits, IsCallTooMuch, IsStep}
 use Rattle.asp_record.specs.declared.recording.Item.{Item}
 use Rattle.asp_replay.specs.declared.stop.FeedStop.{FeedStop}
 use Rattle.asp_replay.specs.declared.stop.FeedStop.TheVariants as stop
+use Rattle.asp_replay.specs.Feed.{AreWritten, is_full_end}
 use Rattle.asp_replay.specs.Feeding.{Clients, HasCome, IsFed, moment_by}
-use Rattle.asp_replay.specs.Sequential.{Adds, AreTurns, HasInHand, Place, first_place, is_memory_end}
-use Rattle.asp_replay.specs.Shown.{AreRecords, Shown, shown_of}
+use Rattle.asp_replay.specs.Sequential.{Adds, AreTurns, HasInHand, Place, first_place, hand_outs, is_memory_end}
+use Rattle.asp_replay.specs.Shown.{AreRecords, IsRecord, Shown, shown_of}
 
 -- ---- stops
 
@@ -106,20 +108,53 @@ HasWritten (Err stop.WriteFault) old new piece = AddsPart old new piece
 HasWritten (Err stop.Memory) old new piece = new ≡ old
 HasWritten (Err (stop.JournalFull entries weight)) old new piece = ⊥
 
--- the records of the journal's answers were written
-pub record AreWritten (rules : Rules) (past : List Entry) (before after : Option (List ℕ)) : Type 0 where
-  pub records : List ℕ
-  pub are_records : AreRecords (shown_of rules past) records
-  pub wrote : after ≡ with_bytes before records
+-- a write stops by a fault of the sink or for want of memory
+abbrev pub IsOfWriting : {T : Type 0} → Result T FeedStop → Type 0
+IsOfWriting (Err (stop.JournalFull entries weight)) = ⊥
+IsOfWriting _ = ⊤
 
--- the records of the journal's first answers were written, the last one maybe in part
-pub record ArePartWritten (rules : Rules) (past : List Entry) (before after : Option (List ℕ)) : Type 0 where
+-- a text was written whole, or a first part of it
+abbrev pub WritesText : {T : Type 0} → List ℕ → Result T FeedStop → Option (List ℕ) → Option (List ℕ) → Type 0
+WritesText text (Ok given) old new = new ≡ with_bytes old text
+WritesText text (Err (stop.JournalFull entries weight)) old new = ⊥
+WritesText text (Err _) old new = AddsPart old new text
+
+-- a record was written, or a first part of it, or nothing
+abbrev pub WritesRecord : {T : Type 0} → Shown → Result T FeedStop → Option (List ℕ) → Option (List ℕ) → Type 0
+WritesRecord shown (Ok given) old new = (bytes : List ℕ) × IsRecord shown bytes × (new ≡ with_bytes old bytes)
+WritesRecord shown (Err stop.WriteFault) old new = (bytes : List ℕ) × IsRecord shown bytes × AddsPart old new bytes
+WritesRecord shown (Err stop.Memory) old new = new ≡ old
+WritesRecord shown (Err (stop.JournalFull entries weight)) old new = ⊥
+
+-- the answers that wait, whose jobs came at the journal's moment
+abbrev pub stamped : Rules → List Entry → List Shown
+stamped rules past =
+    map (λ waits. record { run = waits.0; moment = moment_of past; answer = waits.1 }) (ready rules past)
+
+-- so many of them were written, the last one maybe in part
+pub record WritesPart (all : List Shown) (old new : Option (List ℕ)) : Type 0 where
   pub first : List Shown
   pub later : List Shown
-  pub shown_are : shown_of rules past ≡ first ++ later
-  pub records : List ℕ
-  pub are_records : AreRecords first records
-  pub wrote : AddsPart before after records
+  pub split : all ≡ first ++ later
+  pub bytes : List ℕ
+  pub are_records : AreRecords first bytes
+  pub wrote : AddsPart old new bytes
+
+-- the first of the answers that wait were handed out
+pub record HandsOutPart {R Site : Type 0} (meaning : R → Site → Meaning) (old new : CoreView R Site) : Type 0 where
+  pub taken : List (ℕ × Answer)
+  pub later : List (ℕ × Answer)
+  pub split : ready (rules_of meaning old) (past_of old) ≡ taken ++ later
+  pub new_is : new ≡ grown old (hand_outs taken)
+
+-- the answers that wait were handed out and written, or the first of them
+abbrev pub HandsOut : {T R Site : Type 0} → (R → Site → Meaning) → Result T FeedStop → CoreView R Site → CoreView R Site →
+    Option (List ℕ) → Option (List ℕ) → Type 0
+HandsOut meaning (Ok given) old new before after = (bytes : List ℕ)
+    × (new ≡ grown old (hand_outs (ready (rules_of meaning old) (past_of old))))
+    × AreRecords (stamped (rules_of meaning old) (past_of old)) bytes × (after ≡ with_bytes before bytes)
+HandsOut meaning (Err ended) old new before after =
+    HandsOutPart meaning old new × WritesPart (stamped (rules_of meaning old) (past_of old)) before after
 
 -- ---- where a feed stands
 
@@ -131,11 +166,6 @@ AreCurrent past = (run : ℕ) → is_open past run ≡ true → is_page (job_of 
 -- all entries are of lane 0
 abbrev pub AreOfLane : List Entry → Type 0
 AreOfLane past = All (λ entry. entry.lane ≡ 0) past
-
--- a run ended because the journal was full
-abbrev pub is_full_end : What → Bool
-is_full_end (what.End run kind.JournalFull status size made finished) = true
-is_full_end _ = false
 
 -- A journal to which one lane adds alone. Between turns no answer waits.
 pub record IsOfOneLane (rules : Rules) (past : List Entry) : Type 0 where
@@ -154,13 +184,13 @@ pub record IsFeeding (items : List Item) (past : List Entry) (clients : Clients)
   pub now : moment_of past ≡ moment_by (reverse done)
 
 -- all items came, and the Stop
-pub record HasFed (items : List Item) (past : List Entry) (left : List Item) : Type 0 where
+pub record HasAllFed (items : List Item) (past : List Entry) (left : List Item) : Type 0 where
   pub stopped : is_stopping past ≡ true
   pub none_left : left ≡ []
   pub fed : IsFed items past
 
 abbrev pub StandsAt : List Item → List Entry → Clients → List Item → Type 0
-StandsAt items past clients left = IsFeeding items past clients left ⊎ HasFed items past left
+StandsAt items past clients left = IsFeeding items past clients left ⊎ HasAllFed items past left
 
 -- turns led here, unless memory ran out for a run
 abbrev pub AreTurnsTo : Rules → List Item → List Entry → Clients → List Item → Type 0

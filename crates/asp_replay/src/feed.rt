@@ -1,6 +1,14 @@
 //! A recording is fed to a host.
 #![tactic(auto)]
 
+ghost use Rattle.std.specs.Prelude.{IfErr, IfOk, List};
+ghost use Rattle.asp_core.specs.Kernel.{past_of, rules_by};
+ghost use Rattle.asp_io.specs.Faults.{HasCause};
+ghost use Rattle.asp_job.specs.declared.entry.Entry.{Entry};
+ghost use Rattle.asp_record.specs.Recorded.{IsSound};
+ghost use Rattle.asp_replay.specs.Feed as spec;
+ghost use Rattle.asp_replay.specs.Underway as way;
+
 use crate::clients::Clients;
 use crate::coming::{come, is_calm, may_come, moment_of, stop};
 use crate::handing::hand_out;
@@ -63,7 +71,16 @@ pub fn feed<R: Runner, K: Sink>(
     site: &R::Site,
     recording: &Recording,
     sink: &mut K,
-) -> Result<Core<R>, FeedStop> {
+) -> Result<Core<R>, FeedStop>
+    requires sound { IsSound recording.now }
+    ensures core { IfOk result (way.IsCoreOf runner.now site.now recording.now.seed) }
+    ensures ok { IfOk result (λ core. spec.HasFed (rules_by (R.meaning runner.now site.now) recording.now.seed)
+        recording.now.items (past_of core) (K.held sink.old) (K.held sink.new)) }
+    ensures err { IfErr result (λ stop. (past : List Entry)
+        × spec.HasFedPart (rules_by (R.meaning runner.now site.now) recording.now.seed) recording.now.items past stop
+        (K.held sink.old) (K.held sink.new)) }
+    ensures cause { HasCause FeedStop.WriteFault (K.faults sink.old) (K.faults sink.new) result }
+{
     let store = runner.store()?;
     let mut core = Core::new(alloc, 0, runner, site, recording.seed)?;
     let mut clients = Clients::new(alloc);

@@ -1,11 +1,10 @@
 //! What a replay writes.
 #![tactic(auto)]
 
-ghost use Rattle.std.specs.Prelude.{◌≡◌, ℕ, List, reverse, Err, OnOk, IfOk, IfErr, true};
-ghost use Rattle.std.specs.String.{string_bytes};
-ghost use Rattle.asp_io.specs.Copying.{AddsPart};
-ghost use Rattle.asp_io.specs.Faults.{HasRisen};
-ghost use Rattle.asp_io.specs.Sink.{with_bytes};
+ghost use Rattle.std.specs.Prelude.{IfOk};
+ghost use Rattle.std.specs.List.{flat_map};
+ghost use Rattle.asp_io.specs.Faults.{HasCause};
+ghost use Rattle.asp_record.specs.Entries.{entry_text};
 ghost use Rattle.asp_replay.specs.Shown as spec;
 ghost use Rattle.asp_replay.specs.Underway as way;
 
@@ -20,8 +19,7 @@ use vb_value::{Bytes, Memory};
 /// Writes a piece whole.
 fn write_piece<K: Sink>(sink: &mut K, piece: &[u8]) -> Result<(), FeedStop>
     ensures wrote { way.HasWritten result (K.held sink.old) (K.held sink.new) piece.now }
-    ensures cause { result ≡ Err FeedStop.WriteFault → HasRisen (K.faults sink.old) (K.faults sink.new) }
-    ensures only { way.IsWriteResult result }
+    ensures cause { HasCause FeedStop.WriteFault (K.faults sink.old) (K.faults sink.new) result }
 {
     match write_all(sink, piece) {
         Ok(()) => Ok(()),
@@ -49,7 +47,11 @@ pub fn write_record<K: Sink>(
     run: u32,
     moment: u64,
     answer: &Answer,
-) -> Result<(), FeedStop> {
+) -> Result<(), FeedStop>
+    ensures wrote { way.WritesRecord (record { run = run; moment = moment; answer = answer.now })
+        result (K.held sink.old) (K.held sink.new) }
+    ensures cause { HasCause FeedStop.WriteFault (K.faults sink.old) (K.faults sink.new) result }
+{
     let bytes = record_of(alloc, run, moment, answer)?;
     write_piece(sink, bytes.as_slice())
 }
@@ -59,7 +61,10 @@ pub fn write_lines<K: Sink>(
     alloc: Global,
     sink: &mut K,
     journal: &[Entry],
-) -> Result<(), FeedStop> {
+) -> Result<(), FeedStop>
+    ensures wrote { way.WritesText (flat_map entry_text journal.now) result (K.held sink.old) (K.held sink.new) }
+    ensures cause { HasCause FeedStop.WriteFault (K.faults sink.old) (K.faults sink.new) result }
+{
     for entry in journal {
         let line = entry_line(alloc, entry)?;
         write_piece(sink, line.as_slice())?;
@@ -68,7 +73,10 @@ pub fn write_lines<K: Sink>(
 }
 
 /// Writes how many answers there were.
-pub fn write_done<K: Sink>(alloc: Global, sink: &mut K, count: u32) -> Result<(), FeedStop> {
+pub fn write_done<K: Sink>(alloc: Global, sink: &mut K, count: u32) -> Result<(), FeedStop>
+    ensures wrote { way.WritesText (spec.done_line count) result (K.held sink.old) (K.held sink.new) }
+    ensures cause { HasCause FeedStop.WriteFault (K.faults sink.old) (K.faults sink.new) result }
+{
     let line = format!(in alloc; "done {count}\n")?;
     write_piece(sink, line.as_bytes())
 }

@@ -1,0 +1,83 @@
+-- What a recording leaves that was fed to a host, and what one leaves that was not fed to its end.
+use Rattle.std.specs.Prelude.{◌≡◌, ◌⊎◌, ℕ, Bool, true, false, ⊤, List, [], ◌∷◌, ◌++◌, Option}
+use Rattle.vb_value.specs.declared.application.AppCall.{AppCall}
+use Rattle.asp_core.specs.Kernel.{IsBeginTooMuch, IsTooMuch}
+use Rattle.asp_core.specs.Laws.{NoneIs}
+use Rattle.asp_io.specs.Copying.{AddsPart}
+use Rattle.asp_io.specs.Sink.{with_bytes}
+use Rattle.asp_job.specs.declared.entry.EndKind.TheVariants as kind
+use Rattle.asp_job.specs.declared.entry.Entry.{Entry}
+use Rattle.asp_job.specs.declared.entry.What.{What}
+use Rattle.asp_job.specs.declared.entry.What.TheVariants as what
+use Rattle.asp_job.specs.Journal.{IsValidJournal, past_after, stop_entries}
+use Rattle.asp_job.specs.Rules.{Rules}
+use Rattle.asp_lane.specs.Turns.{IsCallTooMuch}
+use Rattle.asp_record.specs.declared.recording.Item.{Item}
+use Rattle.asp_replay.specs.declared.stop.FeedStop.{FeedStop}
+use Rattle.asp_replay.specs.declared.stop.FeedStop.TheVariants as stop
+use Rattle.asp_replay.specs.Feeding.{Clients, IsFed, IsFedPart, is_calm}
+use Rattle.asp_replay.specs.Sequential.{Adds, IsSequential, is_memory_end}
+use Rattle.asp_replay.specs.Shown.{AreRecords, Shown, shown_of}
+
+-- ---- records
+
+-- the records of the journal's answers were written
+pub record AreWritten (rules : Rules) (past : List Entry) (before after : Option (List ℕ)) : Type 0 where
+  pub records : List ℕ
+  pub are_records : AreRecords (shown_of rules past) records
+  pub wrote : after ≡ with_bytes before records
+
+-- the records of the journal's first answers were written, the last one maybe in part
+pub record ArePartWritten (rules : Rules) (past : List Entry) (before after : Option (List ℕ)) : Type 0 where
+  pub first : List Shown
+  pub later : List Shown
+  pub shown_are : shown_of rules past ≡ first ++ later
+  pub records : List ℕ
+  pub are_records : AreRecords first records
+  pub wrote : AddsPart before after records
+
+-- ---- to the end
+
+-- a run ended because the journal was full
+abbrev pub is_full_end : What → Bool
+is_full_end (what.End run kind.JournalFull status size made finished) = true
+is_full_end _ = false
+
+-- The items were fed to a host with this journal: each run has ended, and none because the journal was full. Unless memory
+-- ran out for a run, the journal is the history of one lane. The answers were written.
+pub record HasFed (rules : Rules) (items : List Item) (past : List Entry) (before after : Option (List ℕ)) : Type 0 where
+  pub fed : IsFed items past
+  pub ended : is_calm past ≡ true
+  pub none_full : NoneIs is_full_end past
+  pub sequential : NoneIs is_memory_end past → IsSequential rules items past
+  pub written : AreWritten rules past before after
+
+-- ---- not to the end
+
+-- with what comes next, an item, the Stop, a Begin or a call, there would be so many entries of that weight, too many or too
+-- heavy
+pub data IsTooMuchNext (rules : Rules) (past : List Entry) (entries weight : ℕ) : Type 0 where
+  Item : (clients then_clients : Clients) (next : Item) (added : List Entry) → Adds rules past clients next added then_clients
+      → IsTooMuch (past_after past added) entries weight → IsTooMuchNext rules past entries weight
+  Stop : IsTooMuch (past_after past (stop_entries rules past 0)) entries weight → IsTooMuchNext rules past entries weight
+  Begin : IsBeginTooMuch rules past 0 entries weight → IsTooMuchNext rules past entries weight
+  Call : (run : ℕ) → IsCallTooMuch rules past 0 run entries weight → IsTooMuchNext rules past entries weight
+
+-- at some point of the journal it was so
+abbrev pub WasTooMuch : Rules → List Entry → ℕ → ℕ → Type 0
+WasTooMuch rules past entries weight = (earlier later : List Entry) × (past ≡ later ++ earlier)
+    × IsTooMuchNext rules earlier entries weight
+
+-- the journal of a feed that came to this stop
+abbrev pub HasCause : Rules → List Entry → FeedStop → Type 0
+HasCause rules past (stop.JournalFull entries weight) = WasTooMuch rules past entries weight
+HasCause rules past stop.WriteFault = ⊤
+HasCause rules past stop.Memory = ⊤
+
+-- the items were fed in part, to a host with this valid journal, and the first answers were written
+pub record HasFedPart (rules : Rules) (items : List Item) (past : List Entry) (ended : FeedStop)
+    (before after : Option (List ℕ)) : Type 0 where
+  pub account : IsValidJournal rules past
+  pub fed : IsFedPart items past
+  pub cause : HasCause rules past ended
+  pub written : ArePartWritten rules past before after
