@@ -1,4 +1,7 @@
+pub mod Aside
 pub mod OneRequest
 pub mod Paths
+pub mod Plain
 pub mod Small
+pub mod Turned
 pub mod Worked
