@@ -1,8 +1,9 @@
 //! What a replay writes.
 #![tactic(auto)]
 
-ghost use Rattle.std.specs.Prelude.{IfOk};
+ghost use Rattle.std.specs.Prelude.{◌≡◌, IfOk};
 ghost use Rattle.std.specs.List.{flat_map};
+ghost use Rattle.std.specs.String.{string_bytes};
 ghost use Rattle.asp_io.specs.Faults.{HasCause};
 ghost use Rattle.asp_record.specs.Entries.{entry_text};
 ghost use Rattle.asp_replay.specs.Shown as spec;
@@ -57,11 +58,7 @@ pub fn write_record<K: Sink>(
 }
 
 /// Writes the lines of the entries, each as one piece.
-pub fn write_lines<K: Sink>(
-    alloc: Global,
-    sink: &mut K,
-    journal: &[Entry],
-) -> Result<(), FeedStop>
+pub fn write_lines<K: Sink>(alloc: Global, sink: &mut K, journal: &[Entry]) -> Result<(), FeedStop>
     ensures wrote { way.WritesText (flat_map entry_text journal.now) result (K.held sink.old) (K.held sink.new) }
     ensures cause { HasCause FeedStop.WriteFault (K.faults sink.old) (K.faults sink.new) result }
 {
@@ -72,11 +69,18 @@ pub fn write_lines<K: Sink>(
     Ok(())
 }
 
+/// How many answers there were, as a line.
+fn done_string(alloc: Global, count: u32) -> Result<String, Memory>
+    ensures { IfOk result (λ line. string_bytes line ≡ spec.done_line count) }
+{
+    Ok(format!(in alloc; "done {count}\n")?)
+}
+
 /// Writes how many answers there were.
 pub fn write_done<K: Sink>(alloc: Global, sink: &mut K, count: u32) -> Result<(), FeedStop>
     ensures wrote { way.WritesText (spec.done_line count) result (K.held sink.old) (K.held sink.new) }
     ensures cause { HasCause FeedStop.WriteFault (K.faults sink.old) (K.faults sink.new) result }
 {
-    let line = format!(in alloc; "done {count}\n")?;
+    let line = done_string(alloc, count)?;
     write_piece(sink, line.as_bytes())
 }

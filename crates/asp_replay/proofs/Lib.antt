@@ -1,0 +1,4 @@
+pub mod OneRequest
+pub mod Paths
+pub mod Small
+pub mod Worked
