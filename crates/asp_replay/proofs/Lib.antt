@@ -1,3 +1,4 @@
+pub mod Events
 pub mod OneRequest
 pub mod Paths
 pub mod Small

@@ -1,4 +1,4 @@
-use Rattle.std.proofs.Common.{◌≡◌, ℕ, Err, ap, refl, sym, ◌∙◌}
+use Rattle.std.proofs.Common.{◌≡◌, ℕ, Err, ap, refl}
 use Rattle.asp_core.specs.declared.stop.AdmitStop.{AdmitStop}
 use Rattle.asp_core.specs.declared.stop.AdmitStop.TheVariants as admit
 use Rattle.asp_replay.specs.declared.stop.FeedStop.TheVariants as stop
