@@ -25,8 +25,8 @@ use Rattle.asp_job.specs.Turns.{key_asked_by, key_for, needs_key, owed, waiting_
 use Rattle.asp_record.specs.declared.recording.Item.{Item}
 use Rattle.asp_record.specs.declared.recording.Item.TheVariants as item
 use Rattle.asp_record.specs.Recorded as recorded
-use Rattle.asp_replay.specs.Feeding.{AreCalm, AreItems, CameFrom, Clients, HasCome, IsCalmBefore, IsFed, IsJobOf, asked_by}
-use Rattle.asp_replay.specs.Feeding.{clients_after, comes, events_of, is_calm, moment_by, tick_to}
+use Rattle.asp_replay.specs.Feeding.{AreCalm, AreItems, CameFrom, Clients, HasCome, IsCalmBefore, IsFed, IsJobOf}
+use Rattle.asp_replay.specs.Feeding.{asked_by, clients_after, comes, events_of, is_calm, moment_by, tick_to}
 use Rattle.asp_replay.specs.Sequential.{Adds, hand_outs, may_come}
 
 -- ---- entries that do not come from outside
@@ -185,7 +185,8 @@ after_tick past moment queued later quiet =
     let same = quiet_all ticked queued quiet in
     let late : nat_le moment (moment_of past) ≡ false = grind arith in
     record {
-      events = same.events ∙ sym (ap (λ events. events ++ events_of past) (tick_to_later (moment_of past) moment later));
+      events = same.events
+          ∙ sym (ap (λ events. events ++ events_of past) (tick_to_later (moment_of past) moment later));
       calm = λ calm may. same.calm (or_right (nat_le moment (moment_of past)) (is_calm past) may late, calm);
       moment_is = λ h. same.moment;
     }
@@ -344,7 +345,8 @@ item_came rules done past clients then_clients (item.Request client moment bytes
     let its = adds.1 in
     let items = item.Request client moment bytes ∷ done in
     let job_moment : job.moment ≡ moment = ap (λ j. j.moment) its.job_is in
-    let is = request_item rules done past clients client moment bytes job came now (time_may past moment may) rises its in
+    let time = time_may past moment may in
+    let is = request_item rules done past clients client moment bytes job came now time rises its in
     let at = subst (λ m. HasItem items past (admit_entry rules (past_after past (tick_entries rules past 0 m)) 0 job
     ∷ past_after past (tick_entries rules past 0 m)) (clients_after clients client
     (admit_entry rules (past_after past (tick_entries rules past 0 m)) 0 job).what)) (sym job_moment) is in

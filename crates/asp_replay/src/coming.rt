@@ -123,7 +123,8 @@ pub fn come<R: Runner>(
     requires may { spec.may_come (past_of core.old) (recorded.moment_of item.now) ≡ true }
     requires going { is_stopping (past_of core.old) ≡ false }
     requires held { recorded.IsHeld item.now }
-    ensures ok { OnOk result (way.HasGrown R.meaning core.old clients.old.entries item.now core.new clients.new.entries) }
+    ensures ok { OnOk result (way.HasGrown R.meaning core.old clients.old.entries item.now
+        core.new clients.new.entries) }
     ensures full { (entries weight : ℕ) → result ≡ Err (FeedStop.JournalFull entries weight) →
         way.IsItemTooMuch (rules_of R.meaning core.old) (past_of core.old) clients.old.entries item.now entries weight }
     ensures err { OnErr result (core.new ≡ core.old) }
