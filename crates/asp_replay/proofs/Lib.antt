@@ -1,4 +1,5 @@
 pub mod Aside
+pub mod Events
 pub mod OneRequest
 pub mod Paths
 pub mod Plain
