@@ -1,8 +1,9 @@
 //! What a replay writes.
 #![tactic(auto)]
 
-ghost use Rattle.std.specs.Prelude.{IfOk};
+ghost use Rattle.std.specs.Prelude.{◌≡◌, IfOk};
 ghost use Rattle.std.specs.List.{flat_map};
+ghost use Rattle.std.specs.String.{string_bytes};
 ghost use Rattle.asp_io.specs.Faults.{HasCause};
 ghost use Rattle.asp_record.specs.Entries.{entry_text};
 ghost use Rattle.asp_replay.specs.Shown as spec;
@@ -27,13 +28,19 @@ fn write_piece<K: Sink>(sink: &mut K, piece: &[u8]) -> Result<(), FeedStop>
     }
 }
 
+/// The line before an answer of that length.
+fn head_of(alloc: Global, run: u32, length: usize) -> Result<String, Memory>
+    ensures { IfOk result (λ head. string_bytes head ≡ spec.head_line run length) }
+{
+    Ok(format!(in alloc; "answer {run} {length}\n")?)
+}
+
 /// The record of an answer.
 fn record_of(alloc: Global, run: u32, moment: u64, answer: &Answer) -> Result<Bytes, Memory>
     ensures { IfOk result (spec.IsRecord (record { run = run; moment = moment; answer = answer.now })) }
 {
     let text = answer_bytes(alloc, answer, moment)?;
-    let length = text.len();
-    let head = format!(in alloc; "answer {run} {length}\n")?;
+    let head = head_of(alloc, run, text.len())?;
     let mut bytes = Bytes::from_slice(alloc, head.as_bytes())?;
     bytes.append_slice(text.as_slice())?;
     bytes.append_slice(b"\n")?;
@@ -57,11 +64,7 @@ pub fn write_record<K: Sink>(
 }
 
 /// Writes the lines of the entries, each as one piece.
-pub fn write_lines<K: Sink>(
-    alloc: Global,
-    sink: &mut K,
-    journal: &[Entry],
-) -> Result<(), FeedStop>
+pub fn write_lines<K: Sink>(alloc: Global, sink: &mut K, journal: &[Entry]) -> Result<(), FeedStop>
     ensures wrote { way.WritesText (flat_map entry_text journal.now) result (K.held sink.old) (K.held sink.new) }
     ensures cause { HasCause FeedStop.WriteFault (K.faults sink.old) (K.faults sink.new) result }
 {
@@ -72,11 +75,18 @@ pub fn write_lines<K: Sink>(
     Ok(())
 }
 
+/// The line that tells how many answers there were.
+fn done_text(alloc: Global, count: u32) -> Result<String, Memory>
+    ensures { IfOk result (λ line. string_bytes line ≡ spec.done_line count) }
+{
+    Ok(format!(in alloc; "done {count}\n")?)
+}
+
 /// Writes how many answers there were.
 pub fn write_done<K: Sink>(alloc: Global, sink: &mut K, count: u32) -> Result<(), FeedStop>
     ensures wrote { way.WritesText (spec.done_line count) result (K.held sink.old) (K.held sink.new) }
     ensures cause { HasCause FeedStop.WriteFault (K.faults sink.old) (K.faults sink.new) result }
 {
-    let line = format!(in alloc; "done {count}\n")?;
+    let line = done_text(alloc, count)?;
     write_piece(sink, line.as_bytes())
 }
