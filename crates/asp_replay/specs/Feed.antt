@@ -57,11 +57,11 @@ pub record HasFed (rules : Rules) (items : List Item) (past : List Entry) (befor
 -- with what comes next, an item, the Stop, a Begin or a call, there would be so many entries of that weight, too many or too
 -- heavy
 pub data IsTooMuchNext (rules : Rules) (past : List Entry) (entries weight : ℕ) : Type 0 where
-  Item : (clients then_clients : Clients) (next : Item) (added : List Entry) → Adds rules past clients next added then_clients
+  OfItem : (clients then_clients : Clients) (next : Item) (added : List Entry) → Adds rules past clients next added then_clients
       → IsTooMuch (past_after past added) entries weight → IsTooMuchNext rules past entries weight
-  Stop : IsTooMuch (past_after past (stop_entries rules past 0)) entries weight → IsTooMuchNext rules past entries weight
-  Begin : IsBeginTooMuch rules past 0 entries weight → IsTooMuchNext rules past entries weight
-  Call : (run : ℕ) → IsCallTooMuch rules past 0 run entries weight → IsTooMuchNext rules past entries weight
+  OfStop : IsTooMuch (past_after past (stop_entries rules past 0)) entries weight → IsTooMuchNext rules past entries weight
+  OfBegin : IsBeginTooMuch rules past 0 entries weight → IsTooMuchNext rules past entries weight
+  OfCall : (run : ℕ) → IsCallTooMuch rules past 0 run entries weight → IsTooMuchNext rules past entries weight
 
 -- at some point of the journal it was so
 abbrev pub WasTooMuch : Rules → List Entry → ℕ → ℕ → Type 0

@@ -1,6 +1,6 @@
 -- Which journals a recording feeds. Items and events are given with the newest first, as pasts are. All of it is the
 -- profile's.
-use Rattle.std.specs.Prelude.{◌≡◌, ℕ, ◌==◌, ◌&&◌, ◌||◌, Bool, true, false, if◌then◌else◌, is_empty, nat_eq, nat_le, nat_lt}
+use Rattle.std.specs.Prelude.{◌≡◌, ◌⊎◌, ℕ, ◌==◌, ◌&&◌, ◌||◌, Bool, true, false, if◌then◌else◌, nat_eq, nat_le, nat_lt}
 use Rattle.std.specs.Prelude.{List, [], ◌∷◌, ◌++◌, length, reverse, Option, Some, None}
 use Rattle.std.specs.Map.{lookup}
 use Rattle.indexmap.specs.IndexMap.{insert_entry}
@@ -66,7 +66,7 @@ events_of (entry ∷ past) = if comes entry.what then entry.what ∷ events_of p
 
 -- no run waits and none is unfinished
 abbrev pub is_calm : List Entry → Bool
-is_calm past = is_empty (waiting past) && is_empty (unfinished past)
+is_calm past = length (waiting past) == 0 && length (unfinished past) == 0
 
 -- time goes on, and the Stop comes, where no run waits and none is unfinished
 abbrev pub IsCalmBefore : List Entry → What → Type 0

@@ -82,22 +82,22 @@ abbrev pub handed_out : Rules → List Entry → List Entry
 handed_out rules past = past_after past (hand_outs (ready rules past))
 
 -- the next item comes, where it may
-pub record IsComing (rules : Rules) (at then : Place) : Type 0 where
+pub record IsComing (rules : Rules) (from to : Place) : Type 0 where
   pub next : Item
   pub entries : List Entry
-  pub items_are : at.items ≡ next ∷ then.items
-  pub may : may_come at.past (recorded.moment_of next) ≡ true
-  pub adds : Adds rules at.past at.clients next entries then.clients
-  pub past_is : then.past ≡ handed_out rules (past_after at.past entries)
+  pub items_are : from.items ≡ next ∷ to.items
+  pub may : may_come from.past (recorded.moment_of next) ≡ true
+  pub adds : Adds rules from.past from.clients next entries to.clients
+  pub past_is : to.past ≡ handed_out rules (past_after from.past entries)
 
 -- the host stops, once all items came and nothing is under way
-pub record IsStopping (rules : Rules) (at then : Place) : Type 0 where
-  pub none : at.items ≡ []
-  pub none_then : then.items ≡ []
-  pub calm : is_calm at.past ≡ true
-  pub once : is_stopping at.past ≡ false
-  pub clients_are : then.clients ≡ at.clients
-  pub past_is : then.past ≡ handed_out rules (past_after at.past (stop_entries rules at.past 0))
+pub record IsStopping (rules : Rules) (from to : Place) : Type 0 where
+  pub none : from.items ≡ []
+  pub none_then : to.items ≡ []
+  pub calm : is_calm from.past ≡ true
+  pub once : is_stopping from.past ≡ false
+  pub clients_are : to.clients ≡ from.clients
+  pub past_is : to.past ≡ handed_out rules (past_after from.past (stop_entries rules from.past 0))
 
 -- neither may be, and something is under way
 abbrev pub IsBusy : List Entry → List Item → Type 0
@@ -105,21 +105,21 @@ IsBusy past [] = is_calm past ≡ false
 IsBusy past (next ∷ items) = may_come past (recorded.moment_of next) ≡ false
 
 -- the run in hand goes on, or one begins
-pub record IsWorking (rules : Rules) (at then : Place) : Type 0 where
-  pub busy : IsBusy at.past at.items
-  pub items_are : then.items ≡ at.items
-  pub clients_are : then.clients ≡ at.clients
+pub record IsWorking (rules : Rules) (from to : Place) : Type 0 where
+  pub busy : IsBusy from.past from.items
+  pub items_are : to.items ≡ from.items
+  pub clients_are : to.clients ≡ from.clients
   pub mid : List Entry
-  pub works : Works rules at.past mid
-  pub past_is : then.past ≡ handed_out rules mid
+  pub works : Works rules from.past mid
+  pub past_is : to.past ≡ handed_out rules mid
 
 abbrev pub IsTurn : Rules → Place → Place → Type 0
-IsTurn rules at then = IsComing rules at then ⊎ IsStopping rules at then ⊎ IsWorking rules at then
+IsTurn rules from to = IsComing rules from to ⊎ IsStopping rules from to ⊎ IsWorking rules from to
 
 -- so many turns
 abbrev pub AreTurns : Rules → ℕ → Place → Place → Type 0
-AreTurns rules zero at then = then ≡ at
-AreTurns rules (suc n) at then = (mid : Place) × AreTurns rules n at mid × IsTurn rules mid then
+AreTurns rules zero from to = to ≡ from
+AreTurns rules (suc n) from to = (mid : Place) × AreTurns rules n from mid × IsTurn rules mid to
 
 -- the first run waits, and all items are still to come
 abbrev pub first_place : List Item → Place

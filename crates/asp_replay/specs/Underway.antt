@@ -1,5 +1,5 @@
 -- This crate's own: where a feed stands, and what each of its parts adds.
-use Rattle.std.specs.Prelude.{◌≡◌, ◌⊎◌, ℕ, Bool, true, false, ⊤, List, [], ◌∷◌, ◌++◌, All, map, reverse, Option, Some, Result, Ok, Err}
+use Rattle.std.specs.Prelude.{◌≡◌, ◌⊎◌, ℕ, Bool, true, false, ⊤, List, [], ◌∷◌, ◌++◌, All, map, reverse, Option, Some, None, Result, Ok, Err}
 use Rattle.asp_core.specs.declared.stop.AdmitStop.{AdmitStop}
 use Rattle.asp_core.specs.declared.stop.AdmitStop.TheVariants as admit
 use Rattle.asp_core.specs.declared.stop.EventStop.{EventStop}
@@ -41,6 +41,12 @@ abbrev pub admit_stop : AdmitStop → FeedStop
 admit_stop (admit.JournalFull entries weight) = stop.JournalFull entries weight
 admit_stop _ = stop.Memory
 
+-- why nothing goes on after work that came to this
+abbrev pub turn_stop : Turn → Option FeedStop
+turn_stop (turn.JournalFull entries weight) = Some (stop.JournalFull entries weight)
+turn_stop turn.Memory = Some stop.Memory
+turn_stop _ = None
+
 -- ---- what comes
 
 -- an item came: its entries are the core's, and the clients are as it leaves them
@@ -53,6 +59,37 @@ HasGrown meaning old clients item new then_clients = (entries : List Entry)
 abbrev pub IsItemTooMuch : Rules → List Entry → Clients → Item → ℕ → ℕ → Type 0
 IsItemTooMuch rules past clients item entries weight = (added : List Entry) × (then_clients : Clients)
     × Adds rules past clients item added then_clients × IsTooMuch (past_after past added) entries weight
+
+-- ---- what a step adds
+
+-- whether a turn came to this
+abbrev pub is_more : Turn → Bool
+is_more turn.More = true
+is_more _ = false
+
+abbrev pub is_done : Turn → Bool
+is_done turn.Done = true
+is_done _ = false
+
+-- the entries of a step of the run in hand that came to this: its next call or its End, its End because its call does not
+-- fit, or nothing
+abbrev pub Steps : Rules → List Entry → ℕ → List Entry → Turn → Type 0
+Steps rules past run entries turn.Done =
+    (entry : Entry) × IsStep rules past 0 run entry × (entries ≡ entry ∷ [])
+Steps rules past run entries (turn.JournalFull count weight) =
+    IsCallTooMuch rules past 0 run count weight × (entries ≡ end_entry rules past 0 run kind.JournalFull ∷ [])
+Steps rules past run entries turn.Memory = entries ≡ []
+Steps rules past run entries turn.More = ⊥
+Steps rules past run entries turn.Idle = ⊥
+
+-- the core has the entries of the step, and what is in hand then fits it
+pub record HasStepped {R Site State : Type 0} (meaning : R → Site → Meaning)
+    (stands : R → Site → State → Told → ℕ → Type 0) (old : CoreView R Site) (run : ℕ) (new : CoreView R Site)
+    (in_hand : Option (RunView State)) (came_to : Turn) : Type 0 where
+  pub entries : List Entry
+  pub new_is : new ≡ grown old entries
+  pub steps : Steps (rules_of meaning old) (past_of old) run entries came_to
+  pub fits : Fits meaning stands new 0 in_hand
 
 -- ---- what work adds
 

@@ -3,13 +3,14 @@
 
 mod clients;
 mod coming;
-mod feed;
+mod feeding;
 mod handing;
 mod job;
 mod stop;
+mod turns;
 mod working;
 mod writing;
 
-pub use feed::feed;
+pub use feeding::feed;
 pub use stop::FeedStop;
 pub use writing::{write_done, write_lines};

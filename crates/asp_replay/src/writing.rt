@@ -75,8 +75,8 @@ pub fn write_lines<K: Sink>(alloc: Global, sink: &mut K, journal: &[Entry]) -> R
     Ok(())
 }
 
-/// The line that tells how many answers there were.
-fn done_text(alloc: Global, count: u32) -> Result<String, Memory>
+/// How many answers there were, as a line.
+fn done_string(alloc: Global, count: u32) -> Result<String, Memory>
     ensures { IfOk result (λ line. string_bytes line ≡ spec.done_line count) }
 {
     Ok(format!(in alloc; "done {count}\n")?)
@@ -87,6 +87,6 @@ pub fn write_done<K: Sink>(alloc: Global, sink: &mut K, count: u32) -> Result<()
     ensures wrote { way.WritesText (spec.done_line count) result (K.held sink.old) (K.held sink.new) }
     ensures cause { HasCause FeedStop.WriteFault (K.faults sink.old) (K.faults sink.new) result }
 {
-    let line = done_text(alloc, count)?;
+    let line = done_string(alloc, count)?;
     write_piece(sink, line.as_bytes())
 }

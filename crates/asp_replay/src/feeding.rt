@@ -1,0 +1,93 @@
+//! A recording is fed to a host.
+#![tactic(auto)]
+
+ghost use Rattle.std.specs.Prelude.{◌≡◌, ◌∷◌, [], ℕ, true, false, IfErr, IfOk, List, Option, reverse};
+ghost use Rattle.asp_core.specs.Kernel.{IsHostOf, past_of, rules_by, rules_of};
+ghost use Rattle.asp_io.specs.Faults.{HasCause};
+ghost use Rattle.asp_job.specs.declared.entry.Entry.{Entry};
+ghost use Rattle.asp_record.specs.Recorded.{IsSound};
+ghost use Rattle.asp_replay.specs.Feed as spec;
+ghost use Rattle.asp_replay.specs.Underway as way;
+
+use crate::clients::Clients;
+use crate::coming::{is_calm, may_come, moment_of};
+use crate::stop::FeedStop;
+use crate::turns::{come_turn, start, stop_turn, work_turn};
+use asp_core::Core;
+use asp_io::Sink;
+use asp_job::Runner;
+use asp_lane::Hand;
+use asp_record::{Item, Recording};
+use std::alloc::Global;
+
+/// Feeds the items to a host whose first run has ended.
+fn feed_items<R, K>(
+    alloc: Global,
+    core: &mut Core<R>,
+    runner: &R,
+    site: &R::Site,
+    mut hand: Hand<R>,
+    mut items: &[Item],
+    sink: &mut K,
+) -> Result<(), FeedStop>
+where
+    R: Runner,
+    R::State: Drop,
+    R::Store: Drop,
+    K: Sink,
+{
+    let mut clients = Clients::new(alloc);
+    for _ in 0..u32::MAX {
+        match items.split_first() {
+            Some((next, rest)) if may_come(core, moment_of(next)) => {
+                come_turn(alloc, core, runner, site, &mut clients, next, sink)?;
+                items = rest;
+            }
+            None if is_calm(core) => {
+                if core.stopping() {
+                    return Ok(());
+                }
+                stop_turn(alloc, core, sink)?;
+            }
+            _ => hand = work_turn(alloc, core, runner, site, hand, sink)?,
+        }
+    }
+    Err(FeedStop::Memory)
+}
+
+/// Feeds a site with a recording, on lane 0, and writes the record of each answer when its run has ended.
+pub fn feed<R, K>(
+    alloc: Global,
+    runner: &R,
+    site: &R::Site,
+    recording: &Recording,
+    sink: &mut K,
+) -> Result<Core<R>, FeedStop>
+where
+    R: Runner,
+    R::State: Drop,
+    R::Store: Drop,
+    K: Sink,
+    requires sound { IsSound recording.now }
+    ensures core { IfOk result (way.IsCoreOf runner.now site.now recording.now.seed) }
+    ensures ok { IfOk result (λ core. spec.HasFed (rules_by (R.meaning runner.now site.now) recording.now.seed)
+        recording.now.items (past_of core) (K.held sink.old) (K.held sink.new)) }
+    ensures err { IfErr result (λ stop. (past : List Entry)
+        × spec.HasFedPart (rules_by (R.meaning runner.now site.now) recording.now.seed) recording.now.items past stop
+        (K.held sink.old) (K.held sink.new)) }
+    ensures cause { HasCause FeedStop.WriteFault (K.faults sink.old) (K.faults sink.new) result }
+{
+    let store = runner.store()?;
+    let mut core = Core::new(alloc, 0, runner, site, recording.seed)?;
+    let hand = start(alloc, &mut core, runner, site, Hand::Free(store), sink)?;
+    feed_items(
+        alloc,
+        &mut core,
+        runner,
+        site,
+        hand,
+        recording.items.as_slice(),
+        sink,
+    )?;
+    Ok(core)
+}
