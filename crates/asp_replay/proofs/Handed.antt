@@ -1,5 +1,5 @@
 -- What hand-outs leave of a journal.
-use Rattle.std.proofs.Common.{◌≡◌, ℕ, ◌==◌, nat_eq, Bool, List, [], ◌∷◌, ◌++◌, Option, Some, refl, ap, sym, ◌∙◌, append-nil}
+use Rattle.std.proofs.Common.{◌≡◌, ℕ, nat_eq, List, [], ◌∷◌, ◌++◌, refl, ap, sym, ◌∙◌, append-nil}
 use Rattle.std.specs.Map.{remove_entry}
 use Rattle.asp_core.proofs.Others.{own_number}
 use Rattle.asp_core.specs.Ready.{IsAnswered, first_for, ready}

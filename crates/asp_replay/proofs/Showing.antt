@@ -1,7 +1,7 @@
 -- What entries do to the answers that are shown.
-use Rattle.std.proofs.Common.{◌≡◌, ℕ, ◌+◌, ◌<◌, ◌≤◌, ◌==◌, Bool, true, false, if◌then◌else◌, List, [], ◌∷◌, ◌++◌, map}
-use Rattle.std.proofs.Common.{Option, Some, None, is_some, nat_eq, nat_lt, refl, ap, sym, ◌∙◌, subst, arith, inl, inr}
-use Rattle.std.proofs.Common.{append_assoc, append-nil, length, drop}
+use Rattle.std.proofs.Common.{◌≡◌, ℕ, ◌+◌, ◌<◌, Bool, true, false, List, [], ◌∷◌, ◌++◌, map}
+use Rattle.std.proofs.Common.{Option, Some, None, is_some, refl, ap, sym, ◌∙◌, subst, inl, inr}
+use Rattle.std.proofs.Common.{append_assoc}
 use Rattle.std.proofs.lemmas.Bool.{cases_Bool, cases_lt}
 use Rattle.std.proofs.lemmas.List.{map-append}
 use Rattle.asp_core.proofs.Kept.{no_tick_is, tick_is}
@@ -18,11 +18,10 @@ use Rattle.asp_job.specs.declared.session.SessionState.{SessionState}
 use Rattle.asp_job.specs.History.{with_lane}
 use Rattle.asp_job.specs.Journal.{AreRight, IsRight, admission, admit_entries, admit_entry, is_refused, job_now}
 use Rattle.asp_job.specs.Journal.{past_after, queue_entries, stop_entries}
-use Rattle.asp_job.specs.Journal.{tick_entries, with_owed}
+use Rattle.asp_job.specs.Journal.{tick_entries}
 use Rattle.asp_job.specs.Keys.{session_of}
 use Rattle.asp_job.specs.Output.{answer_by, unavailable_in}
 use Rattle.asp_job.specs.Rules.{Rules, TooManySessions}
-use Rattle.asp_job.specs.Running.{is_page}
 use Rattle.asp_job.specs.Runs.{drawn, is_open, is_unfinished, is_waiting, job_of, moment_of}
 use Rattle.asp_job.specs.Turns.{IsRefuse, MayFollow, key_asked_by, owed}
 use Rattle.asp_replay.specs.Feeding.{is_calm}
@@ -43,8 +42,11 @@ shown_more done answers run own moment (Some answer) same =
     let one : Shown = record { run = run; moment = moment; answer = answer } in
     ap (λ at. (done ++ stamp moment answers) ++ record { run = run; moment = at; answer = answer } ∷ []) (same refl)
     ∙ append_assoc done (stamp moment answers) (one ∷ [])
-    ∙ ap (λ shown. done ++ shown) (sym (map-append (λ (waits : ℕ × Answer). record { run = waits.0; moment = moment;
-    answer = waits.1 }) answers ((run, answer) ∷ [])))
+    ∙ ap (λ shown. done ++ shown) (sym (map-append (λ (waits : ℕ × Answer). record {
+      run = waits.0;
+      moment = moment;
+      answer = waits.1;
+    }) answers ((run, answer) ∷ [])))
 
 -- ---- one entry
 
