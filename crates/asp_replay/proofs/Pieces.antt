@@ -1,5 +1,6 @@
 -- Bytes that are written piece by piece.
-use Rattle.std.proofs.Common.{◌≡◌, ℕ, ◌+◌, ◌<◌, List, [], ◌∷◌, ◌++◌, Option, None, Some, length, take, drop, get_or, Err}
+use Rattle.std.proofs.Common.{◌≡◌, ℕ, ◌+◌, ◌<◌, List, [], ◌∷◌, ◌++◌, Option, None, Some, length, take, drop, get_or}
+use Rattle.std.proofs.Common.{Err}
 use Rattle.std.proofs.Common.{refl, ap, sym, ◌∙◌, append_assoc, append-nil, length-append, arith}
 use Rattle.std.proofs.Math.Seq.{take-append-add, take-append_seam, take-length}
 use Rattle.std.proofs.lemmas.Grind.{flat_map-append}
@@ -39,7 +40,11 @@ part_all before now bytes rest wrote =
 pub part_whole : (before now : Option (List ℕ)) (bytes : List ℕ) → now ≡ with_bytes before bytes
     → AddsPart before now bytes
 part_whole before now bytes wrote =
-    record { count = length bytes; within = omega arith; added = wrote ∙ ap (with_bytes before) (sym (take-length bytes)) }
+    record {
+      count = length bytes;
+      within = omega arith;
+      added = wrote ∙ ap (with_bytes before) (sym (take-length bytes));
+    }
 
 -- a part of a piece behind what was written before
 pub part_more : (before now new : Option (List ℕ)) (bytes piece : List ℕ) → now ≡ with_bytes before bytes

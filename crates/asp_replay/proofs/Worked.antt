@@ -1,8 +1,8 @@
 -- What the work of a turn leaves of a core.
 use Rattle.std.proofs.Common.{◌≡◌, ℕ, ◌&&◌, Bool, true, false, List, [], ◌∷◌, ◌++◌, append_assoc, refl, ap, sym, ◌∙◌, subst}
-use Rattle.std.proofs.Common.{inl, inr, Option, Some, None, is_empty}
+use Rattle.std.proofs.Common.{inl, inr, length, ◌==◌, Option, Some, None}
 use Rattle.asp_job.specs.declared.entry.Entry.{Entry}
-use Rattle.asp_job.specs.Journal.{AreRight, begin_entry}
+use Rattle.asp_job.specs.Journal.{AreRight, begin_entry, past_after}
 use Rattle.asp_job.specs.Runs.{is_halted, unfinished, waiting}
 use Rattle.asp_job.specs.Told.{Meaning, Told}
 use Rattle.asp_job.specs.Turns.{IsBegin, serial_of}
@@ -51,7 +51,7 @@ module _ {R Site State : Type 0} (meaning : R → Site → Meaning) (stands : R 
       record {
         entries = is.entries;
         new_is = is.new_is;
-        steps = step_adds old run is.entries t e (rw sym number at is.adds);
+        steps = step_adds old run is.entries t e (rw number at is.adds);
         fits = is.fits;
       }
 
@@ -107,30 +107,29 @@ module _ {R Site State : Type 0} (meaning : R → Site → Meaning) (stands : R 
     fits = is.fits;
   }
 
-  begun_works : (old mid : CoreView R Site) (run : ℕ) (entry : Entry) (entries : List Entry) (t : Turn)
-      → rules_of meaning mid ≡ rules_of meaning old → past_of mid ≡ entry ∷ past_of old
+  begun_works : (old : CoreView R Site) (run : ℕ) (entry : Entry) (entries : List Entry) (t : Turn)
       → HasInHand (rules_of meaning old) (past_of old) (entry ∷ past_of old) run
-      → Steps (rules_of meaning mid) (past_of mid) run entries t
+      → Steps (rules_of meaning old) (entry ∷ past_of old) run entries t
       → Works (rules_of meaning old) (past_of old) (entry ∷ entries) t
-  begun_works old mid run entry entries turn.Done rules past in_hand steps = record {
+  begun_works old run entry entries turn.Done in_hand steps = record {
     mid = entry ∷ past_of old;
     run = run;
     in_hand = in_hand;
     entry = steps.0;
-    step = rw rules (rw past at steps.1);
-    entries_are = rw steps.2 refl;
+    step = steps.1;
+    entries_are = ap (λ more. past_after (entry ∷ past_of old) more) steps.2;
   }
-  begun_works old mid run entry entries turn.More rules past in_hand steps = absurd steps
-  begun_works old mid run entry entries turn.Idle rules past in_hand steps = absurd steps
-  begun_works old mid run entry entries (turn.JournalFull count weight) rules past in_hand steps = inr (record {
+  begun_works old run entry entries turn.More in_hand steps = absurd steps
+  begun_works old run entry entries turn.Idle in_hand steps = absurd steps
+  begun_works old run entry entries (turn.JournalFull count weight) in_hand steps = inr (record {
     mid = entry ∷ past_of old;
     run = run;
     in_hand = in_hand;
-    much = rw rules at (rw past at steps.0);
-    entries_are = rw steps.1 refl;
+    much = steps.0;
+    entries_are = ap (λ more. past_after (entry ∷ past_of old) more) steps.1;
   })
-  begun_works old mid run entry entries turn.Memory rules past in_hand steps =
-      inr (entry ∷ past_of old, run, in_hand, rw steps refl)
+  begun_works old run entry entries turn.Memory in_hand steps =
+      inr (entry ∷ past_of old, run, in_hand, ap (λ more. past_after (entry ∷ past_of old) more) steps)
 
   -- a run began, and went on
   pub worked_begun : (old mid new : CoreView R Site) (in_hand then_in_hand : Option (RunView State)) (begun t : Turn)
@@ -142,17 +141,21 @@ module _ {R Site State : Type 0} (meaning : R → Site → Meaning) (stands : R 
       let run = is.adds.0 in
       let begins = is.adds.1 in
       let entry = begin_entry (rules_of meaning old) (past_of old) 0 run in
-      let mid_is : mid ≡ grown old (entry ∷ []) = is.new_is ∙ ap (λ entries. grown old entries) is.adds.2 in
-      let past : past_of mid ≡ entry ∷ past_of old = ap past_of mid_is ∙ past_push old.journal entry in
-      let rules : rules_of meaning mid ≡ rules_of meaning old = ap (λ core. rules_of meaning core) mid_is in
-      let alone : unfinished (past_of mid) ≡ run ∷ [] = ap unfinished past
+      let begun = grown old (entry ∷ []) in
+      let mid_is : mid ≡ begun = is.new_is ∙ ap (λ entries. grown old entries) is.adds.2 in
+      let past : past_of begun ≡ entry ∷ past_of old = past_push old.journal entry in
+      let alone : unfinished (past_of mid) ≡ run ∷ [] = ap (λ core. unfinished (past_of core)) mid_is
+      ∙ ap unfinished past
       ∙ begun_alone (rules_of meaning old) (past_of old) 0 run (serial_of (rules_of meaning old) (past_of old) run) right
       none begins.next.begins in
-      let last = stepped run alone in
+      let last : HasStepped meaning stands begun run new then_in_hand t =
+      subst (λ core. HasStepped meaning stands core run new then_in_hand t) mid_is (stepped run alone) in
+      let steps : Steps (rules_of meaning old) (entry ∷ past_of old) run last.entries t =
+      subst (λ some. Steps (rules_of meaning old) some run last.entries t) past last.steps in
       record {
         entries = entry ∷ last.entries;
-        new_is = last.new_is ∙ ap (λ core. grown core last.entries) mid_is ∙ grown_twice old entry last.entries;
-        works = begun_works old mid run entry last.entries t rules past (inr (none, begins, refl)) last.steps;
+        new_is = last.new_is ∙ grown_twice old entry last.entries;
+        works = begun_works old run entry last.entries t (inr (none, begins, refl)) steps;
         fits = last.fits;
       }
   worked_begun old mid new in_hand then_in_hand turn.More t right none is e stepped = absurd cc
@@ -160,7 +163,7 @@ module _ {R Site State : Type 0} (meaning : R → Site → Meaning) (stands : R 
   worked_begun old mid new in_hand then_in_hand (turn.JournalFull count weight) t right none is e stepped = absurd cc
   worked_begun old mid new in_hand then_in_hand turn.Memory t right none is e stepped = absurd cc
 
-  both_none : (xs ys : List ℕ) → xs ≡ [] → ys ≡ [] → is_empty xs && is_empty ys ≡ true
+  both_none : (xs ys : List ℕ) → xs ≡ [] → ys ≡ [] → (length xs == 0) && (length ys == 0) ≡ true
   both_none xs ys first second = rw first (rw second refl)
 
   begin_works : (old : CoreView R Site) (entries : List Entry) (t : Turn) → is_done t ≡ false → ¬ (t ≡ turn.Idle)

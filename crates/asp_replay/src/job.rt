@@ -1,7 +1,7 @@
 //! The job of a request.
 #![tactic(auto)]
 
-ghost use Rattle.std.specs.Prelude.{◌≡◌, IfOk};
+ghost use Rattle.std.specs.Prelude.{IfOk};
 ghost use Rattle.asp_job.specs.Size.{IsSmall};
 ghost use Rattle.asp_record.specs.Recorded.{IsOneRequest};
 ghost use Rattle.asp_replay.specs.Feeding as spec;
