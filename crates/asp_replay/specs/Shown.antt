@@ -33,9 +33,13 @@ shown_of rules (entry ∷ past) = elim entry.what [
   | _ ↦ shown_of rules past
 ]
 
--- the record of an answer: `answer`, the run and the length, and then the bytes of the answer
+-- the line before an answer: `answer`, the run and the length
+abbrev pub head_line : ℕ → ℕ → List ℕ
+head_line run size = codes "answer " ++ decimal run ++ codes " " ++ decimal size ++ 10 ∷ []
+
+-- the record of an answer: that line, and then the bytes of the answer
 abbrev pub record_text : ℕ → List ℕ → List ℕ
-record_text run text = codes "answer " ++ decimal run ++ codes " " ++ decimal (length text) ++ 10 ∷ text ++ 10 ∷ []
+record_text run text = head_line run (length text) ++ text ++ 10 ∷ []
 
 pub record IsRecord (shown : Shown) (bytes : List ℕ) : Type 0 where
   pub text : List ℕ

@@ -28,13 +28,19 @@ fn write_piece<K: Sink>(sink: &mut K, piece: &[u8]) -> Result<(), FeedStop>
     }
 }
 
+/// The line before an answer of that length.
+fn head_of(alloc: Global, run: u32, length: usize) -> Result<String, Memory>
+    ensures { IfOk result (λ head. string_bytes head ≡ spec.head_line run length) }
+{
+    Ok(format!(in alloc; "answer {run} {length}\n")?)
+}
+
 /// The record of an answer.
 fn record_of(alloc: Global, run: u32, moment: u64, answer: &Answer) -> Result<Bytes, Memory>
     ensures { IfOk result (spec.IsRecord (record { run = run; moment = moment; answer = answer.now })) }
 {
     let text = answer_bytes(alloc, answer, moment)?;
-    let length = text.len();
-    let head = format!(in alloc; "answer {run} {length}\n")?;
+    let head = head_of(alloc, run, text.len())?;
     let mut bytes = Bytes::from_slice(alloc, head.as_bytes())?;
     bytes.append_slice(text.as_slice())?;
     bytes.append_slice(b"\n")?;
