@@ -3,7 +3,7 @@
 
 ghost use Rattle.std.specs.Prelude.{◌≡◌};
 
-#[tactic(auto, using(crate::proofs::Plain::stays_plain, crate::proofs::Plain::stays_worked, crate::proofs::Turned::work_turned))]
+#[tactic(auto, using(crate::proofs::Grown::handed_after, crate::proofs::Grown::come_grown, crate::proofs::Grown::ends_here))]
 pub fn probe(n: u32) -> u32
     ensures { result ≡ n }
 {
