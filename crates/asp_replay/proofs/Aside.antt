@@ -129,8 +129,7 @@ fits_still meaning stands old entries (Some run) right aside fits =
     let stands_for : StandsFor host does run (told rules (past_of (grown old entries)) run.number) =
     subst (λ t. StandsFor host does run t) (sym told_same) is_of.stands_for in
     let alone : unfinished (past_of (grown old entries)) ≡ run.number ∷ [] =
-    ap unfinished of ∙ still_unfinished rules past entries right aside ∙ fits.0.alone in
-    (
+    ap unfinished of ∙ still_unfinished rules past entries right aside ∙ fits.0.alone in (
       record {
         is_of = record {
           running = running;
@@ -154,8 +153,11 @@ aside_queued lane run (first ∷ rest) = (refl, aside_queued lane (run + 1) rest
 
 pub aside_ticked : (m : Rules) (past : List Entry) (lane moment : ℕ) → AreAside (tick_entries m past lane moment)
 aside_ticked m past lane moment = elim (cases_lt (moment_of past) moment) [
-  | inl later ↦ rw (tick_is m past lane moment later) (refl, aside_queued lane (drawn past + 1)
-      (closing_runs (due_at (session_of m past) past moment)))
+  | inl later ↦ rw (tick_is m past lane moment later) (
+    refl,
+    aside_queued lane (drawn past + 1)
+        (closing_runs (due_at (session_of m past) past moment)),
+  )
   | inr early ↦ rw (no_tick_is m past lane moment early) tt
 ]
 
@@ -169,10 +171,12 @@ aside_admitted m past lane job =
     let ticked = tick_entries m past lane job.moment in
     let then_past = past_after past ticked in
     let now = job_now then_past job in
-    aside_both ticked (admit_entry m then_past lane job ∷ []) (aside_ticked m past lane job.moment)
-    (aside_admission (is_refused (m.meaning.is_keyed now) (key_asked_by m now) (session_of m then_past) then_past)
-    (drawn then_past + 1) (key_for (m.meaning.is_keyed now) (key_asked_by m now) (session_of m then_past) then_past)
-    (needs_key (m.meaning.is_keyed now) (key_asked_by m now) (session_of m then_past) then_past) now, tt)
+    aside_both ticked (admit_entry m then_past lane job ∷ []) (aside_ticked m past lane job.moment) (
+      aside_admission (is_refused (m.meaning.is_keyed now) (key_asked_by m now) (session_of m then_past) then_past)
+          (drawn then_past + 1) (key_for (m.meaning.is_keyed now) (key_asked_by m now) (session_of m then_past) then_past)
+          (needs_key (m.meaning.is_keyed now) (key_asked_by m now) (session_of m then_past) then_past) now,
+      tt,
+    )
 
 pub aside_stopped : (m : Rules) (past : List Entry) (lane : ℕ) → AreAside (stop_entries m past lane)
 aside_stopped m past lane =

@@ -63,8 +63,10 @@ plain_queued run (first ∷ rest) =
 
 pub plain_ticked : (m : Rules) (past : List Entry) (moment : ℕ) → ArePlain (tick_entries m past 0 moment)
 plain_ticked m past moment = elim (cases_lt (moment_of past) moment) [
-  | inl later ↦ rw (tick_is m past 0 moment later) (record { lane = refl; goes_on = refl; not_full = refl },
-      plain_queued (drawn past + 1) (closing_runs (due_at (session_of m past) past moment)))
+  | inl later ↦ rw (tick_is m past 0 moment later) (
+    record { lane = refl; goes_on = refl; not_full = refl },
+    plain_queued (drawn past + 1) (closing_runs (due_at (session_of m past) past moment)),
+  )
   | inr early ↦ rw (no_tick_is m past 0 moment early) tt
 ]
 
@@ -78,10 +80,12 @@ plain_admitted m past job =
     let ticked = tick_entries m past 0 job.moment in
     let then_past = past_after past ticked in
     let now = job_now then_past job in
-    plain_both ticked (admit_entry m then_past 0 job ∷ []) (plain_ticked m past job.moment)
-    (plain_admission (is_refused (m.meaning.is_keyed now) (key_asked_by m now) (session_of m then_past) then_past)
-    (drawn then_past + 1) (key_for (m.meaning.is_keyed now) (key_asked_by m now) (session_of m then_past) then_past)
-    (needs_key (m.meaning.is_keyed now) (key_asked_by m now) (session_of m then_past) then_past) now, tt)
+    plain_both ticked (admit_entry m then_past 0 job ∷ []) (plain_ticked m past job.moment) (
+      plain_admission (is_refused (m.meaning.is_keyed now) (key_asked_by m now) (session_of m then_past) then_past)
+          (drawn then_past + 1) (key_for (m.meaning.is_keyed now) (key_asked_by m now) (session_of m then_past) then_past)
+          (needs_key (m.meaning.is_keyed now) (key_asked_by m now) (session_of m then_past) then_past) now,
+      tt,
+    )
 
 pub plain_stopped : (m : Rules) (past : List Entry) → ArePlain (stop_entries m past 0)
 plain_stopped m past = (

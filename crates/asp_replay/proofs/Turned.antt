@@ -26,15 +26,21 @@ pub come_turned : (m : Rules) (items : List Item) (past entries : List Entry) (c
 come_turned m items past entries clients then_clients next left turns may adds = λ none.
     let mid = past_after past entries in
     let before = turns (none_before is_memory_end past entries
-    (none_before is_memory_end mid (hand_outs (ready m mid)) none)) in
-    (suc before.0, (record { past = past; items = next ∷ left; clients = clients }, before.1, inl (record {
-      next = next;
-      entries = entries;
-      items_are = refl;
-      may = may;
-      adds = adds;
-      past_is = refl;
-    })))
+    (none_before is_memory_end mid (hand_outs (ready m mid)) none)) in (
+      suc before.0,
+      (
+        record { past = past; items = next ∷ left; clients = clients },
+        before.1,
+        inl (record {
+          next = next;
+          entries = entries;
+          items_are = refl;
+          may = may;
+          adds = adds;
+          past_is = refl;
+        }),
+      ),
+    )
 
 -- the host stopped
 pub stop_turned : (m : Rules) (items : List Item) (past : List Entry) (clients : Clients)
@@ -44,15 +50,21 @@ stop_turned m items past clients turns calm once = λ none.
     let entries = stop_entries m past 0 in
     let mid = past_after past entries in
     let before = turns (none_before is_memory_end past entries
-    (none_before is_memory_end mid (hand_outs (ready m mid)) none)) in
-    (suc before.0, (record { past = past; items = []; clients = clients }, before.1, inr (inl (record {
-      none = refl;
-      none_then = refl;
-      calm = calm;
-      once = once;
-      clients_are = refl;
-      past_is = refl;
-    }))))
+    (none_before is_memory_end mid (hand_outs (ready m mid)) none)) in (
+      suc before.0,
+      (
+        record { past = past; items = []; clients = clients },
+        before.1,
+        inr (inl (record {
+          none = refl;
+          none_then = refl;
+          calm = calm;
+          once = once;
+          clients_are = refl;
+          past_is = refl;
+        })),
+      ),
+    )
 
 next_step : (m : Rules) (past : List Entry) (run : ℕ) (entry : Entry) → is_memory_end entry.what ≡ false
     → IsStep m past 0 run entry → IsNextStep m past run entry
@@ -70,19 +82,25 @@ work_turned m items past entries clients left turns busy adds = λ none.
     let none_mid : NoneIs is_memory_end mid =
     none_before is_memory_end mid (hand_outs (ready m mid)) none in
     let none_own : NoneIs is_memory_end (adds.entry ∷ adds.mid) = subst (NoneIs is_memory_end) adds.entries_are none_mid in
-    let before = turns (none_before is_memory_end past entries none_mid) in
-    (suc before.0, (record { past = past; items = left; clients = clients }, before.1, inr (inr (record {
-      busy = busy;
-      items_are = refl;
-      clients_are = refl;
-      mid = mid;
-      works = record {
-        mid = adds.mid;
-        run = adds.run;
-        in_hand = adds.in_hand;
-        entry = adds.entry;
-        step = next_step m adds.mid adds.run adds.entry none_own.0 adds.step;
-        new_is = adds.entries_are;
-      };
-      past_is = refl;
-    }))))
+    let before = turns (none_before is_memory_end past entries none_mid) in (
+      suc before.0,
+      (
+        record { past = past; items = left; clients = clients },
+        before.1,
+        inr (inr (record {
+          busy = busy;
+          items_are = refl;
+          clients_are = refl;
+          mid = mid;
+          works = record {
+            mid = adds.mid;
+            run = adds.run;
+            in_hand = adds.in_hand;
+            entry = adds.entry;
+            step = next_step m adds.mid adds.run adds.entry none_own.0 adds.step;
+            new_is = adds.entries_are;
+          };
+          past_is = refl;
+        })),
+      ),
+    )

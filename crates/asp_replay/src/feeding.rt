@@ -1,26 +1,30 @@
 //! A recording is fed to a host.
 #![tactic(auto)]
 
-ghost use Rattle.std.specs.Prelude.{◌≡◌, ◌∷◌, [], ℕ, true, false, IfErr, IfOk, List, Option, reverse};
-ghost use Rattle.asp_core.specs.Kernel.{IsHostOf, past_of, rules_by, rules_of};
+ghost use Rattle.std.specs.Prelude.{◌≡◌, ℕ, true, IfErr, IfOk, List, OnOk, Option, is_some};
+ghost use Rattle.asp_core.specs.Kernel.{IsHostOf, grown, past_of, rules_by, rules_of};
+ghost use Rattle.asp_core.specs.Telling.{end_kind};
 ghost use Rattle.asp_io.specs.Faults.{HasCause};
 ghost use Rattle.asp_job.specs.declared.entry.Entry.{Entry};
+ghost use Rattle.asp_lane.specs.Turns.{Fits, run_in};
+ghost use Rattle.asp_record.specs.declared.recording.Item.{Item as ItemView};
 ghost use Rattle.asp_record.specs.Recorded.{IsSound};
 ghost use Rattle.asp_replay.specs.Feed as spec;
+ghost use Rattle.asp_replay.specs.Feeding.{Clients as ClientsView};
 ghost use Rattle.asp_replay.specs.Underway as way;
 
 use crate::clients::Clients;
 use crate::coming::{is_calm, may_come, moment_of};
 use crate::stop::FeedStop;
-use crate::turns::{come_turn, start, stop_turn, work_turn};
+use crate::turns::{come_turn, stop_turn, work_turn};
 use asp_core::Core;
 use asp_io::Sink;
-use asp_job::Runner;
+use asp_job::{EndKind, Runner};
 use asp_lane::Hand;
-use asp_record::{Item, Recording};
+use asp_record::Recording;
 use std::alloc::Global;
 
-/// Runs the first run to its end.
+/// Runs the first run to its end. Where memory ran out for it, nothing else is done.
 fn start<R, K>(
     alloc: Global,
     core: &mut Core<R>,
@@ -42,19 +46,16 @@ where
     ensures started { OnOk result (is_some (end_kind (past_of core.new) 1) ≡ true) }
     ensures after { (items left : List ItemView) (clients : ClientsView) (before : Option (List ℕ))
         → way.IsUnderWay (rules_of R.meaning core.old) items (past_of core.old) clients left before (K.held sink.old)
-        → way.IsStarting (past_of core.old)
         → way.After result (rules_of R.meaning core.old) items (past_of core.new) clients left before
         (K.held sink.new) }
     ensures cause { HasCause FeedStop.WriteFault (K.faults sink.old) (K.faults sink.new) result }
 {
     for _ in 0..u32::MAX {
-        if is_calm(core) {
-            return match core.start_kind() {
-                Some(EndKind::Done) => Ok(hand),
-                _ => Err(FeedStop::Memory),
-            };
+        match core.start_kind() {
+            Some(EndKind::Done) => return Ok(hand),
+            None if !is_calm(core) => hand = work_turn(alloc, core, runner, site, hand, sink)?,
+            _ => return Err(FeedStop::Memory),
         }
-        hand = work_turn(alloc, core, runner, site, hand, sink)?;
     }
     Err(FeedStop::Memory)
 }
