@@ -23,10 +23,11 @@ use Rattle.asp_lane.specs.declared.turn.Turn.{Turn}
 use Rattle.asp_lane.specs.declared.turn.Turn.TheVariants as turn
 use Rattle.asp_lane.specs.Turns.{Fits, IsCallTooMuch, IsStep}
 use Rattle.asp_record.specs.declared.recording.Item.{Item}
+use Rattle.asp_record.specs.Recorded.{AreItems}
 use Rattle.asp_replay.specs.declared.stop.FeedStop.{FeedStop}
 use Rattle.asp_replay.specs.declared.stop.FeedStop.TheVariants as stop
-use Rattle.asp_replay.specs.Feed.{AreWritten, is_full_end}
-use Rattle.asp_replay.specs.Feeding.{Clients, HasCome, IsFed, moment_by}
+use Rattle.asp_replay.specs.Feed.{ArePartWritten, AreWritten, HasCause, is_full_end}
+use Rattle.asp_replay.specs.Feeding.{Clients, HasCome, IsFed, IsFedPart, moment_by}
 use Rattle.asp_replay.specs.Sequential.{Adds, AreTurns, HasInHand, Place, first_place, hand_outs, is_memory_end}
 use Rattle.asp_replay.specs.Shown.{AreRecords, IsRecord, Shown, shown_of}
 
@@ -219,6 +220,7 @@ pub record IsFeeding (items : List Item) (past : List Entry) (clients : Clients)
   pub split : items ≡ done ++ left
   pub came : HasCome (reverse done) past clients
   pub now : moment_of past ≡ moment_by (reverse done)
+  pub later : AreItems (moment_by (reverse done)) left
 
 -- all items came, and the Stop
 pub record HasAllFed (items : List Item) (past : List Entry) (left : List Item) : Type 0 where
@@ -242,6 +244,19 @@ pub record IsUnderWay (rules : Rules) (items : List Item) (past : List Entry) (c
   pub stands : StandsAt items past clients left
   pub turns : AreTurnsTo rules items past clients left
   pub written : AreWritten rules past before after
+
+-- how a feed ends that stops before its end
+pub record EndsSo (rules : Rules) (items : List Item) (past : List Entry) (ended : FeedStop)
+    (before after : Option (List ℕ)) : Type 0 where
+  pub fed : IsFedPart items past
+  pub cause : HasCause rules past ended
+  pub written : ArePartWritten rules past before after
+
+-- where a feed stands after a turn, or how it ends
+abbrev pub After : {T : Type 0} → Result T FeedStop → Rules → List Item → List Entry → Clients → List Item →
+    Option (List ℕ) → Option (List ℕ) → Type 0
+After (Ok given) rules items past clients left before after = IsUnderWay rules items past clients left before after
+After (Err ended) rules items past clients left before after = EndsSo rules items past ended before after
 
 -- the core is that of the runner, the site and the seed
 pub record IsCoreOf {R Site : Type 0} (runner : R) (site : Site) (seed : List ℕ) (core : CoreView R Site) : Type 0 where

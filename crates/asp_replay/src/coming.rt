@@ -1,11 +1,14 @@
 //! What comes to a host from outside: the items of a recording, and the Stop.
 #![tactic(auto)]
 
-ghost use Rattle.std.specs.Prelude.{◌≡◌, ℕ, Err, true, false, OnOk, OnErr};
+ghost use Rattle.std.specs.Prelude.{◌≡◌, ◌<◌, ℕ, Err, true, false, OnOk, OnErr};
+ghost use Rattle.indexmap.specs.IndexMap.{spare};
+ghost use Rattle.asp_job.specs.declared.entry.What.{What};
 ghost use Rattle.asp_job.specs.Journal.{stop_entries, past_after};
 ghost use Rattle.asp_job.specs.Runs.{has_ended, is_stopping};
-ghost use Rattle.asp_core.specs.Kernel.{IsHostOf, grown, past_of, rules_of};
-ghost use Rattle.asp_record.specs.Recorded.{IsHeld, moment_of};
+ghost use Rattle.asp_core.specs.Drawing as drawing;
+ghost use Rattle.asp_core.specs.Kernel.{IsHostOf, IsTooMuch, grown, past_of, rules_of};
+ghost use Rattle.asp_record.specs.Recorded as recorded;
 ghost use Rattle.asp_replay.specs.Feeding as feeding;
 ghost use Rattle.asp_replay.specs.Sequential as spec;
 ghost use Rattle.asp_replay.specs.Underway as way;
@@ -27,7 +30,7 @@ pub fn is_calm<R: Runner>(core: &Core<R>) -> bool
 
 /// The moment of an item, in seconds since 1970.
 pub fn moment_of(item: &Item) -> u64
-    ensures { result ≡ moment_of item.now }
+    ensures { result ≡ recorded.moment_of item.now }
 {
     match item {
         Item::Request { moment, .. } => *moment,
@@ -62,12 +65,20 @@ fn admit_stop(stop: AdmitStop) -> FeedStop
 }
 
 /// A client goes by the key that its job was admitted with.
-fn note(clients: &mut Clients, client: u32, told: Admitted) {
+fn note(clients: &mut Clients, client: u32, told: Admitted)
+    requires room { 0 < spare clients.old }
+    ensures { (what : What) → told ≡ drawing.told_of what →
+        clients.new.entries ≡ feeding.clients_after clients.old.entries client what }
+{
     if !told.refused && told.key != 0 {
-        let _ = clients.insert(client, told.key);
+        match clients.insert(client, told.key) {
+            Ok(_) => {}
+            Err(_) => unreachable!(),
+        }
     }
 }
 
+/// A client's request comes. A refusal leaves the core.
 fn come_request<R: Runner>(
     alloc: Global,
     core: &mut Core<R>,
@@ -77,7 +88,17 @@ fn come_request<R: Runner>(
     client: u32,
     moment: u64,
     bytes: &[u8],
-) -> Result<(), FeedStop> {
+) -> Result<(), FeedStop>
+    requires host { IsHostOf core.old runner.now site.now }
+    requires one { recorded.IsOneRequest bytes.now }
+    ensures ok { OnOk result (way.HasGrown R.meaning core.old clients.old.entries
+        (Item.Request client moment bytes.now) core.new clients.new.entries) }
+    ensures full { (entries weight : ℕ) → result ≡ Err (FeedStop.JournalFull entries weight) →
+        way.IsItemTooMuch (rules_of R.meaning core.old) (past_of core.old) clients.old.entries
+        (Item.Request client moment bytes.now) entries weight }
+    ensures err { OnErr result (core.new ≡ core.old) }
+    ensures no_fault { result ≡ Err FeedStop.WriteFault → ⊥ }
+{
     let job = job_of(alloc, clients, client, moment, bytes)?;
     reserve_one(clients)?;
     match core.admit(0, runner, site, &job) {
@@ -99,10 +120,11 @@ pub fn come<R: Runner>(
     item: &Item,
 ) -> Result<(), FeedStop>
     requires host { IsHostOf core.old runner.now site.now }
-    requires may { spec.may_come (past_of core.old) (moment_of item.now) ≡ true }
+    requires may { spec.may_come (past_of core.old) (recorded.moment_of item.now) ≡ true }
     requires going { is_stopping (past_of core.old) ≡ false }
-    requires held { IsHeld item.now }
-    ensures ok { OnOk result (way.HasGrown R.meaning core.old clients.old.entries item.now core.new clients.new.entries) }
+    requires held { recorded.IsHeld item.now }
+    ensures ok { OnOk result (way.HasGrown R.meaning core.old clients.old.entries item.now
+        core.new clients.new.entries) }
     ensures full { (entries weight : ℕ) → result ≡ Err (FeedStop.JournalFull entries weight) →
         way.IsItemTooMuch (rules_of R.meaning core.old) (past_of core.old) clients.old.entries item.now entries weight }
     ensures err { OnErr result (core.new ≡ core.old) }
