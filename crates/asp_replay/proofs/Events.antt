@@ -107,7 +107,7 @@ quiet_all past (entry ∷ entries) quiet =
       moment = more.moment ∙ one.moment;
     }
 
-come_as_before : (items : List Item) (old new : List Entry) (clients : Clients) → IsAsBefore old new
+pub come_as_before : (items : List Item) (old new : List Entry) (clients : Clients) → IsAsBefore old new
     → HasCome items old clients → HasCome items new clients
 come_as_before items old new clients same came =
     record {
@@ -115,7 +115,7 @@ come_as_before items old new clients same came =
       calm = same.calm came.calm;
     }
 
-fed_as_before : (items : List Item) (old new : List Entry) → IsAsBefore old new → IsFed items old → IsFed items new
+pub fed_as_before : (items : List Item) (old new : List Entry) → IsAsBefore old new → IsFed items old → IsFed items new
 fed_as_before items old new same fed =
     record {
       clients = fed.clients;

@@ -1,9 +1,10 @@
 -- Where a feed stands when its journal has grown, and the answers that then wait were handed out.
 use Rattle.std.proofs.Common.{◌≡◌, ◌⊎◌, ℕ, ◌<◌, ◌≤◌, ◌&&◌, ◌||◌, Bool, true, false, List, [], ◌∷◌, ◌++◌, length, reverse, refl, ap, sym}
-use Rattle.std.proofs.Common.{◌∙◌, subst, append-nil, append_assoc, inl, inr, arith, nat_le, nat_lt, Option, Result, Ok, Err}
+use Rattle.std.proofs.Common.{◌∙◌, subst, append-nil, append_assoc, inl, inr, arith, is_some, nat_le, nat_lt, Option, Result, Ok, Err}
 use Rattle.std.proofs.lemmas.List.{reverse-append}
 use Rattle.asp_core.specs.Kernel.{CoreView, grown, past_of, rules_of}
 use Rattle.asp_core.specs.Ready.{IsAnswered, ready}
+use Rattle.asp_core.specs.Telling.{end_kind}
 use Rattle.asp_core.proofs.Kept.{past_of_more}
 use Rattle.asp_io.specs.Sink.{with_bytes}
 use Rattle.asp_job.specs.declared.answer.Answer.{Answer}
@@ -11,7 +12,7 @@ use Rattle.asp_job.specs.declared.entry.Entry.{Entry}
 use Rattle.asp_job.specs.declared.entry.TheConstants.{MOST_WAITING}
 use Rattle.asp_job.specs.Journal.{AreRight, admit_entries, begin_entry, past_after, stop_entries, tick_entries}
 use Rattle.asp_job.specs.Rules.{Rules}
-use Rattle.asp_job.specs.Runs.{has_ended, is_stopping, moment_of}
+use Rattle.asp_job.specs.Runs.{is_stopping, moment_of}
 use Rattle.asp_job.specs.Told.{Meaning}
 use Rattle.asp_job.specs.Turns.{waiting_pages}
 use Rattle.asp_lane.specs.Turns.{IsStep}
@@ -26,7 +27,10 @@ use Rattle.asp_replay.specs.Sequential.{Adds, HasInHand, IsBusy, hand_outs, hand
 use Rattle.asp_replay.specs.Shown.{AreRecords, Shown, shown_of}
 use Rattle.asp_replay.specs.Underway.{After, AreTurnsTo, EndsSo, HandsOut, HasAllFed, IsFeeding, IsOfOneLane, IsOfWriting}
 use Rattle.asp_replay.specs.Underway.{IsUnderWay, StandsAt, WorkAdds, stamped}
-use Rattle.asp_replay.proofs.Events.{HasItem, HasStop, fed_entries, hand_outs_quiet, item_came, quiet_all, quiet_entries, stop_came}
+use Rattle.asp_replay.proofs.Aside.{AreAside, aside_admitted, aside_ticked}
+use Rattle.asp_replay.proofs.Current.{is_tick_or_take}
+use Rattle.asp_replay.proofs.Events.{IsAsBefore, come_as_before, fed_as_before, hand_outs_quiet, item_came, quiet_all, quiet_one}
+use Rattle.asp_replay.proofs.Events.{stop_came}
 use Rattle.asp_replay.proofs.Handed.{ready_none, shown_handed}
 use Rattle.asp_replay.proofs.Pieces.{part_more, part_whole, wrote_more}
 use Rattle.asp_replay.proofs.Plain.{Stays, plain_admitted, plain_handed, plain_stopped, plain_ticked, stays_plain, stays_worked}
@@ -49,34 +53,36 @@ pub record IsGrown (m : Rules) (items : List Item) (past : List Entry) (clients 
   pub stands : StandsAt items past clients left
   pub turns : AreTurnsTo m items (handed_out m past) clients left
 
--- the items that came stay while answers are handed out
+-- the items that came stay while nothing comes
+stands_same : (items : List Item) (old new : List Entry) (clients : Clients) (left : List Item) → IsAsBefore old new
+    → StandsAt items old clients left → StandsAt items new clients left
+stands_same items old new clients left same (inl feeding) = inl (record {
+  open_still = same.stopping ∙ feeding.open_still;
+  done = feeding.done;
+  split = feeding.split;
+  came = come_as_before (reverse feeding.done) old new clients same feeding.came;
+  now = same.moment ∙ feeding.now;
+  later = feeding.later;
+})
+stands_same items old new clients left same (inr fed) = inr (record {
+  stopped = same.stopping ∙ fed.stopped;
+  none_left = fed.none_left;
+  fed = fed_as_before items old new same fed.fed;
+})
+
 stands_handed : (items : List Item) (past : List Entry) (clients : Clients) (left : List Item)
     (answers : List (ℕ × Answer)) → StandsAt items past clients left
     → StandsAt items (past_after past (hand_outs answers)) clients left
-stands_handed items past clients left answers (inl feeding) =
-    let same = quiet_all past (hand_outs answers) (hand_outs_quiet answers) in
-    inl (record {
-      open_still = same.stopping ∙ feeding.open_still;
-      done = feeding.done;
-      split = feeding.split;
-      came = quiet_entries (reverse feeding.done) past clients (hand_outs answers) (hand_outs_quiet answers) feeding.came;
-      now = same.moment ∙ feeding.now;
-      later = feeding.later;
-    })
-stands_handed items past clients left answers (inr fed) =
-    let same = quiet_all past (hand_outs answers) (hand_outs_quiet answers) in
-    inr (record {
-      stopped = same.stopping ∙ fed.stopped;
-      none_left = fed.none_left;
-      fed = fed_entries items past (hand_outs answers) (hand_outs_quiet answers) fed.fed;
-    })
+stands_handed items past clients left answers stands =
+    stands_same items past (past_after past (hand_outs answers)) clients left
+    (quiet_all past (hand_outs answers) (hand_outs_quiet answers)) stands
 
 pub fed_part : (items : List Item) (past : List Entry) (clients : Clients) (left : List Item)
     → StandsAt items past clients left → IsFedPart items past
 fed_part items past clients left (inl feeding) = inr (feeding.done, left, clients, feeding.split, feeding.came)
 fed_part items past clients left (inr fed) = inl fed.fed
 
-writing_cause : {T : Type 0} (m : Rules) (past : List Entry) (ended : FeedStop) → IsOfWriting {T = T} (Err ended)
+writing_cause : (m : Rules) (past : List Entry) (ended : FeedStop) → IsOfWriting {T = Unit {0}} (Err ended)
     → HasCause m past ended
 writing_cause m past (stop.JournalFull entries weight) of = absurd of
 writing_cause m past stop.WriteFault of = tt
@@ -180,8 +186,8 @@ and_right true b e = e
 and_right false b e = absurd cc
 
 or_right : (a b : Bool) → a || b ≡ true → a ≡ false → b ≡ true
-or_right true b e no = absurd cc
-or_right false b e no = e
+or_right true b e fails = absurd cc
+or_right false b e fails = e
 
 not_yet : (a b : ℕ) → a < b → nat_le b a ≡ false
 not_yet a b l = grind arith
@@ -190,35 +196,41 @@ not_yet a b l = grind arith
 calm_where : (past : List Entry) (moment : ℕ) → may_come past moment ≡ true → moment_of past < moment
     → is_calm past ≡ true
 calm_where past moment may later =
-    let ended = has_ended past 1 in
+    let ended = is_some (end_kind past 1) in
     let calm = nat_le moment (moment_of past) || is_calm past in
     let few = nat_lt (length (waiting_pages past)) MOST_WAITING in
     or_right (nat_le moment (moment_of past)) (is_calm past)
-    (and_left calm few (and_right ended (calm && few) may)) (not_yet (moment_of past) moment later)
+    (and_right ended calm (and_left (ended && calm) few may)) (not_yet (moment_of past) moment later)
+
+pub item_stays : (m : Rules) (past entries : List Entry) (clients then_clients : Clients) (next : Item)
+    → Adds m past clients next entries then_clients → Stays past → Stays (past_after past entries)
+item_stays m past entries clients then_clients (item.Tick moment) adds stays =
+    rw adds.0 (stays_plain past (tick_entries m past 0 moment) (plain_ticked m past moment) stays)
+item_stays m past entries clients then_clients (item.Request client moment bytes) adds stays =
+    rw adds.2 (stays_plain past (admit_entries m past 0 adds.0) (plain_admitted m past adds.0) stays)
+
+pub item_aside : (m : Rules) (past entries : List Entry) (clients then_clients : Clients) (next : Item)
+    → Adds m past clients next entries then_clients → AreAside entries
+item_aside m past entries clients then_clients (item.Tick moment) adds = rw adds.0 (aside_ticked m past 0 moment)
+item_aside m past entries clients then_clients (item.Request client moment bytes) adds =
+    rw adds.2 (aside_admitted m past 0 adds.0)
 
 item_shows : (m : Rules) (past entries : List Entry) (clients then_clients : Clients) (next : Item) (done : List Shown)
     → AreRight m (past_after past entries) → IsAnswered m (past_after past entries)
     → may_come past (recorded.moment_of next) ≡ true → ready m past ≡ []
-    → Adds m past clients next entries then_clients → Shows m past done
-    → Shows m (past_after past entries) done × (Stays past → Stays (past_after past entries))
+    → Adds m past clients next entries then_clients → Shows m past done → Shows m (past_after past entries) done
 item_shows m past entries clients then_clients (item.Tick moment) done right answered may none adds shows =
     let right_then = subst (λ some. AreRight m (past_after past some)) adds.0 right in
     let answered_then = subst (λ some. IsAnswered m (past_after past some)) adds.0 answered in
-    rw adds.0 (
-      shown_tick m past 0 moment done right_then answered_then (calm_where past moment may) none shows,
-      stays_plain past (tick_entries m past 0 moment) (plain_ticked m past moment),
-    )
+    rw adds.0 (shown_tick m past 0 moment done right_then answered_then (calm_where past moment may) none shows)
 item_shows m past entries clients then_clients (item.Request client moment bytes) done right answered may none adds
     shows =
     let job = adds.0 in
     let at : job.moment ≡ moment = ap (λ j. j.moment) adds.1.job_is in
     let right_then = subst (λ some. AreRight m (past_after past some)) adds.2 right in
     let answered_then = subst (λ some. IsAnswered m (past_after past some)) adds.2 answered in
-    rw adds.2 (
-      shown_admit m past 0 job done right_then answered_then
-          (λ later. calm_where past moment may (subst (λ n. moment_of past < n) at later)) none shows,
-      stays_plain past (admit_entries m past 0 job) (plain_admitted m past job),
-    )
+    rw adds.2 (shown_admit m past 0 job done right_then answered_then
+    (λ later. calm_where past moment may (subst (λ n. moment_of past < n) at later)) none shows)
 
 -- an item more has come
 come_stands : (m : Rules) (items : List Item) (past entries : List Entry) (clients then_clients : Clients) (next : Item)
@@ -250,16 +262,120 @@ pub come_grown : (m : Rules) (items : List Item) (past entries : List Entry) (cl
     → IsGrown m items (past_after past entries) then_clients left before held
 come_grown m items past entries clients then_clients next left before held is right answered may adds =
     let shows : Shows m past (shown_of m past) = shows_all m past is.lane in
-    let both = item_shows m past entries clients then_clients next (shown_of m past) right answered may
-    is.lane.none_ready adds shows in
     record {
       done = shown_of m past;
       records = is.written.records;
       are_records = is.written.are_records;
       wrote = is.written.wrote;
-      shows = both.0;
+      shows = item_shows m past entries clients then_clients next (shown_of m past) right answered may
+          is.lane.none_ready adds shows;
       answered = answered;
-      stays = both.1 (stays_of m past is.lane);
+      stays = item_stays m past entries clients then_clients next adds (stays_of m past is.lane);
       stands = come_stands m items past entries clients then_clients next left may adds is.stands;
       turns = come_turned m items past entries clients then_clients next left is.turns may adds;
     }
+
+-- ---- the host stops
+
+no_more : {A : Type 0} → (xs ys : List A) → ys ≡ [] → xs ++ ys ≡ xs
+no_more xs ys none = ap (λ some. xs ++ some) none ∙ append-nil xs
+
+stop_stands : (m : Rules) (items : List Item) (past : List Entry) (clients : Clients) → is_calm past ≡ true
+    → is_stopping past ≡ false → StandsAt items past clients []
+    → StandsAt items (past_after past (stop_entries m past 0)) clients []
+stop_stands m items past clients calm once (inl feeding) =
+    let whole : feeding.done ≡ items = sym (feeding.split ∙ append-nil feeding.done) in
+    let came : HasCome (reverse items) past clients =
+    subst (λ some. HasCome (reverse some) past clients) whole feeding.came in
+    let has = stop_came m items past clients came calm in
+    inr (record { stopped = has.stopping; none_left = refl; fed = has.fed })
+stop_stands m items past clients calm once (inr fed) =
+    absurd (let both : true ≡ false = sym fed.stopped ∙ once in cc)
+
+pub stop_grown : (m : Rules) (items : List Item) (past : List Entry) (clients : Clients) (before held : Option (List ℕ))
+    → IsUnderWay m items past clients [] before held
+    → AreRight m (past_after past (stop_entries m past 0)) → IsAnswered m (past_after past (stop_entries m past 0))
+    → is_calm past ≡ true → is_stopping past ≡ false
+    → IsGrown m items (past_after past (stop_entries m past 0)) clients [] before held
+stop_grown m items past clients before held is right answered calm once = record {
+  done = shown_of m past;
+  records = is.written.records;
+  are_records = is.written.are_records;
+  wrote = is.written.wrote;
+  shows = shown_stop m past 0 (shown_of m past) right answered (shows_all m past is.lane);
+  answered = answered;
+  stays = stays_plain past (stop_entries m past 0) (plain_stopped m past) (stays_of m past is.lane);
+  stands = stop_stands m items past clients calm once is.stands;
+  turns = stop_turned m items past clients is.turns calm once;
+}
+
+-- ---- work
+
+as_before_both : (old mid new : List Entry) → IsAsBefore old mid → IsAsBefore mid new → IsAsBefore old new
+as_before_both old mid new one two = record {
+  events = two.events ∙ one.events;
+  calm = λ calm. two.calm (one.calm calm);
+  stopping = two.stopping ∙ one.stopping;
+  moment = two.moment ∙ one.moment;
+}
+
+hand_quiet : (m : Rules) (past mid : List Entry) (run : ℕ) → HasInHand m past mid run → IsAsBefore past mid
+hand_quiet m past mid run (inl held) =
+    rw held.1 (record { events = refl; calm = λ calm. calm; stopping = refl; moment = refl })
+hand_quiet m past mid run (inr begun) = rw begun.2 (quiet_one past (begin_entry m past 0 run) refl)
+
+step_quiet : (m : Rules) (past : List Entry) (run : ℕ) (entry : Entry) → IsStep m past 0 run entry
+    → comes entry.what ≡ false
+step_quiet m past run entry (inl called) = rw called.2 refl
+step_quiet m past run entry (inr (inl ended)) = rw ended.1 refl
+step_quiet m past run entry (inr (inr died)) = rw died refl
+
+step_plain : (m : Rules) (past : List Entry) (run : ℕ) (entry : Entry) → IsStep m past 0 run entry
+    → is_tick_or_take entry.what ≡ false
+step_plain m past run entry (inl called) = rw called.2 refl
+step_plain m past run entry (inr (inl ended)) = rw ended.1 refl
+step_plain m past run entry (inr (inr died)) = rw died refl
+
+hand_shows : (m : Rules) (past mid : List Entry) (run : ℕ) (done : List Shown) → AreRight m mid → IsAnswered m mid
+    → HasInHand m past mid run → Shows m past done → Shows m mid done
+hand_shows m past mid run done right answered (inl held) shows = subst (λ some. Shows m some done) (sym held.1) shows
+hand_shows m past mid run done right answered (inr begun) shows =
+    let entry = begin_entry m past 0 run in
+    let right_then : AreRight m (entry ∷ past) = subst (AreRight m) begun.2 right in
+    let answered_then : IsAnswered m (entry ∷ past) = subst (IsAnswered m) begun.2 answered in
+    subst (λ some. Shows m some done) (sym begun.2) (shown_grows m past entry done right_then answered_then refl shows)
+
+-- what work adds comes from no item, and is no Tick
+work_quiet : (m : Rules) (past entries : List Entry) → WorkAdds m past entries
+    → IsAsBefore past (past_after past entries)
+work_quiet m past entries adds =
+    rw adds.entries_are (as_before_both past adds.mid (adds.entry ∷ adds.mid)
+    (hand_quiet m past adds.mid adds.run adds.in_hand)
+    (quiet_one adds.mid adds.entry (step_quiet m adds.mid adds.run adds.entry adds.step)))
+
+work_shows : (m : Rules) (past entries : List Entry) (done : List Shown) → AreRight m (past_after past entries)
+    → IsAnswered m (past_after past entries) → WorkAdds m past entries → Shows m past done
+    → Shows m (past_after past entries) done
+work_shows m past entries done right answered adds shows =
+    let right_then : AreRight m (adds.entry ∷ adds.mid) = subst (AreRight m) adds.entries_are right in
+    let answered_then : IsAnswered m (adds.entry ∷ adds.mid) = subst (IsAnswered m) adds.entries_are answered in
+    subst (λ some. Shows m some done) (sym adds.entries_are) (shown_grows m adds.mid adds.entry done right_then
+    answered_then (step_plain m adds.mid adds.run adds.entry adds.step)
+    (hand_shows m past adds.mid adds.run done right_then.1 answered_then.1 adds.in_hand shows))
+
+pub work_grown : (m : Rules) (items : List Item) (past entries : List Entry) (clients : Clients) (left : List Item)
+    (before held : Option (List ℕ)) → IsUnderWay m items past clients left before held
+    → AreRight m (past_after past entries) → IsAnswered m (past_after past entries)
+    → IsBusy past left → WorkAdds m past entries
+    → IsGrown m items (past_after past entries) clients left before held
+work_grown m items past entries clients left before held is right answered busy adds = record {
+  done = shown_of m past;
+  records = is.written.records;
+  are_records = is.written.are_records;
+  wrote = is.written.wrote;
+  shows = work_shows m past entries (shown_of m past) right answered adds (shows_all m past is.lane);
+  answered = answered;
+  stays = stays_worked m past entries adds (stays_of m past is.lane);
+  stands = stands_same items past (past_after past entries) clients left (work_quiet m past entries adds) is.stands;
+  turns = work_turned m items past entries clients left is.turns busy adds;
+}

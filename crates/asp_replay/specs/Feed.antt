@@ -43,13 +43,17 @@ abbrev pub is_full_end : What → Bool
 is_full_end (what.End run kind.JournalFull status size made finished) = true
 is_full_end _ = false
 
--- The items were fed to a host with this journal: each run has ended, and none because the journal was full. Unless memory
--- ran out for a run, the journal is the history of one lane. The answers were written.
-pub record HasFed (rules : Rules) (items : List Item) (past : List Entry) (before after : Option (List ℕ)) : Type 0 where
+-- All items were fed to a host with this journal: each run has ended, and none because the journal was full. Unless memory
+-- ran out for a run, the journal is the history of one lane.
+pub record IsWhole (rules : Rules) (items : List Item) (past : List Entry) : Type 0 where
   pub fed : IsFed items past
   pub ended : is_calm past ≡ true
   pub none_full : NoneIs is_full_end past
   pub sequential : NoneIs is_memory_end past → IsSequential rules items past
+
+-- so it was, and the answers were written
+pub record HasFed (rules : Rules) (items : List Item) (past : List Entry) (before after : Option (List ℕ)) : Type 0 where
+  pub whole : IsWhole rules items past
   pub written : AreWritten rules past before after
 
 -- ---- not to the end

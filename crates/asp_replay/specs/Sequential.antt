@@ -1,6 +1,6 @@
 -- The history of one lane that is fed by a recording. All of it is the profile's.
 use Rattle.std.specs.Prelude.{◌≡◌, ◌⊎◌, ℕ, zero, suc, ◌&&◌, ◌||◌, Bool, true, false, if◌then◌else◌, nat_le, nat_lt}
-use Rattle.std.specs.Prelude.{List, [], ◌∷◌, length, map}
+use Rattle.std.specs.Prelude.{List, [], ◌∷◌, is_some, length, map}
 use Rattle.vb_value.specs.declared.application.AppCall.{AppCall}
 use Rattle.asp_job.specs.declared.answer.Answer.{Answer}
 use Rattle.asp_job.specs.declared.entry.EndKind.TheVariants as kind
@@ -15,10 +15,11 @@ use Rattle.asp_job.specs.Journal.{MayEnd, admit_entries, admit_entry, begin_entr
 use Rattle.asp_job.specs.Journal.{tick_entries}
 use Rattle.asp_job.specs.Keys.{told}
 use Rattle.asp_job.specs.Rules.{Rules}
-use Rattle.asp_job.specs.Runs.{has_ended, is_stopping, moment_of, unfinished}
+use Rattle.asp_job.specs.Runs.{is_stopping, moment_of, unfinished}
 use Rattle.asp_job.specs.Told.{Wants}
 use Rattle.asp_job.specs.Turns.{IsBegin, serial_of, waiting_pages}
 use Rattle.asp_core.specs.Ready.{ready}
+use Rattle.asp_core.specs.Telling.{end_kind}
 use Rattle.asp_record.specs.declared.recording.Item.{Item}
 use Rattle.asp_record.specs.declared.recording.Item.TheVariants as item
 use Rattle.asp_record.specs.Recorded as recorded
@@ -36,7 +37,7 @@ pub record Place : Type 0 where
 -- Whether an item of this moment may come: the first run has ended, time need not go on or nothing is under way, and not
 -- too many pages wait.
 abbrev pub may_come : List Entry → ℕ → Bool
-may_come past moment = has_ended past 1 && (nat_le moment (moment_of past) || is_calm past)
+may_come past moment = is_some (end_kind past 1) && (nat_le moment (moment_of past) || is_calm past)
     && nat_lt (length (waiting_pages past)) MOST_WAITING
 
 -- an item adds these entries, and leaves the clients so

@@ -252,6 +252,10 @@ pub record EndsSo (rules : Rules) (items : List Item) (past : List Entry) (ended
   pub cause : HasCause rules past ended
   pub written : ArePartWritten rules past before after
 
+-- only the first run was drawn, which may be under way
+abbrev pub IsStarting : List Entry → Type 0
+IsStarting past = (left : List Item) → left ≢ [] → IsBusy past left
+
 -- where a feed stands after a turn, or how it ends
 abbrev pub After : {T : Type 0} → Result T FeedStop → Rules → List Item → List Entry → Clients → List Item →
     Option (List ℕ) → Option (List ℕ) → Type 0

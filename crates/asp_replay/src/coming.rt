@@ -1,12 +1,13 @@
 //! What comes to a host from outside: the items of a recording, and the Stop.
 #![tactic(auto)]
 
-ghost use Rattle.std.specs.Prelude.{◌≡◌, ◌<◌, ℕ, Err, true, false, OnOk, OnErr};
+ghost use Rattle.std.specs.Prelude.{◌≡◌, is_some, ◌<◌, ℕ, Err, true, false, OnOk, OnErr};
 ghost use Rattle.indexmap.specs.IndexMap.{spare};
 ghost use Rattle.asp_job.specs.declared.entry.What.{What};
 ghost use Rattle.asp_job.specs.Journal.{stop_entries, past_after};
-ghost use Rattle.asp_job.specs.Runs.{has_ended, is_stopping};
+ghost use Rattle.asp_job.specs.Runs.{is_stopping};
 ghost use Rattle.asp_core.specs.Drawing as drawing;
+ghost use Rattle.asp_core.specs.Telling.{end_kind};
 ghost use Rattle.asp_core.specs.Kernel.{IsHostOf, IsTooMuch, grown, past_of, rules_of};
 ghost use Rattle.asp_record.specs.Recorded as recorded;
 ghost use Rattle.asp_replay.specs.Feeding as feeding;
@@ -40,7 +41,7 @@ pub fn moment_of(item: &Item) -> u64
 
 /// Whether an item of this moment may come, once the first run has ended.
 pub fn may_come<R: Runner>(core: &Core<R>, moment: u64) -> bool
-    requires { has_ended (past_of core.now) 1 ≡ true }
+    requires { is_some (end_kind (past_of core.now) 1) ≡ true }
     ensures { result ≡ spec.may_come (past_of core.now) moment }
 {
     (moment <= core.moment() || is_calm(core)) && core.waiting_pages() < MOST_WAITING as u32

@@ -20,37 +20,41 @@ use asp_lane::Hand;
 use asp_record::{Item, Recording};
 use std::alloc::Global;
 
-/// Feeds the items to a host whose first run has ended.
-fn feed_items<R, K>(
+/// Runs the first run to its end.
+fn start<R, K>(
     alloc: Global,
     core: &mut Core<R>,
     runner: &R,
     site: &R::Site,
     mut hand: Hand<R>,
-    mut items: &[Item],
     sink: &mut K,
-) -> Result<(), FeedStop>
+) -> Result<Hand<R>, FeedStop>
 where
     R: Runner,
     R::State: Drop,
     R::Store: Drop,
     K: Sink,
+    requires host { IsHostOf core.old runner.now site.now }
+    requires hand { Fits R.meaning R.stands core.old 0 (run_in hand) }
+    requires lane { way.IsOfOneLane (rules_of R.meaning core.old) (past_of core.old) }
+    ensures grows { (entries : List Entry) × (core.new ≡ grown core.old entries) }
+    ensures fits { IfOk result (λ hand. Fits R.meaning R.stands core.new 0 (run_in hand)) }
+    ensures started { OnOk result (is_some (end_kind (past_of core.new) 1) ≡ true) }
+    ensures after { (items left : List ItemView) (clients : ClientsView) (before : Option (List ℕ))
+        → way.IsUnderWay (rules_of R.meaning core.old) items (past_of core.old) clients left before (K.held sink.old)
+        → way.IsStarting (past_of core.old)
+        → way.After result (rules_of R.meaning core.old) items (past_of core.new) clients left before
+        (K.held sink.new) }
+    ensures cause { HasCause FeedStop.WriteFault (K.faults sink.old) (K.faults sink.new) result }
 {
-    let mut clients = Clients::new(alloc);
     for _ in 0..u32::MAX {
-        match items.split_first() {
-            Some((next, rest)) if may_come(core, moment_of(next)) => {
-                come_turn(alloc, core, runner, site, &mut clients, next, sink)?;
-                items = rest;
-            }
-            None if is_calm(core) => {
-                if core.stopping() {
-                    return Ok(());
-                }
-                stop_turn(alloc, core, sink)?;
-            }
-            _ => hand = work_turn(alloc, core, runner, site, hand, sink)?,
+        if is_calm(core) {
+            return match core.start_kind() {
+                Some(EndKind::Done) => Ok(hand),
+                _ => Err(FeedStop::Memory),
+            };
         }
+        hand = work_turn(alloc, core, runner, site, hand, sink)?;
     }
     Err(FeedStop::Memory)
 }
@@ -79,15 +83,23 @@ where
 {
     let store = runner.store()?;
     let mut core = Core::new(alloc, 0, runner, site, recording.seed)?;
-    let hand = start(alloc, &mut core, runner, site, Hand::Free(store), sink)?;
-    feed_items(
-        alloc,
-        &mut core,
-        runner,
-        site,
-        hand,
-        recording.items.as_slice(),
-        sink,
-    )?;
-    Ok(core)
+    let mut clients = Clients::new(alloc);
+    let mut hand = start(alloc, &mut core, runner, site, Hand::Free(store), sink)?;
+    let mut items = recording.items.as_slice();
+    for _ in 0..u32::MAX {
+        match items.split_first() {
+            Some((next, rest)) if may_come(&core, moment_of(next)) => {
+                come_turn(alloc, &mut core, runner, site, &mut clients, next, sink)?;
+                items = rest;
+            }
+            None if is_calm(&core) => {
+                if core.stopping() {
+                    return Ok(core);
+                }
+                stop_turn(alloc, &mut core, sink)?;
+            }
+            _ => hand = work_turn(alloc, &mut core, runner, site, hand, sink)?,
+        }
+    }
+    Err(FeedStop::Memory)
 }

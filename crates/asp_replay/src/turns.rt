@@ -1,14 +1,16 @@
 //! The turns of a lane that is fed by a recording. Each ends with the answers that wait, which are handed out.
 #![tactic(auto)]
 
-ghost use Rattle.std.specs.Prelude.{◌≡◌, ◌∷◌, [], ℕ, true, false, IfErr, IfOk, List, Option};
-ghost use Rattle.asp_core.specs.Kernel.{IsHostOf, past_of, rules_of};
+ghost use Rattle.std.specs.Prelude.{◌≡◌, ◌∷◌, [], ℕ, true, false, IfOk, List, Option};
+ghost use Rattle.asp_core.specs.Kernel.{IsHostOf, RunView, grown, past_of, rules_of};
 ghost use Rattle.asp_io.specs.Faults.{HasCause};
+ghost use Rattle.asp_job.specs.declared.entry.Entry.{Entry};
 ghost use Rattle.asp_job.specs.Runs.{is_stopping};
 ghost use Rattle.asp_lane.specs.Turns.{Fits, run_in};
+ghost use Rattle.asp_record.specs.declared.recording.Item.{Item as ItemView};
 ghost use Rattle.asp_record.specs.Recorded as recorded;
-ghost use Rattle.asp_replay.specs.Feeding.{is_calm};
-ghost use Rattle.asp_replay.specs.Sequential.{may_come};
+ghost use Rattle.asp_replay.specs.Feeding.{Clients as ClientsView, is_calm};
+ghost use Rattle.asp_replay.specs.Sequential.{IsBusy, may_come};
 ghost use Rattle.asp_replay.specs.Underway as spec;
 
 use crate::clients::Clients;
@@ -18,7 +20,7 @@ use crate::stop::FeedStop;
 use crate::working::work;
 use asp_core::Core;
 use asp_io::Sink;
-use asp_job::{EndKind, Runner};
+use asp_job::Runner;
 use asp_lane::{Hand, Turn};
 use asp_record::Item;
 use std::alloc::Global;
@@ -43,11 +45,28 @@ pub fn come_turn<R: Runner, K: Sink>(
     clients: &mut Clients,
     item: &Item,
     sink: &mut K,
-) -> Result<(), FeedStop> {
+) -> Result<(), FeedStop>
+    requires host { IsHostOf core.old runner.now site.now }
+    requires held { recorded.IsHeld item.now }
+    requires may { may_come (past_of core.old) (recorded.moment_of item.now) ≡ true }
+    requires going { is_stopping (past_of core.old) ≡ false }
+    requires lane { spec.IsOfOneLane (rules_of R.meaning core.old) (past_of core.old) }
+    ensures grows { (entries : List Entry) × (core.new ≡ grown core.old entries) }
+    ensures fits { (in_hand : Option (RunView R.State)) → Fits R.meaning R.stands core.old 0 in_hand
+        → Fits R.meaning R.stands core.new 0 in_hand }
+    ensures after { (items left : List ItemView) (before : Option (List ℕ))
+        → spec.IsUnderWay (rules_of R.meaning core.old) items (past_of core.old) clients.old.entries (item.now ∷ left)
+        before (K.held sink.old)
+        → spec.After result (rules_of R.meaning core.old) items (past_of core.new) clients.new.entries left before
+        (K.held sink.new) }
+    ensures cause { HasCause FeedStop.WriteFault (K.faults sink.old) (K.faults sink.new) result }
+{
     come(alloc, core, runner, site, clients, item)?;
-    // The journal is valid.
+    // The journal is valid, now and later.
     let _ = core.journal();
-    hand_out(alloc, core, sink)
+    let handed = hand_out(alloc, core, sink);
+    let _ = core.journal();
+    handed
 }
 
 /// The host stops.
@@ -55,11 +74,25 @@ pub fn stop_turn<R: Runner, K: Sink>(
     alloc: Global,
     core: &mut Core<R>,
     sink: &mut K,
-) -> Result<(), FeedStop> {
+) -> Result<(), FeedStop>
+    requires calm { is_calm (past_of core.old) ≡ true }
+    requires once { is_stopping (past_of core.old) ≡ false }
+    requires lane { spec.IsOfOneLane (rules_of R.meaning core.old) (past_of core.old) }
+    ensures grows { (entries : List Entry) × (core.new ≡ grown core.old entries) }
+    ensures fits { (in_hand : Option (RunView R.State)) → Fits R.meaning R.stands core.old 0 in_hand
+        → Fits R.meaning R.stands core.new 0 in_hand }
+    ensures after { (items : List ItemView) (clients : ClientsView) (before : Option (List ℕ))
+        → spec.IsUnderWay (rules_of R.meaning core.old) items (past_of core.old) clients [] before (K.held sink.old)
+        → spec.After result (rules_of R.meaning core.old) items (past_of core.new) clients [] before
+        (K.held sink.new) }
+    ensures cause { HasCause FeedStop.WriteFault (K.faults sink.old) (K.faults sink.new) result }
+{
     stop(core)?;
-    // The journal is valid.
+    // The journal is valid, now and later.
     let _ = core.journal();
-    hand_out(alloc, core, sink)
+    let handed = hand_out(alloc, core, sink);
+    let _ = core.journal();
+    handed
 }
 
 /// The run in hand goes on, or the next one begins.
@@ -76,39 +109,27 @@ where
     R::State: Drop,
     R::Store: Drop,
     K: Sink,
+    requires host { IsHostOf core.old runner.now site.now }
+    requires hand { Fits R.meaning R.stands core.old 0 (run_in hand) }
+    requires busy { is_calm (past_of core.old) ≡ false }
+    requires lane { spec.IsOfOneLane (rules_of R.meaning core.old) (past_of core.old) }
+    ensures grows { (entries : List Entry) × (core.new ≡ grown core.old entries) }
+    ensures fits { IfOk result (λ hand. Fits R.meaning R.stands core.new 0 (run_in hand)) }
+    ensures after { (items left : List ItemView) (clients : ClientsView) (before : Option (List ℕ))
+        → spec.IsUnderWay (rules_of R.meaning core.old) items (past_of core.old) clients left before (K.held sink.old)
+        → IsBusy (past_of core.old) left
+        → spec.After result (rules_of R.meaning core.old) items (past_of core.new) clients left before
+        (K.held sink.new) }
+    ensures cause { HasCause FeedStop.WriteFault (K.faults sink.old) (K.faults sink.new) result }
 {
     let (hand, turn) = work(core, runner, site, hand);
     if let Some(stop) = turn_stop(turn) {
         return Err(stop);
     }
-    // The journal is valid.
+    // The journal is valid, now and later.
     let _ = core.journal();
-    hand_out(alloc, core, sink)?;
+    let handed = hand_out(alloc, core, sink);
+    let _ = core.journal();
+    handed?;
     Ok(hand)
-}
-
-/// Runs the first run to its end.
-pub fn start<R, K>(
-    alloc: Global,
-    core: &mut Core<R>,
-    runner: &R,
-    site: &R::Site,
-    mut hand: Hand<R>,
-    sink: &mut K,
-) -> Result<Hand<R>, FeedStop>
-where
-    R: Runner,
-    R::State: Drop,
-    R::Store: Drop,
-    K: Sink,
-{
-    for _ in 0..u32::MAX {
-        match core.start_kind() {
-            None => {}
-            Some(EndKind::Done) => return Ok(hand),
-            Some(_) => return Err(FeedStop::Memory),
-        }
-        hand = work_turn(alloc, core, runner, site, hand, sink)?;
-    }
-    Err(FeedStop::Memory)
 }
