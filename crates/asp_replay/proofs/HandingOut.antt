@@ -1,7 +1,7 @@
 -- The answers that wait, handed out one after another to the one lane.
 use Rattle.std.proofs.Common.{◌≡◌, ℕ, suc, ◌<◌, ◌==◌, nat_eq, Bool, true, false, List, [], ◌∷◌, ◌++◌, length}
 use Rattle.std.proofs.Common.{Option, Some, None, IsSome, refl, ap, sym, ◌∙◌, subst, arith, inl, inr}
-use Rattle.std.proofs.Common.{append_assoc, append-nil}
+use Rattle.std.proofs.Common.{append_assoc}
 use Rattle.std.specs.Map.{lookup}
 use Rattle.std.proofs.lemmas.Bool.{cases_Bool, eq-eqb}
 use Rattle.std.proofs.lemmas.List.{map-append}
@@ -9,6 +9,7 @@ use Rattle.asp_core.proofs.Answering.{are_those, its_answer}
 use Rattle.asp_core.proofs.Jobs.{page_asked}
 use Rattle.asp_core.proofs.Kept.{past_of_more}
 use Rattle.asp_core.proofs.Others.{own_number}
+use Rattle.asp_lane.proofs.Turns.{grown_none}
 use Rattle.asp_core.specs.Kernel.{CoreView, grown, past_of, rules_of}
 use Rattle.asp_core.specs.Ready.{IsAnswered, asked_by, first_for, ready}
 use Rattle.asp_core.specs.Waits.{waits}
@@ -134,10 +135,6 @@ pub record IsHanding {R Site : Type 0} (meaning : R → Site → Meaning) (old n
 abbrev pub left_in : {R Site : Type 0} → (R → Site → Meaning) → CoreView R Site → ℕ
 left_in meaning core = length (ready (rules_of meaning core) (past_of core))
 
-grown_none : {R Site : Type 0} → (core : CoreView R Site) → core ≡ grown core []
-grown_none core = ap (λ journal. record { journal = journal; runner = core.runner; site = core.site; seed = core.seed })
-    (sym (append-nil core.journal))
-
 pub handing_starts : {R Site : Type 0} → (meaning : R → Site → Meaning) (core : CoreView R Site)
     (held : Option (List ℕ)) → AreRight (rules_of meaning core) (past_of core)
     → IsAnswered (rules_of meaning core) (past_of core) → AreOfLane (past_of core) → held ≡ with_bytes held []
@@ -146,7 +143,7 @@ handing_starts meaning core held right answered lanes none =
     record {
       taken = [];
       left = ready (rules_of meaning core) (past_of core);
-      now_is = grown_none core;
+      now_is = sym (grown_none core);
       split = refl;
       passed = ready_asked (rules_of meaning core) (past_of core) right answered lanes;
       bytes = [];

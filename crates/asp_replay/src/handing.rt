@@ -1,8 +1,7 @@
 //! The answers that wait are handed out and written.
 #![tactic(auto)]
 
-ghost use Rattle.asp_core.specs.Kernel.{past_of, rules_of};
-ghost use Rattle.asp_core.specs.Ready.{IsAnswered};
+ghost use Rattle.asp_core.specs.Kernel.{past_of};
 ghost use Rattle.asp_io.specs.Faults.{HasCause};
 ghost use Rattle.asp_replay.specs.Underway as way;
 
@@ -20,12 +19,11 @@ pub fn hand_out<R: Runner, K: Sink>(
     sink: &mut K,
 ) -> Result<(), FeedStop>
     requires lane { way.AreOfLane (past_of core.old) }
-    requires answered { IsAnswered (rules_of R.meaning core.old) (past_of core.old) }
     ensures out { way.HandsOut R.meaning result core.old core.new (K.held sink.old) (K.held sink.new) }
     ensures cause { HasCause FeedStop.WriteFault (K.faults sink.old) (K.faults sink.new) result }
     ensures only { way.IsOfWriting result }
 {
-    // The journal is valid.
+    // The journal is valid, and the answers are those of pages.
     let _ = core.journal();
     while let Some((run, answer)) = core.collect_first(0) {
         write_record(alloc, sink, run, core.moment(), &answer)?;

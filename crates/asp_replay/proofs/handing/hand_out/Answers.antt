@@ -11,7 +11,7 @@ use Rattle.asp_replay.proofs.handing.hand_out.Goals as goal
 pub loop-run-init : goal.loop-run-init
 loop-run-init g c =
     let held = g.K.Sink.held c.args.sink.now in (
-      handing_starts g.R.Runner.meaning c.args.core.now held c.journal.ensures.valid.entries c.requires.answered
+      handing_starts g.R.Runner.meaning c.args.core.now held c.journal.ensures.valid.entries c.journal.ensures.answered
           c.requires.lane (sym (with_none held)),
       omega arith,
       λ below. below,
