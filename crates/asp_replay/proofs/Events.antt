@@ -1,10 +1,11 @@
 -- What came to a journal from outside, while entries come.
-use Rattle.std.proofs.Common.{◌≡◌, ℕ, ◌+◌, ◌<◌, ◌≤◌, ◌||◌, ◌&&◌, Bool, true, false, if◌then◌else◌, List, [], ◌∷◌, ◌++◌}
+use Rattle.std.proofs.Common.{is_some, ◌≡◌, ℕ, ◌+◌, ◌<◌, ◌≤◌, ◌||◌, ◌&&◌, Bool, true, false, if◌then◌else◌, List, [], ◌∷◌, ◌++◌}
 use Rattle.std.proofs.Common.{None, unwrap_or, reverse, refl, ap, sym, ◌∙◌, subst, arith, nat_le, nat_lt, length}
 use Rattle.std.proofs.Common.{inl, inr}
 use Rattle.std.proofs.lemmas.Bool.{cases_lt, lt-ltb}
 use Rattle.asp_core.specs.Drawing.{entry_then}
 use Rattle.asp_core.specs.Laws.{NoneIs}
+use Rattle.asp_core.specs.Telling.{end_kind}
 use Rattle.asp_core.proofs.Kept.{no_tick_is, tick_is}
 use Rattle.asp_core.proofs.Waiting.{tick_stopping}
 use Rattle.asp_job.specs.declared.answer.Answer.{Answer}
@@ -20,7 +21,7 @@ use Rattle.asp_job.specs.Journal.{admit_entry, is_refused, job_now, past_after, 
 use Rattle.asp_job.specs.Journal.{tick_entries}
 use Rattle.asp_job.specs.Keys.{session_of}
 use Rattle.asp_job.specs.Rules.{Rules}
-use Rattle.asp_job.specs.Runs.{drawn, has_ended, is_stop, is_stopping, moment_in, moment_of}
+use Rattle.asp_job.specs.Runs.{drawn, is_stop, is_stopping, moment_in, moment_of}
 use Rattle.asp_job.specs.Turns.{key_asked_by, key_for, needs_key, owed, waiting_pages}
 use Rattle.asp_record.specs.declared.recording.Item.{Item}
 use Rattle.asp_record.specs.declared.recording.Item.TheVariants as item
@@ -327,8 +328,8 @@ time_may : (past : List Entry) (moment : ℕ) → may_come past moment ≡ true
     → (nat_le moment (moment_of past) || is_calm past) ≡ true
 time_may past moment may =
     let time = nat_le moment (moment_of past) || is_calm past in
-    let front = and_left (has_ended past 1 && time) (nat_lt (length (waiting_pages past)) MOST_WAITING) may in
-    and_right (has_ended past 1) time front
+    let front = and_left (is_some (end_kind past 1) && time) (nat_lt (length (waiting_pages past)) MOST_WAITING) may in
+    and_right (is_some (end_kind past 1)) time front
 
 pub item_came : (rules : Rules) (done : List Item) (past : List Entry) (clients then_clients : Clients) (next : Item)
     (entries : List Entry) → HasCome done past clients → moment_of past ≡ moment_by done
