@@ -1,7 +1,7 @@
 -- What turns leave of a core: its journal grows, and then the answers that wait are handed out.
 use Rattle.std.proofs.Common.{◌≡◌, ℕ, true, false, List, [], ◌∷◌, ◌++◌, append_assoc, refl, ap, sym, ◌∙◌, subst}
 use Rattle.std.proofs.Common.{Option, Result, Ok, Err}
-use Rattle.asp_core.specs.Kernel.{CoreView, RunView, grown, past_of, rules_of}
+use Rattle.asp_core.specs.Kernel.{CoreView, IsTooMuch, RunView, grown, past_of, rules_of}
 use Rattle.asp_core.specs.Ready.{IsAnswered, ready}
 use Rattle.asp_core.proofs.Kept.{past_of_more}
 use Rattle.asp_job.specs.declared.entry.Entry.{Entry}
@@ -172,6 +172,26 @@ module _ {R Site : Type 0} (meaning : R → Site → Meaning) where
       after_core result old mid new entries items [] clients before held after mid_is
       (stop_grown (rules_of meaning old) items (past_of old) clients before held is
       (right_grown old mid entries mid_is right) (answered_grown old mid entries mid_is answered) calm once) of out
+
+  stop_cause : (m : Rules) (past : List Entry) (ended : FeedStop)
+      → ((entries weight : ℕ) → ended ≡ stop.JournalFull entries weight
+      → IsTooMuch (past_after past (stop_entries m past 0)) entries weight) → HasCause m past ended
+  stop_cause m past (stop.JournalFull entries weight) full =
+      (past, [], refl, OfStop (full entries weight refl))
+  stop_cause m past stop.WriteFault full = tt
+  stop_cause m past stop.Memory full = tt
+
+  -- the host did not stop
+  pub stop_ends : (old mid : CoreView R Site) (items : List Item) (clients : Clients) (before held : Option (List ℕ))
+      (ended : FeedStop) → mid ≡ old
+      → ((entries weight : ℕ) → ended ≡ stop.JournalFull entries weight
+      → IsTooMuch (past_after (past_of old) (stop_entries (rules_of meaning old) (past_of old) 0)) entries weight)
+      → IsUnderWay (rules_of meaning old) items (past_of old) clients [] before held
+      → EndsSo (rules_of meaning old) items (past_of mid) ended before held
+  stop_ends old mid items clients before held ended same full is =
+      subst (λ core. EndsSo (rules_of meaning old) items (past_of core) ended before held) (sym same)
+      (ends_here (rules_of meaning old) items (past_of old) clients [] before held ended is
+      (stop_cause (rules_of meaning old) (past_of old) ended full))
 
   -- ---- work
 
