@@ -54,7 +54,7 @@ pub record IsGrown (m : Rules) (items : List Item) (past : List Entry) (clients 
   pub turns : AreTurnsTo m items (handed_out m past) clients left
 
 -- the items that came stay while nothing comes
-stands_same : (items : List Item) (old new : List Entry) (clients : Clients) (left : List Item) → IsAsBefore old new
+pub stands_same : (items : List Item) (old new : List Entry) (clients : Clients) (left : List Item) → IsAsBefore old new
     → StandsAt items old clients left → StandsAt items new clients left
 stands_same items old new clients left same (inl feeding) = inl (record {
   open_still = same.stopping ∙ feeding.open_still;
@@ -311,7 +311,7 @@ stop_grown m items past clients before held is right answered calm once = record
 
 -- ---- work
 
-as_before_both : (old mid new : List Entry) → IsAsBefore old mid → IsAsBefore mid new → IsAsBefore old new
+pub as_before_both : (old mid new : List Entry) → IsAsBefore old mid → IsAsBefore mid new → IsAsBefore old new
 as_before_both old mid new one two = record {
   events = two.events ∙ one.events;
   calm = λ calm. two.calm (one.calm calm);
@@ -319,7 +319,7 @@ as_before_both old mid new one two = record {
   moment = two.moment ∙ one.moment;
 }
 
-hand_quiet : (m : Rules) (past mid : List Entry) (run : ℕ) → HasInHand m past mid run → IsAsBefore past mid
+pub hand_quiet : (m : Rules) (past mid : List Entry) (run : ℕ) → HasInHand m past mid run → IsAsBefore past mid
 hand_quiet m past mid run (inl held) =
     rw held.1 (record { events = refl; calm = λ calm. calm; stopping = refl; moment = refl })
 hand_quiet m past mid run (inr begun) = rw begun.2 (quiet_one past (begin_entry m past 0 run) refl)

@@ -1,6 +1,6 @@
 -- What turns leave of a core: its journal grows, and then the answers that wait are handed out.
 use Rattle.std.proofs.Common.{◌≡◌, ℕ, true, false, List, [], ◌∷◌, ◌++◌, append_assoc, refl, ap, sym, ◌∙◌, subst}
-use Rattle.std.proofs.Common.{Option, Result, Ok, Err}
+use Rattle.std.proofs.Common.{Option, Some, Result, Ok, Err, IfOk}
 use Rattle.asp_core.specs.Kernel.{CoreView, IsTooMuch, RunView, grown, past_of, rules_of}
 use Rattle.asp_core.specs.Ready.{IsAnswered, ready}
 use Rattle.asp_core.proofs.Kept.{past_of_more}
@@ -8,6 +8,8 @@ use Rattle.asp_job.specs.declared.entry.Entry.{Entry}
 use Rattle.asp_job.specs.Journal.{AreRight, past_after, stop_entries}
 use Rattle.asp_job.specs.Runs.{is_stopping}
 use Rattle.asp_job.specs.Told.{Meaning, Told}
+use Rattle.asp_lane.specs.declared.turn.Turn.{Turn}
+use Rattle.asp_lane.specs.declared.turn.Turn.TheVariants as turn
 use Rattle.asp_lane.specs.Turns.{Fits}
 use Rattle.asp_record.specs.declared.recording.Item.{Item}
 use Rattle.asp_record.specs.Recorded as recorded
@@ -19,7 +21,7 @@ use Rattle.asp_replay.specs.Feed.IsTooMuchNext.{OfItem, OfStop, OfBegin, OfCall}
 use Rattle.asp_replay.specs.Feeding.{Clients, is_calm}
 use Rattle.asp_replay.specs.Sequential.{Adds, IsBusy, hand_outs, may_come}
 use Rattle.asp_replay.specs.Underway.{After, AreOfLane, EndsSo, HandsOut, IsItemTooMuch, IsOfOneLane, IsOfWriting, IsUnderWay}
-use Rattle.asp_replay.specs.Underway.{WorkAdds}
+use Rattle.asp_replay.specs.Underway.{IsHandedBack, WorkAdds, Works, turn_stop}
 use Rattle.asp_replay.proofs.Aside.{AreAside, aside_handed, aside_stopped, fits_still}
 use Rattle.asp_replay.proofs.Grown.{IsGrown, come_grown, ends_here, handed_after, item_aside, item_stays, stays_of, stop_grown}
 use Rattle.asp_replay.proofs.Grown.{work_grown}
@@ -82,6 +84,16 @@ module _ {R Site : Type 0} (meaning : R → Site → Meaning) where
       (fits_still meaning stands old entries in_hand (right_grown old mid entries mid_is right_mid) aside fits) in
       subst (λ core. Fits meaning stands core 0 in_hand) (sym more.1)
       (fits_still meaning stands mid more.0 in_hand (right_grown mid new more.0 more.1 right_new) more.2 fits_mid)
+
+  -- what is in hand fits when answers were handed out
+  pub handed_fits : {T State : Type 0} → (stands : R → Site → State → Told → ℕ → Type 0) (result : Result T FeedStop)
+      (mid new : CoreView R Site) (held after : Option (List ℕ)) (in_hand : Option (RunView State))
+      → AreRight (rules_of meaning new) (past_of new) → HandsOut meaning result mid new held after
+      → Fits meaning stands mid 0 in_hand → Fits meaning stands new 0 in_hand
+  handed_fits stands result mid new held after in_hand right out fits =
+      let more = hands_entries result mid new held after out in
+      subst (λ core. Fits meaning stands core 0 in_hand) (sym more.1)
+      (fits_still meaning stands mid more.0 in_hand (right_grown mid new more.0 more.1 right) more.2 fits)
 
   -- what holds of the journal that has grown holds of the core
   grown_core : (old mid : CoreView R Site) (entries : List Entry) (items left : List Item) (clients : Clients)
@@ -195,6 +207,15 @@ module _ {R Site : Type 0} (meaning : R → Site → Meaning) where
 
   -- ---- work
 
+  -- work that came to no stop
+  pub work_adds : (m : Rules) (past entries : List Entry) (t : Turn)
+      → ((ended : FeedStop) → turn_stop t ≡ Some ended → ⊥) → Works m past entries t → WorkAdds m past entries
+  work_adds m past entries turn.Done none works = works
+  work_adds m past entries turn.More none works = absurd works
+  work_adds m past entries turn.Idle none works = absurd works
+  work_adds m past entries (turn.JournalFull count weight) none works = absurd (none (stop.JournalFull count weight) refl)
+  work_adds m past entries turn.Memory none works = absurd (none stop.Memory refl)
+
   pub work_lanes : (old mid : CoreView R Site) (entries : List Entry) → mid ≡ grown old entries
       → WorkAdds (rules_of meaning old) (past_of old) entries → IsOfOneLane (rules_of meaning old) (past_of old)
       → AreOfLane (past_of mid)
@@ -214,3 +235,17 @@ module _ {R Site : Type 0} (meaning : R → Site → Meaning) where
       after_core result old mid new entries items left clients before held after mid_is
       (work_grown (rules_of meaning old) items (past_of old) entries clients left before held is
       (right_grown old mid entries mid_is right) (answered_grown old mid entries mid_is answered) busy adds) of out
+
+-- ---- what is handed back
+
+pub fits_back : {T U : Type 0} → (handed : Result T FeedStop) (hand : U) (back : Result U FeedStop) (P : U → Type 0)
+    → IsHandedBack hand handed back → P hand → IfOk back P
+fits_back (Ok given) hand back P is holds = rw is holds
+fits_back (Err ended) hand back P is holds = rw is tt
+
+pub after_back : {T U : Type 0} → (m : Rules) (items left : List Item) (past : List Entry) (clients : Clients)
+    (before after : Option (List ℕ)) (handed : Result T FeedStop) (hand : U) (back : Result U FeedStop)
+    → IsHandedBack hand handed back → After handed m items past clients left before after
+    → After back m items past clients left before after
+after_back m items left past clients before after (Ok given) hand back is holds = rw is holds
+after_back m items left past clients before after (Err ended) hand back is holds = rw is holds

@@ -245,6 +245,11 @@ pub record IsUnderWay (rules : Rules) (items : List Item) (past : List Entry) (c
   pub turns : AreTurnsTo rules items past clients left
   pub written : AreWritten rules past before after
 
+-- what is handed back where nothing failed, and the failure
+abbrev pub IsHandedBack : {T U : Type 0} → U → Result T FeedStop → Result U FeedStop → Type 0
+IsHandedBack hand (Ok given) back = back ≡ Ok hand
+IsHandedBack hand (Err ended) back = back ≡ Err ended
+
 -- how a feed ends that stops before its end
 pub record EndsSo (rules : Rules) (items : List Item) (past : List Entry) (ended : FeedStop)
     (before after : Option (List ℕ)) : Type 0 where

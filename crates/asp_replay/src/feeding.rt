@@ -16,7 +16,7 @@ ghost use Rattle.asp_replay.specs.Underway as way;
 use crate::clients::Clients;
 use crate::coming::{is_calm, may_come, moment_of};
 use crate::stop::FeedStop;
-use crate::turns::{come_turn, stop_turn, work_turn};
+use crate::turns::{come_turn, let_go, stop_turn, work_turn};
 use asp_core::Core;
 use asp_io::Sink;
 use asp_job::{EndKind, Runner};
@@ -54,9 +54,10 @@ where
         match core.start_kind() {
             Some(EndKind::Done) => return Ok(hand),
             None if !is_calm(core) => hand = work_turn(alloc, core, runner, site, hand, sink)?,
-            _ => return Err(FeedStop::Memory),
+            _ => break,
         }
     }
+    let_go(hand);
     Err(FeedStop::Memory)
 }
 
@@ -88,19 +89,28 @@ where
     let mut hand = start(alloc, &mut core, runner, site, Hand::Free(store), sink)?;
     let mut items = recording.items.as_slice();
     for _ in 0..u32::MAX {
-        match items.split_first() {
+        let came = match items.split_first() {
             Some((next, rest)) if may_come(&core, moment_of(next)) => {
-                come_turn(alloc, &mut core, runner, site, &mut clients, next, sink)?;
                 items = rest;
+                come_turn(alloc, &mut core, runner, site, &mut clients, next, sink)
             }
             None if is_calm(&core) => {
                 if core.stopping() {
+                    let_go(hand);
                     return Ok(core);
                 }
-                stop_turn(alloc, &mut core, sink)?;
+                stop_turn(alloc, &mut core, sink)
             }
-            _ => hand = work_turn(alloc, &mut core, runner, site, hand, sink)?,
+            _ => {
+                hand = work_turn(alloc, &mut core, runner, site, hand, sink)?;
+                Ok(())
+            }
+        };
+        if let Err(stop) = came {
+            let_go(hand);
+            return Err(stop);
         }
     }
+    let_go(hand);
     Err(FeedStop::Memory)
 }

@@ -6,7 +6,6 @@ mod coming;
 mod feeding;
 mod handing;
 mod job;
-mod probe;
 mod stop;
 mod turns;
 mod working;

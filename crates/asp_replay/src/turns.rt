@@ -95,6 +95,31 @@ pub fn stop_turn<R: Runner, K: Sink>(
     handed
 }
 
+/// Lets go of what is in hand. A run stays unfinished.
+pub fn let_go<R>(_hand: Hand<R>)
+where
+    R: Runner,
+    R::State: Drop,
+    R::Store: Drop,
+{}
+
+/// What is in hand, where nothing failed.
+fn hand_back<R>(hand: Hand<R>, handed: Result<(), FeedStop>) -> Result<Hand<R>, FeedStop>
+where
+    R: Runner,
+    R::State: Drop,
+    R::Store: Drop,
+    ensures { spec.IsHandedBack hand handed result }
+{
+    match handed {
+        Ok(()) => Ok(hand),
+        Err(stop) => {
+            let_go(hand);
+            Err(stop)
+        }
+    }
+}
+
 /// The run in hand goes on, or the next one begins.
 pub fn work_turn<R, K>(
     alloc: Global,
@@ -124,12 +149,12 @@ where
 {
     let (hand, turn) = work(core, runner, site, hand);
     if let Some(stop) = turn_stop(turn) {
+        let_go(hand);
         return Err(stop);
     }
     // The journal is valid, now and later.
     let _ = core.journal();
     let handed = hand_out(alloc, core, sink);
     let _ = core.journal();
-    handed?;
-    Ok(hand)
+    hand_back(hand, handed)
 }

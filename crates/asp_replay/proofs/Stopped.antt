@@ -1,0 +1,69 @@
+-- How a feed ends where work comes to a stop.
+use Rattle.std.proofs.Common.{◌≡◌, ℕ, List, [], ◌∷◌, refl, ap, sym, ◌∙◌, subst, inl, inr, Option, Some}
+use Rattle.asp_core.specs.Kernel.{CoreView, grown, past_of, rules_of}
+use Rattle.asp_core.proofs.Kept.{past_of_more}
+use Rattle.asp_job.specs.declared.entry.EndKind.TheVariants as kind
+use Rattle.asp_job.specs.declared.entry.Entry.{Entry}
+use Rattle.asp_job.specs.Journal.{end_entry, past_after}
+use Rattle.asp_job.specs.Rules.{Rules}
+use Rattle.asp_job.specs.Told.{Meaning}
+use Rattle.asp_lane.specs.declared.turn.Turn.{Turn}
+use Rattle.asp_lane.specs.declared.turn.Turn.TheVariants as turn
+use Rattle.asp_record.specs.declared.recording.Item.{Item}
+use Rattle.asp_replay.specs.declared.stop.FeedStop.{FeedStop}
+use Rattle.asp_replay.specs.declared.stop.FeedStop.TheVariants as stop
+use Rattle.asp_replay.specs.Feed.{HasCause}
+use Rattle.asp_replay.specs.Feed.IsTooMuchNext.{OfBegin, OfCall}
+use Rattle.asp_replay.specs.Feeding.{Clients}
+use Rattle.asp_replay.specs.Underway.{EndsSo, IsUnderWay, Works, turn_stop}
+use Rattle.asp_replay.proofs.Events.{IsAsBefore, quiet_one}
+use Rattle.asp_replay.proofs.Grown.{as_before_both, fed_part, hand_quiet, stands_same}
+use Rattle.asp_replay.proofs.Written.{shown_first, written_first}
+
+as_before : (past : List Entry) → IsAsBefore past past
+as_before past = record { events = refl; calm = λ calm. calm; stopping = refl; moment = refl }
+
+stop_is : (one other : FeedStop) → Some one ≡ Some other → one ≡ other
+stop_is one other e = cc
+
+-- work that comes to a stop adds nothing that comes from an item, and has a cause
+stop_quiet : (m : Rules) (past entries : List Entry) (t : Turn) (ended : FeedStop) → turn_stop t ≡ Some ended
+    → Works m past entries t → IsAsBefore past (past_after past entries) × HasCause m (past_after past entries) ended
+stop_quiet m past entries turn.Done ended e works = absurd cc
+stop_quiet m past entries turn.More ended e works = absurd works
+stop_quiet m past entries turn.Idle ended e works = absurd works
+stop_quiet m past entries (turn.JournalFull count weight) ended e (inl begin) =
+    let is = stop_is (stop.JournalFull count weight) ended e in
+    rw begin.1 (as_before past, subst (HasCause m past) is (past, [], refl, OfBegin begin.0))
+stop_quiet m past entries (turn.JournalFull count weight) ended e (inr full) =
+    let is = stop_is (stop.JournalFull count weight) ended e in
+    let last = end_entry m full.mid 0 full.run kind.JournalFull in
+    rw full.entries_are (
+      as_before_both past full.mid (last ∷ full.mid) (hand_quiet m past full.mid full.run full.in_hand)
+          (quiet_one full.mid last refl),
+      subst (HasCause m (last ∷ full.mid)) is (full.mid, last ∷ [], refl, OfCall full.run full.much),
+    )
+stop_quiet m past entries turn.Memory ended e (inl none) =
+    let is = stop_is stop.Memory ended e in rw none (as_before past, subst (HasCause m past) is tt)
+stop_quiet m past entries turn.Memory ended e (inr begun) =
+    let is = stop_is stop.Memory ended e in
+    rw begun.3 (hand_quiet m past begun.0 begun.1 begun.2, subst (HasCause m begun.0) is tt)
+
+-- a feed ends so where work came to a stop
+pub work_ends : {R Site : Type 0} → (meaning : R → Site → Meaning) (old new : CoreView R Site) (entries : List Entry)
+    (t : Turn) (items left : List Item) (clients : Clients) (before held : Option (List ℕ)) (ended : FeedStop)
+    → new ≡ grown old entries → turn_stop t ≡ Some ended → Works (rules_of meaning old) (past_of old) entries t
+    → IsUnderWay (rules_of meaning old) items (past_of old) clients left before held
+    → EndsSo (rules_of meaning old) items (past_of new) ended before held
+work_ends meaning old new entries t items left clients before held ended new_is e works is =
+    let m = rules_of meaning old in
+    let past = past_of old in
+    let mid = past_after past entries in
+    let both = stop_quiet m past entries t ended e works in
+    let more = shown_first m past entries in
+    let of : past_of new ≡ mid = ap past_of new_is ∙ past_of_more old.journal entries in
+    subst (λ some. EndsSo m items some ended before held) (sym of) (record {
+      fed = fed_part items mid clients left (stands_same items past mid clients left both.0 is.stands);
+      cause = both.1;
+      written = written_first m past mid more.0 before held is.written more.1;
+    })
