@@ -1,5 +1,6 @@
 -- This crate's own: where a feed stands, and what each of its parts adds.
-use Rattle.std.specs.Prelude.{◌≡◌, ◌⊎◌, ℕ, Bool, true, false, ⊤, List, [], ◌∷◌, ◌++◌, All, map, reverse, Option, Some, None, Result, Ok, Err}
+use Rattle.std.specs.Prelude.{◌≡◌, ◌⊎◌, ◌&&◌, ℕ, Bool, true, false, not, is_some, ⊤, List, [], ◌∷◌, ◌++◌, All, map, reverse, Option, Some, None, Result, Ok, Err}
+use Rattle.std.specs.Borrow.{Bor}
 use Rattle.asp_core.specs.declared.stop.AdmitStop.{AdmitStop}
 use Rattle.asp_core.specs.declared.stop.AdmitStop.TheVariants as admit
 use Rattle.asp_core.specs.declared.stop.EventStop.{EventStop}
@@ -7,6 +8,7 @@ use Rattle.asp_core.specs.declared.stop.EventStop.TheVariants as event
 use Rattle.asp_core.specs.Kernel.{CoreView, RunView, IsBeginTooMuch, IsTooMuch, grown, past_of, rules_of}
 use Rattle.asp_core.specs.Laws.{NoneIs}
 use Rattle.asp_core.specs.Ready.{ready}
+use Rattle.asp_core.specs.Telling.{end_kind}
 use Rattle.asp_io.specs.Copying.{AddsPart}
 use Rattle.asp_io.specs.Sink.{with_bytes}
 use Rattle.asp_job.specs.declared.answer.Answer.{Answer}
@@ -26,8 +28,8 @@ use Rattle.asp_record.specs.declared.recording.Item.{Item}
 use Rattle.asp_record.specs.Recorded.{AreItems}
 use Rattle.asp_replay.specs.declared.stop.FeedStop.{FeedStop}
 use Rattle.asp_replay.specs.declared.stop.FeedStop.TheVariants as stop
-use Rattle.asp_replay.specs.Feed.{ArePartWritten, AreWritten, HasCause, is_full_end}
-use Rattle.asp_replay.specs.Feeding.{Clients, HasCome, IsFed, IsFedPart, moment_by}
+use Rattle.asp_replay.specs.Feed.{ArePartWritten, AreWritten, HasCause, HasFed, is_full_end}
+use Rattle.asp_replay.specs.Feeding.{Clients, HasCome, IsFed, IsFedPart, is_calm, moment_by}
 use Rattle.asp_replay.specs.Sequential.{Adds, AreTurns, HasInHand, Place, first_place, hand_outs, is_memory_end}
 use Rattle.asp_replay.specs.Shown.{AreRecords, IsRecord, Shown, shown_of}
 
@@ -245,6 +247,15 @@ pub record IsUnderWay (rules : Rules) (items : List Item) (past : List Entry) (c
   pub turns : AreTurnsTo rules items past clients left
   pub written : AreWritten rules past before after
 
+-- whether the first run is still to end
+abbrev pub is_starting : List Entry → Bool
+is_starting past = not (is_some (end_kind past 1)) && not (is_calm past)
+
+-- some recording is under way
+abbrev pub IsBetween : Rules → List Entry → Option (List ℕ) → Type 0
+IsBetween rules past after = (items left : List Item) × (clients : Clients) × (before : Option (List ℕ))
+    × IsUnderWay rules items past clients left before after
+
 -- what is handed back where nothing failed, and the failure
 abbrev pub IsHandedBack : {T U : Type 0} → U → Result T FeedStop → Result U FeedStop → Type 0
 IsHandedBack hand (Ok given) back = back ≡ Ok hand
@@ -262,6 +273,28 @@ abbrev pub After : {T : Type 0} → Result T FeedStop → Rules → List Item �
     Option (List ℕ) → Option (List ℕ) → Type 0
 After (Ok given) rules items past clients left before after = IsUnderWay rules items past clients left before after
 After (Err ended) rules items past clients left before after = EndsSo rules items past ended before after
+
+-- where a feed stands after a turn that left these items, or how it ends
+abbrev pub AfterTurn : {Hand : Type 0} → Result (Hand × Bor (List Item)) FeedStop → Rules → List Item → List Entry →
+    Clients → Option (List ℕ) → Option (List ℕ) → Type 0
+AfterTurn (Ok kept) rules items past clients before after =
+    IsUnderWay rules items past clients kept.1.now before after
+AfterTurn (Err ended) rules items past clients before after = EndsSo rules items past ended before after
+
+-- all items came, the host has stopped, and nothing is under way
+abbrev pub is_over : List Entry → List Item → Bool
+is_over past [] = is_stopping past && is_calm past
+is_over past (next ∷ left) = false
+
+-- memory ran out before there was a journal
+abbrev pub HasNotBegun : FeedStop → Option (List ℕ) → Option (List ℕ) → Type 0
+HasNotBegun ended before after = (ended ≡ stop.Memory) × (after ≡ before)
+
+-- a recording was fed to its end, or not
+abbrev pub AfterAll : {T : Type 0} → Result T FeedStop → Rules → List Item → List Entry → Option (List ℕ) →
+    Option (List ℕ) → Type 0
+AfterAll (Ok given) rules items past before after = HasFed rules items past before after
+AfterAll (Err ended) rules items past before after = EndsSo rules items past ended before after
 
 -- the core is that of the runner, the site and the seed
 pub record IsCoreOf {R Site : Type 0} (runner : R) (site : Site) (seed : List ℕ) (core : CoreView R Site) : Type 0 where

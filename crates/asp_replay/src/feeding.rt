@@ -1,11 +1,14 @@
 //! A recording is fed to a host.
 #![tactic(auto)]
 
-ghost use Rattle.std.specs.Prelude.{◌≡◌, ℕ, true, IfErr, IfOk, List, OnOk, Option, is_some};
+ghost use Rattle.std.specs.Prelude.{◌≡◌, ◌⊎◌, ◌∷◌, [], ℕ, true, false, IfErr, IfOk, List, OnOk, Option, is_some};
 ghost use Rattle.asp_core.specs.Kernel.{IsHostOf, grown, past_of, rules_by, rules_of};
 ghost use Rattle.asp_core.specs.Telling.{end_kind};
 ghost use Rattle.asp_io.specs.Faults.{HasCause};
 ghost use Rattle.asp_job.specs.declared.entry.Entry.{Entry};
+ghost use Rattle.asp_job.specs.declared.entry.What.TheVariants as What;
+ghost use Rattle.asp_job.specs.declared.job.Work.TheVariants as Work;
+ghost use Rattle.asp_job.specs.History.{with_lane};
 ghost use Rattle.asp_lane.specs.Turns.{Fits, run_in};
 ghost use Rattle.asp_record.specs.declared.recording.Item.{Item as ItemView};
 ghost use Rattle.asp_record.specs.Recorded.{IsSound};
@@ -21,8 +24,33 @@ use asp_core::Core;
 use asp_io::Sink;
 use asp_job::{EndKind, Runner};
 use asp_lane::Hand;
-use asp_record::Recording;
+use asp_record::{Item, Recording};
 use std::alloc::Global;
+
+/// Whether the first run is still to end.
+fn is_starting<R: Runner>(core: &Core<R>) -> bool
+    ensures { result ≡ way.is_starting (past_of core.now) }
+{
+    core.start_kind().is_none() && !is_calm(core)
+}
+
+/// What is in hand, where the first run has ended by itself.
+fn started<R>(core: &Core<R>, hand: Hand<R>) -> Result<Hand<R>, FeedStop>
+where
+    R: Runner,
+    R::State: Drop,
+    R::Store: Drop,
+    ensures ok { IfOk result (λ back. (back ≡ hand) × (is_some (end_kind (past_of core.now) 1) ≡ true)) }
+    ensures err { IfErr result (λ stop. stop ≡ FeedStop.Memory) }
+{
+    match core.start_kind() {
+        Some(EndKind::Done) => Ok(hand),
+        _ => {
+            let_go(hand);
+            Err(FeedStop::Memory)
+        }
+    }
+}
 
 /// Runs the first run to its end. Where memory ran out for it, nothing else is done.
 fn start<R, K>(
@@ -40,7 +68,7 @@ where
     K: Sink,
     requires host { IsHostOf core.old runner.now site.now }
     requires hand { Fits R.meaning R.stands core.old 0 (run_in hand) }
-    requires lane { way.IsOfOneLane (rules_of R.meaning core.old) (past_of core.old) }
+    requires between { way.IsBetween (rules_of R.meaning core.old) (past_of core.old) (K.held sink.old) }
     ensures grows { (entries : List Entry) × (core.new ≡ grown core.old entries) }
     ensures fits { IfOk result (λ hand. Fits R.meaning R.stands core.new 0 (run_in hand)) }
     ensures started { OnOk result (is_some (end_kind (past_of core.new) 1) ≡ true) }
@@ -51,14 +79,174 @@ where
     ensures cause { HasCause FeedStop.WriteFault (K.faults sink.old) (K.faults sink.new) result }
 {
     for _ in 0..u32::MAX {
-        match core.start_kind() {
-            Some(EndKind::Done) => return Ok(hand),
-            None if !is_calm(core) => hand = work_turn(alloc, core, runner, site, hand, sink)?,
-            _ => break,
+        if !is_starting(core) {
+            return started(core, hand);
         }
+        hand = work_turn(alloc, core, runner, site, hand, sink)?;
     }
     let_go(hand);
     Err(FeedStop::Memory)
+}
+
+/// What is in hand and the items that are left, where nothing failed.
+fn keep<'a, R>(
+    hand: Hand<R>,
+    items: &'a [Item],
+    came: Result<(), FeedStop>,
+) -> Result<(Hand<R>, &'a [Item]), FeedStop>
+where
+    R: Runner,
+    R::State: Drop,
+    R::Store: Drop,
+    ensures { way.IsHandedBack (hand, items.entry) came result }
+{
+    match came {
+        Ok(()) => Ok((hand, items)),
+        Err(stop) => {
+            let_go(hand);
+            Err(stop)
+        }
+    }
+}
+
+/// One turn: the next item comes, where it may; once all came and nothing is under way the host stops; else the run in
+/// hand goes on, or the next one begins.
+fn turn<'a, R, K>(
+    alloc: Global,
+    core: &mut Core<R>,
+    runner: &R,
+    site: &R::Site,
+    clients: &mut Clients,
+    hand: Hand<R>,
+    items: &'a [Item],
+    sink: &mut K,
+) -> Result<(Hand<R>, &'a [Item]), FeedStop>
+where
+    R: Runner,
+    R::State: Drop,
+    R::Store: Drop,
+    K: Sink,
+    requires host { IsHostOf core.old runner.now site.now }
+    requires hand { Fits R.meaning R.stands core.old 0 (run_in hand) }
+    requires started { is_some (end_kind (past_of core.old) 1) ≡ true }
+    requires going { way.is_over (past_of core.old) items.now ≡ false }
+    requires under { (all : List ItemView) × (before : Option (List ℕ))
+        × way.IsUnderWay (rules_of R.meaning core.old) all (past_of core.old) clients.old.entries items.now before
+        (K.held sink.old) }
+    ensures grows { (entries : List Entry) × (core.new ≡ grown core.old entries) }
+    ensures fits { IfOk result (λ kept. Fits R.meaning R.stands core.new 0 (run_in kept.0)) }
+    ensures after { (all : List ItemView) (before : Option (List ℕ))
+        → way.IsUnderWay (rules_of R.meaning core.old) all (past_of core.old) clients.old.entries items.now before
+        (K.held sink.old)
+        → way.AfterTurn result (rules_of R.meaning core.old) all (past_of core.new) clients.new.entries before
+        (K.held sink.new) }
+    ensures cause { HasCause FeedStop.WriteFault (K.faults sink.old) (K.faults sink.new) result }
+{
+    match items.split_first() {
+        Some((next, rest)) if may_come(core, moment_of(next)) => {
+            let came = come_turn(alloc, core, runner, site, clients, next, sink);
+            keep(hand, rest, came)
+        }
+        None if is_calm(core) => {
+            let stopped = stop_turn(alloc, core, sink);
+            keep(hand, items, stopped)
+        }
+        _ => match work_turn(alloc, core, runner, site, hand, sink) {
+            Ok(hand) => Ok((hand, items)),
+            Err(stop) => Err(stop),
+        },
+    }
+}
+
+/// Whether all items came, the host has stopped, and nothing is under way.
+fn is_over<R: Runner>(core: &Core<R>, items: &[Item]) -> bool
+    ensures { result ≡ way.is_over (past_of core.now) items.now }
+{
+    items.is_empty() && core.stopping() && is_calm(core)
+}
+
+/// Feeds all items to a host whose first run has ended.
+fn feed_items<R, K>(
+    alloc: Global,
+    core: &mut Core<R>,
+    runner: &R,
+    site: &R::Site,
+    mut hand: Hand<R>,
+    recording: &Recording,
+    sink: &mut K,
+) -> Result<(), FeedStop>
+where
+    R: Runner,
+    R::State: Drop,
+    R::Store: Drop,
+    K: Sink,
+    requires host { IsHostOf core.old runner.now site.now }
+    requires hand { Fits R.meaning R.stands core.old 0 (run_in hand) }
+    requires started { is_some (end_kind (past_of core.old) 1) ≡ true }
+    requires under { (before : Option (List ℕ)) × way.IsUnderWay (rules_of R.meaning core.old) recording.now.items
+        (past_of core.old) [] recording.now.items before (K.held sink.old) }
+    ensures grows { (entries : List Entry) × (core.new ≡ grown core.old entries) }
+    ensures after { (before : Option (List ℕ))
+        → way.IsUnderWay (rules_of R.meaning core.old) recording.now.items (past_of core.old) []
+        recording.now.items before (K.held sink.old)
+        → way.AfterAll result (rules_of R.meaning core.old) recording.now.items (past_of core.new) before
+        (K.held sink.new) }
+    ensures cause { HasCause FeedStop.WriteFault (K.faults sink.old) (K.faults sink.new) result }
+{
+    let mut clients = Clients::new(alloc);
+    let mut items = recording.items.as_slice();
+    for _ in 0..u32::MAX {
+        if is_over(core, items) {
+            let_go(hand);
+            return Ok(());
+        }
+        (hand, items) = turn(alloc, core, runner, site, &mut clients, hand, items, sink)?;
+    }
+    let_go(hand);
+    Err(FeedStop::Memory)
+}
+
+/// Runs the first run of a host to its end, and feeds it.
+fn feed_core<R, K>(
+    alloc: Global,
+    core: &mut Core<R>,
+    runner: &R,
+    site: &R::Site,
+    store: R::Store,
+    recording: &Recording,
+    sink: &mut K,
+) -> Result<(), FeedStop>
+where
+    R: Runner,
+    R::State: Drop,
+    R::Store: Drop,
+    K: Sink,
+    requires host { IsHostOf core.old runner.now site.now }
+    requires first { core.old.journal ≡ with_lane 0 (What.Queue 1 Work.Start 0) ∷ [] }
+    requires sound { IsSound recording.now }
+    ensures grows { (entries : List Entry) × (core.new ≡ grown core.old entries) }
+    ensures after { way.AfterAll result (rules_of R.meaning core.old) recording.now.items (past_of core.new)
+        (K.held sink.old) (K.held sink.new) }
+    ensures cause { HasCause FeedStop.WriteFault (K.faults sink.old) (K.faults sink.new) result }
+{
+    let hand = start(alloc, core, runner, site, Hand::Free(store), sink)?;
+    feed_items(alloc, core, runner, site, hand, recording, sink)
+}
+
+/// Lets a core go.
+fn let_core_go<R: Runner>(_core: Core<R>) {}
+
+/// The core, where nothing failed.
+fn core_back<R: Runner>(core: Core<R>, fed: Result<(), FeedStop>) -> Result<Core<R>, FeedStop>
+    ensures { way.IsHandedBack core fed result }
+{
+    match fed {
+        Ok(()) => Ok(core),
+        Err(stop) => {
+            let_core_go(core);
+            Err(stop)
+        }
+    }
 }
 
 /// Feeds a site with a recording, on lane 0, and writes the record of each answer when its run has ended.
@@ -78,39 +266,21 @@ where
     ensures core { IfOk result (way.IsCoreOf runner.now site.now recording.now.seed) }
     ensures ok { IfOk result (λ core. spec.HasFed (rules_by (R.meaning runner.now site.now) recording.now.seed)
         recording.now.items (past_of core) (K.held sink.old) (K.held sink.new)) }
-    ensures err { IfErr result (λ stop. (past : List Entry)
-        × spec.HasFedPart (rules_by (R.meaning runner.now site.now) recording.now.seed) recording.now.items past stop
-        (K.held sink.old) (K.held sink.new)) }
+    ensures err { IfErr result (λ stop. way.HasNotBegun stop (K.held sink.old) (K.held sink.new)
+        ⊎ ((past : List Entry) × spec.HasFedPart (rules_by (R.meaning runner.now site.now) recording.now.seed)
+        recording.now.items past stop (K.held sink.old) (K.held sink.new))) }
     ensures cause { HasCause FeedStop.WriteFault (K.faults sink.old) (K.faults sink.new) result }
 {
     let store = runner.store()?;
-    let mut core = Core::new(alloc, 0, runner, site, recording.seed)?;
-    let mut clients = Clients::new(alloc);
-    let mut hand = start(alloc, &mut core, runner, site, Hand::Free(store), sink)?;
-    let mut items = recording.items.as_slice();
-    for _ in 0..u32::MAX {
-        let came = match items.split_first() {
-            Some((next, rest)) if may_come(&core, moment_of(next)) => {
-                items = rest;
-                come_turn(alloc, &mut core, runner, site, &mut clients, next, sink)
-            }
-            None if is_calm(&core) => {
-                if core.stopping() {
-                    let_go(hand);
-                    return Ok(core);
-                }
-                stop_turn(alloc, &mut core, sink)
-            }
-            _ => {
-                hand = work_turn(alloc, &mut core, runner, site, hand, sink)?;
-                Ok(())
-            }
-        };
-        if let Err(stop) = came {
-            let_go(hand);
-            return Err(stop);
+    let mut core = match Core::new(alloc, 0, runner, site, recording.seed) {
+        Ok(core) => core,
+        Err(memory) => {
+            let_go::<R>(Hand::Free(store));
+            return Err(FeedStop::from(memory));
         }
-    }
-    let_go(hand);
-    Err(FeedStop::Memory)
+    };
+    let fed = feed_core(alloc, &mut core, runner, site, store, recording, sink);
+    // The journal is valid.
+    let _ = core.journal();
+    core_back(core, fed)
 }

@@ -1,0 +1,99 @@
+-- How the first run is taken to its end.
+use Rattle.std.proofs.Common.{◌≡◌, ℕ, ◌++◌, ◌&&◌, Bool, true, false, not, is_some, List, [], ◌∷◌, refl, ap, sym, ◌∙◌, subst, append-nil}
+use Rattle.std.proofs.Common.{Option, Result, Ok, Err, IfErr, IfOk, OnOk, ◌<◌, ◌≤◌, ◌^◌}
+use Rattle.asp_core.specs.Kernel.{CoreView, IsHostOf, grown, past_of, rules_of}
+use Rattle.asp_core.specs.Telling.{end_kind}
+use Rattle.asp_io.specs.Faults.{HasCause}
+use Rattle.asp_job.specs.declared.entry.Entry.{Entry}
+use Rattle.asp_job.specs.Rules.{Rules}
+use Rattle.asp_job.specs.Told.{Meaning}
+use Rattle.asp_record.specs.declared.recording.Item.{Item}
+use Rattle.asp_replay.specs.declared.stop.FeedStop.{FeedStop}
+use Rattle.asp_replay.specs.declared.stop.FeedStop.TheVariants as stop
+use Rattle.asp_replay.specs.Feeding.{Clients, is_calm}
+use Rattle.asp_replay.specs.Sequential.{IsBusy}
+use Rattle.asp_replay.specs.Underway.{After, EndsSo, IsUnderWay, is_starting}
+use Rattle.asp_replay.proofs.Grown.{ends_here}
+use Rattle.asp_replay.proofs.Turning.{grown_both}
+
+pub grown_none : {R Site : Type 0} → (core : CoreView R Site) → core ≡ grown core []
+grown_none core =
+    ap (λ journal. record { journal = journal; runner = core.runner; site = core.site; seed = core.seed })
+    (sym (append-nil core.journal))
+
+pub host_grown : {R Site : Type 0} → (old new : CoreView R Site) (entries : List Entry) (runner : R) (site : Site)
+    → new ≡ grown old entries → IsHostOf old runner site → IsHostOf new runner site
+host_grown old new entries runner site is host =
+    rw is (record { runner_is = host.runner_is; site_is = host.site_is })
+
+pub rules_grown : {R Site : Type 0} → (meaning : R → Site → Meaning) (old new : CoreView R Site) (entries : List Entry)
+    → new ≡ grown old entries → rules_of meaning new ≡ rules_of meaning old
+rules_grown meaning old new entries is = ap (λ core. rules_of meaning core) is
+
+pub grown_more : {R Site : Type 0} → (old mid new : CoreView R Site) → ((first : List Entry) × (mid ≡ grown old first))
+    → ((second : List Entry) × (new ≡ grown mid second)) → (all : List Entry) × (new ≡ grown old all)
+grown_more old mid new one two =
+    (one.0 ++ two.0, two.1 ∙ ap (λ core. grown core two.0) one.1 ∙ grown_both old one.0 two.0)
+
+both_parts : (a b : Bool) → not a && not b ≡ true → (a ≡ false) × (b ≡ false)
+both_parts true b e = absurd cc
+both_parts false true e = absurd cc
+both_parts false false e = (refl, refl)
+
+pub starting_parts : (past : List Entry) → is_starting past ≡ true
+    → (is_some (end_kind past 1) ≡ false) × (is_calm past ≡ false)
+starting_parts past e = both_parts (is_some (end_kind past 1)) (is_calm past) e
+
+-- no item may come before the first run has ended
+pub starting_busy : (past : List Entry) (left : List Item) → is_starting past ≡ true → IsBusy past left
+starting_busy past [] e = (starting_parts past e).1
+starting_busy past (next ∷ left) e = let none = (starting_parts past e).0 in rw none refl
+
+-- it is handed back that memory ran out
+pub memory_ends : {T : Type 0} → (m : Rules) (items : List Item) (past : List Entry) (clients : Clients)
+    (left : List Item) (before held : Option (List ℕ)) (result : Result T FeedStop)
+    → IfErr result (λ ended. ended ≡ stop.Memory) → IsUnderWay m items past clients left before held
+    → After result m items past clients left before held
+memory_ends m items past clients left before held (Ok given) ended is = is
+memory_ends m items past clients left before held (Err other) ended is =
+    rw ended (ends_here m items past clients left before held stop.Memory is tt)
+
+pub after_rules : {T : Type 0} → (m other : Rules) (items left : List Item) (past : List Entry) (clients : Clients)
+    (before after : Option (List ℕ)) (result : Result T FeedStop) → m ≡ other
+    → After result m items past clients left before after → After result other items past clients left before after
+after_rules m other items left past clients before after result same is =
+    subst (λ some. After result some items past clients left before after) same is
+
+pub under_rules : (m other : Rules) (items left : List Item) (past : List Entry) (clients : Clients)
+    (before after : Option (List ℕ)) → m ≡ other → IsUnderWay m items past clients left before after
+    → IsUnderWay other items past clients left before after
+under_rules m other items left past clients before after same is =
+    subst (λ some. IsUnderWay some items past clients left before after) same is
+
+-- ---- answers
+
+pub ok_each : {T E : Type 0} → (result : Result T E) (P Q : T → Type 0) → IfOk result P → ((x : T) → P x → Q x)
+    → IfOk result Q
+ok_each (Ok given) P Q holds to = to given holds
+ok_each (Err e) P Q holds to = tt
+
+pub ok_all : {T E : Type 0} → (result : Result T E) (P : T → Type 0) (Q : Type 0) → IfOk result P → ((x : T) → P x → Q)
+    → OnOk result Q
+ok_all (Ok given) P Q holds to = to given holds
+ok_all (Err e) P Q holds to = tt
+
+memory_is_none : stop.Memory ≡ stop.WriteFault → ⊥
+memory_is_none e = absurd cc
+
+-- memory alone is no fault of the sink
+pub memory_cause : {T : Type 0} → (old new : ℕ) (result : Result T FeedStop) → old ≤ new
+    → (old < 2 ^ 64 → new < 2 ^ 64) → IfErr result (λ ended. ended ≡ stop.Memory)
+    → HasCause stop.WriteFault old new result
+memory_cause old new (Ok given) later within only =
+    record { later = later; within = within; failed = λ e. absurd cc }
+memory_cause old new (Err ended) later within only =
+    record {
+      later = later;
+      within = within;
+      failed = λ e. absurd (let same : ended ≡ stop.WriteFault = cc in memory_is_none (sym only ∙ same));
+    }
