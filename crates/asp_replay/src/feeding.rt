@@ -171,6 +171,7 @@ fn feed_items<R, K>(
     core: &mut Core<R>,
     runner: &R,
     site: &R::Site,
+    clients: &mut Clients,
     mut hand: Hand<R>,
     recording: &Recording,
     sink: &mut K,
@@ -184,23 +185,28 @@ where
     requires hand { Fits R.meaning R.stands core.old 0 (run_in hand) }
     requires started { is_some (end_kind (past_of core.old) 1) ≡ true }
     requires under { (before : Option (List ℕ)) × way.IsUnderWay (rules_of R.meaning core.old) recording.now.items
-        (past_of core.old) [] recording.now.items before (K.held sink.old) }
+        (past_of core.old) clients.old.entries recording.now.items before (K.held sink.old) }
     ensures grows { (entries : List Entry) × (core.new ≡ grown core.old entries) }
     ensures after { (before : Option (List ℕ))
-        → way.IsUnderWay (rules_of R.meaning core.old) recording.now.items (past_of core.old) []
+        → way.IsUnderWay (rules_of R.meaning core.old) recording.now.items (past_of core.old) clients.old.entries
         recording.now.items before (K.held sink.old)
         → way.AfterAll result (rules_of R.meaning core.old) recording.now.items (past_of core.new) before
         (K.held sink.new) }
     ensures cause { HasCause FeedStop.WriteFault (K.faults sink.old) (K.faults sink.new) result }
 {
-    let mut clients = Clients::new(alloc);
     let mut items = recording.items.as_slice();
     for _ in 0..u32::MAX {
         if is_over(core, items) {
             let_go(hand);
             return Ok(());
         }
-        (hand, items) = turn(alloc, core, runner, site, &mut clients, hand, items, sink)?;
+        match turn(alloc, core, runner, site, clients, hand, items, sink) {
+            Ok((next, left)) => {
+                hand = next;
+                items = left;
+            }
+            Err(stop) => return Err(stop),
+        }
     }
     let_go(hand);
     Err(FeedStop::Memory)
@@ -212,6 +218,7 @@ fn feed_core<R, K>(
     core: &mut Core<R>,
     runner: &R,
     site: &R::Site,
+    clients: &mut Clients,
     store: R::Store,
     recording: &Recording,
     sink: &mut K,
@@ -223,14 +230,17 @@ where
     K: Sink,
     requires host { IsHostOf core.old runner.now site.now }
     requires first { core.old.journal ≡ with_lane 0 (What.Queue 1 Work.Start 0) ∷ [] }
+    requires none { clients.old.entries ≡ [] }
     requires sound { IsSound recording.now }
     ensures grows { (entries : List Entry) × (core.new ≡ grown core.old entries) }
     ensures after { way.AfterAll result (rules_of R.meaning core.old) recording.now.items (past_of core.new)
         (K.held sink.old) (K.held sink.new) }
     ensures cause { HasCause FeedStop.WriteFault (K.faults sink.old) (K.faults sink.new) result }
 {
-    let hand = start(alloc, core, runner, site, Hand::Free(store), sink)?;
-    feed_items(alloc, core, runner, site, hand, recording, sink)
+    match start(alloc, core, runner, site, Hand::Free(store), sink) {
+        Ok(hand) => feed_items(alloc, core, runner, site, clients, hand, recording, sink),
+        Err(stop) => Err(stop),
+    }
 }
 
 /// Lets a core go.
@@ -279,7 +289,17 @@ where
             return Err(FeedStop::from(memory));
         }
     };
-    let fed = feed_core(alloc, &mut core, runner, site, store, recording, sink);
+    let mut clients = Clients::new(alloc);
+    let fed = feed_core(
+        alloc,
+        &mut core,
+        runner,
+        site,
+        &mut clients,
+        store,
+        recording,
+        sink,
+    );
     // The journal is valid.
     let _ = core.journal();
     core_back(core, fed)

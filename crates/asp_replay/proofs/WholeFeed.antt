@@ -1,0 +1,68 @@
+-- A recording that was fed to its end.
+use Rattle.std.proofs.Common.{◌≡◌, ℕ, ◌&&◌, Bool, true, false, is_some, List, [], ◌∷◌, refl, ap, sym, ◌∙◌, subst, inl, inr}
+use Rattle.std.proofs.Common.{Option, Some, None, Result, Ok, Err}
+use Rattle.asp_core.specs.Kernel.{CoreView, grown, past_of}
+use Rattle.asp_core.specs.Telling.{end_kind, kind_in}
+use Rattle.asp_core.proofs.Kept.{past_of_more}
+use Rattle.asp_job.specs.declared.entry.EndKind.{EndKind}
+use Rattle.asp_job.specs.declared.entry.Entry.{Entry}
+use Rattle.asp_job.specs.Journal.{past_after}
+use Rattle.asp_job.specs.Rules.{Rules}
+use Rattle.asp_job.specs.Runs.{is_stopping}
+use Rattle.asp_record.specs.declared.recording.Item.{Item}
+use Rattle.asp_replay.specs.Feed.{HasFed}
+use Rattle.asp_replay.specs.Feeding.{Clients, IsFed, is_calm}
+use Rattle.asp_replay.specs.Underway.{IsUnderWay, StandsAt, is_over}
+use Rattle.std.specs.Option.{option_or}
+
+-- ---- the first run has ended for good
+
+still_some : (found before : Option EndKind) → is_some before ≡ true → is_some (option_or found before) ≡ true
+still_some None before some = some
+still_some (Some kind) before some = refl
+
+kind_after : (past entries : List Entry) → is_some (end_kind past 1) ≡ true
+    → is_some (end_kind (past_after past entries) 1) ≡ true
+kind_after past [] some = some
+kind_after past (entry ∷ entries) some =
+    kind_after (entry ∷ past) entries (still_some (kind_in 1 entry.what) (end_kind past 1) some)
+
+pub kind_grown : {R Site : Type 0} → (old new : CoreView R Site) → ((entries : List Entry) × (new ≡ grown old entries))
+    → is_some (end_kind (past_of old) 1) ≡ true → is_some (end_kind (past_of new) 1) ≡ true
+kind_grown old new grows some =
+    subst (λ past. is_some (end_kind past 1) ≡ true)
+    (sym (ap past_of grows.1 ∙ past_of_more old.journal grows.0)) (kind_after (past_of old) grows.0 some)
+
+-- ---- the end
+
+and_parts : (a b : Bool) → a && b ≡ true → (a ≡ true) × (b ≡ true)
+and_parts true b e = (refl, e)
+and_parts false b e = absurd cc
+
+fed_of : (items : List Item) (past : List Entry) (clients : Clients) (left : List Item) → is_stopping past ≡ true
+    → StandsAt items past clients left → IsFed items past
+fed_of items past clients left stopped (inl feeding) =
+    absurd (let both : true ≡ false = sym stopped ∙ feeding.open_still in cc)
+fed_of items past clients left stopped (inr fed) = fed.fed
+
+pub over_fed : (m : Rules) (items : List Item) (past : List Entry) (clients : Clients) (left : List Item)
+    (before after : Option (List ℕ)) → is_over past left ≡ true
+    → IsUnderWay m items past clients left before after → HasFed m items past before after
+over_fed m items past clients [] before after over is =
+    let both = and_parts (is_stopping past) (is_calm past) over in
+    record {
+      whole = record {
+        fed = fed_of items past clients [] both.0 is.stands;
+        ended = both.1;
+        none_full = is.lane.none_full;
+        sequential = λ none. (let turns = is.turns none in record {
+          count = turns.0;
+          clients = clients;
+          turns = turns.1;
+          stopped = both.0;
+          calm = both.1;
+        });
+      };
+      written = is.written;
+    }
+over_fed m items past clients (next ∷ left) before after over is = absurd cc
