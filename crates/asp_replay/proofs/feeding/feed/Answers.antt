@@ -1,0 +1,44 @@
+use Rattle.std.proofs.Common.{sym, subst, ◌∙◌}
+use Rattle.asp_core.specs.Kernel.{past_of, rules_by, rules_of}
+use Rattle.asp_job.specs.Journal.{IsValidJournal}
+use Rattle.asp_replay.specs.Underway.{IsCoreOf}
+use Rattle.asp_replay.proofs.FedBack.{core_handed, core_still, fed_handed, rules_here, stop_handed}
+use Rattle.asp_replay.proofs.Starting.{rules_grown}
+use Rattle.asp_replay.proofs.feeding.feed.Goals as goal
+
+pub returns-clause-core : goal.returns-clause-core
+returns-clause-core g c =
+    let still = core_still c.in-Ok.core c.feed_core-fed.new.core c.args.runner.now c.args.site.now
+    c.args.recording.now.seed c.in-Ok.ensures.host c.in-Ok.ensures.seed c.feed_core-fed.ensures.grows in
+    core_handed c.feed_core-fed.result c.feed_core-fed.new.core c.core_back.result
+    (IsCoreOf c.args.runner.now c.args.site.now c.args.recording.now.seed) c.core_back.ensures still
+
+pub returns-clause-ok : goal.returns-clause-ok
+returns-clause-ok g c =
+    let meaning = g.R.Runner.meaning in
+    let seed = c.args.recording.now.seed in
+    let here : IsCoreOf c.args.runner.now c.args.site.now seed c.in-Ok.core = record {
+      runner_is = sym c.in-Ok.ensures.host.runner_is;
+      site_is = sym c.in-Ok.ensures.host.site_is;
+      seed_is = c.in-Ok.ensures.seed;
+    } in
+    fed_handed (rules_of meaning c.in-Ok.core) (rules_by (meaning c.args.runner.now c.args.site.now) seed)
+    c.args.recording.now.items (λ core. past_of core) (g.K.Sink.held c.args.sink.now)
+    (g.K.Sink.held c.feed_core-fed.new.sink) c.feed_core-fed.result c.feed_core-fed.new.core c.core_back.result
+    (rules_here meaning c.in-Ok.core c.args.runner.now c.args.site.now seed here) c.core_back.ensures
+    c.feed_core-fed.ensures.after
+
+pub returns-clause-err : goal.returns-clause-err
+returns-clause-err g c =
+    let meaning = g.R.Runner.meaning in
+    let seed = c.args.recording.now.seed in
+    let still = core_still c.in-Ok.core c.feed_core-fed.new.core c.args.runner.now c.args.site.now seed
+    c.in-Ok.ensures.host c.in-Ok.ensures.seed c.feed_core-fed.ensures.grows in
+    let grows = c.feed_core-fed.ensures.grows in
+    let same = rules_grown meaning c.in-Ok.core c.feed_core-fed.new.core grows.0 grows.1 in
+    stop_handed (rules_of meaning c.in-Ok.core) (rules_by (meaning c.args.runner.now c.args.site.now) seed)
+    c.args.recording.now.items (past_of c.feed_core-fed.new.core) (g.K.Sink.held c.args.sink.now)
+    (g.K.Sink.held c.feed_core-fed.new.sink) c.feed_core-fed.result c.feed_core-fed.new.core c.core_back.result
+    (sym same ∙ rules_here meaning c.feed_core-fed.new.core c.args.runner.now c.args.site.now seed still)
+    (subst (λ m. IsValidJournal m (past_of c.feed_core-fed.new.core)) same c.journal.ensures.valid)
+    c.core_back.ensures c.feed_core-fed.ensures.after
