@@ -1,6 +1,6 @@
 -- What is in hand stays while entries come that begin no run and are no steps of one.
-use Rattle.std.proofs.Common.{◌≡◌, ℕ, ◌+◌, ◌≤◌, ◌==◌, ◌++◌, Bool, true, false, List, [], ◌∷◌, filter, length, reverse, refl, ap, sym, ◌∙◌}
-use Rattle.std.proofs.Common.{subst, append-nil, if◌then◌else◌, inl, inr, Option, Some, None, arith}
+use Rattle.std.proofs.Common.{◌≡◌, ℕ, ◌+◌, ◌≤◌, ◌==◌, ◌++◌, Bool, true, false, List, [], ◌∷◌, filter, refl, ap, sym, ◌∙◌}
+use Rattle.std.proofs.Common.{subst, append-nil, if◌then◌else◌, inl, inr, Option, Some, None}
 use Rattle.std.proofs.lemmas.Bool.{cases_lt}
 use Rattle.asp_job.specs.declared.answer.Answer.{Answer}
 use Rattle.asp_job.specs.declared.entry.Entry.{Entry}
@@ -24,7 +24,7 @@ use Rattle.asp_core.proofs.Numbers.{filter_more, filter_same}
 use Rattle.asp_core.proofs.Others.{other_number, own_number, stage_other}
 use Rattle.asp_core.proofs.Right.{drawn_next}
 use Rattle.asp_core.proofs.Staying.{stays}
-use Rattle.asp_lane.specs.Turns.{Fits, IsAlone}
+use Rattle.asp_lane.specs.Turns.{Fits}
 use Rattle.asp_replay.specs.Sequential.{hand_outs}
 
 -- whether an entry begins no run, and is no step of one

@@ -1,5 +1,5 @@
 -- What is handed back of a feed.
-use Rattle.std.proofs.Common.{◌≡◌, ◌⊎◌, ℕ, List, refl, ap, sym, ◌∙◌, subst, inr, Option, Result, Ok, Err, IfErr, IfOk}
+use Rattle.std.proofs.Common.{◌≡◌, ◌⊎◌, ℕ, List, ap, sym, ◌∙◌, subst, inr, Option, Result, Ok, Err, IfErr, IfOk}
 use Rattle.asp_core.specs.Kernel.{CoreView, IsHostOf, grown, rules_by, rules_of}
 use Rattle.asp_job.specs.declared.entry.Entry.{Entry}
 use Rattle.asp_job.specs.Journal.{IsValidJournal}
@@ -48,9 +48,12 @@ pub stop_handed : {T Core : Type 0} → (m other : Rules) (items : List Item) (p
     ⊎ ((some : List Entry) × HasFedPart other items some ended before after))
 stop_handed m other items past before after (Ok given) core back same valid is holds = rw is tt
 stop_handed m other items past before after (Err ended) core back same valid is holds =
-    rw is (inr (past, subst (λ some. HasFedPart some items past ended before after) same (record {
-      account = valid;
-      fed = holds.fed;
-      cause = holds.cause;
-      written = holds.written;
-    })))
+    rw is (inr (
+      past,
+      subst (λ some. HasFedPart some items past ended before after) same (record {
+        account = valid;
+        fed = holds.fed;
+        cause = holds.cause;
+        written = holds.written;
+      }),
+    ))

@@ -1,8 +1,8 @@
 -- Where a feed stands when its journal has grown, and the answers that then wait were handed out.
-use Rattle.std.proofs.Common.{◌≡◌, ◌⊎◌, ℕ, ◌<◌, ◌≤◌, ◌&&◌, ◌||◌, Bool, true, false, List, [], ◌∷◌, ◌++◌, length, reverse, refl, ap, sym}
+use Rattle.std.proofs.Common.{◌≡◌, ℕ, ◌<◌, ◌&&◌, ◌||◌, Bool, true, false, List, [], ◌∷◌, ◌++◌, length, reverse, refl, ap, sym}
 use Rattle.std.proofs.Common.{◌∙◌, subst, append-nil, append_assoc, inl, inr, arith, is_some, nat_le, nat_lt, Option, Result, Ok, Err}
 use Rattle.std.proofs.lemmas.List.{reverse-append}
-use Rattle.asp_core.specs.Kernel.{CoreView, grown, past_of, rules_of}
+use Rattle.asp_core.specs.Kernel.{CoreView, past_of, rules_of}
 use Rattle.asp_core.specs.Ready.{IsAnswered, ready}
 use Rattle.asp_core.specs.Telling.{end_kind}
 use Rattle.asp_core.proofs.Kept.{past_of_more}
@@ -21,11 +21,11 @@ use Rattle.asp_record.specs.declared.recording.Item.TheVariants as item
 use Rattle.asp_record.specs.Recorded as recorded
 use Rattle.asp_replay.specs.declared.stop.FeedStop.{FeedStop}
 use Rattle.asp_replay.specs.declared.stop.FeedStop.TheVariants as stop
-use Rattle.asp_replay.specs.Feed.{ArePartWritten, HasCause}
+use Rattle.asp_replay.specs.Feed.{HasCause}
 use Rattle.asp_replay.specs.Feeding.{Clients, HasCome, IsFedPart, comes, is_calm, moment_by}
 use Rattle.asp_replay.specs.Sequential.{Adds, HasInHand, IsBusy, hand_outs, handed_out, may_come}
 use Rattle.asp_replay.specs.Shown.{AreRecords, Shown, shown_of}
-use Rattle.asp_replay.specs.Underway.{After, AreTurnsTo, EndsSo, HandsOut, HasAllFed, IsFeeding, IsOfOneLane, IsOfWriting}
+use Rattle.asp_replay.specs.Underway.{After, AreTurnsTo, EndsSo, HandsOut, IsOfOneLane, IsOfWriting}
 use Rattle.asp_replay.specs.Underway.{IsUnderWay, StandsAt, WorkAdds, stamped}
 use Rattle.asp_replay.proofs.Aside.{AreAside, aside_admitted, aside_ticked}
 use Rattle.asp_replay.proofs.Current.{is_tick_or_take}

@@ -1,6 +1,6 @@
 -- What one turn of a feed is.
-use Rattle.std.proofs.Common.{◌≡◌, ℕ, ◌+◌, ◌<◌, ◌≤◌, ◌&&◌, ◌||◌, Bool, true, false, is_some, nat_le, nat_lt, List, [], ◌∷◌, length, filter}
-use Rattle.std.proofs.Common.{refl, ap, sym, ◌∙◌, subst, inl, inr, Option, Result, Ok, Err}
+use Rattle.std.proofs.Common.{◌≡◌, ℕ, ◌&&◌, ◌||◌, Bool, true, false, is_some, nat_le, nat_lt, List, [], ◌∷◌, length, filter}
+use Rattle.std.proofs.Common.{refl, sym, ◌∙◌, inl, inr, Option, Result, Ok, Err}
 use Rattle.std.proofs.lemmas.Bool.{cases_Bool}
 use Rattle.std.specs.Borrow.{Bor}
 use Rattle.asp_core.specs.Telling.{end_kind}
@@ -8,14 +8,13 @@ use Rattle.asp_job.specs.declared.entry.Entry.{Entry}
 use Rattle.asp_job.specs.declared.entry.TheConstants.{MOST_WAITING}
 use Rattle.asp_job.specs.Rules.{Rules}
 use Rattle.asp_job.specs.Running.{is_page}
-use Rattle.asp_job.specs.Runs.{drawn, is_waiting, job_of, moment_of, numbers, waiting}
+use Rattle.asp_job.specs.Runs.{drawn, is_waiting, job_of, moment_of, numbers}
 use Rattle.asp_job.specs.Turns.{waiting_pages}
 use Rattle.asp_record.specs.declared.recording.Item.{Item}
-use Rattle.asp_record.specs.Recorded as recorded
 use Rattle.asp_replay.specs.declared.stop.FeedStop.{FeedStop}
 use Rattle.asp_replay.specs.Feeding.{Clients, is_calm}
-use Rattle.asp_replay.specs.Sequential.{IsBusy, may_come}
-use Rattle.asp_replay.specs.Underway.{After, AfterTurn, IsHandedBack, IsUnderWay}
+use Rattle.asp_replay.specs.Sequential.{may_come}
+use Rattle.asp_replay.specs.Underway.{After, AfterTurn, IsHandedBack}
 use Rattle.asp_replay.proofs.Current.{calm_waiting}
 
 -- where no number passes a test, none passes that and another

@@ -1,18 +1,16 @@
 -- Entries of lane 0 that halt nothing, and end no run because the journal was full.
-use Rattle.std.proofs.Common.{◌≡◌, ℕ, ◌+◌, ◌++◌, Bool, true, false, if◌then◌else◌, List, [], ◌∷◌, refl, ap, ◌∙◌, All, inl, inr}
+use Rattle.std.proofs.Common.{◌≡◌, ℕ, ◌+◌, ◌++◌, Bool, true, false, if◌then◌else◌, List, [], ◌∷◌, refl, inl, inr}
 use Rattle.std.proofs.lemmas.Bool.{cases_lt}
 use Rattle.std.proofs.lemmas.List.Elements.{All-cons}
-use Rattle.vb_value.specs.declared.application.AppCall.{AppCall}
 use Rattle.asp_core.specs.Laws.{NoneIs}
 use Rattle.asp_core.proofs.Kept.{no_tick_is, tick_is}
 use Rattle.asp_job.specs.declared.answer.Answer.{Answer}
-use Rattle.asp_job.specs.declared.entry.EndKind.TheVariants as kind
 use Rattle.asp_job.specs.declared.entry.Entry.{Entry}
-use Rattle.asp_job.specs.declared.entry.What.TheVariants.{Admit, Refuse, Stop, Tick}
+use Rattle.asp_job.specs.declared.entry.What.TheVariants.{Admit, Refuse, Stop}
 use Rattle.asp_job.specs.declared.job.Job.{Job}
 use Rattle.asp_job.specs.declared.job.Work.{Work}
-use Rattle.asp_job.specs.History.{call_entry, with_lane}
-use Rattle.asp_job.specs.Journal.{admit_entries, admit_entry, begin_entry, end_entry, is_refused, job_now, past_after}
+use Rattle.asp_job.specs.History.{with_lane}
+use Rattle.asp_job.specs.Journal.{admit_entries, admit_entry, begin_entry, is_refused, job_now, past_after}
 use Rattle.asp_job.specs.Journal.{queue_entries, stop_entries, tick_entries}
 use Rattle.asp_job.specs.Keys.{due_at, session_of}
 use Rattle.asp_job.specs.Rules.{Rules}

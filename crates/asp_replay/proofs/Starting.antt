@@ -1,7 +1,7 @@
 -- How the first run is taken to its end.
 use Rattle.std.proofs.Common.{◌≡◌, ℕ, ◌++◌, ◌&&◌, Bool, true, false, not, is_some, List, [], ◌∷◌, refl, ap, sym, ◌∙◌, subst, append-nil}
 use Rattle.std.proofs.Common.{Option, Result, Ok, Err, IfErr, IfOk, OnOk, ◌<◌, ◌≤◌, ◌^◌}
-use Rattle.asp_core.specs.Kernel.{CoreView, IsHostOf, grown, past_of, rules_of}
+use Rattle.asp_core.specs.Kernel.{CoreView, IsHostOf, grown, rules_of}
 use Rattle.asp_core.specs.Telling.{end_kind}
 use Rattle.asp_io.specs.Faults.{HasCause}
 use Rattle.asp_job.specs.declared.entry.Entry.{Entry}
@@ -12,7 +12,7 @@ use Rattle.asp_replay.specs.declared.stop.FeedStop.{FeedStop}
 use Rattle.asp_replay.specs.declared.stop.FeedStop.TheVariants as stop
 use Rattle.asp_replay.specs.Feeding.{Clients, is_calm}
 use Rattle.asp_replay.specs.Sequential.{IsBusy}
-use Rattle.asp_replay.specs.Underway.{After, EndsSo, IsUnderWay, is_starting}
+use Rattle.asp_replay.specs.Underway.{After, IsUnderWay, is_starting}
 use Rattle.asp_replay.proofs.Grown.{ends_here}
 use Rattle.asp_replay.proofs.Turning.{grown_both}
 

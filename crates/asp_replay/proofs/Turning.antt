@@ -17,13 +17,13 @@ use Rattle.asp_job.specs.Rules.{Rules}
 use Rattle.asp_replay.specs.declared.stop.FeedStop.{FeedStop}
 use Rattle.asp_replay.specs.declared.stop.FeedStop.TheVariants as stop
 use Rattle.asp_replay.specs.Feed.{HasCause}
-use Rattle.asp_replay.specs.Feed.IsTooMuchNext.{OfItem, OfStop, OfBegin, OfCall}
+use Rattle.asp_replay.specs.Feed.IsTooMuchNext.{OfItem, OfStop}
 use Rattle.asp_replay.specs.Feeding.{Clients, is_calm}
 use Rattle.asp_replay.specs.Sequential.{Adds, IsBusy, hand_outs, may_come}
 use Rattle.asp_replay.specs.Underway.{After, AreOfLane, EndsSo, HandsOut, IsItemTooMuch, IsOfOneLane, IsOfWriting, IsUnderWay}
 use Rattle.asp_replay.specs.Underway.{IsHandedBack, WorkAdds, Works, turn_stop}
-use Rattle.asp_replay.proofs.Aside.{AreAside, aside_handed, aside_stopped, fits_still}
-use Rattle.asp_replay.proofs.Grown.{IsGrown, come_grown, ends_here, handed_after, item_aside, item_stays, stays_of, stop_grown}
+use Rattle.asp_replay.proofs.Aside.{AreAside, aside_handed, fits_still}
+use Rattle.asp_replay.proofs.Grown.{IsGrown, come_grown, ends_here, handed_after, item_stays, stays_of, stop_grown}
 use Rattle.asp_replay.proofs.Grown.{work_grown}
 use Rattle.asp_replay.proofs.Plain.{plain_stopped, stays_plain, stays_worked}
 

@@ -1,17 +1,17 @@
 -- What the work of a turn leaves of a core.
-use Rattle.std.proofs.Common.{◌≡◌, ℕ, ◌&&◌, Bool, true, false, List, [], ◌∷◌, ◌++◌, append_assoc, refl, ap, sym, ◌∙◌, subst}
+use Rattle.std.proofs.Common.{◌≡◌, ℕ, ◌&&◌, true, false, List, [], ◌∷◌, append_assoc, refl, ap, sym, ◌∙◌, subst}
 use Rattle.std.proofs.Common.{inl, inr, length, ◌==◌, Option, Some, None}
 use Rattle.asp_job.specs.declared.entry.Entry.{Entry}
 use Rattle.asp_job.specs.Journal.{AreRight, begin_entry, past_after}
 use Rattle.asp_job.specs.Runs.{is_halted, unfinished, waiting}
 use Rattle.asp_job.specs.Told.{Meaning, Told}
-use Rattle.asp_job.specs.Turns.{IsBegin, serial_of}
+use Rattle.asp_job.specs.Turns.{serial_of}
 use Rattle.asp_core.specs.Kernel.{CoreView, RunView, grown, past_of, rules_of}
 use Rattle.asp_core.specs.Ready.{ready}
 use Rattle.asp_core.proofs.Past.{past_push}
 use Rattle.asp_lane.specs.declared.turn.Turn.{Turn}
 use Rattle.asp_lane.specs.declared.turn.Turn.TheVariants as turn
-use Rattle.asp_lane.specs.Turns.{Adds, AddsBegin, AddsStep, Fits, IsTurn}
+use Rattle.asp_lane.specs.Turns.{AddsBegin, AddsStep, Fits, IsTurn}
 use Rattle.asp_lane.proofs.Turns.{grown_none}
 use Rattle.asp_lane.proofs.Unfinished.{begun_alone}
 use Rattle.asp_replay.specs.Feeding.{is_calm}

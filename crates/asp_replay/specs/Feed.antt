@@ -1,6 +1,5 @@
 -- What a recording leaves that was fed to a host, and what one leaves that was not fed to its end.
-use Rattle.std.specs.Prelude.{◌≡◌, ◌⊎◌, ℕ, Bool, true, false, ⊤, List, [], ◌∷◌, ◌++◌, Option}
-use Rattle.vb_value.specs.declared.application.AppCall.{AppCall}
+use Rattle.std.specs.Prelude.{◌≡◌, ℕ, Bool, true, false, ⊤, List, ◌++◌, Option}
 use Rattle.asp_core.specs.Kernel.{IsBeginTooMuch, IsTooMuch}
 use Rattle.asp_core.specs.Laws.{NoneIs}
 use Rattle.asp_io.specs.Copying.{AddsPart}

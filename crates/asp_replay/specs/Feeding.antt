@@ -1,7 +1,7 @@
 -- Which journals a recording feeds. Items and events are given with the newest first, as pasts are. All of it is the
 -- profile's.
-use Rattle.std.specs.Prelude.{◌≡◌, ◌⊎◌, ℕ, ◌==◌, ◌&&◌, ◌||◌, Bool, true, false, if◌then◌else◌, nat_eq, nat_le, nat_lt}
-use Rattle.std.specs.Prelude.{List, [], ◌∷◌, ◌++◌, length, reverse, Option, Some, None}
+use Rattle.std.specs.Prelude.{◌≡◌, ◌⊎◌, ℕ, ◌==◌, ◌&&◌, Bool, true, false, if◌then◌else◌, nat_eq, nat_lt}
+use Rattle.std.specs.Prelude.{List, [], ◌∷◌, ◌++◌, length, reverse, Some, None}
 use Rattle.std.specs.Map.{lookup}
 use Rattle.indexmap.specs.IndexMap.{insert_entry}
 use Rattle.httparse.specs.Grammar.{RequestHead}
@@ -16,7 +16,7 @@ use Rattle.asp_job.specs.declared.job.Asked.TheVariants.{Cookie, Key, Fresh}
 use Rattle.asp_job.specs.declared.job.Job.{Job}
 use Rattle.asp_job.specs.declared.job.Work.TheVariants.{Page}
 use Rattle.asp_job.specs.declared.request.Request as request
-use Rattle.asp_job.specs.Runs.{has_ended, moment_of, unfinished, waiting}
+use Rattle.asp_job.specs.Runs.{unfinished, waiting}
 use Rattle.asp_record.specs.declared.recording.Item.{Item}
 use Rattle.asp_record.specs.declared.recording.Item.TheVariants as item
 use Rattle.asp_record.specs.Recorded as recorded

@@ -1,5 +1,5 @@
 -- The history of one lane that is fed by a recording. All of it is the profile's.
-use Rattle.std.specs.Prelude.{◌≡◌, ◌⊎◌, ℕ, zero, suc, ◌&&◌, ◌||◌, Bool, true, false, if◌then◌else◌, nat_le, nat_lt}
+use Rattle.std.specs.Prelude.{◌≡◌, ◌⊎◌, ℕ, zero, suc, ◌&&◌, ◌||◌, Bool, true, false, nat_le, nat_lt}
 use Rattle.std.specs.Prelude.{List, [], ◌∷◌, is_some, length, map}
 use Rattle.vb_value.specs.declared.application.AppCall.{AppCall}
 use Rattle.asp_job.specs.declared.answer.Answer.{Answer}
@@ -11,7 +11,7 @@ use Rattle.asp_job.specs.declared.entry.What.TheVariants as what
 use Rattle.asp_job.specs.declared.job.Job.{Job}
 use Rattle.asp_job.specs.declared.job.Work.TheVariants as work
 use Rattle.asp_job.specs.History.{call_entry, with_lane}
-use Rattle.asp_job.specs.Journal.{MayEnd, admit_entries, admit_entry, begin_entry, end_entry, past_after, stop_entries}
+use Rattle.asp_job.specs.Journal.{MayEnd, admit_entries, begin_entry, end_entry, past_after, stop_entries}
 use Rattle.asp_job.specs.Journal.{tick_entries}
 use Rattle.asp_job.specs.Keys.{told}
 use Rattle.asp_job.specs.Rules.{Rules}

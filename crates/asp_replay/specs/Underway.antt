@@ -14,8 +14,6 @@ use Rattle.asp_io.specs.Sink.{with_bytes}
 use Rattle.asp_job.specs.declared.answer.Answer.{Answer}
 use Rattle.asp_job.specs.declared.entry.EndKind.TheVariants as kind
 use Rattle.asp_job.specs.declared.entry.Entry.{Entry}
-use Rattle.asp_job.specs.declared.entry.What.{What}
-use Rattle.asp_job.specs.declared.entry.What.TheVariants as what
 use Rattle.asp_job.specs.Journal.{end_entry, past_after}
 use Rattle.asp_job.specs.Rules.{Rules}
 use Rattle.asp_job.specs.Running.{is_page}
@@ -30,8 +28,8 @@ use Rattle.asp_replay.specs.declared.stop.FeedStop.{FeedStop}
 use Rattle.asp_replay.specs.declared.stop.FeedStop.TheVariants as stop
 use Rattle.asp_replay.specs.Feed.{ArePartWritten, AreWritten, HasCause, HasFed, is_full_end}
 use Rattle.asp_replay.specs.Feeding.{Clients, HasCome, IsFed, IsFedPart, is_calm, moment_by}
-use Rattle.asp_replay.specs.Sequential.{Adds, AreTurns, HasInHand, Place, first_place, hand_outs, is_memory_end}
-use Rattle.asp_replay.specs.Shown.{AreRecords, IsRecord, Shown, shown_of}
+use Rattle.asp_replay.specs.Sequential.{Adds, AreTurns, HasInHand, first_place, hand_outs, is_memory_end}
+use Rattle.asp_replay.specs.Shown.{AreRecords, IsRecord, Shown}
 
 -- ---- stops
 

@@ -1,7 +1,7 @@
 use Rattle.std.proofs.Common.{ap, reverse, subst, sym}
 use Rattle.asp_core.specs.Kernel.{past_of, rules_of}
 use Rattle.asp_job.specs.Runs.{unfinished}
-use Rattle.asp_replay.specs.Underway.{AfterAll, EndsSo, IsUnderWay}
+use Rattle.asp_replay.specs.Underway.{AfterAll}
 use Rattle.asp_replay.proofs.FirstPlace.{core_under}
 use Rattle.asp_replay.proofs.Starting.{grown_more, host_grown, rules_grown, under_rules}
 use Rattle.asp_replay.proofs.feeding.feed_core.Goals as goal

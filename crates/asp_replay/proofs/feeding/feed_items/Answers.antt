@@ -1,4 +1,4 @@
-use Rattle.std.proofs.Common.{◌≡◌, [], arith, false, subst, sym, true}
+use Rattle.std.proofs.Common.{◌≡◌, [], arith, subst, sym, true}
 use Rattle.asp_core.specs.Kernel.{past_of, rules_of}
 use Rattle.asp_replay.specs.declared.stop.FeedStop.TheVariants as stop
 use Rattle.asp_replay.specs.Underway.{EndsSo, IsUnderWay, is_over}

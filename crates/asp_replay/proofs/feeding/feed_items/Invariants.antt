@@ -1,4 +1,4 @@
-use Rattle.std.specs.Prelude.{◌≡◌, ◌<◌, ◌≤◌, ◌^◌, ℕ, [], List, Option, is_some, true}
+use Rattle.std.specs.Prelude.{◌≡◌, ◌<◌, ◌≤◌, ◌^◌, ℕ, List, Option, is_some, true}
 use Rattle.asp_core.specs.Kernel.{grown, past_of, rules_of}
 use Rattle.asp_core.specs.Telling.{end_kind}
 use Rattle.asp_job.specs.declared.entry.Entry.{Entry}

@@ -1,10 +1,9 @@
-use Rattle.std.proofs.Common.{◌≡◌, ◌∷◌, [], List, false, length, subst, sym}
+use Rattle.std.proofs.Common.{◌≡◌, ◌∷◌, [], false, subst, sym}
 use Rattle.asp_core.specs.Kernel.{past_of, rules_of}
-use Rattle.asp_record.specs.declared.recording.Item.{Item}
 use Rattle.asp_record.specs.Recorded as recorded
 use Rattle.asp_replay.specs.Feeding.{is_calm}
 use Rattle.asp_replay.specs.Sequential.{IsBusy, may_come}
-use Rattle.asp_replay.specs.Underway.{After, EndsSo, IsUnderWay}
+use Rattle.asp_replay.specs.Underway.{After, IsUnderWay}
 use Rattle.asp_replay.proofs.OneTurn.{kept_out_busy, nothing_is, turn_back}
 use Rattle.asp_replay.proofs.feeding.turn.Goals as goal
 use Rattle.asp_replay.proofs.feeding.turn.Goals.{in_default-via-in-None+else-is_calm}

@@ -3,7 +3,7 @@ use Rattle.asp_core.specs.Kernel.{past_of, rules_of}
 use Rattle.asp_lane.specs.Turns.{Fits, run_in}
 use Rattle.asp_replay.specs.Underway.{turn_stop}
 use Rattle.asp_replay.proofs.Stopped.{work_ends}
-use Rattle.asp_replay.proofs.Turning.{after_back, fits_back, handed_fits, turn_grows, work_adds, work_after, work_lanes}
+use Rattle.asp_replay.proofs.Turning.{after_back, fits_back, handed_fits, work_adds, work_after, work_lanes}
 use Rattle.asp_replay.proofs.turns.work_turn.Goals as goal
 
 pub returns-in-Some-clause-after : goal.returns-in-Some-clause-after

@@ -2,7 +2,7 @@ use Rattle.std.proofs.Common.{◌≡◌, false, ap, subst, ◌∙◌}
 use Rattle.asp_job.specs.Runs.{unfinished}
 use Rattle.asp_core.specs.Kernel.{past_of}
 use Rattle.asp_lane.specs.Turns.{run_in}
-use Rattle.asp_replay.proofs.Worked.{more_stays, no_step, one_step}
+use Rattle.asp_replay.proofs.Worked.{one_step}
 use Rattle.asp_replay.specs.Underway.{HasStepped, is_more}
 use Rattle.asp_replay.proofs.working.step.Goals as goal
 
