@@ -1,5 +1,6 @@
 -- What is in hand stays while entries come that begin no run and are no steps of one.
-use Rattle.std.proofs.Common.{◌≡◌, ℕ, ◌+◌, ◌≤◌, ◌==◌, ◌++◌, Bool, true, false, List, [], ◌∷◌, filter, refl, ap, sym, ◌∙◌}
+use Rattle.std.proofs.Common.{◌≡◌, ℕ, ◌+◌, ◌≤◌, ◌==◌, ◌++◌, Bool, true, false, List, [], ◌∷◌, filter, refl, ap, sym}
+use Rattle.std.proofs.Common.{◌∙◌}
 use Rattle.std.proofs.Common.{subst, append-nil, if◌then◌else◌, inl, inr, Option, Some, None}
 use Rattle.std.proofs.lemmas.Bool.{cases_lt}
 use Rattle.asp_job.specs.declared.answer.Answer.{Answer}
@@ -9,7 +10,8 @@ use Rattle.asp_job.specs.declared.entry.What.TheVariants.{Admit, App, Begin, End
 use Rattle.asp_job.specs.declared.job.Job.{Job}
 use Rattle.asp_job.specs.declared.job.Work.{Work}
 use Rattle.asp_job.specs.History.{run_in, with_lane}
-use Rattle.asp_job.specs.Journal.{AreRight, IsRight, admit_entries, admit_entry, is_refused, job_now, past_after, queue_entries}
+use Rattle.asp_job.specs.Journal.{AreRight, IsRight, admit_entries, admit_entry, is_refused, job_now, past_after}
+use Rattle.asp_job.specs.Journal.{queue_entries}
 use Rattle.asp_job.specs.Journal.{stop_entries, tick_entries}
 use Rattle.asp_job.specs.Keys.{due_at, session_of, told}
 use Rattle.asp_job.specs.Rules.{Rules}
@@ -55,12 +57,14 @@ drawn_stays : (past : List Entry) (lane : ℕ) (what : What) → drawn (with_lan
 drawn_stays past lane what count number own =
     one_drawn past (with_lane lane what ∷ past) count
     (ap (λ r. is_unfinished (with_lane lane what ∷ past) r) (sym number) ∙ own)
-    (λ r l. ap is_stage_unfinished (stage_other past lane r what (ap (λ n. n == r) number ∙ other_number r (drawn past) l)))
+    (λ r l. ap is_stage_unfinished (stage_other past lane r what (ap (λ n. n == r) number
+    ∙ other_number r (drawn past) l)))
 
 unfinished_stays : (m : Rules) (past : List Entry) (lane : ℕ) (what : What) → IsRight m past (with_lane lane what)
     → is_aside what ≡ true → unfinished (with_lane lane what ∷ past) ≡ unfinished past
 unfinished_stays m past lane (Queue run work key) right e =
-    drawn_stays past lane (Queue run work key) refl (drawn_next m past lane (Queue run work key) (owed m past) right.turn refl)
+    drawn_stays past lane (Queue run work key) refl (drawn_next m past lane (Queue run work key) (owed m past)
+    right.turn refl)
     (rw (own_number run) refl)
 unfinished_stays m past lane (Admit run key fresh job) right e =
     drawn_stays past lane (Admit run key fresh job) refl
@@ -111,7 +115,8 @@ pub fits_still : {R Site State : Type 0} → (meaning : R → Site → Meaning)
     → AreRight (rules_of meaning old) (past_after (past_of old) entries) → AreAside entries
     → Fits meaning stands old 0 in_hand → Fits meaning stands (grown old entries) 0 in_hand
 fits_still meaning stands old entries None right aside fits =
-    ap unfinished (past_of_more old.journal entries) ∙ still_unfinished (rules_of meaning old) (past_of old) entries right aside
+    ap unfinished (past_of_more old.journal entries) ∙ still_unfinished (rules_of meaning old) (past_of old) entries
+    right aside
     ∙ fits
 fits_still meaning stands old entries (Some run) right aside fits =
     let rules = rules_of meaning old in
@@ -173,7 +178,8 @@ aside_admitted m past lane job =
     let now = job_now then_past job in
     aside_both ticked (admit_entry m then_past lane job ∷ []) (aside_ticked m past lane job.moment) (
       aside_admission (is_refused (m.meaning.is_keyed now) (key_asked_by m now) (session_of m then_past) then_past)
-          (drawn then_past + 1) (key_for (m.meaning.is_keyed now) (key_asked_by m now) (session_of m then_past) then_past)
+          (drawn then_past + 1) (key_for (m.meaning.is_keyed now) (key_asked_by m now) (session_of m then_past)
+          then_past)
           (needs_key (m.meaning.is_keyed now) (key_asked_by m now) (session_of m then_past) then_past) now,
       tt,
     )

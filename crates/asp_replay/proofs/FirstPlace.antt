@@ -36,7 +36,8 @@ first_under m items held sound = record {
   lane = record {
     none_ready = refl;
     current = first_current;
-    lanes = All-cons (λ entry. entry.lane ≡ 0) (with_lane 0 (Queue 1 Start 0)) [] refl (All-nil (λ entry. entry.lane ≡ 0));
+    lanes = All-cons (λ entry. entry.lane ≡ 0) (with_lane 0 (Queue 1 Start 0)) [] refl (All-nil (λ entry. entry.lane ≡
+        0));
     going = refl;
     none_full = (refl, tt);
   };

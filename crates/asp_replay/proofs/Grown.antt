@@ -1,6 +1,8 @@
 -- Where a feed stands when its journal has grown, and the answers that then wait were handed out.
-use Rattle.std.proofs.Common.{◌≡◌, ℕ, ◌<◌, ◌&&◌, ◌||◌, Bool, true, false, List, [], ◌∷◌, ◌++◌, length, reverse, refl, ap, sym}
-use Rattle.std.proofs.Common.{◌∙◌, subst, append-nil, append_assoc, inl, inr, arith, is_some, nat_le, nat_lt, Option, Result, Ok, Err}
+use Rattle.std.proofs.Common.{◌≡◌, ℕ, ◌<◌, ◌&&◌, ◌||◌, Bool, true, false, List, [], ◌∷◌, ◌++◌, length, reverse, refl}
+use Rattle.std.proofs.Common.{ap, sym}
+use Rattle.std.proofs.Common.{◌∙◌, subst, append-nil, append_assoc, inl, inr, arith, is_some, nat_le, nat_lt, Option}
+use Rattle.std.proofs.Common.{Result, Ok, Err}
 use Rattle.std.proofs.lemmas.List.{reverse-append}
 use Rattle.asp_core.specs.Kernel.{CoreView, past_of, rules_of}
 use Rattle.asp_core.specs.Ready.{IsAnswered, ready}
@@ -29,11 +31,13 @@ use Rattle.asp_replay.specs.Underway.{After, AreTurnsTo, EndsSo, HandsOut, IsOfO
 use Rattle.asp_replay.specs.Underway.{IsUnderWay, StandsAt, WorkAdds, stamped}
 use Rattle.asp_replay.proofs.Aside.{AreAside, aside_admitted, aside_ticked}
 use Rattle.asp_replay.proofs.Current.{is_tick_or_take}
-use Rattle.asp_replay.proofs.Events.{IsAsBefore, come_as_before, fed_as_before, hand_outs_quiet, item_came, quiet_all, quiet_one}
+use Rattle.asp_replay.proofs.Events.{IsAsBefore, come_as_before, fed_as_before, hand_outs_quiet, item_came, quiet_all}
+use Rattle.asp_replay.proofs.Events.{quiet_one}
 use Rattle.asp_replay.proofs.Events.{stop_came}
 use Rattle.asp_replay.proofs.Handed.{ready_none, shown_handed}
 use Rattle.asp_replay.proofs.Pieces.{part_more, part_whole, wrote_more}
-use Rattle.asp_replay.proofs.Plain.{Stays, plain_admitted, plain_handed, plain_stopped, plain_ticked, stays_plain, stays_worked}
+use Rattle.asp_replay.proofs.Plain.{Stays, plain_admitted, plain_handed, plain_stopped, plain_ticked, stays_plain}
+use Rattle.asp_replay.proofs.Plain.{stays_worked}
 use Rattle.asp_replay.proofs.Records.{records_both}
 use Rattle.asp_replay.proofs.Showing.{Shows, stamp, shown_admit, shown_grows, shown_stop, shown_tick}
 use Rattle.asp_replay.proofs.Turned.{come_turned, stop_turned, work_turned}

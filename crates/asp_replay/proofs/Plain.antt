@@ -80,7 +80,8 @@ plain_admitted m past job =
     let now = job_now then_past job in
     plain_both ticked (admit_entry m then_past 0 job ∷ []) (plain_ticked m past job.moment) (
       plain_admission (is_refused (m.meaning.is_keyed now) (key_asked_by m now) (session_of m then_past) then_past)
-          (drawn then_past + 1) (key_for (m.meaning.is_keyed now) (key_asked_by m now) (session_of m then_past) then_past)
+          (drawn then_past + 1) (key_for (m.meaning.is_keyed now) (key_asked_by m now) (session_of m then_past)
+          then_past)
           (needs_key (m.meaning.is_keyed now) (key_asked_by m now) (session_of m then_past) then_past) now,
       tt,
     )
@@ -105,7 +106,8 @@ plain_step m past run entry (inr (inr died)) = rw died (record { lane = refl; go
 stays_in_hand : (m : Rules) (past mid : List Entry) (run : ℕ) → HasInHand m past mid run → Stays past → Stays mid
 stays_in_hand m past mid run (inl held) stays = rw held.1 stays
 stays_in_hand m past mid run (inr begun) stays =
-    rw begun.2 (stays_one past (begin_entry m past 0 run) (record { lane = refl; goes_on = refl; not_full = refl }) stays)
+    rw begun.2 (stays_one past (begin_entry m past 0 run) (record { lane = refl; goes_on = refl; not_full = refl })
+    stays)
 
 pub stays_worked : (m : Rules) (past entries : List Entry) → WorkAdds m past entries → Stays past
     → Stays (past_after past entries)

@@ -1,5 +1,6 @@
 -- How the first run is taken to its end.
-use Rattle.std.proofs.Common.{◌≡◌, ℕ, ◌++◌, ◌&&◌, Bool, true, false, not, is_some, List, [], ◌∷◌, refl, ap, sym, ◌∙◌, subst, append-nil}
+use Rattle.std.proofs.Common.{◌≡◌, ℕ, ◌++◌, ◌&&◌, Bool, true, false, not, is_some, List, [], ◌∷◌, refl, ap, sym, ◌∙◌}
+use Rattle.std.proofs.Common.{subst, append-nil}
 use Rattle.std.proofs.Common.{Option, Result, Ok, Err, IfErr, IfOk, OnOk, ◌<◌, ◌≤◌, ◌^◌}
 use Rattle.asp_core.specs.Kernel.{CoreView, IsHostOf, grown, rules_of}
 use Rattle.asp_core.specs.Telling.{end_kind}

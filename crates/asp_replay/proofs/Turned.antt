@@ -14,12 +14,14 @@ use Rattle.asp_replay.specs.Feeding.{Clients, is_calm}
 use Rattle.asp_replay.specs.Sequential.{Adds, IsBusy, IsNextStep, hand_outs, handed_out, is_memory_end, may_come}
 use Rattle.asp_replay.specs.Underway.{AreTurnsTo, WorkAdds}
 
-none_before : (test : What → Bool) (past entries : List Entry) → NoneIs test (past_after past entries) → NoneIs test past
+none_before : (test : What → Bool) (past entries : List Entry) → NoneIs test (past_after past entries)
+    → NoneIs test past
 none_before test past [] none = none
 none_before test past (entry ∷ entries) none = (none_before test (entry ∷ past) entries none).1
 
 -- an item came
-pub come_turned : (m : Rules) (items : List Item) (past entries : List Entry) (clients then_clients : Clients) (next : Item)
+pub come_turned : (m : Rules) (items : List Item) (past entries : List Entry) (clients then_clients : Clients) (next :
+    Item)
     (left : List Item) → AreTurnsTo m items past clients (next ∷ left)
     → may_come past (recorded.moment_of next) ≡ true → Adds m past clients next entries then_clients
     → AreTurnsTo m items (handed_out m (past_after past entries)) then_clients left
@@ -81,7 +83,8 @@ work_turned m items past entries clients left turns busy adds = λ none.
     let mid = past_after past entries in
     let none_mid : NoneIs is_memory_end mid =
     none_before is_memory_end mid (hand_outs (ready m mid)) none in
-    let none_own : NoneIs is_memory_end (adds.entry ∷ adds.mid) = subst (NoneIs is_memory_end) adds.entries_are none_mid in
+    let none_own : NoneIs is_memory_end (adds.entry ∷ adds.mid) = subst (NoneIs is_memory_end) adds.entries_are
+    none_mid in
     let before = turns (none_before is_memory_end past entries none_mid) in (
       suc before.0,
       (

@@ -20,7 +20,8 @@ use Rattle.asp_replay.specs.Feed.{HasCause}
 use Rattle.asp_replay.specs.Feed.IsTooMuchNext.{OfItem, OfStop}
 use Rattle.asp_replay.specs.Feeding.{Clients, is_calm}
 use Rattle.asp_replay.specs.Sequential.{Adds, IsBusy, hand_outs, may_come}
-use Rattle.asp_replay.specs.Underway.{After, AreOfLane, EndsSo, HandsOut, IsItemTooMuch, IsOfOneLane, IsOfWriting, IsUnderWay}
+use Rattle.asp_replay.specs.Underway.{After, AreOfLane, EndsSo, HandsOut, IsItemTooMuch, IsOfOneLane, IsOfWriting}
+use Rattle.asp_replay.specs.Underway.{IsUnderWay}
 use Rattle.asp_replay.specs.Underway.{IsHandedBack, WorkAdds, Works, turn_stop}
 use Rattle.asp_replay.proofs.Aside.{AreAside, aside_handed, fits_still}
 use Rattle.asp_replay.proofs.Grown.{IsGrown, come_grown, ends_here, handed_after, item_stays, stays_of, stop_grown}
@@ -56,7 +57,8 @@ module _ {R Site : Type 0} (meaning : R → Site → Meaning) where
       (entries ++ more.0, more.1 ∙ ap (λ core. grown core more.0) mid_is ∙ grown_both old entries more.0)
 
   pub right_grown : (old new : CoreView R Site) (entries : List Entry) → new ≡ grown old entries
-      → AreRight (rules_of meaning new) (past_of new) → AreRight (rules_of meaning old) (past_after (past_of old) entries)
+      → AreRight (rules_of meaning new) (past_of new) → AreRight (rules_of meaning old) (past_after (past_of old)
+      entries)
   right_grown old new entries is right =
       let grown_right : AreRight (rules_of meaning old) (past_of (grown old entries)) =
       subst (λ core. AreRight (rules_of meaning core) (past_of core)) is right in
@@ -104,9 +106,11 @@ module _ {R Site : Type 0} (meaning : R → Site → Meaning) where
       let at_grown : IsGrown (rules_of meaning old) items (past_of (grown old entries)) clients left before held =
       subst (λ past. IsGrown (rules_of meaning old) items past clients left before held)
       (sym (past_of_more old.journal entries)) is in
-      subst (λ core. IsGrown (rules_of meaning core) items (past_of core) clients left before held) (sym mid_is) at_grown
+      subst (λ core. IsGrown (rules_of meaning core) items (past_of core) clients left before held) (sym mid_is)
+      at_grown
 
-  after_core : {T : Type 0} → (result : Result T FeedStop) (old mid new : CoreView R Site) (entries : List Entry) (items left : List Item)
+  after_core : {T : Type 0} → (result : Result T FeedStop) (old mid new : CoreView R Site) (entries : List Entry)
+      (items left : List Item)
       (clients : Clients) (before held after : Option (List ℕ)) → mid ≡ grown old entries
       → IsGrown (rules_of meaning old) items (past_after (past_of old) entries) clients left before held
       → IsOfWriting result → HandsOut meaning result mid new held after
@@ -172,7 +176,8 @@ module _ {R Site : Type 0} (meaning : R → Site → Meaning) where
       subst AreOfLane (sym (ap past_of mid_is ∙ past_of_more old.journal entries))
       (stays_plain (past_of old) entries (plain_stopped m (past_of old)) (stays_of m (past_of old) lane)).lanes
 
-  pub stop_after : {T : Type 0} → (result : Result T FeedStop) (old mid new : CoreView R Site) (items : List Item) (clients : Clients)
+  pub stop_after : {T : Type 0} → (result : Result T FeedStop) (old mid new : CoreView R Site) (items : List Item)
+      (clients : Clients)
       (before held after : Option (List ℕ)) → mid ≡ grown old (stop_entries (rules_of meaning old) (past_of old) 0)
       → is_calm (past_of old) ≡ true → is_stopping (past_of old) ≡ false
       → AreRight (rules_of meaning mid) (past_of mid) → IsAnswered (rules_of meaning mid) (past_of mid)
@@ -213,7 +218,8 @@ module _ {R Site : Type 0} (meaning : R → Site → Meaning) where
   work_adds m past entries turn.Done none works = works
   work_adds m past entries turn.More none works = absurd works
   work_adds m past entries turn.Idle none works = absurd works
-  work_adds m past entries (turn.JournalFull count weight) none works = absurd (none (stop.JournalFull count weight) refl)
+  work_adds m past entries (turn.JournalFull count weight) none works = absurd (none (stop.JournalFull count weight)
+      refl)
   work_adds m past entries turn.Memory none works = absurd (none stop.Memory refl)
 
   pub work_lanes : (old mid : CoreView R Site) (entries : List Entry) → mid ≡ grown old entries

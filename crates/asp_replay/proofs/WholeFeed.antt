@@ -1,5 +1,6 @@
 -- A recording that was fed to its end.
-use Rattle.std.proofs.Common.{◌≡◌, ℕ, ◌&&◌, Bool, true, false, is_some, List, [], ◌∷◌, refl, ap, sym, ◌∙◌, subst, inl, inr}
+use Rattle.std.proofs.Common.{◌≡◌, ℕ, ◌&&◌, Bool, true, false, is_some, List, [], ◌∷◌, refl, ap, sym, ◌∙◌, subst, inl}
+use Rattle.std.proofs.Common.{inr}
 use Rattle.std.proofs.Common.{Option, Some, None}
 use Rattle.asp_core.specs.Kernel.{CoreView, grown, past_of}
 use Rattle.asp_core.specs.Telling.{end_kind, kind_in}

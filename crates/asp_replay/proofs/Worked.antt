@@ -146,7 +146,8 @@ module _ {R Site State : Type 0} (meaning : R → Site → Meaning) (stands : R 
       let past : past_of begun ≡ entry ∷ past_of old = past_push old.journal entry in
       let alone : unfinished (past_of mid) ≡ run ∷ [] = ap (λ core. unfinished (past_of core)) mid_is
       ∙ ap unfinished past
-      ∙ begun_alone (rules_of meaning old) (past_of old) 0 run (serial_of (rules_of meaning old) (past_of old) run) right
+      ∙ begun_alone (rules_of meaning old) (past_of old) 0 run (serial_of (rules_of meaning old) (past_of old) run)
+      right
       none begins.next.begins in
       let last : HasStepped meaning stands begun run new then_in_hand t =
       subst (λ core. HasStepped meaning stands core run new then_in_hand t) mid_is (stepped run alone) in
@@ -197,7 +198,8 @@ module _ {R Site State : Type 0} (meaning : R → Site → Meaning) (stands : R 
         let waits : waiting (past_of old) ≡ [] = ap (λ core. waiting (past_of core)) (sym same)
         ∙ idle idles (ap (λ core. ready (rules_of meaning core) (past_of core)) same ∙ answers)
         (ap (λ core. is_halted (past_of core)) same ∙ going) in
-        let calm : is_calm (past_of old) ≡ true = both_none (waiting (past_of old)) (unfinished (past_of old)) waits none in
+        let calm : is_calm (past_of old) ≡ true = both_none (waiting (past_of old)) (unfinished (past_of old)) waits
+        none in
         (let both : true ≡ false = sym calm ∙ busy in cc))
         is.adds;
     fits = is.fits;

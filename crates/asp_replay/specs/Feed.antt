@@ -42,7 +42,8 @@ abbrev pub is_full_end : What → Bool
 is_full_end (what.End run kind.JournalFull status size made finished) = true
 is_full_end _ = false
 
--- All items were fed to a host with this journal: each run has ended, and none because the journal was full. Unless memory
+-- All items were fed to a host with this journal: each run has ended, and none because the journal was full. Unless
+-- memory
 -- ran out for a run, the journal is the history of one lane.
 pub record IsWhole (rules : Rules) (items : List Item) (past : List Entry) : Type 0 where
   pub fed : IsFed items past
@@ -51,18 +52,22 @@ pub record IsWhole (rules : Rules) (items : List Item) (past : List Entry) : Typ
   pub sequential : NoneIs is_memory_end past → IsSequential rules items past
 
 -- so it was, and the answers were written
-pub record HasFed (rules : Rules) (items : List Item) (past : List Entry) (before after : Option (List ℕ)) : Type 0 where
-  pub whole : IsWhole rules items past
-  pub written : AreWritten rules past before after
+pub record HasFed (rules : Rules) (items : List Item) (past : List Entry) (before after : Option (List ℕ)) : Type 0
+  where
+    pub whole : IsWhole rules items past
+    pub written : AreWritten rules past before after
 
 -- ---- not to the end
 
--- with what comes next, an item, the Stop, a Begin or a call, there would be so many entries of that weight, too many or too
+-- with what comes next, an item, the Stop, a Begin or a call, there would be so many entries of that weight, too many
+-- or too
 -- heavy
 pub data IsTooMuchNext (rules : Rules) (past : List Entry) (entries weight : ℕ) : Type 0 where
-  OfItem : (clients then_clients : Clients) (next : Item) (added : List Entry) → Adds rules past clients next added then_clients
+  OfItem : (clients then_clients : Clients) (next : Item) (added : List Entry)
+      → Adds rules past clients next added then_clients
       → IsTooMuch (past_after past added) entries weight → IsTooMuchNext rules past entries weight
-  OfStop : IsTooMuch (past_after past (stop_entries rules past 0)) entries weight → IsTooMuchNext rules past entries weight
+  OfStop : IsTooMuch (past_after past (stop_entries rules past 0)) entries weight
+      → IsTooMuchNext rules past entries weight
   OfBegin : IsBeginTooMuch rules past 0 entries weight → IsTooMuchNext rules past entries weight
   OfCall : (run : ℕ) → IsCallTooMuch rules past 0 run entries weight → IsTooMuchNext rules past entries weight
 

@@ -121,4 +121,5 @@ pub record IsFed (items : List Item) (past : List Entry) : Type 0 where
 -- what came to the journal are the first of these items, or all and then the Stop; given oldest first
 abbrev pub IsFedPart : List Item → List Entry → Type 0
 IsFedPart items past = IsFed items past
-    ⊎ ((first later : List Item) × (clients : Clients) × (items ≡ first ++ later) × HasCome (reverse first) past clients)
+    ⊎ ((first later : List Item) × (clients : Clients) × (items ≡ first ++ later)
+    × HasCome (reverse first) past clients)

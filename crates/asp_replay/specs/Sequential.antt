@@ -34,7 +34,8 @@ pub record Place : Type 0 where
 
 -- ---- what an item adds
 
--- Whether an item of this moment may come: the first run has ended, time need not go on or nothing is under way, and not
+-- Whether an item of this moment may come: the first run has ended, time need not go on or nothing is under way, and
+-- not
 -- too many pages wait.
 abbrev pub may_come : List Entry → ℕ → Bool
 may_come past moment = is_some (end_kind past 1) && (nat_le moment (moment_of past) || is_calm past)
@@ -126,7 +127,8 @@ AreTurns rules (suc n) from to = (mid : Place) × AreTurns rules n from mid × I
 abbrev pub first_place : List Item → Place
 first_place items = record { past = with_lane 0 (what.Queue 1 work.Start 0) ∷ []; items = items; clients = [] }
 
--- A journal is the history of one lane: turns lead to it, all items came, the host has stopped, and nothing is under way.
+-- A journal is the history of one lane: turns lead to it, all items came, the host has stopped, and nothing is under
+-- way.
 pub record IsSequential (rules : Rules) (items : List Item) (past : List Entry) : Type 0 where
   pub count : ℕ
   pub clients : Clients

@@ -1,5 +1,6 @@
 -- What a replay writes. All of it is the profile's.
-use Rattle.std.specs.Prelude.{◌≡◌, ◌⊎◌, ℕ, Bool, if◌then◌else◌, List, [], ◌∷◌, ◌++◌, length, reverse, codes, Option, Some, None}
+use Rattle.std.specs.Prelude.{◌≡◌, ◌⊎◌, ℕ, Bool, if◌then◌else◌, List, [], ◌∷◌, ◌++◌, length, reverse, codes, Option}
+use Rattle.std.specs.Prelude.{Some, None}
 use Rattle.std.specs.Fmt.{decimal}
 use Rattle.std.specs.List.{flat_map}
 use Rattle.asp_job.specs.declared.answer.Answer.{Answer}
@@ -60,7 +61,8 @@ lines_of journal past = if journal then flat_map entry_text (reverse past) else 
 abbrev pub done_line : ℕ → List ℕ
 done_line count = codes "done " ++ decimal count ++ 10 ∷ []
 
--- what a replay writes in all: the records of the answers, the lines of the journal where they are asked for, and how many
+-- what a replay writes in all: the records of the answers, the lines of the journal where they are asked for, and how
+-- many
 -- answers there were
 pub record IsOutput (rules : Rules) (past : List Entry) (journal : Bool) (bytes : List ℕ) : Type 0 where
   pub records : List ℕ

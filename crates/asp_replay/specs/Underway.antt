@@ -1,5 +1,6 @@
 -- This crate's own: where a feed stands, and what each of its parts adds.
-use Rattle.std.specs.Prelude.{◌≡◌, ◌⊎◌, ◌&&◌, ℕ, Bool, true, false, not, is_some, ⊤, List, [], ◌∷◌, ◌++◌, All, map, reverse, Option, Some, None, Result, Ok, Err}
+use Rattle.std.specs.Prelude.{◌≡◌, ◌⊎◌, ◌&&◌, ℕ, Bool, true, false, not, is_some, ⊤, List, [], ◌∷◌, ◌++◌, All, map}
+use Rattle.std.specs.Prelude.{reverse, Option, Some, None, Result, Ok, Err}
 use Rattle.std.specs.Borrow.{Bor}
 use Rattle.asp_core.specs.declared.stop.AdmitStop.{AdmitStop}
 use Rattle.asp_core.specs.declared.stop.AdmitStop.TheVariants as admit
@@ -72,7 +73,8 @@ abbrev pub is_done : Turn → Bool
 is_done turn.Done = true
 is_done _ = false
 
--- the entries of a step of the run in hand that came to this: its next call or its End, its End because its call does not
+-- the entries of a step of the run in hand that came to this: its next call or its End, its End because its call does
+-- not
 -- fit, or nothing
 abbrev pub Steps : Rules → List Entry → ℕ → List Entry → Turn → Type 0
 Steps rules past run entries turn.Done =
@@ -186,7 +188,8 @@ pub record HandsOutPart {R Site : Type 0} (meaning : R → Site → Meaning) (ol
   pub new_is : new ≡ grown old (hand_outs taken)
 
 -- the answers that wait were handed out and written, or the first of them
-abbrev pub HandsOut : {T R Site : Type 0} → (R → Site → Meaning) → Result T FeedStop → CoreView R Site → CoreView R Site →
+abbrev pub HandsOut : {T R Site : Type 0} → (R → Site → Meaning) → Result T FeedStop → CoreView R Site
+    → CoreView R Site →
     Option (List ℕ) → Option (List ℕ) → Type 0
 HandsOut meaning (Ok given) old new before after = (bytes : List ℕ)
     × (new ≡ grown old (hand_outs (ready (rules_of meaning old) (past_of old))))

@@ -18,4 +18,12 @@ returns-in-Err-clause-full g c entries weight e =
     let rules = rules_of g.R.Runner.meaning c.args.core.now in
     let past = past_of c.args.core.now in
     let clients = c.args.clients.now.entries in
-    subst (λ item. way.IsItemTooMuch rules past clients item entries weight) (sym c.in-Tick.is) (_, clients, (refl, refl), much)
+    subst (λ item. way.IsItemTooMuch rules past clients item entries weight) (sym c.in-Tick.is) (
+      _,
+      clients,
+      (
+        refl,
+        refl,
+      ),
+      much,
+    )

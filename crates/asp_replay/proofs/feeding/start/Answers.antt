@@ -107,7 +107,8 @@ loop-preserved g c =
           (c.loop.invariant.under items left clients before is) in
           under_rules (rules_of meaning c.loop.core) (rules_of meaning c.args.core.now) items left
           (past_of c.work_turn.new.core) clients before (g.K.Sink.held c.work_turn.new.sink) same
-          (c.in_ok-hand.ensures.after items left clients before now (starting_busy (past_of c.loop.core) left starting));
+          (c.in_ok-hand.ensures.after items left clients before now (starting_busy (past_of c.loop.core) left
+          starting));
       later = omega (arith, later, cause.later);
       within = λ below. cause.within (c.loop.invariant.within below);
     }

@@ -12,7 +12,8 @@ use Rattle.asp_replay.proofs.feeding.turn.Goals.{in_default-via-in-Some+else-may
 pub work_turn-requires-clause-busy : goal.work_turn-requires-clause-busy
 work_turn-requires-clause-busy g c = elim c.in_default.branch [
   | in_default-via-in-Some+else-may_come w ↦ (let kept : may_come (past_of c.args.core.now)
-      (recorded.moment_of w.in-Some.next.now) ≡ false = (let told = w.may_come.ensures in let at = w.moment_of.ensures in
+      (recorded.moment_of w.in-Some.next.now) ≡ false = (let told = w.may_come.ensures in let at = w.moment_of.ensures
+      in
       let test = w.if-may_come.false in cc) in
       kept_out_busy (past_of c.args.core.now) (recorded.moment_of w.in-Some.next.now) c.requires.started kept)
   | in_default-via-in-None+else-is_calm w ↦ (let told = w.is_calm.ensures in let test = w.if-is_calm.false in cc)
