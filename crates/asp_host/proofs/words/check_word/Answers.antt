@@ -1,9 +1,0 @@
-use Rattle.std.proofs.Common.{arith, rules}
-use Rattle.asp_host.proofs.CommandWords.{two_items}
-use Rattle.asp_host.proofs.words.check_word.Goals as goal
-
-pub returns-in-len2 : goal.returns-in-len2
-returns-in-len2 c =
-    let items = two_items c.args.words.now c.check-item.result c.site-item.result (omega arith) c.check-item.is
-    c.site-item.is in
-    rw items (search rules)
