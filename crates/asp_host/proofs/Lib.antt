@@ -1,7 +1,9 @@
-mod CommandWords
 mod Literals
 mod Causes
 mod Courses
 mod GetEnds
+mod Inputs
 mod Leaving
+mod Marks
+mod Outputs
 mod Underway
