@@ -1,4 +1,4 @@
 mod Lists
 mod Numbers
 mod OptionWords
-mod OneCommand
+pub mod OneCommand

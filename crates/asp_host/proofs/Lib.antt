@@ -6,4 +6,5 @@ mod Inputs
 mod Leaving
 mod Marks
 mod Outputs
+mod ReplayEnds
 mod Underway
