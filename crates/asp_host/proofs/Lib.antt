@@ -1,7 +1,10 @@
-mod CommandWords
 mod Literals
 mod Causes
 mod Courses
 mod GetEnds
+mod Inputs
 mod Leaving
+mod Marks
+mod Outputs
+mod ReplayEnds
 mod Underway

@@ -8,7 +8,7 @@ use Rattle.asp_site.specs.declared.site.Site.{Site}
 use Rattle.site_load.specs.Accepted.{IsAccepted, IsFolderFault}
 use Rattle.asp_host.specs.declared.status.Status.{Status}
 use Rattle.asp_host.specs.declared.status.Status.TheVariants.{Ok, Memory, Usage, SiteRefused, StartFailed}
-use Rattle.asp_host.specs.declared.status.Status.TheVariants.{ReadFault, WriteFault}
+use Rattle.asp_host.specs.declared.status.Status.TheVariants.{ReadFault, WriteFault, RecordRefused, JournalFull}
 use Rattle.asp_host.specs.Answer.{HasStartFail}
 use Rattle.asp_host.specs.Around.{Around, Change, IsLeft}
 use Rattle.asp_host.specs.Journal.{Run, IsAccount, bodies_of}
@@ -39,6 +39,8 @@ GetWrites path query journal files sink (StartFailed fail) = HasFailed files fai
 GetWrites path query journal files sink ReadFault = IsLeft sink
 GetWrites path query journal files sink Memory = IsLeft sink
 GetWrites path query journal files sink Usage = ⊥
+GetWrites path query journal files sink (RecordRefused offset) = ⊥
+GetWrites path query journal files sink (JournalFull entries weight) = ⊥
 
 -- how `get` ends: its source is left as it was, and the sink has what was run
 abbrev pub GetEnds : List ℕ → List ℕ → List Run → Around → Status → Type 0

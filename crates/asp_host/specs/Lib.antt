@@ -1,12 +1,14 @@
-pub mod Words
-pub mod Saying
 pub mod Status
 pub mod Around
 pub mod Answer
 pub mod Journal
 pub mod OnTheWay
 pub mod Runs
+pub mod Input
+pub mod Answered
+pub mod Replayed
 pub mod Get
 pub mod Check
+pub mod Replay
 pub mod Host
 pub mod Stopping

@@ -6,12 +6,16 @@ use Rattle.vb_value.specs.declared.site_file.FaultKind.{FaultKind}
 use Rattle.vb_value.specs.declared.site_file.FaultKind.TheVariants as fault
 use Rattle.asp_job.specs.declared.answer.Fail.{Fail}
 use Rattle.asp_job.specs.declared.answer.Fail.TheVariants as fail
+use Rattle.asp_replay.specs.declared.stop.FeedStop.{FeedStop}
+use Rattle.asp_replay.specs.declared.stop.FeedStop.TheVariants as feed
 use Rattle.asp_run.specs.Failures.{limit_name}
 use Rattle.site_load.specs.declared.stop.LoadStop.{LoadStop}
 use Rattle.site_load.specs.declared.stop.LoadStop.TheVariants.{Refused, ReadFault as FolderFault, Memory as NoMemory}
 use Rattle.asp_host.specs.declared.status.Status.{Status}
 use Rattle.asp_host.specs.declared.status.Status.TheVariants.{Ok, Memory, Usage, SiteRefused, StartFailed}
-use Rattle.asp_host.specs.declared.status.Status.TheVariants.{ReadFault, WriteFault}
+use Rattle.asp_host.specs.declared.status.Status.TheVariants.{ReadFault, WriteFault, RecordRefused, JournalFull}
+use Rattle.asp_host.specs.declared.recording.RecordingStop.{RecordingStop}
+use Rattle.asp_host.specs.declared.recording.RecordingStop.TheVariants as recording
 use Rattle.asp_host.specs.declared.stop.StartStop.{StartStop}
 use Rattle.asp_host.specs.declared.stop.StartStop.TheVariants as start
 
@@ -25,6 +29,18 @@ status_of NoMemory = Memory
 abbrev pub start_status_of : StartStop → Status
 start_status_of (start.Failed fail) = StartFailed fail
 start_status_of start.Memory = Memory
+
+-- how a command ends where no recording was read
+abbrev pub recording_status_of : RecordingStop → Status
+recording_status_of (recording.Refused offset) = RecordRefused offset
+recording_status_of recording.ReadFault = ReadFault
+recording_status_of recording.Memory = Memory
+
+-- how a command ends where a recording was not replayed to its end
+abbrev pub feed_status_of : FeedStop → Status
+feed_status_of (feed.JournalFull entries weight) = JournalFull entries weight
+feed_status_of feed.WriteFault = WriteFault
+feed_status_of feed.Memory = Memory
 
 -- how words end that say no command: they are told so, unless memory ran out
 abbrev pub IsUnsaid : Status → Type 0
@@ -40,6 +56,8 @@ code_of Usage = 2
 code_of (SiteRefused fault) = 3
 code_of ReadFault = 4
 code_of WriteFault = 5
+code_of (RecordRefused offset) = 6
+code_of (JournalFull entries weight) = 7
 code_of (StartFailed fail) = 8
 
 -- the name of what is wrong with a file
@@ -91,6 +109,14 @@ abbrev pub cause_text : Fail → List ℕ
 cause_text (fail.Error number line) = codes "error " ++ signed_text number ++ codes ", line " ++ decimal line
 cause_text (fail.Limit kind line) = codes "limit " ++ limit_name kind ++ codes ", line " ++ decimal line
 
+-- where a recording was refused; what a journal would have that was full
+abbrev pub refused_text_of : ℕ → List ℕ
+refused_text_of offset = codes "recording refused at byte " ++ decimal offset
+
+abbrev pub full_text_of : ℕ → ℕ → List ℕ
+full_text_of entries weight =
+    codes "journal full: " ++ decimal entries ++ codes " entries, " ++ decimal weight ++ codes " bytes"
+
 -- what the program says of the end, without a line end
 abbrev pub text_of : Status → List ℕ
 text_of Ok = []
@@ -98,5 +124,7 @@ text_of Memory = codes "out of memory"
 text_of Usage = codes "usage: get SITE PATH, check SITE, replay SITE, serve SITE --requests N, gen N"
 text_of (SiteRefused fault) = fault_text_of fault
 text_of (StartFailed fail) = codes "Application_OnStart failed: " ++ cause_text fail
+text_of (RecordRefused offset) = refused_text_of offset
+text_of (JournalFull entries weight) = full_text_of entries weight
 text_of ReadFault = codes "read fault"
 text_of WriteFault = codes "write fault"

@@ -8,7 +8,7 @@ use asp_job::Fail;
 use std::alloc::Global;
 use vb_value::{LimitKind, Memory, Text};
 
-fn ascii(alloc: Global, bytes: &[u8]) -> Result<Text, Memory>
+pub fn ascii(alloc: Global, bytes: &[u8]) -> Result<Text, Memory>
     ensures { Gives result bytes.now }
 {
     let mut text = Text::with_capacity(alloc, bytes.len())?;

@@ -1,17 +1,17 @@
 //! The host as one call.
-ghost use Rattle.std.specs.Prelude.{◌≡◌, map};
+ghost use Rattle.std.specs.Prelude.{◌≡◌, ◌⊎◌, map};
 ghost use Rattle.std.specs.String.{string_bytes};
+ghost use Rattle.asp_command.specs.declared.words.Command.{Command as Said};
+ghost use Rattle.asp_command.specs.Words.{IsCommand, SaysNoCommand};
 ghost use Rattle.asp_io.specs.Faults.{HasRisen};
-ghost use Rattle.asp_host.specs.declared.words.Command.{Command as Said};
-ghost use Rattle.asp_host.specs.Around.{IsLeft};
-ghost use Rattle.asp_host.specs.Host.{Ends};
+ghost use Rattle.asp_host.specs.Host.{Ends, ReadsNothing};
 ghost use Rattle.asp_host.specs.Status.{IsUnsaid};
-ghost use Rattle.asp_host.specs.Words.{IsCommand, SaysNoCommand};
 
 use crate::check::check;
 use crate::get::get;
+use crate::replay::replay;
 use crate::status::Status;
-use crate::words::{Command, WordStop, read_words};
+use asp_command::{Command, WordStop, read_words};
 use asp_io::{Clock, Folder, Sink, Source, Wire};
 use std::alloc::Global;
 use std::sync::Wait;
@@ -19,8 +19,8 @@ use std::thread::Threads;
 
 /// Runs the command that the words say, without the program's own name.
 ///
-/// The site is what `folder` holds, and the output goes to `sink`. The other things of the outside are for commands
-/// to come.
+/// The site is what `folder` holds, a recording is what `source` has, and the output goes to `sink`. The other things
+/// of the outside are for commands to come.
 pub fn run_host<Rt, F, S, K, W, C>(
     rt: &Rt,
     alloc: Global,
@@ -50,14 +50,16 @@ where
     // Words that say no command are told so, unless memory ran out, and nothing is written.
     ensures usage { result ≡ Status.Usage → SaysNoCommand (map string_bytes words.now) }
     ensures no_command { SaysNoCommand (map string_bytes words.now)
-        → IsUnsaid result × (K.held sink.new ≡ K.held sink.old) }
+        → IsUnsaid result × (source.new ≡ source.old) × (K.held sink.new ≡ K.held sink.old) }
 
     // A fault has a cause. Out of memory alone has none.
-    ensures read_fault { result ≡ Status.ReadFault → HasRisen (F.faults folder.old) (F.faults folder.new) }
+    ensures read_fault { result ≡ Status.ReadFault → HasRisen (F.faults folder.old) (F.faults folder.new)
+        ⊎ HasRisen (S.faults source.old) (S.faults source.new) }
     ensures write_fault { result ≡ Status.WriteFault → HasRisen (K.faults sink.old) (K.faults sink.new) }
 
-    // No command of today reads the source.
-    ensures source { source.new ≡ source.old }
+    // `replay` alone reads the source.
+    ensures source { (command : Said) → IsCommand (map string_bytes words.now) command → ReadsNothing command
+        → source.new ≡ source.old }
 {
     match read_words(alloc, words) {
         Ok(
@@ -68,6 +70,13 @@ where
             },
         ) => get(alloc, &path, &query, folder, sink),
         Ok(Command::Check { site: _ }) => check(alloc, folder, sink),
+        Ok(
+            Command::Replay {
+                site: _,
+                workers: _,
+                journal,
+            },
+        ) => replay(alloc, journal, folder, source, sink),
         Err(WordStop::Usage) => Status::Usage,
         Err(WordStop::Memory) => Status::Memory,
     }

@@ -5,13 +5,16 @@ ghost use Rattle.vb_value.specs.Outcome.{Gives};
 ghost use Rattle.asp_host.specs.Status.{code_of, fault_text_of, kind_text_of, place_text, text_of};
 
 use crate::fail_text::fail_text;
+use crate::recording::RecordingStop;
+use crate::replay_text::{full_text, refused_text};
 use crate::stop::StartStop;
 use asp_job::Fail;
+use asp_replay::FeedStop;
 use site_load::LoadStop;
 use std::alloc::Global;
 use vb_value::{Copied, FaultKind, Memory, SiteFault, Text};
 
-/// The commands. Those but `get` and `check` are not run yet.
+/// The commands. Those but `get`, `check` and `replay` are not run yet.
 const USAGE: &str = "usage: get SITE PATH, check SITE, replay SITE, serve SITE --requests N, gen N";
 
 /// How a command ended.
@@ -31,6 +34,18 @@ pub enum Status {
     ReadFault,
     /// The sink failed.
     WriteFault,
+    /// The source has no recording, or more than one.
+    RecordRefused {
+        /// The first byte that does not fit.
+        offset: u64,
+    },
+    /// The journal would be too long or too heavy.
+    JournalFull {
+        /// How many entries it would have, with one end for each unfinished run.
+        entries: u64,
+        /// What they would weigh; 2^64 - 1 stands for a greater weight.
+        weight: u64,
+    },
 }
 
 impl From<LoadStop> for Status {
@@ -60,6 +75,34 @@ impl From<StartStop> for Status {
     }
 }
 
+impl From<RecordingStop> for Status {
+    ghost use Rattle.asp_host.specs.Status.{recording_status_of};
+
+    ghost from_gives = { λ stop status. status ≡ recording_status_of stop };
+
+    fn from(stop: RecordingStop) -> Status {
+        match stop {
+            RecordingStop::Refused { offset } => Status::RecordRefused { offset },
+            RecordingStop::ReadFault => Status::ReadFault,
+            RecordingStop::Memory => Status::Memory,
+        }
+    }
+}
+
+impl From<FeedStop> for Status {
+    ghost use Rattle.asp_host.specs.Status.{feed_status_of};
+
+    ghost from_gives = { λ stop status. status ≡ feed_status_of stop };
+
+    fn from(stop: FeedStop) -> Status {
+        match stop {
+            FeedStop::JournalFull { entries, weight } => Status::JournalFull { entries, weight },
+            FeedStop::WriteFault => Status::WriteFault,
+            FeedStop::Memory => Status::Memory,
+        }
+    }
+}
+
 /// The exit status of the program, 0 where the command did all of its work.
 pub fn status_code(status: &Status) -> u8
     ensures { result ≡ code_of status.now }
@@ -71,6 +114,8 @@ pub fn status_code(status: &Status) -> u8
         Status::SiteRefused(_) => 3,
         Status::ReadFault => 4,
         Status::WriteFault => 5,
+        Status::RecordRefused { .. } => 6,
+        Status::JournalFull { .. } => 7,
         Status::StartFailed(_) => 8,
     }
 }
@@ -83,6 +128,8 @@ pub fn status_text(alloc: Global, status: &Status) -> Result<Text, Memory>
         Status::Ok => Ok(Text::new(alloc)),
         Status::SiteRefused(fault) => fault_text(alloc, fault),
         Status::StartFailed(fail) => fail_text(alloc, *fail),
+        Status::RecordRefused { offset } => refused_text(alloc, *offset),
+        Status::JournalFull { entries, weight } => full_text(alloc, *entries, *weight),
         Status::Memory => Text::from_str(alloc, "out of memory"),
         Status::Usage => Text::from_str(alloc, USAGE),
         Status::ReadFault => Text::from_str(alloc, "read fault"),

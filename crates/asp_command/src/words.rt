@@ -1,18 +1,18 @@
 //! The words of a command line.
-ghost use Rattle.std.specs.Prelude.{◌≡◌, ◌↔◌, ◌+◌, ◌^◌, ◌<◌, Err, IfOk, IsTrue, MatchOption, chars, length, map};
+ghost use Rattle.std.specs.Prelude.{◌≡◌, Err, IfOk, MatchOption, chars, map};
 ghost use Rattle.std.specs.String.{string_bytes};
-ghost use Rattle.asp_host.specs.declared.words.WordStop.TheVariants.{Usage};
-ghost use Rattle.asp_host.specs.Words as spec;
-ghost use Rattle.asp_host.specs.Saying.{AreCheckWords, AreGetWords, AreNoCheck, AreNoGet, IsGetOf, IsTargetPath};
+ghost use Rattle.asp_command.specs.declared.words.WordStop.TheVariants.{Usage};
+ghost use Rattle.asp_command.specs.Words as spec;
+ghost use Rattle.asp_command.specs.Saying.{AreCheckWords, AreGetWords, IsGetOf};
+ghost use Rattle.asp_command.specs.Saying.{AreNoCheck, AreNoGet, AreNoReplay};
 ghost use Rattle.vb_value.specs.Outcome.{Gives};
 
-use http_front::{path_of, query_of};
+use crate::options::{behind, replay_options};
+use crate::target::target_path;
+use http_front::query_of;
 use std::alloc::Global;
 use thiserror::Error;
 use vb_value::{Bytes, List, Memory, Text};
-
-/// A path and its query have fewer characters and bytes than this, together.
-const TARGET_LIMIT: usize = 1 << 24;
 
 /// A command.
 #[derive(Debug, Drop)]
@@ -31,6 +31,15 @@ pub enum Command {
         /// The folder of the site. It may be any word.
         site: Text,
     },
+    /// Replays the recording that the source has.
+    Replay {
+        /// The folder of the site. It may be any word.
+        site: Text,
+        /// How many workers there are, from 1 to 16; 4 if no option says so.
+        workers: u32,
+        /// Whether the journal is asked for.
+        journal: bool,
+    },
 }
 
 /// Why words say no command.
@@ -45,7 +54,7 @@ pub enum WordStop {
 }
 
 impl From<Memory> for WordStop {
-    ghost use Rattle.asp_host.specs.declared.words.WordStop.TheVariants.{Memory as OutOfMemory};
+    ghost use Rattle.asp_command.specs.declared.words.WordStop.TheVariants.{Memory as OutOfMemory};
 
     ghost from_gives = { λ _ stop. stop ≡ OutOfMemory };
 
@@ -63,8 +72,11 @@ pub fn read_words(alloc: Global, words: &[String]) -> Result<Command, WordStop>
     if let Some((site, target)) = get_words(words) {
         return get_command(alloc, site, target);
     }
-    match check_word(words) {
-        Some(site) => Ok(check_command(alloc, site)?),
+    if let Some(site) = check_word(words) {
+        return Ok(check_command(alloc, site)?);
+    }
+    match replay_words(words) {
+        Some((site, workers, journal)) => Ok(replay_command(alloc, site, workers, journal)?),
         None => Err(WordStop::Usage),
     }
 }
@@ -91,12 +103,34 @@ fn check_word(words: &[String]) -> Option<&str>
     }
 }
 
+/// The word for the site, how many workers, and whether a journal, where the words are those of `replay`.
+fn replay_words(words: &[String]) -> Option<(&str, u32, bool)>
+    ensures { MatchOption result (AreNoReplay (map string_bytes words.now))
+        (λ said. spec.SaysReplay (map string_bytes words.now) (chars said.0.now) said.1 said.2) }
+{
+    let rest = behind("replay", words)?;
+    let (site, options) = rest.split_first()?;
+    let (workers, journal) = replay_options(options)?;
+    Some((site.as_str(), workers, journal))
+}
+
 /// The command `check` for this word.
 fn check_command(alloc: Global, site: &str) -> Result<Command, Memory>
     ensures { Gives result (Command.Check (chars site.now)) }
 {
     Ok(Command::Check {
         site: Text::from_str(alloc, site)?,
+    })
+}
+
+/// The command `replay` for this word.
+fn replay_command(alloc: Global, site: &str, workers: u32, journal: bool) -> Result<Command, Memory>
+    ensures { Gives result (Command.Replay (chars site.now) workers journal) }
+{
+    Ok(Command::Replay {
+        site: Text::from_str(alloc, site)?,
+        workers,
+        journal,
     })
 }
 
@@ -113,24 +147,4 @@ fn get_command(alloc: Global, site: &str, target: &str) -> Result<Command, WordS
         path,
         query: List::from_slice(alloc, query_of(target.as_bytes()))?,
     })
-}
-
-/// The normal path that the word names, if it is the target of a request from its path on.
-fn target_path(alloc: Global, target: &[u8]) -> Result<Option<Text>, Memory>
-    ensures { IfOk result (IsTargetPath target.now) }
-{
-    if target.first() != Some(&b'/') {
-        return Ok(None);
-    }
-    match path_of(alloc, target)? {
-        Some(path) if is_short(&path, query_of(target)) => Ok(Some(path)),
-        _ => Ok(None),
-    }
-}
-
-/// Whether a request may have this path and this query.
-fn is_short(path: &Text, query: &[u8]) -> bool
-    ensures { IsTrue result ↔ (length path.now + length query.now < 2 ^ 24) }
-{
-    path.len().saturating_add(query.len()) < TARGET_LIMIT
 }

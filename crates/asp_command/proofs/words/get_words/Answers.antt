@@ -1,6 +1,6 @@
 use Rattle.std.proofs.Common.{arith, rules}
-use Rattle.asp_host.proofs.CommandWords.{three_items}
-use Rattle.asp_host.proofs.words.get_words.Goals as goal
+use Rattle.asp_command.proofs.Lists.{three_items}
+use Rattle.asp_command.proofs.words.get_words.Goals as goal
 
 pub returns-in-len3 : goal.returns-in-len3
 returns-in-len3 c =

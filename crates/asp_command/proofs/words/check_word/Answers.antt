@@ -1,6 +1,6 @@
 use Rattle.std.proofs.Common.{arith, rules}
-use Rattle.asp_host.proofs.CommandWords.{two_items}
-use Rattle.asp_host.proofs.words.check_word.Goals as goal
+use Rattle.asp_command.proofs.Lists.{two_items}
+use Rattle.asp_command.proofs.words.check_word.Goals as goal
 
 pub returns-in-len2 : goal.returns-in-len2
 returns-in-len2 c =

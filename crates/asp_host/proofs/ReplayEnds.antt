@@ -1,0 +1,73 @@
+-- What `replay` ran and wrote.
+use Rattle.std.proofs.Common.{◌≡◌, ◌⊎◌, ℕ, Bool, List, Option, IfSome, refl, inl, inr}
+use Rattle.vb_value.specs.declared.site_file.SiteFile.{SiteFile}
+use Rattle.asp_record.specs.declared.recording.Recording.{Recording}
+use Rattle.asp_replay.specs.declared.stop.FeedStop.{FeedStop}
+use Rattle.asp_replay.specs.declared.stop.FeedStop.TheVariants as feed
+use Rattle.asp_site.specs.declared.site.Site.{Site}
+use Rattle.site_load.specs.declared.stop.LoadStop.{LoadStop}
+use Rattle.site_load.specs.declared.stop.LoadStop.TheVariants as load
+use Rattle.site_load.specs.Accepted.{IsAccepted}
+use Rattle.site_load.specs.Stopping.{Refuses}
+use Rattle.asp_host.specs.Around.{Change}
+use Rattle.asp_host.specs.declared.recording.RecordingStop.{RecordingStop}
+use Rattle.asp_host.specs.declared.recording.RecordingStop.TheVariants as recording
+use Rattle.asp_host.specs.declared.stop.StartStop.{StartStop}
+use Rattle.asp_host.specs.declared.stop.StartStop.TheVariants as start
+use Rattle.asp_host.specs.Input.{IsAllRecording, IsRecordingStop}
+use Rattle.asp_host.specs.Replay.{IsFor, ReplayWrites, rules_for}
+use Rattle.asp_host.specs.Replayed.{HasStopped}
+use Rattle.asp_host.specs.Status.{feed_status_of, recording_status_of, start_status_of, status_of}
+use Rattle.asp_host.specs.Stopping.{IsStartStop}
+
+-- where the folder is no site, nothing is read or written
+pub nothing_replayed : (journal : Bool) (files : Option (List SiteFile)) (left held : Option (List ℕ)) (stop : LoadStop)
+    → Refuses files stop → ReplayWrites journal files (record { before = left; after = left })
+    (record { before = held; after = held }) (status_of stop)
+nothing_replayed journal files left held (load.Refused fault) stops = (stops, refl, refl)
+nothing_replayed journal files left held load.ReadFault stops = refl
+nothing_replayed journal files left held load.Memory stops = inl refl
+
+-- where the source has no recording, nothing is written
+pub no_recording : (journal : Bool) (files : Option (List SiteFile)) (site : Site) (source : Change)
+    (held : Option (List ℕ)) (stop : RecordingStop) → IfSome files (λ all. IsAccepted all site)
+    → IsRecordingStop source.before stop
+    → ReplayWrites journal files source (record { before = held; after = held }) (recording_status_of stop)
+no_recording journal files site source held (recording.Refused offset) accepted refused =
+    (record { site = site; accepted = accepted; refused = refused }, refl)
+no_recording journal files site source held recording.ReadFault accepted refused = refl
+no_recording journal files site source held recording.Memory accepted refused = inl refl
+
+-- nor where the application does not begin
+pub no_replay : (journal : Bool) (files : Option (List SiteFile)) (site : Site) (source : Change) (recording : Recording)
+    (held : Option (List ℕ)) (stop : StartStop) → IfSome files (λ all. IsAccepted all site)
+    → IsAllRecording source.before source.after recording → IsStartStop site stop
+    → ReplayWrites journal files source (record { before = held; after = held }) (start_status_of stop)
+no_replay journal files site source recording held (start.Failed fail) accepted whole fails =
+    (record { site = site; accepted = accepted; fails = fails }, (recording, whole), refl)
+no_replay journal files site source recording held start.Memory accepted whole fails = inl refl
+
+-- where the replay stopped
+pub replay_stopped : (journal : Bool) (files : Option (List SiteFile)) (site : Site) (source sink : Change)
+    (recording : Recording) (stop : FeedStop) → IfSome files (λ all. IsAccepted all site)
+    → IsAllRecording source.before source.after recording
+    → HasStopped (rules_for site recording) recording.items journal sink.before sink.after stop
+    → ReplayWrites journal files source sink (feed_status_of stop)
+replay_stopped journal files site source sink recording (feed.JournalFull entries weight) accepted whole stopped = record {
+  site = site;
+  recording = recording;
+  is_for = record { accepted = accepted; whole = whole };
+  filled = stopped;
+}
+replay_stopped journal files site source sink recording feed.WriteFault accepted whole stopped = record {
+  site = site;
+  recording = recording;
+  is_for = record { accepted = accepted; whole = whole };
+  replayed = stopped;
+}
+replay_stopped journal files site source sink recording feed.Memory accepted whole stopped = inr (record {
+  site = site;
+  recording = recording;
+  is_for = record { accepted = accepted; whole = whole };
+  replayed = stopped;
+})

@@ -1,0 +1,72 @@
+-- How `replay` ends, by its status, and what it then leaves in the sink.
+use Rattle.std.specs.Prelude.{◌≡◌, ◌⊎◌, ℕ, Bool, IfSome, List, Option}
+use Rattle.vb_value.specs.declared.site_file.SiteFile.{SiteFile}
+use Rattle.asp_core.specs.Kernel.{rules_by}
+use Rattle.asp_job.specs.Rules.{Rules}
+use Rattle.asp_record.specs.declared.recording.Recording.{Recording}
+use Rattle.asp_run.specs.Running.{meaning_of}
+use Rattle.asp_site.specs.declared.site.Site.{Site}
+use Rattle.site_load.specs.Accepted.{IsAccepted, IsFolderFault}
+use Rattle.asp_host.specs.declared.status.Status.{Status}
+use Rattle.asp_host.specs.declared.status.Status.TheVariants.{Ok, Memory, Usage, SiteRefused, StartFailed}
+use Rattle.asp_host.specs.declared.status.Status.TheVariants.{ReadFault, WriteFault, RecordRefused, JournalFull}
+use Rattle.asp_host.specs.Around.{Around, Change, IsLeft}
+use Rattle.asp_host.specs.Get.{HasFailed}
+use Rattle.asp_host.specs.Input.{IsAllRecording, IsSourceRefusedAt}
+use Rattle.asp_host.specs.Replayed.{HasFilled, HasReplayed, HasReplayedPart}
+
+-- what the journal of a replay is held against
+abbrev pub rules_for : Site → Recording → Rules
+rules_for site recording = rules_by (meaning_of site) recording.seed
+
+-- the files that are told are this site, and all that the source had is this recording
+pub record IsFor (files : Option (List SiteFile)) (source : Change) (site : Site) (recording : Recording) : Type 0 where
+  pub accepted : IfSome files (λ all. IsAccepted all site)
+  pub whole : IsAllRecording source.before source.after recording
+
+-- a site and its recording were replayed to the end; in part; until the journal was full
+pub record ReplaysAll (journal : Bool) (files : Option (List SiteFile)) (source sink : Change) : Type 0 where
+  pub site : Site
+  pub recording : Recording
+  pub is_for : IsFor files source site recording
+  pub replayed : HasReplayed (rules_for site recording) recording.items journal sink.before sink.after
+
+pub record ReplaysPart (journal : Bool) (files : Option (List SiteFile)) (source sink : Change) : Type 0 where
+  pub site : Site
+  pub recording : Recording
+  pub is_for : IsFor files source site recording
+  pub replayed : HasReplayedPart (rules_for site recording) recording.items journal sink.before sink.after
+
+pub record Fills (files : Option (List SiteFile)) (source sink : Change) (entries weight : ℕ) : Type 0 where
+  pub site : Site
+  pub recording : Recording
+  pub is_for : IsFor files source site recording
+  pub filled : HasFilled (rules_for site recording) recording.items entries weight sink.before sink.after
+
+-- the source is refused there, where the files that are told are a site
+pub record HasRefused (files : Option (List SiteFile)) (source : Change) (offset : ℕ) : Type 0 where
+  pub site : Site
+  pub accepted : IfSome files (λ all. IsAccepted all site)
+  pub refused : IfSome source.before (λ all. IsSourceRefusedAt all offset)
+
+-- the source has a recording, and nothing else
+abbrev pub HasRecording : Change → Type 0
+HasRecording source = (recording : Recording) × IsAllRecording source.before source.after recording
+
+-- what `replay` ran and wrote, by its status
+abbrev pub ReplayWrites : Bool → Option (List SiteFile) → Change → Change → Status → Type 0
+ReplayWrites journal files source sink Ok = ReplaysAll journal files source sink
+ReplayWrites journal files source sink (JournalFull entries weight) = Fills files source sink entries weight
+ReplayWrites journal files source sink WriteFault = ReplaysPart journal files source sink
+ReplayWrites journal files source sink Memory = IsLeft sink ⊎ ReplaysPart journal files source sink
+ReplayWrites journal files source sink (RecordRefused offset) = HasRefused files source offset × IsLeft sink
+ReplayWrites journal files source sink (SiteRefused fault) =
+    IfSome files (λ all. IsFolderFault all fault) × IsLeft source × IsLeft sink
+ReplayWrites journal files source sink (StartFailed fail) =
+    HasFailed files fail × HasRecording source × IsLeft sink
+ReplayWrites journal files source sink ReadFault = IsLeft sink
+ReplayWrites journal files source sink Usage = ⊥
+
+-- how `replay` ends
+abbrev pub ReplayEnds : Bool → Around → Status → Type 0
+ReplayEnds journal around status = ReplayWrites journal around.files around.source around.sink status

@@ -1,0 +1,45 @@
+-- What a replay ran and wrote, whole or in part.
+use Rattle.std.specs.Prelude.{◌≡◌, ℕ, Bool, List, Option}
+use Rattle.asp_io.specs.Copying.{AddsPart}
+use Rattle.asp_io.specs.Sink.{with_bytes}
+use Rattle.asp_job.specs.declared.entry.Entry.{Entry}
+use Rattle.asp_job.specs.Journal.{IsValidJournal}
+use Rattle.asp_job.specs.Rules.{Rules}
+use Rattle.asp_record.specs.declared.recording.Item.{Item}
+use Rattle.asp_replay.specs.declared.stop.FeedStop.{FeedStop}
+use Rattle.asp_replay.specs.declared.stop.FeedStop.TheVariants as stop
+use Rattle.asp_replay.specs.Feed.{HasFedPart, IsWhole}
+use Rattle.asp_replay.specs.Feeding.{IsFedPart}
+use Rattle.asp_replay.specs.Shown.{IsOutput, IsOutputPart}
+
+-- The items were replayed to their end, with this journal, which is a right account of all runs; and the bytes of its answers,
+-- of its lines where they are asked for, and of their count were written.
+pub record HasReplayed (rules : Rules) (items : List Item) (journal : Bool) (before after : Option (List ℕ)) : Type 0 where
+  pub past : List Entry
+  pub account : IsValidJournal rules past
+  pub whole : IsWhole rules items past
+  pub output : List ℕ
+  pub is_output : IsOutput rules past journal output
+  pub wrote : after ≡ with_bytes before output
+
+-- the items were replayed in part, or to their end, and first bytes of what belongs to this journal were written
+pub record HasReplayedPart (rules : Rules) (items : List Item) (journal : Bool) (before after : Option (List ℕ)) : Type 0
+  where
+    pub past : List Entry
+    pub account : IsValidJournal rules past
+    pub fed : IsFedPart items past
+    pub bytes : List ℕ
+    pub is_part : IsOutputPart rules past journal bytes
+    pub wrote : AddsPart before after bytes
+
+-- the journal of a replay that ends because it would be too long or too heavy
+abbrev pub HasFilled : Rules → List Item → ℕ → ℕ → Option (List ℕ) → Option (List ℕ) → Type 0
+HasFilled rules items entries weight before after =
+    (past : List Entry) × HasFedPart rules items past (stop.JournalFull entries weight) before after
+
+-- how a replay stopped
+abbrev pub HasStopped : Rules → List Item → Bool → Option (List ℕ) → Option (List ℕ) → FeedStop → Type 0
+HasStopped rules items journal before after (stop.JournalFull entries weight) =
+    HasFilled rules items entries weight before after
+HasStopped rules items journal before after stop.WriteFault = HasReplayedPart rules items journal before after
+HasStopped rules items journal before after stop.Memory = HasReplayedPart rules items journal before after

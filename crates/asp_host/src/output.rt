@@ -1,0 +1,76 @@
+//! What a replay writes behind the records of the answers, and in all.
+ghost use Rattle.std.specs.Prelude.{◌≡◌, ◌++◌, IfErr, OnOk, length, reverse};
+ghost use Rattle.asp_core.specs.Kernel.{past_of, rules_by, rules_of};
+ghost use Rattle.asp_io.specs.Faults.{HasCause};
+ghost use Rattle.asp_record.specs.Recorded.{IsSound};
+ghost use Rattle.asp_replay.specs.Shown.{done_line, lines_of, shown_of};
+ghost use Rattle.asp_replay.specs.Underway.{WritesText};
+ghost use Rattle.asp_host.specs.Replayed.{HasReplayed, HasStopped};
+
+use crate::answers::count_answers;
+use asp_core::Core;
+use asp_io::Sink;
+use asp_job::{Entry, Runner};
+use asp_record::Recording;
+use asp_replay::{FeedStop, feed, write_done, write_lines};
+use std::alloc::Global;
+
+/// Writes the lines of the entries, where they are asked for.
+fn write_journal<K: Sink>(
+    alloc: Global,
+    journal: bool,
+    entries: &[Entry],
+    sink: &mut K,
+) -> Result<(), FeedStop>
+    ensures wrote { WritesText (lines_of journal (reverse entries.now)) result (K.held sink.old) (K.held sink.new) }
+    ensures cause { HasCause FeedStop.WriteFault (K.faults sink.old) (K.faults sink.new) result }
+{
+    if journal {
+        write_lines(alloc, sink, entries)
+    } else {
+        Ok(())
+    }
+}
+
+/// Writes the lines of the journal, where they are asked for, and how many answers there were.
+fn write_end<R: Runner, K: Sink>(
+    alloc: Global,
+    core: &Core<R>,
+    journal: bool,
+    sink: &mut K,
+) -> Result<(), FeedStop>
+    ensures wrote { WritesText (lines_of journal (past_of core.now)
+        ++ done_line (length (shown_of (rules_of R.meaning core.now) (past_of core.now))))
+        result (K.held sink.old) (K.held sink.new) }
+    ensures cause { HasCause FeedStop.WriteFault (K.faults sink.old) (K.faults sink.new) result }
+{
+    let entries = core.journal();
+    let count = count_answers(alloc, entries)?;
+    write_journal(alloc, journal, entries, sink)?;
+    write_done(alloc, sink, count)
+}
+
+/// Feeds a site with a recording, and writes all that a replay writes.
+pub fn write_replay<R, K>(
+    alloc: Global,
+    runner: &R,
+    site: &R::Site,
+    recording: &Recording,
+    journal: bool,
+    sink: &mut K,
+) -> Result<(), FeedStop>
+where
+    R: Runner,
+    R::State: Drop,
+    R::Store: Drop,
+    K: Sink,
+    requires sound { IsSound recording.now }
+    ensures ok { OnOk result (HasReplayed (rules_by (R.meaning runner.now site.now) recording.now.seed)
+        recording.now.items journal (K.held sink.old) (K.held sink.new)) }
+    ensures err { IfErr result (HasStopped (rules_by (R.meaning runner.now site.now) recording.now.seed)
+        recording.now.items journal (K.held sink.old) (K.held sink.new)) }
+    ensures cause { HasCause FeedStop.WriteFault (K.faults sink.old) (K.faults sink.new) result }
+{
+    let core = feed(alloc, runner, site, recording, sink)?;
+    write_end(alloc, &core, journal, sink)
+}

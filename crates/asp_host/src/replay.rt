@@ -1,0 +1,61 @@
+//! The command `replay`.
+ghost use Rattle.std.specs.Prelude.{◌≡◌, ◌⊎◌, IfErr};
+ghost use Rattle.asp_io.specs.Faults.{HasRisen};
+ghost use Rattle.asp_host.specs.Replay.{ReplayWrites};
+ghost use Rattle.asp_host.specs.Stopping.{IsStartStop};
+
+use crate::output::write_replay;
+use crate::recording::source_recording;
+use crate::running::start;
+use crate::status::Status;
+use crate::stop::StartStop;
+use asp_app::Application;
+use asp_io::{Folder, Sink, Source};
+use asp_run::PlainRunner;
+use asp_site::Site;
+use site_load::load;
+use std::alloc::Global;
+
+/// Replays the recording that the source has, and writes its answers, and its journal where that is asked for.
+pub fn replay<F: Folder, S: Source, K: Sink>(
+    alloc: Global,
+    journal: bool,
+    folder: &mut F,
+    source: &mut S,
+    sink: &mut K,
+) -> Status
+    ensures writes { ReplayWrites journal (F.files folder.old)
+        (record { before = S.left source.old; after = S.left source.new })
+        (record { before = K.held sink.old; after = K.held sink.new }) result }
+    ensures read_fault { result ≡ Status.ReadFault → HasRisen (F.faults folder.old) (F.faults folder.new)
+        ⊎ HasRisen (S.faults source.old) (S.faults source.new) }
+    ensures write_fault { result ≡ Status.WriteFault → HasRisen (K.faults sink.old) (K.faults sink.new) }
+{
+    let site = match load(alloc, folder) {
+        Ok(site) => site,
+        Err(stop) => return Status::from(stop),
+    };
+    let recording = match source_recording(alloc, source) {
+        Ok(recording) => recording,
+        Err(stop) => return Status::from(stop),
+    };
+    if let Err(stop) = begin(alloc, &site) {
+        return Status::from(stop);
+    }
+    match write_replay(alloc, &PlainRunner { alloc }, &site, &recording, journal, sink) {
+        Ok(()) => Status::Ok,
+        Err(stop) => Status::from(stop),
+    }
+}
+
+/// Sees that the application begins, by its first run.
+fn begin(alloc: Global, site: &Site) -> Result<(), StartStop>
+    ensures { IfErr result (IsStartStop site.now) }
+{
+    let mut application = Application::new(alloc);
+    let beginning = start(alloc, site, &mut application)?;
+    match beginning.fail {
+        Some(fail) => Err(StartStop::Failed(fail)),
+        None => Ok(()),
+    }
+}
