@@ -51,7 +51,11 @@ fn mark_drawn(pages: &mut List<bool>, what: &What) -> Result<(), Memory>
 {
     match what {
         What::Queue { run, work, .. } => mark(pages, *run, is_page(work)),
-        What::Admit { run, job, .. } | What::Refuse { run, job } => mark(pages, *run, is_page(&job.work)),
+        What::Admit { run, job, .. } | What::Refuse { run, job } => mark(
+            pages,
+            *run,
+            is_page(&job.work),
+        ),
         _ => Ok(()),
     }
 }

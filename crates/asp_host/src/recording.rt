@@ -54,7 +54,10 @@ impl From<RecordStop> for RecordingStop {
 }
 
 /// The recording that is all that the source has.
-pub fn source_recording<S: Source>(alloc: Global, source: &mut S) -> Result<Recording, RecordingStop>
+pub fn source_recording<S: Source>(
+    alloc: Global,
+    source: &mut S,
+) -> Result<Recording, RecordingStop>
     ensures ok { IfOk result (IsAllRecording (S.left source.old) (S.left source.new)) }
     ensures sound { IfOk result IsSound }
     ensures err { IfErr result (IsRecordingStop (S.left source.old)) }
@@ -71,9 +74,7 @@ fn recording_of(alloc: Global, bytes: &Bytes) -> Result<Recording, RecordingStop
 {
     let length = bytes.len() as u64;
     if length > MOST_BYTES {
-        return Err(RecordingStop::Refused {
-            offset: MOST_BYTES,
-        });
+        return Err(RecordingStop::Refused { offset: MOST_BYTES });
     }
     let (recording, end) = read_recording(alloc, bytes.as_slice())?;
     if end < length {

@@ -42,7 +42,14 @@ pub fn replay<F: Folder, S: Source, K: Sink>(
     if let Err(stop) = begin(alloc, &site) {
         return Status::from(stop);
     }
-    match write_replay(alloc, &PlainRunner { alloc }, &site, &recording, journal, sink) {
+    match write_replay(
+        alloc,
+        &PlainRunner { alloc },
+        &site,
+        &recording,
+        journal,
+        sink,
+    ) {
         Ok(()) => Status::Ok,
         Err(stop) => Status::from(stop),
     }
