@@ -1,11 +1,11 @@
-//! The program: it makes the real folder and the real output, and runs the host on the words of its command line.
+//! The program: it makes the real folder, input and output, and runs the host on the words of its command line.
 #![tactic(auto)]
 
 mod command_line;
 mod text;
 
 use asp_host::{Status, run_host, status_code, status_text};
-use asp_io::{MemClock, StdFolder, StdOut, SureSource, SureWire};
+use asp_io::{MemClock, StdFolder, StdIn, StdOut, SureWire};
 use command_line::{Line, folder_word, line_words};
 use std::alloc::AllocError;
 use std::process::ExitCode;
@@ -13,7 +13,7 @@ use std::rt::Runtime;
 use std::sync::Wait;
 use std::thread::Threads;
 use text::{HELP, VERSION, print_line, tell};
-use vb_value::{Bytes, List};
+use vb_value::List;
 
 fn main(rt: HostRuntime) -> ExitCode {
     ExitCode::from(run(&rt))
@@ -42,7 +42,7 @@ fn host<R: Runtime + AllocGlobal + Threads + Wait + Sync>(
     let alloc = rt.alloc();
     let mut folder = StdFolder::new(rt.clone()?, folder_word(alloc, words)?);
     let mut sink = StdOut::new(rt.clone()?);
-    let mut source = SureSource::new(Bytes::new(alloc));
+    let mut source = StdIn::new(rt.reader());
     let wire = SureWire::new(List::new(alloc));
     Ok(run_host(
         rt,

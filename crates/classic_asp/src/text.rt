@@ -9,12 +9,15 @@ pub const HELP: &str = "Runs classic ASP pages.
 usage:
   classic_asp check SITE      reads all of a site, and writes how many pages and files it has or its first fault
   classic_asp get SITE PATH   runs a request for PATH, and writes the body of its answer
+  classic_asp replay SITE     runs the requests of the recording on standard input, and writes their answers;
+                              --journal adds what happened, line by line
   classic_asp --help          writes this text
   classic_asp --version       writes the program's name and version
 
 SITE is a folder. PATH is the target of a request, as /p.asp, /about/ or /find.asp?name=cup.
 
-exit status: 0 done, 1 out of memory, 2 usage, 3 the site is refused, 4 read fault, 5 write fault";
+exit status: 0 done, 1 out of memory, 2 usage, 3 the site is refused, 4 read fault, 5 write fault,
+6 the recording is refused, 7 the journal is full, 8 the application did not begin";
 
 /// What `--version` prints.
 pub const VERSION: &str = "classic_asp 0.1.0";

@@ -30,6 +30,17 @@ impl Subject for CommandWords {
                 let site = site.to_string(alloc)?;
                 Ok(format!(in alloc; "check {site}")?)
             }
+            Ok(
+                Command::Replay {
+                    site,
+                    workers,
+                    journal,
+                },
+            ) => {
+                let site = site.to_string(alloc)?;
+                let lines = if journal { " and its journal" } else { "" };
+                Ok(format!(in alloc; "replay {site} with {workers} workers{lines}")?)
+            }
             Err(WordStop::Usage) => Ok(String::from_str(alloc, "usage")?),
             Err(WordStop::Memory) => Err(CaseStop::Memory),
         }
