@@ -7,20 +7,21 @@ use Rattle.std.proofs.lemmas.Bool.{cases_Bool, eqb-true}
 use Rattle.std.proofs.lemmas.Grind.{get_or-set_at}
 use Rattle.std.proofs.lemmas.List.{get_or-set_other}
 use Rattle.std.specs.Option.{option_map}
-use Rattle.asp_job.specs.History.{counts, entries_in, weight_in, what_weight}
+use Rattle.asp_job.specs.History.{with_lane, counts, entries_in, weight_in, what_weight}
 use Rattle.asp_job.specs.Keys.{made as made_in}
 use Rattle.asp_job.specs.Running.{is_page}
-use Rattle.asp_job.specs.Runs.{draws, job_in, job_of}
+use Rattle.asp_job.specs.Runs.{drawn, draws, job_in, job_of}
 use Rattle.asp_job.specs.Turns.{is_last_work}
 use Rattle.asp_job.specs.declared.entry.Entry.{Entry}
 use Rattle.asp_job.specs.declared.entry.What.{What}
 use Rattle.asp_job.specs.declared.entry.What.TheVariants.{Admit, App, Begin, End, Halt, Queue, Refuse, Stop, Take, Tick}
 use Rattle.asp_journal.specs.Rows.{IsNumberedFor, changed, found_at, marked, no_row, row_after, row_at, row_of, rows_after}
 use Rattle.asp_journal.specs.Rows.{with_found, with_row}
+use Rattle.asp_journal.specs.Telling.{admitted}
 use Rattle.asp_journal.specs.Tables.{tally_after, tally_of}
 use Rattle.asp_journal.specs.declared.rows.Row.{Row}
 use Rattle.asp_journal.specs.declared.tally.Tally.{Tally}
-use Rattle.asp_journal.proofs.Bounds.{made_small}
+use Rattle.asp_journal.proofs.Bounds.{drawn_small, made_small}
 use Rattle.asp_journal.proofs.Others.{own_number}
 use Rattle.asp_journal.proofs.Past.{page_more, last_more, length_past}
 
@@ -229,6 +230,32 @@ pub entries_within : (journal : List Entry) (n : ℕ) → n ≡ entries_in (reve
 entries_within journal n e =
     let long = length_past journal in
     let few = entries_few (reverse journal) in
+    omega arith
+
+jobs_more : (past : List Entry) (lane : ℕ) (what : What) → admitted past ≤ drawn past
+    → admitted (with_lane lane what ∷ past) ≤ drawn (with_lane lane what ∷ past)
+jobs_more past lane (Queue run work key) h = omega arith
+jobs_more past lane (Admit run key fresh job) h = omega arith
+jobs_more past lane (Refuse run job) h = omega arith
+jobs_more past lane (Tick moment) h = h
+jobs_more past lane (Begin run serial) h = h
+jobs_more past lane (App run call reply) h = h
+jobs_more past lane (End run kind status size n1 n2) h = h
+jobs_more past lane (Take run) h = h
+jobs_more past lane Stop h = h
+jobs_more past lane Halt h = h
+
+jobs_small : (past : List Entry) → admitted past ≤ drawn past
+jobs_small [] = omega arith
+jobs_small (entry ∷ past) = jobs_more past entry.lane entry.what (jobs_small past)
+
+pub jobs_few : (journal : List Entry) (tally : Tally) → tally ≡ tally_of (reverse journal) → tally.jobs ≤ length journal
+jobs_few journal tally e =
+    let long = length_past journal in
+    let entries = entries_few (reverse journal) in
+    let runs = drawn_small (reverse journal) in
+    let jobs = jobs_small (reverse journal) in
+    let one : tally.jobs ≡ admitted (reverse journal) = ap (λ t. t.jobs) e in
     omega arith
 
 pub tally_few : (journal : List Entry) (tally : Tally) → tally ≡ tally_of (reverse journal)

@@ -12,6 +12,7 @@ use Rattle.asp_job.specs.Running.{is_page}
 use Rattle.asp_job.specs.Runs.{job_of, job_in, key_of, key_in, is_fresh, fresh_in, stage_of, stage_in, lane_of, lane_in}
 use Rattle.asp_job.specs.Runs.{asking_lane_of, asking_lane_in, is_taken, takes, queued_job}
 use Rattle.asp_job.specs.Turns.{is_last_work}
+use Rattle.asp_journal.specs.Telling.{end_kind, kind_in}
 use Rattle.asp_journal.specs.declared.rows.Row.{Row}
 
 -- the row of no run
@@ -24,6 +25,7 @@ no_row = record {
   last = false;
   lane = None;
   asking = None;
+  kind = None;
   taken = false;
   place = None;
 }
@@ -71,6 +73,7 @@ row_of past r = record {
   last = is_last_work (job_of past r).work;
   lane = lane_of past r;
   asking = asking_lane_of past r;
+  kind = end_kind past r;
   taken = is_taken past r;
   place = place_of past r;
 }
@@ -85,6 +88,7 @@ row_after place lane what r row = record {
   last = unwrap_or (option_map (λ job. is_last_work job.work) (job_in r what)) row.last;
   lane = option_or (lane_in r lane what) row.lane;
   asking = option_or (asking_lane_in r lane what) row.asking;
+  kind = option_or (kind_in r what) row.kind;
   taken = takes r what || row.taken;
   place = option_or (place_in r place what) row.place;
 }
@@ -112,6 +116,7 @@ changed place lane (Queue run work key) row = record {
   last = is_last_work work;
   lane = row.lane;
   asking = row.asking;
+  kind = row.kind;
   taken = row.taken;
   place = Some place;
 }
@@ -123,6 +128,7 @@ changed place lane (Admit run key fresh job) row = record {
   last = is_last_work job.work;
   lane = row.lane;
   asking = Some lane;
+  kind = row.kind;
   taken = row.taken;
   place = Some place;
 }
@@ -134,6 +140,7 @@ changed place lane (Refuse run job) row = record {
   last = is_last_work job.work;
   lane = row.lane;
   asking = Some lane;
+  kind = row.kind;
   taken = row.taken;
   place = Some place;
 }
@@ -145,6 +152,7 @@ changed place lane (Begin run serial) row = record {
   last = row.last;
   lane = Some lane;
   asking = row.asking;
+  kind = row.kind;
   taken = row.taken;
   place = row.place;
 }
@@ -156,6 +164,7 @@ changed place lane (End run kind status size made finished) row = record {
   last = row.last;
   lane = row.lane;
   asking = row.asking;
+  kind = Some kind;
   taken = row.taken;
   place = row.place;
 }
@@ -167,6 +176,7 @@ changed place lane (Take run) row = record {
   last = row.last;
   lane = row.lane;
   asking = row.asking;
+  kind = row.kind;
   taken = true;
   place = row.place;
 }

@@ -10,6 +10,7 @@ use Rattle.asp_job.specs.Runs.{drawn, is_halt, is_halted, is_open, is_stop, is_s
 use Rattle.asp_job.specs.Runs.{numbers}
 use Rattle.asp_journal.specs.Keyed.{IsKeyedFor, key_at, key_row_of}
 use Rattle.asp_journal.specs.Rows.{IsNumberedFor, row_at, row_of}
+use Rattle.asp_journal.specs.Telling.{admitted, is_job}
 use Rattle.asp_journal.specs.declared.keyed.KeyRow.{KeyRow}
 use Rattle.asp_journal.specs.declared.rows.Row.{Row}
 use Rattle.asp_journal.specs.declared.tally.Tally.{Tally}
@@ -18,6 +19,7 @@ use Rattle.asp_journal.specs.declared.tally.Tally.{Tally}
 abbrev pub tally_of : List Entry → Tally
 tally_of past = record {
   made = made_in past;
+  jobs = admitted past;
   moment = moment_of past;
   entries = entries_in past;
   weight = min (weight_in past) (2 ^ 64 - 1);
@@ -29,6 +31,7 @@ tally_of past = record {
 abbrev pub tally_after : What → Tally → Tally
 tally_after what tally = record {
   made = if makes_key what then tally.made + 1 else tally.made;
+  jobs = if is_job what then tally.jobs + 1 else tally.jobs;
   moment = unwrap_or (moment_in what) tally.moment;
   entries = if counts what then tally.entries + 1 else tally.entries;
   weight = min (tally.weight + what_weight what) (2 ^ 64 - 1);

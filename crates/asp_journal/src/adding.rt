@@ -11,7 +11,7 @@ use crate::listing::list;
 use crate::rows::{look_up, mark, marked};
 use crate::tally::tallied;
 use asp_job::Entry;
-use vb_value::Memory;
+use vb_value::{List, Memory};
 
 impl Journal {
     /// Takes memory for so many entries more.
@@ -62,5 +62,17 @@ impl Journal {
         self.reserve(1)?;
         self.push_reserved(entry);
         Ok(())
+    }
+
+    /// Adds entries, one after another. It takes no memory.
+    pub fn append_reserved(&mut self, more: List<Entry>)
+        requires fit { spec.AreFit (reverse self.old.items) more }
+        requires room { length self.old.items + length more ≤ self.old.capacity }
+        ensures items { self.new.items ≡ self.old.items ++ more }
+        ensures capacity { self.new.capacity ≡ self.old.capacity }
+    {
+        for entry in more.into_vec() {
+            self.push_reserved(entry);
+        }
     }
 }

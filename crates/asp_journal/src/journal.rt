@@ -12,12 +12,13 @@ ghost use Rattle.asp_job.specs.Turns as turns;
 ghost use Rattle.asp_journal.specs.Tables as spec;
 ghost use Rattle.asp_journal.specs.Keyed as keyed;
 ghost use Rattle.asp_journal.specs.Rows as rows;
+ghost use Rattle.asp_journal.specs.Telling as telling;
 
 use crate::keyed::{KeyRow, look_up_key};
 use crate::rows::{Row, look_up};
 use crate::tally::Tally;
 use crate::told::{job_in, queued};
-use asp_job::{Entry, Job, Stage, Work};
+use asp_job::{EndKind, Entry, Job, Stage, Work};
 use std::alloc::Global;
 use std::marker::Model;
 use vb_value::Memory;
@@ -79,6 +80,7 @@ impl Journal {
             keys: Vec::new(alloc),
             tally: Tally {
                 made: 0,
+                jobs: 0,
                 moment: 0,
                 entries: 0,
                 weight: 0,
@@ -88,6 +90,19 @@ impl Journal {
             listed: Vec::new(alloc),
             capacity: 0,
         }
+    }
+
+    /// Where its memory comes from.
+    pub fn alloc(&self) -> Global {
+        *self.journal.allocator()
+    }
+
+    /// How many entries there are.
+    pub fn len(&self) -> usize
+        ensures len { result ≡ length self.now.items }
+        ensures small { result < 2 ^ 63 }
+    {
+        self.journal.len()
     }
 
     /// The entries, oldest first.
@@ -110,7 +125,7 @@ impl Journal {
         look_up(self.rows.as_slice(), run)
     }
 
-    fn key_row_of(&self, key: u32) -> KeyRow
+    fn key_row_of(&self, key: u64) -> KeyRow
         requires { 0 < key }
         ensures { result ≡ keyed.key_row_of (reverse self.now.items) key }
     {
@@ -175,6 +190,13 @@ impl Journal {
         self.row_of(run).taken
     }
 
+    /// How a run ended, once it has.
+    pub fn end_kind(&self, run: u64) -> Option<EndKind>
+        ensures { result ≡ telling.end_kind (reverse self.now.items) run }
+    {
+        self.row_of(run).kind
+    }
+
     /// Whether a run is that of a page.
     pub fn is_page_run(&self, run: u64) -> bool
         ensures { result ≡ running.is_page (runs.job_of (reverse self.now.items) run).work }
@@ -201,6 +223,13 @@ impl Journal {
         ensures { result ≡ keys.made (reverse self.now.items) }
     {
         self.tally_of().made
+    }
+
+    /// How many jobs came, those that were refused too.
+    pub fn jobs(&self) -> u64
+        ensures { result ≡ telling.admitted (reverse self.now.items) }
+    {
+        self.tally_of().jobs
     }
 
     /// The moment of the last Tick, 0 before the first.
@@ -243,7 +272,7 @@ impl Journal {
 
     /// Whether a run of a key waits or is unfinished.
     #[tactic(auto, using(crate::proofs::Busy::busy_is))]
-    pub fn is_busy(&self, key: u32) -> bool
+    pub fn is_busy(&self, key: u64) -> bool
         requires { 0 < key }
         ensures { result ≡ keys.is_busy (reverse self.now.items) key }
     {
@@ -251,7 +280,7 @@ impl Journal {
     }
 
     /// The moment of the last job that was admitted for a key.
-    pub fn last_asked(&self, key: u32) -> u64
+    pub fn last_asked(&self, key: u64) -> u64
         requires { 0 < key }
         ensures { result ≡ keys.last_asked (reverse self.now.items) key }
     {
@@ -259,7 +288,7 @@ impl Journal {
     }
 
     /// Whether a run for the end of a key's session was queued.
-    pub fn is_closing(&self, key: u32) -> bool
+    pub fn is_closing(&self, key: u64) -> bool
         requires { 0 < key }
         ensures { result ≡ keys.is_closing (reverse self.now.items) key }
     {

@@ -21,10 +21,10 @@ pub struct KeyRow {
 }
 
 /// The row of a key.
-pub fn look_up_key(keys: &[KeyRow], key: u32) -> KeyRow
+pub fn look_up_key(keys: &[KeyRow], key: u64) -> KeyRow
     ensures { result ≡ spec.key_at keys.now key }
 {
-    if key == 0 || key as usize > keys.len() {
+    if key == 0 || key > keys.len() as u64 {
         return KeyRow {
             busy: 0,
             asked: 0,
@@ -87,7 +87,7 @@ pub fn mark_key(keys: &mut Vec<KeyRow>, own: u32, what: &What)
     ensures few { vec_len keys.new ≤ vec_len keys.old + 1 }
 {
     let key = touched(own, what);
-    let row = key_changed(look_up_key(keys.as_slice(), key), what);
+    let row = key_changed(look_up_key(keys.as_slice(), key as u64), what);
     if makes_key(what) {
         keys.push_reserved(row);
         return;

@@ -7,7 +7,7 @@ ghost use Rattle.asp_job.specs.Runs as runs;
 ghost use Rattle.asp_journal.specs.Rows as spec;
 
 use crate::told::{is_last_work, is_page};
-use asp_job::{Entry, Stage, What};
+use asp_job::{EndKind, Entry, Stage, What};
 
 /// What a journal tells of a run.
 #[derive(Clone, Copy, Debug)]
@@ -24,6 +24,8 @@ pub struct Row {
     pub lane: Option<u32>,
     /// The lane that asked for it.
     pub asking: Option<u32>,
+    /// How it ended.
+    pub kind: Option<EndKind>,
     /// Whether its answer was handed out.
     pub taken: bool,
     /// Where the entry that drew it stands in the journal.
@@ -43,6 +45,7 @@ pub fn look_up(rows: &[Row], run: u64) -> Row
             last: false,
             lane: None,
             asking: None,
+            kind: None,
             taken: false,
             place: None,
         };
@@ -109,8 +112,9 @@ fn changed(row: Row, place: usize, entry: &Entry) -> Row
             lane: Some(entry.lane),
             ..row
         },
-        What::End { .. } => Row {
+        What::End { kind, .. } => Row {
             stage: Stage::Ended,
+            kind: Some(*kind),
             ..row
         },
         What::Take { .. } => Row { taken: true, ..row },

@@ -4,6 +4,7 @@
 ghost use Rattle.std.specs.Prelude.{◌≡◌, ◌+◌, ◌<◌, ◌^◌, unwrap_or};
 ghost use Rattle.asp_job.specs.Runs as runs;
 ghost use Rattle.asp_journal.specs.Tables as spec;
+ghost use Rattle.asp_journal.specs.Telling as telling;
 
 use crate::told::{counts, makes_key};
 use crate::weighing::what_weight;
@@ -14,6 +15,8 @@ use asp_job::What;
 pub struct Tally {
     /// How many keys were made.
     pub made: u64,
+    /// How many jobs came.
+    pub jobs: u64,
     /// The moment of the last Tick, 0 before the first.
     pub moment: u64,
     /// How many entries count.
@@ -35,6 +38,12 @@ fn moment_after(moment: u64, what: &What) -> u64
     }
 }
 
+fn is_job(what: &What) -> bool
+    ensures { result ≡ telling.is_job what.now }
+{
+    matches!(what, What::Admit { .. } | What::Refuse { .. })
+}
+
 fn is_stop(what: &What) -> bool
     ensures { result ≡ runs.is_stop what.now }
 {
@@ -51,6 +60,7 @@ fn is_halt(what: &What) -> bool
 pub fn tallied(tally: Tally, what: &What) -> Tally
     requires entries { tally.entries < 2 ^ 63 }
     requires made { tally.made < 2 ^ 63 }
+    requires jobs { tally.jobs < 2 ^ 63 }
     ensures { result ≡ spec.tally_after what.now tally }
 {
     Tally {
@@ -58,6 +68,11 @@ pub fn tallied(tally: Tally, what: &What) -> Tally
             tally.made + 1
         } else {
             tally.made
+        },
+        jobs: if is_job(what) {
+            tally.jobs + 1
+        } else {
+            tally.jobs
         },
         moment: moment_after(tally.moment, what),
         entries: if counts(what) {

@@ -7,7 +7,7 @@ use Rattle.asp_journal.specs.Keyed.{key_after, key_at, touched}
 use Rattle.asp_journal.specs.Rows.{marked, row_at, row_of, rows_after}
 use Rattle.asp_journal.specs.Tables.{IsFit, open_after}
 use Rattle.asp_journal.proofs.Entering.{indexed_more, spare_less}
-use Rattle.asp_journal.proofs.Indexing.{tally_few}
+use Rattle.asp_journal.proofs.Indexing.{jobs_few, tally_few}
 use Rattle.asp_journal.proofs.Keying.{key_few}
 use Rattle.asp_journal.proofs.journal.Journal.push_reserved.Goals as goal
 
@@ -21,6 +21,11 @@ mark_key-requires-clause-few c =
 pub tallied-self-inside-requires-clause-entries : goal.tallied-self-inside-requires-clause-entries
 tallied-self-inside-requires-clause-entries c =
     let few = tally_few c.self.inside.journal.items c.self.inside.tally c.self.invariant.0.tally_is in
+    grind (arith, common_steps)
+
+pub tallied-self-inside-requires-clause-jobs : goal.tallied-self-inside-requires-clause-jobs
+tallied-self-inside-requires-clause-jobs c =
+    let few = jobs_few c.self.inside.journal.items c.self.inside.tally c.self.invariant.0.tally_is in
     grind (arith, common_steps)
 
 pub invariant_of-self : goal.invariant_of-self
