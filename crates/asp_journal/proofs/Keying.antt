@@ -1,5 +1,5 @@
 -- A table of session keys after an entry.
-use Rattle.std.proofs.Common.{◌≡◌, ℕ, zero, suc, ◌+◌, ◌-◌, ◌<◌, ◌≤◌, ◌==◌, ◌||◌, ◌&&◌, Bool, true, false, if◌then◌else◌}
+use Rattle.std.proofs.Common.{◌≡◌, ℕ, zero, suc, ◌+◌, ◌-◌, ◌<◌, ◌≤◌, ◌==◌, ◌||◌, Bool, true, false, if◌then◌else◌}
 use Rattle.std.proofs.Common.{List, [], ◌∷◌, ◌++◌, length, get_or, slice_set, refl, ap, sym, ◌∙◌, arith, inl, inr}
 use Rattle.std.proofs.lemmas.Bool.{cases_Bool, eqb-true}
 use Rattle.asp_job.specs.History.{with_lane}
@@ -12,12 +12,12 @@ use Rattle.asp_job.specs.declared.job.Work.{Work}
 use Rattle.asp_job.specs.declared.job.Work.TheVariants as work
 use Rattle.asp_journal.specs.Keyed.{IsKeyedFor, busy_runs, is_session_end, key_after, key_at, key_changed, key_row_of}
 use Rattle.asp_journal.specs.Keyed.{no_key, touched}
-use Rattle.asp_journal.specs.Rows.{IsNumberedFor, found_at, marked, with_found}
+use Rattle.asp_journal.specs.Rows.{IsNumberedFor, marked, with_found}
 use Rattle.asp_journal.specs.Tables.{IsIndexed, IsTimely}
 use Rattle.asp_journal.specs.declared.keyed.KeyRow.{KeyRow}
 use Rattle.asp_journal.specs.declared.rows.Row.{Row}
 use Rattle.asp_journal.specs.declared.tally.Tally.{Tally}
-use Rattle.asp_journal.proofs.Busy.{busier, busy_few, busy_more, calmer, one_if}
+use Rattle.asp_journal.proofs.Busy.{busy_few, busy_more, one_if}
 use Rattle.asp_journal.proofs.Indexing.{above, found_push, found_set}
 
 -- ---- a row is put

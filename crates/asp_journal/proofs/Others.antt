@@ -1,5 +1,5 @@
 -- An entry says nothing of other runs than its own.
-use Rattle.std.proofs.Common.{◌≡◌, ℕ, ◌+◌, ◌≤◌, ◌==◌, true, false, List, ◌∷◌, refl, ap, append-nil, arith}
+use Rattle.std.proofs.Common.{◌≡◌, ℕ, ◌+◌, ◌≤◌, ◌==◌, true, false, List, ◌∷◌, refl, arith}
 use Rattle.asp_job.specs.History.{run_in, with_lane}
 use Rattle.asp_job.specs.Runs.{job_of, key_of, stage_of}
 use Rattle.asp_job.specs.declared.entry.Entry.{Entry}

@@ -1,5 +1,5 @@
 -- A past that grows by one entry.
-use Rattle.std.proofs.Common.{◌≡◌, ℕ, ◌+◌, ◌<◌, ◌≤◌, Bool, true, false, if◌then◌else◌, arith, List, [], ◌∷◌, ◌++◌}
+use Rattle.std.proofs.Common.{◌≡◌, ℕ, ◌+◌, ◌<◌, List, [], ◌∷◌, ◌++◌}
 use Rattle.std.proofs.Common.{length, get_or, take, reverse, refl, ap, ◌∙◌, Option, Some, None, unwrap_or, sum_by}
 use Rattle.std.proofs.lemmas.List.{reverse-append, take_more, length-reverse}
 use Rattle.std.proofs.lemmas.List.Sums.{sum_by_push}

@@ -1,11 +1,11 @@
 -- What a table of runs tells. Its first place is that of run 1.
-use Rattle.std.specs.Prelude.{◌≡◌, ℕ, ◌+◌, ◌-◌, ◌<◌, ◌≤◌, ◌==◌, ◌&&◌, ◌||◌, Bool, true, false, if◌then◌else◌}
+use Rattle.std.specs.Prelude.{◌≡◌, ℕ, ◌+◌, ◌-◌, ◌<◌, ◌≤◌, ◌==◌, ◌||◌, true, false, if◌then◌else◌}
 use Rattle.std.specs.Prelude.{List, [], ◌∷◌, length, slice_index_or, Option, Some, None, unwrap_or}
 use Rattle.std.specs.Option.{option_map, option_or}
 use Rattle.asp_job.specs.declared.entry.Entry.{Entry}
 use Rattle.asp_job.specs.declared.entry.Stage.TheVariants.{Undrawn, Waiting, Unfinished, Ended}
 use Rattle.asp_job.specs.declared.entry.What.{What}
-use Rattle.asp_job.specs.declared.entry.What.TheVariants.{Queue, Admit, Refuse, Tick, Begin, App, End, Take, Stop, Halt}
+use Rattle.asp_job.specs.declared.entry.What.TheVariants.{Queue, Admit, Refuse, Begin, End, Take, Halt}
 use Rattle.asp_job.specs.declared.job.Job.{Job}
 use Rattle.asp_job.specs.declared.job.Work.TheVariants as work
 use Rattle.asp_job.specs.Running.{is_page}

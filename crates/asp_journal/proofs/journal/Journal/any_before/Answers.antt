@@ -1,4 +1,4 @@
-use Rattle.std.proofs.Common.{◌≡◌, ◌≤◌, ◌<◌, arith, length, filter, take, reverse, ap, sym, ◌∙◌}
+use Rattle.std.proofs.Common.{◌≡◌, arith, take, reverse, ap, ◌∙◌}
 use Rattle.std.proofs.lemmas.Grind.{common_steps}
 use Rattle.std.specs.List.{list_any}
 use Rattle.asp_job.specs.Turns.{goes_before}

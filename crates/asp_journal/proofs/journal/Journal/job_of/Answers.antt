@@ -1,4 +1,4 @@
-use Rattle.std.proofs.Common.{◌≡◌, reverse, ap, ◌∙◌, subst}
+use Rattle.std.proofs.Common.{ap, ◌∙◌, subst}
 use Rattle.vb_value.specs.Outcome.{Gives}
 use Rattle.asp_journal.specs.Rows.{job_by}
 use Rattle.asp_journal.proofs.Placing.{job_found}

@@ -1,11 +1,10 @@
-use Rattle.std.proofs.Common.{◌≡◌, ◌++◌, ◌∷◌, [], ◌<◌, ◌≤◌, ◌^◌, reverse, ap, sym, ◌∙◌, arith, ◌+◌, length, if◌then◌else◌}
+use Rattle.std.proofs.Common.{◌≡◌, reverse, ap, sym, ◌∙◌, arith}
 use Rattle.std.proofs.Common.{subst}
 use Rattle.std.proofs.lemmas.Grind.{common_steps}
-use Rattle.asp_job.specs.Keys.{makes_key}
-use Rattle.asp_job.specs.Runs.{draws, key_of}
-use Rattle.asp_journal.specs.Keyed.{key_after, key_at, touched}
-use Rattle.asp_journal.specs.Rows.{marked, row_at, row_of, rows_after}
-use Rattle.asp_journal.specs.Tables.{IsFit, open_after}
+use Rattle.asp_job.specs.Runs.{key_of}
+use Rattle.asp_journal.specs.Keyed.{touched}
+use Rattle.asp_journal.specs.Rows.{marked, row_at}
+use Rattle.asp_journal.specs.Tables.{IsFit}
 use Rattle.asp_journal.proofs.Entering.{indexed_more, spare_less}
 use Rattle.asp_journal.proofs.Indexing.{jobs_few, tally_few}
 use Rattle.asp_journal.proofs.Keying.{key_few}

@@ -1,4 +1,4 @@
-use Rattle.std.proofs.Common.{◌≡◌, reverse, ap, ◌∙◌}
+use Rattle.std.proofs.Common.{reverse, ap, ◌∙◌}
 use Rattle.asp_journal.specs.Rows.{row_at, row_of}
 use Rattle.asp_journal.proofs.journal.Journal.row_of.Goals as goal
 

@@ -1,4 +1,4 @@
-use Rattle.std.proofs.Common.{◌≡◌, ◌≤◌, ◌<◌, arith, length, filter, take, reverse, ap, sym, ◌∙◌}
+use Rattle.std.proofs.Common.{◌≡◌, arith, length, filter, take, reverse, ap, ◌∙◌}
 use Rattle.std.proofs.lemmas.Grind.{common_steps}
 use Rattle.asp_job.specs.Runs.{is_unfinished, unfinished}
 use Rattle.asp_journal.proofs.Passing.{all_taken}
