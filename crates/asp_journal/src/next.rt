@@ -99,19 +99,17 @@ impl Journal {
             && (self.is_unfinished(other) || self.is_waiting(other) && other < run)
     }
 
-    #[tactic(auto, using(crate::proofs::Passing::any_take))]
     fn any_before(&self, run: u64) -> bool
         ensures { result ≡ list_any (turns.goes_before (reverse self.now.items) run)
             (runs.numbers (runs.drawn (reverse self.now.items))) }
     {
         let listed = self.open_runs();
-        let mut before = false;
         for other in listed {
             if self.goes_before(run, *other as u64) {
-                before = true;
+                return true;
             }
         }
-        before
+        false
     }
 
     /// Whether a run with a key has to wait for another of that key.
@@ -128,18 +126,16 @@ impl Journal {
     }
 
     /// Whether another run waits or is unfinished.
-    #[tactic(auto, using(crate::proofs::Passing::any_take))]
     pub fn has_company(&self, run: u64) -> bool
         ensures { result ≡ turns.has_company (reverse self.now.items) run }
     {
         let listed = self.open_runs();
-        let mut company = false;
         for other in listed {
             if self.is_other_open(run, *other as u64) {
-                company = true;
+                return true;
             }
         }
-        company
+        false
     }
 
     fn may_begin(&self, run: u64) -> bool
