@@ -18,12 +18,9 @@ use Rattle.asp_journal.specs.declared.keyed.KeyRow.{KeyRow}
 use Rattle.asp_journal.specs.declared.rows.Row.{Row}
 use Rattle.asp_journal.specs.declared.tally.Tally.{Tally}
 use Rattle.asp_journal.proofs.Busy.{busy_few, busy_more, one_if}
-use Rattle.asp_journal.proofs.Indexing.{above, found_push, found_set}
+use Rattle.asp_journal.proofs.Indexing.{above, found_push, found_set, not_zero}
 
 -- ---- a row is put
-
-not_zero : (k : ℕ) → 0 < k → (k == 0) ≡ false
-not_zero k l = grind arith
 
 zero_below : (k : ℕ) → 0 < k → (0 == k) ≡ false
 zero_below k l = grind arith

@@ -1,4 +1,4 @@
-//! The runs that wait or are unfinished, and the one that may begin next.
+//! The runs that wait or are unfinished, and which may begin next.
 #![tactic(auto)]
 
 ghost use Rattle.std.specs.Prelude.{◌≡◌, ◌≤◌, ◌+◌, ◌-◌, ◌<◌, ◌*◌, ◌^◌, ◌==◌, ◌&&◌, ℕ, false, true, reverse, length, filter, min};
@@ -183,6 +183,7 @@ impl Journal {
     pub fn weight_load(&self) -> u64
         ensures { result ≡ min (history.weight_load (reverse self.now.items)) (2 ^ 64 - 1) }
     {
-        self.weight_in().saturating_add(self.unfinished().saturating_mul(64))
+        self.weight_in()
+            .saturating_add(self.unfinished().saturating_mul(64))
     }
 }

@@ -41,7 +41,9 @@ invariant_of-self c =
     (subst (λ items. IsFit (reverse items) c.args.entry.what) (sym journal) c.requires.fit)
     c.push_reserved.ensures.items (grind (arith, common_steps)) own
     c.mark.ensures.rows c.mark.ensures.length c.mark_key.ensures.rows c.mark_key.ensures.length
-    c.tallied-self-inside.ensures c.list.ensures.items in
-    (indexed, spare_less _ _ _ _ inside.capacity _ _ _ _ _ _ _ _ _ _ _ _ c.self.invariant.1 (grind (arith, common_steps))
-    c.push_reserved.ensures.len c.mark.ensures.few c.mark_key.ensures.few c.list.ensures.few
-    c.push_reserved.ensures.capacity c.mark.ensures.capacity c.mark_key.ensures.capacity c.list.ensures.capacity)
+    c.tallied-self-inside.ensures c.list.ensures.items in (
+      indexed,
+      spare_less _ _ _ _ inside.capacity _ _ _ _ _ _ _ _ _ _ _ _ c.self.invariant.1 (grind (arith, common_steps))
+          c.push_reserved.ensures.len c.mark.ensures.few c.mark_key.ensures.few c.list.ensures.few
+          c.push_reserved.ensures.capacity c.mark.ensures.capacity c.mark_key.ensures.capacity c.list.ensures.capacity,
+    )
