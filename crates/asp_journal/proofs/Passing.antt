@@ -106,7 +106,8 @@ find_append p (y ∷ xs) x = elim (cases_Bool (p y)) [
 ]
 
 pub find_take : (p : ℕ → Bool) (xs : List ℕ) (i d : ℕ) → i < length xs
-    → find p (take (i + 1) xs) ≡ option_or (find p (take i xs)) (if p (get_or xs i d) then Some (get_or xs i d) else None)
+    → find p (take (i + 1) xs)
+    ≡ option_or (find p (take i xs)) (if p (get_or xs i d) then Some (get_or xs i d) else None)
 find_take p xs i d h = ap (find p) (take_more xs i d h) ∙ find_append p (take i xs) (get_or xs i d)
 
 pub find_here : (p : ℕ → Bool) (xs : List ℕ) (i d : ℕ) → i < length xs → find p (take i xs) ≡ None

@@ -1,7 +1,8 @@
 //! The runs that wait or are unfinished, and which may begin next.
 #![tactic(auto)]
 
-ghost use Rattle.std.specs.Prelude.{◌≡◌, ◌≤◌, ◌+◌, ◌-◌, ◌<◌, ◌*◌, ◌^◌, ◌==◌, ◌&&◌, ℕ, false, true, reverse, length, filter, min};
+ghost use Rattle.std.specs.Prelude.{◌≡◌, ◌≤◌, ◌+◌, ◌-◌, ◌<◌, ◌*◌, ◌^◌, ◌==◌, ◌&&◌, ℕ, false, true, reverse};
+ghost use Rattle.std.specs.Prelude.{length, filter, min};
 ghost use Rattle.std.specs.Prelude.{IfNone, IfSome};
 ghost use Rattle.std.specs.List.{find, list_any};
 ghost use Rattle.asp_job.specs.History as history;
@@ -148,7 +149,8 @@ impl Journal {
     }
 
     fn first_run(&self) -> Option<u64>
-        ensures { result ≡ find (turns.may_begin (reverse self.now.items)) (runs.numbers (runs.drawn (reverse self.now.items))) }
+        ensures { result ≡ find (turns.may_begin (reverse self.now.items))
+            (runs.numbers (runs.drawn (reverse self.now.items))) }
     {
         let listed = self.open_runs();
         for run in listed {

@@ -11,7 +11,8 @@ returns-then-goes_before c =
     let listed = c.open_runs-listed.result.now in
     let past = reverse c.args.self.now.items in
     sym (any_here (goes_before past c.args.run) listed c.loop-other.other-index 0 (grind (arith, common_steps))
-    (sym c.goes_before.ensures ∙ c.if-goes_before.true)) ∙ before_listed past c.args.run listed c.open_runs-listed.ensures
+    (sym c.goes_before.ensures ∙ c.if-goes_before.true))
+    ∙ before_listed past c.args.run listed c.open_runs-listed.ensures
 
 pub loop-other-preserved : goal.loop-other-preserved
 loop-other-preserved c = any_next (goes_before (reverse c.args.self.now.items) c.args.run) c.open_runs-listed.result.now

@@ -11,11 +11,12 @@ returns-then-is_other_open c =
     let listed = c.open_runs-listed.result.now in
     let past = reverse c.args.self.now.items in
     sym (any_here (is_other_open past c.args.run) listed c.loop-other.other-index 0 (grind (arith, common_steps))
-    (sym c.is_other_open.ensures ∙ c.if-is_other_open.true)) ∙ company_listed past c.args.run listed c.open_runs-listed.ensures
+    (sym c.is_other_open.ensures ∙ c.if-is_other_open.true))
+    ∙ company_listed past c.args.run listed c.open_runs-listed.ensures
 
 pub loop-other-preserved : goal.loop-other-preserved
-loop-other-preserved c = any_next (is_other_open (reverse c.args.self.now.items) c.args.run) c.open_runs-listed.result.now
-    c.loop-other.other-index 0 (grind (arith, common_steps)) c.loop-other.invariant
+loop-other-preserved c = any_next (is_other_open (reverse c.args.self.now.items) c.args.run)
+    c.open_runs-listed.result.now c.loop-other.other-index 0 (grind (arith, common_steps)) c.loop-other.invariant
     (sym c.is_other_open.ensures ∙ c.if-is_other_open.false)
 
 pub returns : goal.returns
