@@ -1,0 +1,11 @@
+pub mod Past
+pub mod Numbers
+pub mod Bounds
+pub mod Others
+pub mod Passing
+pub mod Indexing
+pub mod Placing
+pub mod Open
+pub mod Busy
+pub mod Keying
+pub mod Entering

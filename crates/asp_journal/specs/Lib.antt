@@ -1,0 +1,5 @@
+pub mod View
+pub mod Rows
+pub mod Keyed
+pub mod Tables
+pub mod Telling
