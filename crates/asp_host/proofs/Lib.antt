@@ -8,3 +8,4 @@ mod Marks
 mod Outputs
 mod ReplayEnds
 mod Underway
+pub mod Replaying

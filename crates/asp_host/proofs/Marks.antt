@@ -1,13 +1,13 @@
 -- Marks of runs, and the answers of a journal.
-use Rattle.std.proofs.Common.{◌≡◌, ◌≢◌, ℕ, zero, suc, ◌+◌, ◌<◌, ◌==◌, Bool, true, false, if◌then◌else◌, List, [], ◌∷◌, ◌++◌}
-use Rattle.std.proofs.Common.{Option, Some, None, is_some, length, reverse, take, get_or, slice_set, unwrap_or, refl, ap, sym, ◌∙◌, subst}
+use Rattle.std.proofs.Common.{◌≡◌, ℕ, zero, suc, ◌+◌, ◌<◌, ◌==◌, Bool, true, false, List, [], ◌∷◌, ◌++◌}
+use Rattle.std.proofs.Common.{Option, Some, None, is_some, length, slice_set, unwrap_or, refl, ap, sym, ◌∙◌}
 use Rattle.std.proofs.Common.{arith, length-append, inl, inr}
 use Rattle.std.specs.Option.{option_map}
 use Rattle.std.proofs.lemmas.Bool.{cases_Bool, eqb-true}
 use Rattle.std.proofs.lemmas.Grind.{get_or-set_at}
 use Rattle.std.proofs.lemmas.List.{get_or-set_other}
 use Rattle.asp_core.specs.Ready.{IsAnswered, IsAnsweredBy}
-use Rattle.asp_core.proofs.Past.{page_more, past_more}
+use Rattle.asp_core.proofs.Past.{page_more}
 use Rattle.asp_job.specs.declared.entry.Entry.{Entry}
 use Rattle.asp_job.specs.declared.entry.What.{What}
 use Rattle.asp_job.specs.declared.entry.What.TheVariants.{Queue, Admit, Refuse, Tick, Begin, App, End, Take, Stop, Halt}
@@ -19,7 +19,7 @@ use Rattle.asp_job.specs.Rules.{Rules, TooManySessions}
 use Rattle.asp_job.specs.Running.{is_page}
 use Rattle.asp_job.specs.Runs.{job_in, job_of}
 use Rattle.asp_replay.specs.Shown.{Shown, shown_of, with_shown}
-use Rattle.asp_host.specs.Answered.{AreMarkedBy, AreMarks, AreSameMarks, IsMarked, leaves_answer, mark_of, one_if}
+use Rattle.asp_host.specs.Answered.{AreMarkedBy, AreMarks, AreSameMarks, IsMarked, leaves_answer, one_if}
 
 -- a place without a mark changes none
 pub place_more : (pages : List Bool) → AreSameMarks pages (pages ++ false ∷ [])

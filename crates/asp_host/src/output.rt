@@ -72,5 +72,7 @@ where
     ensures cause { HasCause FeedStop.WriteFault (K.faults sink.old) (K.faults sink.new) result }
 {
     let core = feed(alloc, runner, site, recording, sink)?;
+    // The journal is valid.
+    let _ = core.journal();
     write_end(alloc, &core, journal, sink)
 }

@@ -1,7 +1,7 @@
-use Rattle.std.proofs.Common.{◌≡◌, ◌+◌, ◌∷◌, get_or, reverse, take, sym, ap, ◌∙◌, subst, arith}
+use Rattle.std.proofs.Common.{◌+◌, ◌∷◌, reverse, take, sym, ap, ◌∙◌}
 use Rattle.asp_core.proofs.Past.{past_more}
 use Rattle.asp_job.specs.declared.entry.Entry.{Entry}
-use Rattle.asp_host.specs.Answered.{leaves_answer, one_if}
+use Rattle.asp_host.specs.Answered.{one_if}
 use Rattle.asp_host.proofs.Marks.{counted_more, marks_more}
 use Rattle.asp_host.proofs.answers.count_answers.Goals as goal
 

@@ -1,4 +1,4 @@
-use Rattle.std.proofs.Common.{◌≡◌, reverse, take}
+use Rattle.std.proofs.Common.{reverse, take}
 use Rattle.asp_host.specs.Answered.{AreMarks}
 use Rattle.asp_host.proofs.Marks.{AreCounted}
 use Rattle.asp_host.proofs.answers.count_answers.Given as goal

@@ -1,4 +1,4 @@
-use Rattle.std.proofs.Common.{◌≡◌, ◌++◌, ℕ, List, length, reverse, ap, sym, ◌∙◌, subst}
+use Rattle.std.proofs.Common.{◌≡◌, ℕ, List, length, reverse, ap, sym, ◌∙◌, subst}
 use Rattle.asp_core.specs.Kernel.{past_of, rules_of}
 use Rattle.asp_core.specs.Ready.{IsAnswered}
 use Rattle.asp_io.specs.Sink.{with_bytes}

@@ -1,0 +1,142 @@
+-- What a replay comes to.
+use Rattle.std.proofs.Common.{◌≡◌, ◌⊎◌, ℕ, ◌++◌, Bool, List, [], ◌∷◌, length, append_assoc, refl, ap, sym, ◌∙◌, subst, inl, inr, arith, Option}
+use Rattle.std.proofs.Common.{Result, Ok, Err, IfErr, OnOk}
+use Rattle.asp_core.specs.Kernel.{CoreView, past_of, rules_by, rules_of}
+use Rattle.asp_io.specs.Copying.{AddsPart}
+use Rattle.asp_job.specs.declared.entry.Entry.{Entry}
+use Rattle.asp_job.specs.declared.entry.What.TheVariants.{Queue}
+use Rattle.asp_job.specs.declared.job.Work.TheVariants.{Start}
+use Rattle.asp_job.specs.History.{with_lane}
+use Rattle.asp_job.specs.Journal.{IsValidJournal}
+use Rattle.asp_job.specs.Rules.{Rules}
+use Rattle.asp_job.specs.Told.{Meaning}
+use Rattle.asp_record.specs.declared.recording.Item.{Item}
+use Rattle.asp_replay.specs.declared.stop.FeedStop.{FeedStop}
+use Rattle.asp_replay.specs.declared.stop.FeedStop.TheVariants as stop
+use Rattle.asp_replay.specs.Feed.{HasFed, HasFedPart}
+use Rattle.asp_replay.specs.Shown.{AreRecords, IsOutput, done_line, lines_of, shown_of}
+use Rattle.asp_replay.specs.Underway.{HasNotBegun, IsCoreOf, WritesText}
+use Rattle.asp_replay.proofs.FedBack.{rules_here}
+use Rattle.asp_replay.proofs.Pieces.{part_more, with_none, wrote_more}
+use Rattle.asp_host.specs.Replayed.{HasReplayed, HasReplayedPart, HasStopped}
+
+-- ---- a feed that stopped
+
+abbrev first_past : List Entry
+first_past = with_lane 0 (Queue 1 Start 0) ∷ []
+
+-- nothing was written, and nothing came to the journal
+nothing_part : (rules : Rules) (items : List Item) (journal : Bool) (before after : Option (List ℕ)) → after ≡ before
+    → HasReplayedPart rules items journal before after
+nothing_part rules items journal before after same = record {
+  past = first_past;
+  account = record { entries = (record { turn = (refl, tt); legal = tt; follows = tt }, tt); settled = refl };
+  fed = inr ([], items, [], refl, record { items_are = (refl, refl); calm = (tt, tt) });
+  bytes = [];
+  is_part = inr ([], [], refl, refl);
+  wrote = record { count = 0; within = omega arith; added = same ∙ sym (with_none before) };
+}
+
+part_of : (rules : Rules) (items : List Item) (journal : Bool) (past : List Entry) (ended : FeedStop)
+    (before after : Option (List ℕ)) → HasFedPart rules items past ended before after
+    → HasReplayedPart rules items journal before after
+part_of rules items journal past ended before after part =
+    let written = part.written in
+    record {
+      past = past;
+      account = part.account;
+      fed = part.fed;
+      bytes = written.records;
+      is_part = inr (written.first, written.later, written.shown_are, written.are_records);
+      wrote = written.wrote;
+    }
+
+-- a feed stopped so
+pub feed_stopped : (rules : Rules) (items : List Item) (journal : Bool) (before after : Option (List ℕ)) (ended : FeedStop)
+    → HasNotBegun ended before after
+    ⊎ ((past : List Entry) × HasFedPart rules items past ended before after)
+    → HasStopped rules items journal before after ended
+feed_stopped rules items journal before after (stop.JournalFull entries weight) (inl none) = absurd (let e = none.0 in cc)
+feed_stopped rules items journal before after (stop.JournalFull entries weight) (inr part) = part
+feed_stopped rules items journal before after stop.WriteFault (inl none) = absurd (let e = none.0 in cc)
+feed_stopped rules items journal before after stop.WriteFault (inr part) =
+    part_of rules items journal part.0 stop.WriteFault before after part.1
+feed_stopped rules items journal before after stop.Memory (inl none) =
+    nothing_part rules items journal before after none.1
+feed_stopped rules items journal before after stop.Memory (inr part) =
+    part_of rules items journal part.0 stop.Memory before after part.1
+
+-- ---- what is written behind the answers
+
+-- all that a replay writes
+whole_output : (rules other : Rules) (past : List Entry) (journal : Bool) (records : List ℕ) → rules ≡ other
+    → AreRecords (shown_of other past) records
+    → IsOutput other past journal
+    (records ++ (lines_of journal past ++ done_line (length (shown_of rules past))))
+whole_output rules other past journal records same are = record {
+  records = records;
+  are_records = are;
+  bytes_are = ap (λ some. records ++ (lines_of journal past ++ done_line (length (shown_of some past)))) same
+      ∙ sym (append_assoc records (lines_of journal past) (done_line (length (shown_of other past))));
+}
+
+module _ {R Site : Type 0} (meaning : R → Site → Meaning) where
+  pub replay_ok : {T : Type 0} → (core : CoreView R Site) (runner : R) (site : Site) (seed : List ℕ) (items : List Item)
+      (journal : Bool) (before held after : Option (List ℕ)) (result : Result T FeedStop)
+      → IsCoreOf runner site seed core → IsValidJournal (rules_of meaning core) (past_of core)
+      → HasFed (rules_by (meaning runner site) seed) items (past_of core) before held
+      → WritesText (lines_of journal (past_of core)
+      ++ done_line (length (shown_of (rules_of meaning core) (past_of core)))) result held after
+      → OnOk result (HasReplayed (rules_by (meaning runner site) seed) items journal before after)
+  replay_ok core runner site seed items journal before held after (Ok given) of valid fed wrote =
+      let same = rules_here meaning core runner site seed of in
+      let other = rules_by (meaning runner site) seed in
+      let past = past_of core in
+      let written = fed.written in
+      let text = lines_of journal past ++ done_line (length (shown_of (rules_of meaning core) past)) in
+      record {
+        past = past;
+        account = subst (λ some. IsValidJournal some past) same valid;
+        whole = fed.whole;
+        output = written.records ++ text;
+        is_output = whole_output (rules_of meaning core) other past journal written.records same written.are_records;
+        wrote = wrote_more before held after written.records text written.wrote wrote;
+      }
+  replay_ok core runner site seed items journal before held after (Err ended) of valid fed wrote = tt
+
+  replay_part : (core : CoreView R Site) (runner : R) (site : Site) (seed : List ℕ) (items : List Item)
+      (journal : Bool) (before held after : Option (List ℕ))
+      → IsCoreOf runner site seed core → IsValidJournal (rules_of meaning core) (past_of core)
+      → HasFed (rules_by (meaning runner site) seed) items (past_of core) before held
+      → AddsPart held after (lines_of journal (past_of core)
+      ++ done_line (length (shown_of (rules_of meaning core) (past_of core))))
+      → HasReplayedPart (rules_by (meaning runner site) seed) items journal before after
+  replay_part core runner site seed items journal before held after of valid fed part =
+      let same = rules_here meaning core runner site seed of in
+      let other = rules_by (meaning runner site) seed in
+      let past = past_of core in
+      let written = fed.written in
+      let text = lines_of journal past ++ done_line (length (shown_of (rules_of meaning core) past)) in
+      record {
+        past = past;
+        account = subst (λ some. IsValidJournal some past) same valid;
+        fed = inl fed.whole.fed;
+        bytes = written.records ++ text;
+        is_part = inl (whole_output (rules_of meaning core) other past journal written.records same written.are_records);
+        wrote = part_more before held after written.records text written.wrote part;
+      }
+
+  pub replay_err : {T : Type 0} → (core : CoreView R Site) (runner : R) (site : Site) (seed : List ℕ)
+      (items : List Item) (journal : Bool) (before held after : Option (List ℕ)) (result : Result T FeedStop)
+      → IsCoreOf runner site seed core → IsValidJournal (rules_of meaning core) (past_of core)
+      → HasFed (rules_by (meaning runner site) seed) items (past_of core) before held
+      → WritesText (lines_of journal (past_of core)
+      ++ done_line (length (shown_of (rules_of meaning core) (past_of core)))) result held after
+      → IfErr result (HasStopped (rules_by (meaning runner site) seed) items journal before after)
+  replay_err core runner site seed items journal before held after (Ok given) of valid fed wrote = tt
+  replay_err core runner site seed items journal before held after (Err (stop.JournalFull entries weight)) of valid fed
+      wrote = absurd wrote
+  replay_err core runner site seed items journal before held after (Err stop.WriteFault) of valid fed wrote =
+      replay_part core runner site seed items journal before held after of valid fed wrote
+  replay_err core runner site seed items journal before held after (Err stop.Memory) of valid fed wrote =
+      replay_part core runner site seed items journal before held after of valid fed wrote

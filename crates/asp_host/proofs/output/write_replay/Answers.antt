@@ -1,0 +1,30 @@
+use Rattle.std.proofs.Common.{subst, sym}
+use Rattle.std.proofs.lemmas.Result.{err_from_is_err_and}
+use Rattle.asp_core.specs.Kernel.{rules_by}
+use Rattle.asp_host.specs.Replayed.{HasStopped}
+use Rattle.asp_host.proofs.Replaying.{feed_stopped, replay_err, replay_ok}
+use Rattle.asp_host.proofs.output.write_replay.Goals as goal
+
+pub returns-in_err-core-clause-err : goal.returns-in_err-core-clause-err
+returns-in_err-core-clause-err g c =
+    let m = rules_by (g.R.Runner.meaning c.args.runner.now c.args.site.now) c.args.recording.now.seed in
+    let items = c.args.recording.now.items in
+    let before = g.K.Sink.held c.args.sink.now in
+    let after = g.K.Sink.held c.feed.new.sink in
+    let p = err_from_is_err_and c.from_residual.result c.from_residual.ensures.1 in
+    rw p.1 (subst (HasStopped m items c.args.journal before after) (sym p.2)
+    (feed_stopped m items c.args.journal before after c.in_err-core.field-0.0 c.in_err-core.ensures.err))
+
+pub returns-clause-ok : goal.returns-clause-ok
+returns-clause-ok g c =
+    replay_ok g.R.Runner.meaning c.in_ok-core.core c.args.runner.now c.args.site.now c.args.recording.now.seed
+    c.args.recording.now.items c.args.journal (g.K.Sink.held c.args.sink.now) (g.K.Sink.held c.feed.new.sink)
+    (g.K.Sink.held c.write_end.new.sink) c.write_end.result c.in_ok-core.ensures.core c.journal.ensures.valid
+    c.in_ok-core.ensures.ok c.write_end.ensures.wrote
+
+pub returns-clause-err : goal.returns-clause-err
+returns-clause-err g c =
+    replay_err g.R.Runner.meaning c.in_ok-core.core c.args.runner.now c.args.site.now c.args.recording.now.seed
+    c.args.recording.now.items c.args.journal (g.K.Sink.held c.args.sink.now) (g.K.Sink.held c.feed.new.sink)
+    (g.K.Sink.held c.write_end.new.sink) c.write_end.result c.in_ok-core.ensures.core c.journal.ensures.valid
+    c.in_ok-core.ensures.ok c.write_end.ensures.wrote
