@@ -67,9 +67,6 @@ count_next p n = subst (λ i. length (filter p (numbers i)) ≡ length (filter p
 apart_below : (r run : ℕ) → r < run → (r == run) ≡ false
 apart_below r run l = grind arith
 
-apart_above : (r run : ℕ) → run < r → (r == run) ≡ false
-apart_above r run l = grind arith
-
 and_left : (b : Bool) → (b && true) ≡ b
 and_left true = refl
 and_left false = refl

@@ -1,5 +1,6 @@
 -- The tables after an entry.
-use Rattle.std.proofs.Common.{◌≡◌, ℕ, ◌+◌, ◌<◌, ◌≤◌, arith, if◌then◌else◌, List, [], ◌∷◌, ◌++◌, length, reverse, ap, sym, ◌∙◌}
+use Rattle.std.proofs.Common.{◌≡◌, ℕ, ◌+◌, ◌<◌, ◌≤◌, arith, if◌then◌else◌, List, [], ◌∷◌, ◌++◌, length, reverse}
+use Rattle.std.proofs.Common.{ap, sym, ◌∙◌}
 use Rattle.std.proofs.Math.Path.{fun_ext}
 use Rattle.asp_job.specs.Keys.{makes_key}
 use Rattle.asp_job.specs.Runs.{draws, key_of}
@@ -15,8 +16,8 @@ use Rattle.asp_journal.proofs.Keying.{key_more}
 use Rattle.asp_journal.proofs.Open.{open_more}
 use Rattle.asp_journal.proofs.Past.{length_past, past_push}
 
-pub indexed_more : (journal next : List Entry) (rows marked_rows : List Row) (keys keyed : List KeyRow) (tally later : Tally)
-    (listed opened : List ℕ) (place own : ℕ) (entry : Entry)
+pub indexed_more : (journal next : List Entry) (rows marked_rows : List Row) (keys keyed : List KeyRow)
+    (tally later : Tally) (listed opened : List ℕ) (place own : ℕ) (entry : Entry)
     → IsIndexed (reverse journal) rows keys tally listed → IsFit (reverse journal) entry.what
     → next ≡ journal ++ entry ∷ [] → place ≡ length journal → own ≡ key_of (reverse journal) (marked entry.what)
     → row_at marked_rows ≡ rows_after place entry.lane entry.what (row_at rows)
@@ -25,7 +26,8 @@ pub indexed_more : (journal next : List Entry) (rows marked_rows : List Row) (ke
     → length keyed ≡ (if makes_key entry.what then length keys + 1 else length keys)
     → later ≡ tally_after entry.what tally → opened ≡ open_after entry.what listed
     → IsIndexed (reverse next) marked_rows keyed later opened
-indexed_more journal next rows marked_rows keys keyed tally later listed opened place own entry is fit e at o f g a b h i =
+indexed_more journal next rows marked_rows keys keyed tally later listed opened place own entry is fit e at o f g
+    a b h i =
     let past = reverse journal in
     let of : reverse next ≡ entry ∷ past = ap reverse e ∙ past_push journal entry in
     let here : place ≡ length past = at ∙ sym (length_past journal) in

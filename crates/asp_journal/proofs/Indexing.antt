@@ -15,8 +15,8 @@ use Rattle.asp_job.specs.Turns.{is_last_work}
 use Rattle.asp_job.specs.declared.entry.Entry.{Entry}
 use Rattle.asp_job.specs.declared.entry.What.{What}
 use Rattle.asp_job.specs.declared.entry.What.TheVariants.{Admit, App, Begin, End, Halt, Queue, Refuse, Stop, Take, Tick}
-use Rattle.asp_journal.specs.Rows.{IsNumberedFor, changed, found_at, marked, no_row, row_after, row_at, row_of, rows_after}
-use Rattle.asp_journal.specs.Rows.{with_found, with_row}
+use Rattle.asp_journal.specs.Rows.{IsNumberedFor, changed, found_at, marked, no_row, row_after, row_at, row_of}
+use Rattle.asp_journal.specs.Rows.{rows_after, with_found, with_row}
 use Rattle.asp_journal.specs.Telling.{admitted}
 use Rattle.asp_journal.specs.Tables.{tally_after, tally_of}
 use Rattle.asp_journal.specs.declared.rows.Row.{Row}
@@ -184,7 +184,8 @@ rows_marked rows place lane what h = fun_ext (λ r. elim (cases_Bool (r == 0)) [
         ≡ changed place lane what (row_at rows (marked what)) = rw (some, own) refl in
         here ∙ row_own place lane what (row_at rows (marked what))
         ∙ ap (λ i. row_after place lane what i (row_at rows i)) is)
-    | inr other ↦ (let here : with_row (marked what) (changed place lane what (row_at rows (marked what))) (row_at rows) r
+    | inr other ↦ (let here :
+        with_row (marked what) (changed place lane what (row_at rows (marked what))) (row_at rows) r
         ≡ row_at rows r = rw (some, other) refl in
         here ∙ sym (row_other place lane what r (row_at rows r) other))
   ]

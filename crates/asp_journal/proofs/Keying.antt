@@ -18,12 +18,9 @@ use Rattle.asp_journal.specs.declared.keyed.KeyRow.{KeyRow}
 use Rattle.asp_journal.specs.declared.rows.Row.{Row}
 use Rattle.asp_journal.specs.declared.tally.Tally.{Tally}
 use Rattle.asp_journal.proofs.Busy.{busy_few, busy_more, one_if}
-use Rattle.asp_journal.proofs.Indexing.{above, found_push, found_set}
+use Rattle.asp_journal.proofs.Indexing.{above, found_push, found_set, not_zero}
 
 -- ---- a row is put
-
-not_zero : (k : ℕ) → 0 < k → (k == 0) ≡ false
-not_zero k l = grind arith
 
 zero_below : (k : ℕ) → 0 < k → (0 == k) ≡ false
 zero_below k l = grind arith
@@ -64,8 +61,9 @@ key_put keys key own what row low high e of k l =
 
 -- ---- no row is put
 
-same_row : (keys : List KeyRow) (own k : ℕ) (what : What) → ((touched own what == k) ≡ true → key_changed what (key_at keys k)
-    ≡ key_at keys k) → key_at keys k ≡ key_after own what k (key_at keys k)
+same_row : (keys : List KeyRow) (own k : ℕ) (what : What)
+    → ((touched own what == k) ≡ true → key_changed what (key_at keys k) ≡ key_at keys k)
+    → key_at keys k ≡ key_after own what k (key_at keys k)
 same_row keys own k what h = elim (cases_Bool (touched own what == k)) [
   | inl same ↦ rw same (sym (h same))
   | inr other ↦ rw other refl
@@ -165,7 +163,8 @@ key_more past lane (Queue run of key) k n t l =
           let closing = closed_more past lane run key k of same in
           let whole : key_row_of new k ≡ key_changed (Queue run of key) (key_row_of past k) = cc (busy, closing) in
           whole ∙ sym (own_after (key_of past run) (Queue run of key) k (key_row_of past k) same))
-      | inr other ↦ (let busy = with_none (length (busy_runs new k)) (length (busy_runs past k)) (key == k) count other in
+      | inr other ↦ (let busy = with_none (length (busy_runs new k)) (length (busy_runs past k)) (key == k)
+          count other in
           let closing = closed_same past lane run key k of other in
           let whole : key_row_of new k ≡ key_row_of past k = cc (busy, closing) in
           whole ∙ sym (other_after (key_of past run) (Queue run of key) k (key_row_of past k) other))
@@ -178,7 +177,8 @@ key_more past lane (Admit run key fresh job) k n t l =
           let asked : last_asked new k ≡ job.moment = rw same refl in
           let whole : key_row_of new k ≡ key_changed (Admit run key fresh job) (key_row_of past k) = cc (busy, asked) in
           whole ∙ sym (own_after (key_of past run) (Admit run key fresh job) k (key_row_of past k) same))
-      | inr other ↦ (let busy = with_none (length (busy_runs new k)) (length (busy_runs past k)) (key == k) count other in
+      | inr other ↦ (let busy = with_none (length (busy_runs new k)) (length (busy_runs past k)) (key == k)
+          count other in
           let asked : last_asked new k ≡ last_asked past k = rw other refl in
           let whole : key_row_of new k ≡ key_row_of past k = cc (busy, asked) in
           whole ∙ sym (other_after (key_of past run) (Admit run key fresh job) k (key_row_of past k) other))

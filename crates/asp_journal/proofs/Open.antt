@@ -4,7 +4,8 @@ use Rattle.std.proofs.Common.{List, [], ◌∷◌, ◌++◌, length, filter, ref
 use Rattle.std.proofs.lemmas.Bool.{cases_Bool, eqb-true}
 use Rattle.asp_job.specs.History.{entries_in, with_lane}
 use Rattle.std.specs.List.{find, list_any}
-use Rattle.asp_job.specs.Runs.{drawn, is_open, is_stage_unfinished, is_stage_waiting, is_unfinished, is_waiting, numbers}
+use Rattle.asp_job.specs.Runs.{drawn, is_open, is_stage_unfinished, is_stage_waiting, is_unfinished, is_waiting}
+use Rattle.asp_job.specs.Runs.{numbers}
 use Rattle.asp_job.specs.Runs.{key_of, job_of, stage_of, unfinished, waiting}
 use Rattle.asp_job.specs.Running.{is_page}
 use Rattle.asp_job.specs.Turns.{goes_before, has_company, is_other_open, waiting_pages, is_waiting_page, may_begin}

@@ -1,7 +1,7 @@
 -- An entry says nothing of other runs than its own.
 use Rattle.std.proofs.Common.{◌≡◌, ℕ, ◌+◌, ◌≤◌, ◌==◌, true, false, List, ◌∷◌, refl, arith}
 use Rattle.asp_job.specs.History.{run_in, with_lane}
-use Rattle.asp_job.specs.Runs.{job_of, key_of, stage_of}
+use Rattle.asp_job.specs.Runs.{key_of, stage_of}
 use Rattle.asp_job.specs.declared.entry.Entry.{Entry}
 use Rattle.asp_job.specs.declared.entry.What.{What}
 use Rattle.asp_job.specs.declared.entry.What.TheVariants.{Admit, App, Begin, End, Halt, Queue, Refuse, Stop, Take, Tick}
@@ -25,19 +25,6 @@ stage_other past lane r Stop e = refl
 stage_other past lane r (Refuse run job) e = rw e refl
 stage_other past lane r (Take run) e = refl
 stage_other past lane r Halt e = refl
-
-pub job_other : (past : List Entry) (lane r : ℕ) (what : What) → (run_in what == r) ≡ false
-    → job_of (with_lane lane what ∷ past) r ≡ job_of past r
-job_other past lane r (Queue run work key) e = rw e refl
-job_other past lane r (Admit run key fresh job) e = rw e refl
-job_other past lane r (Tick moment) e = refl
-job_other past lane r (Begin run serial) e = refl
-job_other past lane r (App run call reply) e = refl
-job_other past lane r (End run kind status size n1 n2) e = refl
-job_other past lane r Stop e = refl
-job_other past lane r (Refuse run job) e = rw e refl
-job_other past lane r (Take run) e = refl
-job_other past lane r Halt e = refl
 
 pub key_other : (past : List Entry) (lane r : ℕ) (what : What) → (run_in what == r) ≡ false
     → key_of (with_lane lane what ∷ past) r ≡ key_of past r

@@ -60,9 +60,22 @@ filter_without p q r h (x ∷ xs) = elim (cases_Bool (p x)) [
 any_append : (p : ℕ → Bool) (xs : List ℕ) (x : ℕ) → list_any p (xs ++ x ∷ []) ≡ list_any p xs || p x
 any_append p xs x = grind (arith, common_steps)
 
-pub any_take : (p : ℕ → Bool) (xs : List ℕ) (i d : ℕ) → i < length xs
+any_take : (p : ℕ → Bool) (xs : List ℕ) (i d : ℕ) → i < length xs
     → list_any p (take (i + 1) xs) ≡ list_any p (take i xs) || p (get_or xs i d)
 any_take p xs i d h = ap (list_any p) (take_more xs i d h) ∙ any_append p (take i xs) (get_or xs i d)
+
+-- what passes is found among all, and none is found where none passes
+pub any_here : (p : ℕ → Bool) (xs : List ℕ) (i d : ℕ) → i < length xs → p (get_or xs i d) ≡ true → list_any p xs ≡ true
+any_here p [] i d l passes = absurd (omega arith)
+any_here p (x ∷ xs) zero d l passes = rw passes refl
+any_here p (x ∷ xs) (suc i) d l passes = elim (cases_Bool (p x)) [
+  | inl one ↦ rw one refl
+  | inr other ↦ rw other (any_here p xs i d (omega arith) passes)
+]
+
+pub any_next : (p : ℕ → Bool) (xs : List ℕ) (i d : ℕ) → i < length xs → list_any p (take i xs) ≡ false
+    → p (get_or xs i d) ≡ false → list_any p (take (i + 1) xs) ≡ false
+any_next p xs i d l none stops = any_take p xs i d l ∙ ap (λ b. b || p (get_or xs i d)) none ∙ stops
 
 pub count_take : (p : ℕ → Bool) (xs : List ℕ) (i d : ℕ) → i < length xs
     → length (filter p (take (i + 1) xs))
@@ -93,7 +106,8 @@ find_append p (y ∷ xs) x = elim (cases_Bool (p y)) [
 ]
 
 pub find_take : (p : ℕ → Bool) (xs : List ℕ) (i d : ℕ) → i < length xs
-    → find p (take (i + 1) xs) ≡ option_or (find p (take i xs)) (if p (get_or xs i d) then Some (get_or xs i d) else None)
+    → find p (take (i + 1) xs)
+    ≡ option_or (find p (take i xs)) (if p (get_or xs i d) then Some (get_or xs i d) else None)
 find_take p xs i d h = ap (find p) (take_more xs i d h) ∙ find_append p (take i xs) (get_or xs i d)
 
 pub find_here : (p : ℕ → Bool) (xs : List ℕ) (i d : ℕ) → i < length xs → find p (take i xs) ≡ None

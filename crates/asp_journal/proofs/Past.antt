@@ -3,22 +3,13 @@ use Rattle.std.proofs.Common.{◌≡◌, ℕ, ◌+◌, ◌<◌, List, [], ◌∷
 use Rattle.std.proofs.Common.{length, get_or, take, reverse, refl, ap, ◌∙◌, Option, Some, None, unwrap_or, sum_by}
 use Rattle.std.proofs.lemmas.List.{reverse-append, take_more, length-reverse}
 use Rattle.std.proofs.lemmas.List.Sums.{sum_by_push}
-use Rattle.std.proofs.Math.Seq.{take-append_seam}
 use Rattle.std.specs.Option.{option_map}
 use Rattle.asp_job.specs.declared.job.Job.{Job}
 use Rattle.asp_job.specs.Running.{is_page}
 use Rattle.asp_job.specs.Turns.{is_last_work}
 
--- the past of one entry more
-pub past_more : {A : Type 0} → (xs : List A) (i : ℕ) (d : A) → i < length xs → (get_or xs i d ≡ get_or xs i d)
-    × (reverse (take (i + 1) xs) ≡ get_or xs i d ∷ reverse (take i xs))
-past_more xs i d h = (refl, ap reverse (take_more xs i d h) ∙ reverse-append (take i xs) (get_or xs i d ∷ []))
-
 pub past_push : {A : Type 0} → (xs : List A) (x : A) → reverse (xs ++ x ∷ []) ≡ x ∷ reverse xs
 past_push xs x = reverse-append xs (x ∷ [])
-
-pub take_first : {A : Type 0} → (xs ys : List A) → take (length xs) (xs ++ ys) ≡ xs
-take_first xs ys = take-append_seam xs ys
 
 pub length_past : {A : Type 0} → (xs : List A) → length (reverse xs) ≡ length xs
 length_past xs = length-reverse xs

@@ -1,5 +1,6 @@
 -- A journal with tables of what it tells.
-use Rattle.std.specs.Prelude.{◌≡◌, ℕ, ◌+◌, ◌-◌, ◌^◌, ◌<◌, ◌≤◌, ◌||◌, ◌==◌, ◌++◌, min, true, not, if◌then◌else◌, unwrap_or}
+use Rattle.std.specs.Prelude.{◌≡◌, ℕ, ◌+◌, ◌-◌, ◌^◌, ◌<◌, ◌≤◌, ◌||◌, ◌==◌, ◌++◌, min, true, not}
+use Rattle.std.specs.Prelude.{if◌then◌else◌, unwrap_or}
 use Rattle.std.specs.Prelude.{List, [], ◌∷◌, length, filter}
 use Rattle.asp_job.specs.declared.entry.Entry.{Entry}
 use Rattle.asp_job.specs.declared.entry.What.{What}
@@ -77,7 +78,7 @@ pub record IsIndexed (past : List Entry) (rows : List Row) (keys : List KeyRow) 
   pub tally_is : tally ≡ tally_of past
   pub open_are : listed ≡ open_runs past
 
--- so many entries have room: those to come, beside these, in each table
+-- There may be so many entries, and as many rows more as entries more, before any table takes more memory.
 pub record HasSpare (entries rows keys listed capacity : ℕ) (in_journal in_rows in_keys in_list : ℕ) : Type 0 where
   pub within : entries ≤ capacity
   pub of_journal : capacity ≤ in_journal

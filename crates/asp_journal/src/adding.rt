@@ -1,4 +1,4 @@
-//! Entries are added.
+//! How entries are added.
 #![tactic(auto)]
 
 ghost use Rattle.std.specs.Prelude.{◌≡◌, ◌+◌, ◌<◌, ◌≤◌, ◌^◌, ◌++◌, ◌∷◌, [], reverse, length};
@@ -35,7 +35,6 @@ impl Journal {
         self.capacity = self.capacity.max(self.journal.len() + more);
         Ok(())
     }
-
 
     /// Adds an entry. It takes no memory.
     pub fn push_reserved(&mut self, entry: Entry)

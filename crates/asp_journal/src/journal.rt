@@ -1,4 +1,4 @@
-//! A journal with tables of what it tells: look-ups that go through no entries.
+//! A journal, and what it tells at once.
 #![tactic(auto)]
 
 ghost use Rattle.std.specs.Prelude.{◌≡◌, ◌+◌, ◌-◌, ◌<◌, ◌≤◌, ◌^◌, [], min, reverse, length};

@@ -1,4 +1,4 @@
-//! A journal of a host's runs, with tables of what it tells: look-ups that go through no entries.
+//! The journal of a host's runs, with tables of what it tells: look-ups that go through no entries.
 #![tactic(auto)]
 
 mod adding;

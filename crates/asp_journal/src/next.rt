@@ -1,7 +1,8 @@
-//! The runs that wait or are unfinished, and the one that may begin next.
+//! The runs that wait or are unfinished, and which may begin next.
 #![tactic(auto)]
 
-ghost use Rattle.std.specs.Prelude.{◌≡◌, ◌≤◌, ◌+◌, ◌-◌, ◌<◌, ◌*◌, ◌^◌, ◌==◌, ◌&&◌, ℕ, false, true, reverse, length, filter, min};
+ghost use Rattle.std.specs.Prelude.{◌≡◌, ◌≤◌, ◌+◌, ◌-◌, ◌<◌, ◌*◌, ◌^◌, ◌==◌, ◌&&◌, ℕ, false, true, reverse};
+ghost use Rattle.std.specs.Prelude.{length, filter, min};
 ghost use Rattle.std.specs.Prelude.{IfNone, IfSome};
 ghost use Rattle.std.specs.List.{find, list_any};
 ghost use Rattle.asp_job.specs.History as history;
@@ -99,19 +100,17 @@ impl Journal {
             && (self.is_unfinished(other) || self.is_waiting(other) && other < run)
     }
 
-    #[tactic(auto, using(crate::proofs::Passing::any_take))]
     fn any_before(&self, run: u64) -> bool
         ensures { result ≡ list_any (turns.goes_before (reverse self.now.items) run)
             (runs.numbers (runs.drawn (reverse self.now.items))) }
     {
         let listed = self.open_runs();
-        let mut before = false;
         for other in listed {
             if self.goes_before(run, *other as u64) {
-                before = true;
+                return true;
             }
         }
-        before
+        false
     }
 
     /// Whether a run with a key has to wait for another of that key.
@@ -128,18 +127,16 @@ impl Journal {
     }
 
     /// Whether another run waits or is unfinished.
-    #[tactic(auto, using(crate::proofs::Passing::any_take))]
     pub fn has_company(&self, run: u64) -> bool
         ensures { result ≡ turns.has_company (reverse self.now.items) run }
     {
         let listed = self.open_runs();
-        let mut company = false;
         for other in listed {
             if self.is_other_open(run, *other as u64) {
-                company = true;
+                return true;
             }
         }
-        company
+        false
     }
 
     fn may_begin(&self, run: u64) -> bool
@@ -152,7 +149,8 @@ impl Journal {
     }
 
     fn first_run(&self) -> Option<u64>
-        ensures { result ≡ find (turns.may_begin (reverse self.now.items)) (runs.numbers (runs.drawn (reverse self.now.items))) }
+        ensures { result ≡ find (turns.may_begin (reverse self.now.items))
+            (runs.numbers (runs.drawn (reverse self.now.items))) }
     {
         let listed = self.open_runs();
         for run in listed {
@@ -187,6 +185,7 @@ impl Journal {
     pub fn weight_load(&self) -> u64
         ensures { result ≡ min (history.weight_load (reverse self.now.items)) (2 ^ 64 - 1) }
     {
-        self.weight_in().saturating_add(self.unfinished().saturating_mul(64))
+        self.weight_in()
+            .saturating_add(self.unfinished().saturating_mul(64))
     }
 }

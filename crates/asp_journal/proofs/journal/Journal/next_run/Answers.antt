@@ -13,8 +13,8 @@ returns-clause-next c = finds_some (may_begin (reverse c.args.self.now.items)) (
     c.first_run.result c.first_run.ensures
 
 pub returns-clause-within : goal.returns-clause-within
-returns-clause-within c = finds_within (may_begin (reverse c.args.self.now.items)) (drawn (reverse c.args.self.now.items))
-    c.first_run.result c.first_run.ensures
+returns-clause-within c = finds_within (may_begin (reverse c.args.self.now.items))
+    (drawn (reverse c.args.self.now.items)) c.first_run.result c.first_run.ensures
 
 pub returns-clause-least : goal.returns-clause-least
 returns-clause-least c = finds_least (may_begin (reverse c.args.self.now.items)) (drawn (reverse c.args.self.now.items))

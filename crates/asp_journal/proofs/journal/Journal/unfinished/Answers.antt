@@ -20,7 +20,8 @@ returns-clause-within c =
     let past = reverse c.args.self.now.items in
     let all : take c.loop-run.run-index listed ≡ listed =
     all_taken listed c.loop-run.run-index (grind (arith, common_steps)) in
-    let is : c.loop-run.unfinished ≡ length (unfinished past) = c.loop-run.invariant.so_far ∙ ap (λ xs. length (filter (is_unfinished past) xs)) all
+    let is : c.loop-run.unfinished ≡ length (unfinished past) = c.loop-run.invariant.so_far
+    ∙ ap (λ xs. length (filter (is_unfinished past) xs)) all
     ∙ unfinished_listed past listed c.open_runs-listed.ensures in
     let within = unfinished_within c.args.self.now.items in
     omega arith
@@ -32,6 +33,7 @@ returns-clause-few c =
     let all : take c.loop-run.run-index listed ≡ listed =
     all_taken listed c.loop-run.run-index (grind (arith, common_steps)) in
     let is : c.loop-run.unfinished ≡ length (unfinished past) = c.loop-run.invariant.so_far
-    ∙ ap (λ xs. length (filter (is_unfinished past) xs)) all ∙ unfinished_listed past listed c.open_runs-listed.ensures in
+    ∙ ap (λ xs. length (filter (is_unfinished past) xs)) all
+    ∙ unfinished_listed past listed c.open_runs-listed.ensures in
     let few = unfinished_few past in
     omega arith
