@@ -1,26 +1,33 @@
 -- The entries of events may be added.
-use Rattle.std.proofs.Common.{◌≡◌, ℕ, ◌+◌, ◌≤◌, ◌==◌, ◌&&◌, ◌++◌, Bool, true, false, if◌then◌else◌, not, nat_le, nat_lt}
+use Rattle.std.proofs.Common.{◌≡◌, ℕ, ◌+◌, ◌<◌, ◌≤◌, ◌==◌, ◌&&◌, ◌++◌, Bool, true, false, if◌then◌else◌, not, nat_le, nat_lt}
 use Rattle.std.proofs.Common.{List, [], ◌∷◌, All, filter, length, Option, refl, ap, sym, ◌∙◌, arith, inl, inr, subst}
 use Rattle.std.proofs.Common.{zero, suc, add-one}
 use Rattle.std.proofs.lemmas.Bool.{cases_Bool}
 use Rattle.asp_job.specs.declared.answer.Answer.{Answer}
 use Rattle.asp_job.specs.declared.entry.Entry.{Entry}
 use Rattle.asp_job.specs.declared.entry.What.{What}
-use Rattle.asp_job.specs.declared.entry.What.TheVariants.{Admit, Queue, Refuse, Stop, Tick}
+use Rattle.asp_job.specs.declared.entry.EndKind.{EndKind}
+use Rattle.asp_job.specs.declared.entry.Stage.{Stage}
+use Rattle.asp_job.specs.declared.entry.Stage.TheVariants.{Ended, Undrawn, Unfinished, Waiting}
+use Rattle.asp_job.specs.declared.entry.What.TheVariants.{Admit, Queue, Refuse, Stop, Take, Tick}
 use Rattle.asp_job.specs.declared.job.Job.{Job}
 use Rattle.asp_job.specs.declared.job.Work.{Work}
 use Rattle.asp_job.specs.declared.job.Work.TheVariants as work
 use Rattle.asp_job.specs.declared.session.SessionState.{SessionState}
 use Rattle.asp_job.specs.History.{what_weight, with_lane, work_weight}
-use Rattle.asp_job.specs.Journal.{admission, job_now, past_after, queue_entries}
+use Rattle.asp_job.specs.Journal.{AreRight, admission, job_now, past_after, queue_entries}
 use Rattle.asp_job.specs.Keys.{due_at, is_askable, is_due_key, is_live, live, made}
 use Rattle.asp_job.specs.Rules.{Rules}
-use Rattle.asp_job.specs.Runs.{drawn, is_stopping, moment_of, numbers}
+use Rattle.asp_job.specs.Runs.{drawn, is_open, is_stage_ended, is_stopping, is_unfinished, moment_of, numbers, stage_of}
 use Rattle.asp_job.specs.Turns.{closing_runs, has_most_keys, key_asked_by}
 use Rattle.asp_response.specs.declared.fixed.Unavailable.TheVariants as cause
 use Rattle.asp_journal.specs.Tables.{AreFit, IsFit}
 use Rattle.asp_core.specs.Calm.{AreCalm, IsCalm}
 use Rattle.asp_core.specs.Drawing.{answer_for, answer_if, drawn_by}
+use Rattle.asp_core.specs.Ends.{end_what}
+use Rattle.asp_core.specs.declared.ends.Left.{Left}
+use Rattle.asp_core.proofs.Handing.{CanTake}
+use Rattle.asp_core.proofs.Right.{is_drawn, numbered, unfinished_is}
 use Rattle.asp_core.specs.Kernel.{stopped_by, ticked}
 use Rattle.asp_core.specs.Standing.{stand_in}
 
@@ -202,3 +209,28 @@ fit_then past (first ∷ more) entry fit last = (fit.0, fit_then (first ∷ past
 pub calm_then : (more : List Entry) (entry : Entry) → AreCalm more → IsCalm entry.what → AreCalm (more ++ entry ∷ [])
 calm_then [] entry calm last = (last, tt)
 calm_then (first ∷ more) entry calm last = (calm.0, calm_then more entry calm.1 last)
+
+-- ---- the entries of a run that has come
+
+ended_drawn : (stage : Stage) → is_stage_ended stage ≡ true → is_drawn stage ≡ true
+ended_drawn Undrawn e = absurd cc
+ended_drawn Waiting e = absurd cc
+ended_drawn Unfinished e = absurd cc
+ended_drawn Ended e = refl
+
+pub take_fit : (m : Rules) (past : List Entry) (lane run : ℕ) → AreRight m past → CanTake m past lane run
+    → IsFit past (Take run)
+take_fit m past lane run right can = record {
+  numbered = numbered m past right run (ended_drawn (stage_of past run) can.is_take.ended);
+  keyed = tt;
+  timely = tt;
+}
+
+pub end_numbered : (m : Rules) (past : List Entry) (run : ℕ) → AreRight m past → is_unfinished past run ≡ true
+    → (0 < run) × (run ≤ drawn past)
+end_numbered m past run right open_ =
+    numbered m past right run (ap is_drawn (unfinished_is (stage_of past run) open_))
+
+pub end_fit : (past : List Entry) (run : ℕ) (kind : EndKind) (left : Left) → (0 < run) × (run ≤ drawn past)
+    → is_open past run ≡ true → IsFit past (end_what run kind left)
+end_fit past run kind left n t = record { numbered = n; keyed = tt; timely = t }

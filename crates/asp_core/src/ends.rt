@@ -102,6 +102,7 @@ fn keep_session(
 }
 
 /// The parts of a core after the End of a run.
+#[tactic(auto, using(crate::proofs::Fits::end_fit))]
 fn end_run(
     journal: &mut Journal,
     answers: &mut Vec<(u32, Answer)>,
