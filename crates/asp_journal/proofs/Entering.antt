@@ -16,29 +16,29 @@ use Rattle.asp_journal.proofs.Keying.{key_more}
 use Rattle.asp_journal.proofs.Open.{open_more}
 use Rattle.asp_journal.proofs.Past.{length_past, past_push}
 
-pub indexed_more : (journal next : List Entry) (rows marked_rows : List Row) (keys keyed : List KeyRow)
-    (tally later : Tally) (listed opened : List ℕ) (place own : ℕ) (entry : Entry)
-    → IsIndexed (reverse journal) rows keys tally listed → IsFit (reverse journal) entry.what
+pub indexed_more : (journal next : List Entry) (rows marked_rows : List Row) (keyless then_keyless : KeyRow)
+    (keys keyed : List KeyRow) (tally later : Tally) (listed opened : List ℕ) (place own : ℕ) (entry : Entry)
+    → IsIndexed (reverse journal) rows keyless keys tally listed → IsFit (reverse journal) entry.what
     → next ≡ journal ++ entry ∷ [] → place ≡ length journal → own ≡ key_of (reverse journal) (marked entry.what)
     → row_at marked_rows ≡ rows_after place entry.lane entry.what (row_at rows)
     → length marked_rows ≡ (if draws entry.what then length rows + 1 else length rows)
-    → ((k : ℕ) → 0 < k → key_at keyed k ≡ key_after own entry.what k (key_at keys k))
+    → ((k : ℕ) → key_at then_keyless keyed k ≡ key_after own entry.what k (key_at keyless keys k))
     → length keyed ≡ (if makes_key entry.what then length keys + 1 else length keys)
     → later ≡ tally_after entry.what tally → opened ≡ open_after entry.what listed
-    → IsIndexed (reverse next) marked_rows keyed later opened
-indexed_more journal next rows marked_rows keys keyed tally later listed opened place own entry is fit e at o f g
-    a b h i =
+    → IsIndexed (reverse next) marked_rows then_keyless keyed later opened
+indexed_more journal next rows marked_rows keyless then_keyless keys keyed tally later listed opened place own entry is
+    fit e at o f g a b h i =
     let past = reverse journal in
     let of : reverse next ≡ entry ∷ past = ap reverse e ∙ past_push journal entry in
     let here : place ≡ length past = at ∙ sym (length_past journal) in
-    let whole : IsIndexed (entry ∷ past) marked_rows keyed later opened = record {
+    let whole : IsIndexed (entry ∷ past) marked_rows then_keyless keyed later opened = record {
       rows_are = f ∙ ap (rows_after place entry.lane entry.what) is.rows_are
           ∙ ap (λ n. rows_after n entry.lane entry.what (row_of past)) here
           ∙ sym (fun_ext (λ r. row_more past entry r));
       drawn_is = g ∙ ap (λ n. if draws entry.what then n + 1 else n) is.drawn_is;
-      keys_are = λ k l. a k l ∙ ap (key_after own entry.what k) (is.keys_are k l)
+      keys_are = λ k. a k ∙ ap (key_after own entry.what k) (is.keys_are k)
           ∙ ap (λ n. key_after n entry.what k (key_row_of past k)) o
-          ∙ sym (key_more past entry.lane entry.what k fit.numbered fit.timely l);
+          ∙ sym (key_more past entry.lane entry.what k fit.numbered fit.timely);
       made_is = b ∙ ap (λ n. if makes_key entry.what then n + 1 else n) is.made_is;
       tally_is = h ∙ ap (tally_after entry.what) is.tally_is ∙ sym (tally_more past entry);
       open_are = i ∙ ap (open_after entry.what) is.open_are

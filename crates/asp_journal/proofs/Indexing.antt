@@ -268,3 +268,19 @@ tally_few journal tally e =
     let one : tally.entries ≡ entries_in (reverse journal) = ap (λ t. t.entries) e in
     let two : tally.made ≡ made_in (reverse journal) = ap (λ t. t.made) e in
     (omega arith, omega arith)
+
+pub drawn_few : (journal : List Entry) (n : ℕ) → n ≡ drawn (reverse journal)
+    → (n ≤ entries_in (reverse journal)) × (n ≤ length journal)
+drawn_few journal n e =
+    let long = length_past journal in
+    let entries = entries_few (reverse journal) in
+    let runs = drawn_small (reverse journal) in
+    (omega arith, omega arith)
+
+pub made_few : (journal : List Entry) (n : ℕ) → n ≡ made_in (reverse journal)
+    → (n ≤ entries_in (reverse journal)) × (n ≤ length journal)
+made_few journal n e =
+    let long = length_past journal in
+    let entries = entries_few (reverse journal) in
+    let keys = made_small (reverse journal) in
+    (omega arith, omega arith)

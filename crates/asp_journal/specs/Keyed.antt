@@ -1,4 +1,4 @@
--- What a table of session keys tells. Its first place is that of key 1.
+-- What a table of session keys tells, where the runs with no key have a row of their own, under 0.
 use Rattle.std.specs.Prelude.{◌≡◌, ℕ, ◌+◌, ◌-◌, ◌≤◌, ◌==◌, ◌||◌, Bool, true, false, if◌then◌else◌}
 use Rattle.std.specs.Prelude.{List, length, filter}
 use Rattle.asp_job.specs.declared.entry.Entry.{Entry}
@@ -15,9 +15,9 @@ use Rattle.asp_journal.specs.declared.keyed.KeyRow.{KeyRow}
 abbrev pub no_key : KeyRow
 no_key = record { busy = 0; asked = 0; closing = false }
 
--- the row of a key
-abbrev pub key_at : List KeyRow → ℕ → KeyRow
-key_at keys k = found_at no_key keys k
+-- the row of a key; the first place of the table is that of key 1
+abbrev pub key_at : KeyRow → List KeyRow → ℕ → KeyRow
+key_at keyless keys k = if k == 0 then keyless else found_at no_key keys k
 
 -- the runs of a key that wait or are unfinished
 abbrev pub busy_runs : List Entry → ℕ → List ℕ
@@ -31,7 +31,7 @@ key_row_of past k = record {
   closing = is_closing past k;
 }
 
--- the key whose row an entry changes, 0 for none; `own` is the key of the entry's run
+-- the key whose row an entry changes, if it changes one; `own` is the key of the entry's run
 abbrev pub touched : ℕ → What → ℕ
 touched own (Queue run work key) = key
 touched own (Admit run key fresh job) = key

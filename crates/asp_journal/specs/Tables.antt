@@ -1,5 +1,5 @@
 -- A journal with tables of what it tells.
-use Rattle.std.specs.Prelude.{◌≡◌, ℕ, ◌+◌, ◌-◌, ◌^◌, ◌<◌, ◌≤◌, ◌||◌, ◌==◌, ◌++◌, min, true, not}
+use Rattle.std.specs.Prelude.{◌≡◌, ℕ, ◌+◌, ◌-◌, ◌^◌, ◌≤◌, ◌||◌, ◌==◌, ◌++◌, min, true, not}
 use Rattle.std.specs.Prelude.{if◌then◌else◌, unwrap_or}
 use Rattle.std.specs.Prelude.{List, [], ◌∷◌, length, filter}
 use Rattle.asp_job.specs.declared.entry.Entry.{Entry}
@@ -69,11 +69,11 @@ AreFit past [] = Unit {0}
 AreFit past (entry ∷ entries) = IsFit past entry.what × AreFit (entry ∷ past) entries
 
 -- the tables say what the journal says
-pub record IsIndexed (past : List Entry) (rows : List Row) (keys : List KeyRow) (tally : Tally) (listed : List ℕ)
-    : Type 0 where
+pub record IsIndexed (past : List Entry) (rows : List Row) (keyless : KeyRow) (keys : List KeyRow) (tally : Tally)
+    (listed : List ℕ) : Type 0 where
   pub rows_are : row_at rows ≡ row_of past
   pub drawn_is : length rows ≡ drawn past
-  pub keys_are : (k : ℕ) → 0 < k → key_at keys k ≡ key_row_of past k
+  pub keys_are : (k : ℕ) → key_at keyless keys k ≡ key_row_of past k
   pub made_is : length keys ≡ made_in past
   pub tally_is : tally ≡ tally_of past
   pub open_are : listed ≡ open_runs past

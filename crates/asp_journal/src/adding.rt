@@ -44,7 +44,7 @@ impl Journal {
         ensures capacity { self.new.capacity ≡ self.old.capacity }
     {
         let own = look_up(self.rows.as_slice(), marked(&entry.what) as u64).key;
-        mark_key(&mut self.keys, own, &entry.what);
+        self.keyless = mark_key(self.keyless, &mut self.keys, own, &entry.what);
         mark(&mut self.rows, self.journal.len(), &entry);
         self.tally = tallied(self.tally, &entry.what);
         list(&mut self.listed, &entry.what);

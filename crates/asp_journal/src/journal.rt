@@ -14,7 +14,7 @@ ghost use Rattle.asp_journal.specs.Keyed as keyed;
 ghost use Rattle.asp_journal.specs.Rows as rows;
 ghost use Rattle.asp_journal.specs.Telling as telling;
 
-use crate::keyed::{KeyRow, look_up_key};
+use crate::keyed::{KeyRow, look_up_key, no_key};
 use crate::rows::{Row, look_up};
 use crate::tally::Tally;
 use crate::told::{job_in, queued};
@@ -28,6 +28,8 @@ use vb_value::Memory;
 pub struct Journal {
     pub(crate) journal: Vec<Entry>,
     pub(crate) rows: Vec<Row>,
+    /// The row of the runs with no key.
+    pub(crate) keyless: KeyRow,
     pub(crate) keys: Vec<KeyRow>,
     pub(crate) tally: Tally,
     /// The runs that wait or are unfinished, in order.
@@ -50,7 +52,7 @@ impl Model for Journal {
     ghost view = { λ j. record { items = j.journal.items; capacity = j.capacity } };
 
     ghost invariant = { λ j.
-        IsIndexed (reverse j.journal.items) j.rows.items j.keys.items j.tally j.listed.items
+        IsIndexed (reverse j.journal.items) j.rows.items j.keyless j.keys.items j.tally j.listed.items
         × HasSpare (vec_len j.journal) (vec_len j.rows) (vec_len j.keys) (vec_len j.listed) j.capacity
         (vec_capacity j.journal) (vec_capacity j.rows) (vec_capacity j.keys) (vec_capacity j.listed) };
 }
@@ -77,6 +79,7 @@ impl Journal {
         Journal {
             journal: Vec::new(alloc),
             rows: Vec::new(alloc),
+            keyless: no_key(),
             keys: Vec::new(alloc),
             tally: Tally {
                 made: 0,
@@ -126,10 +129,9 @@ impl Journal {
     }
 
     fn key_row_of(&self, key: u64) -> KeyRow
-        requires { 0 < key }
         ensures { result ≡ keyed.key_row_of (reverse self.now.items) key }
     {
-        look_up_key(self.keys.as_slice(), key)
+        look_up_key(self.keyless, self.keys.as_slice(), key)
     }
 
     #[tactic(auto, using(crate::proofs::Indexing::tally_few))]
@@ -212,15 +214,21 @@ impl Journal {
     }
 
     /// How many runs were drawn.
+    #[tactic(auto, using(crate::proofs::Indexing::drawn_few))]
     pub fn drawn(&self) -> u64
-        ensures { result ≡ runs.drawn (reverse self.now.items) }
+        ensures drawn { result ≡ runs.drawn (reverse self.now.items) }
+        ensures small { result ≤ history.entries_in (reverse self.now.items) }
+        ensures within { result ≤ length self.now.items }
     {
         self.rows.len() as u64
     }
 
     /// How many keys were made.
+    #[tactic(auto, using(crate::proofs::Indexing::made_few))]
     pub fn made(&self) -> u64
-        ensures { result ≡ keys.made (reverse self.now.items) }
+        ensures made { result ≡ keys.made (reverse self.now.items) }
+        ensures small { result ≤ history.entries_in (reverse self.now.items) }
+        ensures within { result ≤ length self.now.items }
     {
         self.tally_of().made
     }
@@ -273,7 +281,6 @@ impl Journal {
     /// Whether a run of a key waits or is unfinished.
     #[tactic(auto, using(crate::proofs::Busy::busy_is))]
     pub fn is_busy(&self, key: u64) -> bool
-        requires { 0 < key }
         ensures { result ≡ keys.is_busy (reverse self.now.items) key }
     {
         self.key_row_of(key).busy != 0
@@ -281,7 +288,6 @@ impl Journal {
 
     /// The moment of the last job that was admitted for a key.
     pub fn last_asked(&self, key: u64) -> u64
-        requires { 0 < key }
         ensures { result ≡ keys.last_asked (reverse self.now.items) key }
     {
         self.key_row_of(key).asked
@@ -289,7 +295,6 @@ impl Journal {
 
     /// Whether a run for the end of a key's session was queued.
     pub fn is_closing(&self, key: u64) -> bool
-        requires { 0 < key }
         ensures { result ≡ keys.is_closing (reverse self.now.items) key }
     {
         self.key_row_of(key).closing

@@ -20,18 +20,28 @@ pub struct KeyRow {
     pub closing: bool,
 }
 
-/// The row of a key.
-pub fn look_up_key(keys: &[KeyRow], key: u64) -> KeyRow
-    ensures { result ≡ spec.key_at keys.now key }
+/// The row of no key.
+pub fn no_key() -> KeyRow
+    ensures { result ≡ spec.no_key }
 {
-    if key == 0 || key > keys.len() as u64 {
-        return KeyRow {
-            busy: 0,
-            asked: 0,
-            closing: false,
-        };
+    KeyRow {
+        busy: 0,
+        asked: 0,
+        closing: false,
     }
-    keys[(key - 1) as usize]
+}
+
+/// The row of a key, 0 for that of the runs with no key.
+pub fn look_up_key(keyless: KeyRow, keys: &[KeyRow], key: u64) -> KeyRow
+    ensures { result ≡ spec.key_at keyless keys.now key }
+{
+    if key == 0 {
+        keyless
+    } else if key > keys.len() as u64 {
+        no_key()
+    } else {
+        keys[(key - 1) as usize]
+    }
 }
 
 fn touched(own: u32, what: &What) -> u32
@@ -73,30 +83,31 @@ fn key_changed(row: KeyRow, what: &What) -> KeyRow
     }
 }
 
-/// The rows of the keys after an entry, where its run has this key.
-#[tactic(auto, using(crate::proofs::Keying::key_pushed, crate::proofs::Keying::key_put, crate::proofs::Keying::key_none, crate::proofs::Keying::key_beyond))]
-pub fn mark_key(keys: &mut Vec<KeyRow>, own: u32, what: &What)
+/// The rows of the keys after an entry, where its run has this key: that of the runs with no key comes back.
+#[tactic(auto, using(crate::proofs::Keying::key_put, crate::proofs::Keying::key_none))]
+pub fn mark_key(keyless: KeyRow, keys: &mut Vec<KeyRow>, own: u32, what: &What) -> KeyRow
     requires keyed { spec.IsKeyedFor (length keys.old.items) what.now }
-    requires few { (spec.key_at keys.old.items (spec.touched own what.now)).busy < 2 ^ 63 }
+    requires few { (spec.key_at keyless keys.old.items (spec.touched own what.now)).busy < 2 ^ 63 }
     requires room { vec_len keys.old < vec_capacity keys.old }
-    ensures rows { (k : ℕ) → 0 < k → spec.key_at keys.new.items k
-        ≡ spec.key_after own what.now k (spec.key_at keys.old.items k) }
+    ensures rows { (k : ℕ) → spec.key_at result keys.new.items k
+        ≡ spec.key_after own what.now k (spec.key_at keyless keys.old.items k) }
     ensures length { length keys.new.items
         ≡ (if spec_of_keys.makes_key what.now then length keys.old.items + 1 else length keys.old.items) }
     ensures capacity { vec_capacity keys.new ≡ vec_capacity keys.old }
     ensures few { vec_len keys.new ≤ vec_len keys.old + 1 }
 {
     let key = touched(own, what);
-    let row = key_changed(look_up_key(keys.as_slice(), key as u64), what);
+    let row = key_changed(look_up_key(keyless, keys.as_slice(), key as u64), what);
     if makes_key(what) {
         keys.push_reserved(row);
-        return;
+        return keyless;
     }
     if key == 0 {
-        return;
+        return row;
     }
     if key as usize > keys.len() {
-        return;
+        return keyless;
     }
     keys[(key - 1) as usize] = row;
+    keyless
 }
