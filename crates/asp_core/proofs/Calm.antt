@@ -132,7 +132,7 @@ calm_load past more fit calm =
 
 -- ---- room
 
-bounded : (w m most : ℕ) → min w m ≤ most → most < m → w ≤ most
+pub bounded : (w m most : ℕ) → min w m ≤ most → most < m → w ≤ most
 bounded w m most e l = omega arith
 
 twice_bounded : (w x m : ℕ) → min (w + min x m) m ≡ min (w + x) m
@@ -172,7 +172,7 @@ calm_much past more count weight entries total fit calm c w over =
       much = over.much;
     }
 
-one_at_most : (b : Bool) → (if b then 0 else 1) ≤ 1
+pub one_at_most : (b : Bool) → (if b then 0 else 1) ≤ 1
 one_at_most true = omega arith
 one_at_most false = omega arith
 

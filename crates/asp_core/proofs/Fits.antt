@@ -1,7 +1,8 @@
 -- The entries of events may be added.
 use Rattle.std.proofs.Common.{◌≡◌, ℕ, ◌+◌, ◌<◌, ◌≤◌, ◌==◌, ◌&&◌, ◌++◌, Bool, true, false, if◌then◌else◌, not, nat_le, nat_lt}
 use Rattle.std.proofs.Common.{List, [], ◌∷◌, All, filter, length, Option, refl, ap, sym, ◌∙◌, arith, inl, inr, subst}
-use Rattle.std.proofs.Common.{zero, suc, add-one}
+use Rattle.std.proofs.Common.{zero, suc, add-one, length-append, sum_by}
+use Rattle.std.proofs.lemmas.List.Sums.{sum_by_push}
 use Rattle.std.proofs.lemmas.Bool.{cases_Bool}
 use Rattle.asp_job.specs.declared.answer.Answer.{Answer}
 use Rattle.asp_job.specs.declared.entry.Entry.{Entry}
@@ -22,8 +23,8 @@ use Rattle.asp_job.specs.Runs.{drawn, is_open, is_stage_ended, is_stopping, is_u
 use Rattle.asp_job.specs.Turns.{closing_runs, has_most_keys, key_asked_by}
 use Rattle.asp_response.specs.declared.fixed.Unavailable.TheVariants as cause
 use Rattle.asp_journal.specs.Tables.{AreFit, IsFit}
-use Rattle.asp_core.specs.Calm.{AreCalm, IsCalm}
-use Rattle.asp_core.specs.Drawing.{answer_for, answer_if, drawn_by}
+use Rattle.asp_core.specs.Calm.{AreCalm, IsCalm, entry_weight}
+use Rattle.asp_core.specs.Drawing.{answer_for, answer_if, drawn_by, drawn_then, entries_by, tick_before}
 use Rattle.asp_core.specs.Ends.{end_what}
 use Rattle.asp_core.specs.declared.ends.Left.{Left}
 use Rattle.asp_core.proofs.Handing.{CanTake}
@@ -234,3 +235,32 @@ end_numbered m past run right open_ =
 pub end_fit : (past : List Entry) (run : ℕ) (kind : EndKind) (left : Left) → (0 < run) × (run ≤ drawn past)
     → is_open past run ≡ true → IsFit past (end_what run kind left)
 end_fit past run kind left n t = record { numbered = n; keyed = tt; timely = t }
+
+-- ---- a Tick and the entry of a job
+
+pub job_fit : (rules : Rules) (sessions : ℕ → Option SessionState) (past : List Entry) (lane : ℕ) (job : Job)
+    → AreFit past (entries_by rules sessions past lane job)
+job_fit rules sessions past lane job =
+    let tick = tick_before sessions past lane job in
+    fit_then past tick (drawn_then rules sessions past lane job) (tick_fit sessions past tick lane job.moment refl)
+    (drawn_fit rules sessions (past_after past tick) lane job)
+
+pub job_calm : (rules : Rules) (sessions : ℕ → Option SessionState) (past : List Entry) (lane : ℕ) (job : Job)
+    → AreCalm (entries_by rules sessions past lane job)
+job_calm rules sessions past lane job =
+    let tick = tick_before sessions past lane job in
+    calm_then tick (drawn_then rules sessions past lane job) (tick_calm sessions past tick lane job.moment refl)
+    (drawn_calm rules sessions (past_after past tick) lane job)
+
+pub job_weight : (rules : Rules) (sessions : ℕ → Option SessionState) (past : List Entry) (lane : ℕ) (job : Job)
+    → sum_by entry_weight (entries_by rules sessions past lane job)
+    ≡ sum_by entry_weight (tick_before sessions past lane job) + (64 + work_weight job.work)
+job_weight rules sessions past lane job =
+    let tick = tick_before sessions past lane job in
+    sum_by_push entry_weight tick (drawn_then rules sessions past lane job)
+    ∙ ap (λ w. sum_by entry_weight tick + w) (drawn_weight rules sessions (past_after past tick) lane job)
+
+pub job_length : (rules : Rules) (sessions : ℕ → Option SessionState) (past : List Entry) (lane : ℕ) (job : Job)
+    → length (entries_by rules sessions past lane job) ≡ length (tick_before sessions past lane job) + 1
+job_length rules sessions past lane job =
+    length-append (tick_before sessions past lane job) (drawn_then rules sessions past lane job ∷ [])
