@@ -33,7 +33,7 @@ joined_other x y xs ys a b e f g h =
     omega arith
 
 -- one number less passes p than passes q
-filter_one : (p q : ℕ → Bool) (n r : ℕ) → 0 < r → r ≤ n → q r ≡ true → p r ≡ false
+pub filter_one : (p q : ℕ → Bool) (n r : ℕ) → 0 < r → r ≤ n → q r ≡ true → p r ≡ false
     → ((other : ℕ) → (r == other) ≡ false → p other ≡ q other) → length (filter p (numbers n)) + 1
     ≡ length (filter q (numbers n))
 filter_one p q zero r low high holds fails same = absurd (omega arith)

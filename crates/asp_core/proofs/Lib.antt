@@ -4,6 +4,9 @@ pub mod Others
 pub mod Right
 pub mod Least
 pub mod Kept
+pub mod Calm
+pub mod Fits
+pub mod Begun
 pub mod Closing
 pub mod Waiting
 pub mod Starting

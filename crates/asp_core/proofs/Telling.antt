@@ -7,7 +7,7 @@ use Rattle.asp_job.specs.Turns.{is_waiting_page, waiting_pages}
 use Rattle.asp_job.specs.declared.entry.Entry.{Entry}
 use Rattle.asp_job.specs.declared.entry.What.{What}
 use Rattle.asp_job.specs.declared.entry.What.TheVariants.{Admit, App, Begin, End, Halt, Queue, Refuse, Stop, Take, Tick}
-use Rattle.asp_core.specs.Telling.{admitted}
+use Rattle.asp_journal.specs.Telling.{admitted}
 use Rattle.asp_core.proofs.Bounds.{drawn_small}
 
 length-numbers : (n : ℕ) → length (numbers n) ≡ n

@@ -28,6 +28,11 @@ abbrev pub answer_for : What → Option Answer
 answer_for (Refuse run job) = stand_in cause.TooManySessions job.work
 answer_for _ = None
 
+-- this answer, where the entry is that of a job that is refused
+abbrev pub answer_if : What → Option Answer → Option Answer
+answer_if (Refuse run job) answer = answer
+answer_if _ answer = None
+
 -- what is kept of a job that came is that of its entry
 pub record IsDrawn (what : What) (drawn : Drawn) : Type 0 where
   pub told_is : drawn.told ≡ told_of what

@@ -9,8 +9,8 @@ pub mod Opening
 pub mod Calling
 pub mod Taking
 pub mod Ends
-pub mod Telling
 pub mod Waits
 pub mod Wanted
 pub mod Given
 pub mod Alone
+pub mod Calm

@@ -20,19 +20,18 @@ ghost use Rattle.asp_core.specs.Taking as taking;
 use crate::admitted::Admitted;
 use crate::events::with_job;
 use crate::kernel::Core;
-use crate::keys::waiting_pages;
 use crate::places::{add_answer, add_place};
-use crate::scan::is_stopping;
 use crate::stop::{AdmitStop, EventStop, admit_stop};
-use asp_job::{Answer, Entry, Job, MOST_WAITING, Runner, SessionState};
+use asp_job::{Answer, Job, MOST_WAITING, Runner, SessionState};
+use asp_journal::Journal;
 use vb_value::Memory;
 
-fn refused_before(journal: &[Entry]) -> Option<AdmitStop>
-    ensures { result ≡ taking.refused_before (reverse journal.now) }
+fn refused_before(journal: &Journal) -> Option<AdmitStop>
+    ensures { result ≡ taking.refused_before (reverse journal.now.items) }
 {
-    if is_stopping(journal) {
+    if journal.is_stopping() {
         Some(AdmitStop::Stopping)
-    } else if waiting_pages(journal) >= MOST_WAITING as u64 {
+    } else if journal.waiting_pages() >= MOST_WAITING as u64 {
         Some(AdmitStop::WaitingFull)
     } else {
         None
@@ -52,7 +51,7 @@ pub(crate) fn take_job<R: Runner>(
     runner: &R,
     site: &R::Site,
     seed: &[u8; 32],
-    journal: &mut Vec<Entry>,
+    journal: &mut Journal,
     answers: &mut Vec<(u32, Answer)>,
     table: &mut Vec<Option<SessionState>>,
     lane: u32,
@@ -65,12 +64,12 @@ pub(crate) fn take_job<R: Runner>(
     ensures ok { OnOk result (taking.HasTaken (kernel.rules_by (R.meaning runner.now site.now) seed.now)
         lane job.now journal.old.items table.old.items answers.old.items
         journal.new.items table.new.items answers.new.items
-        (vec_capacity journal.new) (vec_capacity answers.new)) }
+        (journal.new.capacity) (vec_capacity answers.new)) }
     ensures told { IfOk result (λ told. told ≡ drawing.told_of (drawing.entry_then
         (kernel.rules_by (R.meaning runner.now site.now) seed.now) (reverse journal.old.items) lane job.now).what) }
     ensures err { OnErr result ((journal.new.items ≡ journal.old.items) × (table.new.items ≡ table.old.items)
         × (answers.new.items ≡ answers.old.items)) }
-    ensures capacity { OnErr result ((vec_capacity journal.old ≤ vec_capacity journal.new)
+    ensures capacity { OnErr result ((journal.old.capacity ≤ journal.new.capacity)
         × (vec_capacity answers.old ≤ vec_capacity answers.new)) }
     ensures full { (entries weight : ℕ) → result ≡ Err (EventStop.JournalFull entries weight) →
         kernel.IsTooMuch (journals.past_after (reverse journal.old.items) (journals.admit_entries
@@ -124,7 +123,7 @@ impl<R: Runner> Core<R> {
             (kernel.rules_of R.meaning self.old) (kernel.past_of self.old) lane job.now)) entries weight }
         ensures err { OnErr result (self.new ≡ self.old) }
     {
-        if let Some(stop) = refused_before(self.journal.as_slice()) {
+        if let Some(stop) = refused_before(&self.journal) {
             return Err(stop);
         }
         let made = take_job(

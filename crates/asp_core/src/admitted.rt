@@ -78,13 +78,3 @@ pub fn stand_in(alloc: Global, cause: Unavailable, work: &Work) -> Result<Option
         _ => Ok(None),
     }
 }
-
-/// The answer that an entry makes: that of a job that is refused.
-pub fn answer_for(alloc: Global, what: &What) -> Result<Option<Answer>, Memory>
-    ensures { Gives result (spec.answer_for what.now) }
-{
-    match what {
-        What::Refuse { job, .. } => stand_in(alloc, Unavailable::TooManySessions, &job.work),
-        _ => Ok(None),
-    }
-}

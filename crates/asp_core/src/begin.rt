@@ -18,23 +18,24 @@ use crate::kernel::Core;
 use crate::keys::least_run;
 use crate::opening::{Opening, SessionNumber, open_run, session_number};
 use crate::ready::has_body_room;
-use crate::room::fit;
+use crate::room::room_for;
 use crate::run::{Progress, Run};
-use crate::stop::{BeginStop, EventStop, begin_stop};
+use crate::stop::{BeginStop, begin_stop};
 use asp_job::{Answer, Entry, Runner, SessionState, What};
+use asp_journal::Journal;
 use std::alloc::Global;
 
 /// The run that is next, where there is room for the body of one more.
 #[tactic(auto, using(crate::proofs::Beginning::not_idle))]
-fn next_to_begin(journal: &[Entry], answers: &[(u32, Answer)]) -> Option<u64>
-    requires { (run : ℕ) → turns.may_begin (reverse journal.now) run ≡ true →
-        (0 < run) × (run ≤ runs.drawn (reverse journal.now)) }
-    ensures none { IfNone result (spec.IsIdleWith answers.now (reverse journal.now)) }
-    ensures next { IfSome result (λ run. turns.IsNextRun (reverse journal.now) run) }
-    ensures within { IfSome result (λ run. run ≤ runs.drawn (reverse journal.now)) }
-    ensures few { OnSome result (length (runs.unfinished (reverse journal.now)) < MOST_UNFINISHED) }
-    ensures going { OnSome result (runs.is_halted (reverse journal.now) ≡ false) }
-    ensures light { OnSome result (waits.bodies_with_one answers.now (reverse journal.now) ≤ MOST_BODIES) }
+fn next_to_begin(journal: &Journal, answers: &[(u32, Answer)]) -> Option<u64>
+    requires { (run : ℕ) → turns.may_begin (reverse journal.now.items) run ≡ true →
+        (0 < run) × (run ≤ runs.drawn (reverse journal.now.items)) }
+    ensures none { IfNone result (spec.IsIdleWith answers.now (reverse journal.now.items)) }
+    ensures next { IfSome result (λ run. turns.IsNextRun (reverse journal.now.items) run) }
+    ensures within { IfSome result (λ run. run ≤ runs.drawn (reverse journal.now.items)) }
+    ensures few { OnSome result (length (runs.unfinished (reverse journal.now.items)) < MOST_UNFINISHED) }
+    ensures going { OnSome result (runs.is_halted (reverse journal.now.items) ≡ false) }
+    ensures light { OnSome result (waits.bodies_with_one answers.now (reverse journal.now.items) ≤ MOST_BODIES) }
 {
     if has_body_room(journal, answers) {
         least_run(journal)
@@ -43,57 +44,23 @@ fn next_to_begin(journal: &[Entry], answers: &[(u32, Answer)]) -> Option<u64>
     }
 }
 
-/// The journal after the Begin of a run. A refusal leaves it.
-#[tactic(auto, using(crate::proofs::Past::take_first, crate::proofs::Past::past_push))]
-fn with_begin(
-    journal: &mut Vec<Entry>,
-    answers: &mut Vec<(u32, Answer)>,
-    lane: u32,
-    run: u32,
-    serial: u32,
-) -> Result<(), EventStop>
-    requires { length journal.old.items < vec_capacity journal.old }
-    ensures entries { OnOk result (journal.new.items ≡ journal.old.items
-        ++ history.with_lane lane (What.Begin run serial) ∷ []) }
-    ensures err { OnErr result (journal.new.items ≡ journal.old.items) }
-    ensures answers { answers.new.items ≡ answers.old.items }
-    ensures capacity { vec_capacity journal.old ≤ vec_capacity journal.new }
-    ensures capacity_of_answers { vec_capacity answers.old ≤ vec_capacity answers.new }
-    ensures within { OnOk result (kernel.IsWithin (reverse journal.new.items)) }
-    ensures room { OnOk result (kernel.HasRoom (reverse journal.new.items)
-        (length answers.old.items + 1) (vec_capacity journal.new)) }
-    ensures answer_room { OnOk result (kernel.HasAnswerRoom (reverse journal.new.items)
-        (length answers.old.items + 1) (vec_capacity answers.new)) }
-    ensures full { (entries weight : ℕ) → result ≡ Err (EventStop.JournalFull entries weight) →
-        kernel.IsTooMuch (history.with_lane lane (What.Begin run serial) ∷ reverse journal.old.items) entries weight }
-    ensures fits { result ≡ Err EventStop.Memory →
-        kernel.IsWithin (history.with_lane lane (What.Begin run serial) ∷ reverse journal.old.items) }
-{
-    let first = journal.len();
-    journal.push_reserved(Entry {
-        lane,
-        what: What::Begin { run, serial },
-    });
-    fit(journal, answers, first)
-}
-
 /// The run, with the runner's state of it. Without memory the store comes back.
 fn start_run<R: Runner>(
     runner: &R,
     site: &R::Site,
     alloc: Global,
     seed: &[u8; 32],
-    journal: &[Entry],
+    journal: &Journal,
     table: &[Option<SessionState>],
     number: SessionNumber,
     run: u32,
     store: R::Store,
 ) -> Result<Run<R>, R::Store>
-    requires { spec.CanOpen (runs.draw_of (reverse journal.now) run)
-        (kernel.session_at table.now (runs.key_of (reverse journal.now) run)) number }
+    requires { spec.CanOpen (runs.draw_of (reverse journal.now.items) run)
+        (kernel.session_at table.now (runs.key_of (reverse journal.now.items) run)) number }
     ensures { IfOk result (spec.HasOpened (R.stands runner.now site.now) seed.now
-        (runs.draw_of (reverse journal.now) run)
-        (kernel.session_at table.now (runs.key_of (reverse journal.now) run)) number run) }
+        (runs.draw_of (reverse journal.now.items) run)
+        (kernel.session_at table.now (runs.key_of (reverse journal.now.items) run)) number run) }
 {
     let Ok(opening) = open_run(alloc, seed, journal, table, number, run as u64) else {
         return Err(store);
@@ -121,7 +88,7 @@ fn begin_run<R: Runner>(
     runner: &R,
     site: &R::Site,
     seed: &[u8; 32],
-    journal: &mut Vec<Entry>,
+    journal: &mut Journal,
     answers: &mut Vec<(u32, Answer)>,
     table: &[Option<SessionState>],
     opened: &mut u32,
@@ -129,13 +96,13 @@ fn begin_run<R: Runner>(
     store: R::Store,
 ) -> Result<Run<R>, (R::Store, BeginStop)>
     requires { spec.CanBegin (kernel.rules_by (R.meaning runner.now site.now) seed.now)
-        (reverse journal.old.items) table.now opened.old answers.old.items (vec_capacity journal.old) }
+        (reverse journal.old.items) table.now opened.old answers.old.items (journal.old.capacity) }
     ensures ok { IfOk result (spec.HasBegun (kernel.rules_by (R.meaning runner.now site.now) seed.now)
         (R.stands runner.now site.now) lane journal.old.items opened.old answers.old.items
-        journal.new.items opened.new (vec_capacity journal.new) (vec_capacity answers.new)) }
+        journal.new.items opened.new (journal.new.capacity) (vec_capacity answers.new)) }
     ensures err { OnErr result ((journal.new.items ≡ journal.old.items) × (opened.new ≡ opened.old)) }
     ensures answers { answers.new.items ≡ answers.old.items }
-    ensures capacity { vec_capacity journal.old ≤ vec_capacity journal.new }
+    ensures capacity { journal.old.capacity ≤ journal.new.capacity }
     ensures capacity_of_answers { vec_capacity answers.old ≤ vec_capacity answers.new }
     ensures idle { IfErr result (λ stop. stop.1 ≡ BeginStop.Idle ↔
         spec.IsIdleWith answers.old.items (reverse journal.old.items)) }
@@ -146,37 +113,39 @@ fn begin_run<R: Runner>(
         kernel.NextFits (kernel.rules_by (R.meaning runner.now site.now) seed.now)
         (reverse journal.old.items) lane) }
 {
-    let Some(next) = next_to_begin(journal.as_slice(), answers.as_slice()) else {
+    let Some(next) = next_to_begin(journal, answers.as_slice()) else {
         return Err((store, BeginStop::Idle));
     };
-    let first = journal.len();
-    let alloc = *journal.allocator();
     let run = next as u32;
-    let number = session_number(journal.as_slice(), table, *opened, next);
-    if let Err(stop) = with_begin(journal, answers, lane, run, number.serial) {
+    let number = session_number(journal, table, *opened, next);
+    if let Err(stop) = room_for(journal, answers, 2, 128) {
         return Err((store, begin_stop(stop)));
     }
     match start_run(
         runner,
         site,
-        alloc,
+        journal.alloc(),
         seed,
-        journal.as_slice(),
+        journal,
         table,
         number,
         run,
         store,
     ) {
         Ok(begun) => {
+            journal.push_reserved(Entry {
+                lane,
+                what: What::Begin {
+                    run,
+                    serial: number.serial,
+                },
+            });
             if number.is_new {
                 *opened += 1;
             }
             Ok(begun)
         }
-        Err(store) => {
-            journal.truncate(first);
-            Err((store, BeginStop::Memory))
-        }
+        Err(store) => Err((store, BeginStop::Memory)),
     }
 }
 

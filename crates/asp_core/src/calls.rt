@@ -13,18 +13,17 @@ ghost use Rattle.asp_core.specs.Kernel as kernel;
 ghost use Rattle.asp_core.specs.Stops as stops;
 
 use crate::kernel::Core;
-use crate::keys::{load, unfinished, weight_load};
 use crate::run::{Progress, Run};
 use crate::stop::{AppStepStop, EventStop, app_stop};
-use crate::weighing::{call_weight, reply_weight};
 use asp_app::Application;
 use asp_job::{Answer, Entry, MOST_ENTRIES, MOST_WEIGHT, Runner, What, copy_reply};
+use asp_journal::{Journal, call_weight, reply_weight};
 use vb_value::{AppCall, AppReply};
 
 /// Makes room for the entry of a call and for all that is to come for sure, if the entry fits.
 #[tactic(auto, using(crate::proofs::Past::length_past, crate::proofs::Past::halts_few))]
 fn room_for_call(
-    journal: &mut Vec<Entry>,
+    journal: &mut Journal,
     answers: &[(u32, Answer)],
     lane: u32,
     run: u32,
@@ -32,24 +31,24 @@ fn room_for_call(
     reply: &AppReply,
 ) -> Result<(), EventStop>
     ensures items { journal.new.items ≡ journal.old.items }
-    ensures capacity { vec_capacity journal.old ≤ vec_capacity journal.new }
+    ensures capacity { journal.old.capacity ≤ journal.new.capacity }
     ensures within { OnOk result (kernel.IsWithin
         (history.with_lane lane (What.App run call.now reply.now) ∷ reverse journal.old.items)) }
     ensures room { OnOk result (kernel.HasRoom
         (history.with_lane lane (What.App run call.now reply.now) ∷ reverse journal.old.items)
-        (length answers.now) (vec_capacity journal.new)) }
+        (length answers.now) (journal.new.capacity)) }
     ensures full { (entries weight : ℕ) → result ≡ Err (EventStop.JournalFull entries weight) → kernel.IsTooMuch
         (history.with_lane lane (What.App run call.now reply.now) ∷ reverse journal.old.items) entries weight }
 {
-    let entries = load(journal.as_slice()) + 1;
-    let weight = weight_load(journal.as_slice())
+    let entries = journal.load() + 1;
+    let weight = journal.weight_load()
         .saturating_add(call_weight(call))
         .saturating_add(reply_weight(reply))
         .saturating_add(64);
     if entries > MOST_ENTRIES || weight > MOST_WEIGHT {
         return Err(EventStop::JournalFull { entries, weight });
     }
-    let open = unfinished(journal.as_slice()) as usize;
+    let open = journal.unfinished() as usize;
     if journal.reserve(2 * open + 3 + answers.len()).is_err() {
         return Err(EventStop::Memory);
     }
@@ -79,7 +78,7 @@ fn short_copy(reply: &AppReply) -> AppReply
 /// The reply to a call that reads, twice.
 #[tactic(auto, using(crate::proofs::Calling::of_reads))]
 fn read_reply(
-    journal: &mut Vec<Entry>,
+    journal: &mut Journal,
     answers: &[(u32, Answer)],
     application: &mut Application,
     lane: u32,
@@ -89,9 +88,9 @@ fn read_reply(
     requires call { IsAppCall call.now }
     requires read { spec.is_read call.now ≡ true }
     ensures ok { IfOk result (spec.IsReplied (reverse journal.old.items) lane run call.now
-        application.old application.new (length answers.now) (vec_capacity journal.new)) }
+        application.old application.new (length answers.now) (journal.new.capacity)) }
     ensures items { journal.new.items ≡ journal.old.items }
-    ensures capacity { vec_capacity journal.old ≤ vec_capacity journal.new }
+    ensures capacity { journal.old.capacity ≤ journal.new.capacity }
     ensures err { OnErr result (application.new ≡ application.old) }
     ensures full { (entries weight : ℕ) → result ≡ Err (EventStop.JournalFull entries weight) → kernel.IsTooMuch
         (history.with_lane lane (What.App run call.now (object.apply application.old run call.now).1)
@@ -102,7 +101,7 @@ fn read_reply(
         Err(_) => return Err(EventStop::Memory),
     };
     room_for_call(journal, answers, lane, run, call, &reply)?;
-    match copy_reply(*journal.allocator(), &reply) {
+    match copy_reply(journal.alloc(), &reply) {
         Ok(copy) => Ok((reply, copy)),
         Err(_) => Err(EventStop::Memory),
     }
@@ -111,7 +110,7 @@ fn read_reply(
 /// The reply to a call that writes, twice.
 #[tactic(auto, using(crate::proofs::Calling::of_writes))]
 fn write_reply(
-    journal: &mut Vec<Entry>,
+    journal: &mut Journal,
     answers: &[(u32, Answer)],
     application: &mut Application,
     lane: u32,
@@ -122,9 +121,9 @@ fn write_reply(
     requires write { spec.is_read call.now ≡ false }
     requires free { object.blocker_of application.old run call.now ≡ None }
     ensures ok { IfOk result (spec.IsReplied (reverse journal.old.items) lane run call.now
-        application.old application.new (length answers.now) (vec_capacity journal.new)) }
+        application.old application.new (length answers.now) (journal.new.capacity)) }
     ensures items { journal.new.items ≡ journal.old.items }
-    ensures capacity { vec_capacity journal.old ≤ vec_capacity journal.new }
+    ensures capacity { journal.old.capacity ≤ journal.new.capacity }
     ensures err { OnErr result (application.new ≡ application.old) }
     ensures full { (entries weight : ℕ) → result ≡ Err (EventStop.JournalFull entries weight) → kernel.IsTooMuch
         (history.with_lane lane (What.App run call.now (object.apply application.old run call.now).1)
@@ -142,7 +141,7 @@ fn write_reply(
 
 /// The reply to a call that the lock lets through, twice.
 fn replies_to(
-    journal: &mut Vec<Entry>,
+    journal: &mut Journal,
     answers: &[(u32, Answer)],
     application: &mut Application,
     lane: u32,
@@ -152,9 +151,9 @@ fn replies_to(
     requires call { IsAppCall call.now }
     requires free { object.blocker_of application.old run call.now ≡ None }
     ensures ok { IfOk result (spec.IsReplied (reverse journal.old.items) lane run call.now
-        application.old application.new (length answers.now) (vec_capacity journal.new)) }
+        application.old application.new (length answers.now) (journal.new.capacity)) }
     ensures items { journal.new.items ≡ journal.old.items }
-    ensures capacity { vec_capacity journal.old ≤ vec_capacity journal.new }
+    ensures capacity { journal.old.capacity ≤ journal.new.capacity }
     ensures err { OnErr result (application.new ≡ application.old) }
     ensures full { (entries weight : ℕ) → result ≡ Err (EventStop.JournalFull entries weight) → kernel.IsTooMuch
         (history.with_lane lane (What.App run call.now (object.apply application.old run call.now).1)
@@ -170,7 +169,7 @@ fn replies_to(
 /// The journal, the Application object and the run after the call that the run wants. A refusal leaves them.
 fn make_call<R: Runner>(
     runner: &R,
-    journal: &mut Vec<Entry>,
+    journal: &mut Journal,
     answers: &[(u32, Answer)],
     application: &mut Application,
     lane: u32,
@@ -178,10 +177,10 @@ fn make_call<R: Runner>(
 ) -> Result<(), AppStepStop>
     requires { IsSome (kernel.wanted_by run.old.progress) }
     ensures ok { OnOk result (spec.HasCalled (R.stands runner.now) lane journal.old.items application.old
-        (length answers.now) run.old journal.new.items application.new (vec_capacity journal.new) run.new) }
+        (length answers.now) run.old journal.new.items application.new (journal.new.capacity) run.new) }
     ensures err { OnErr result ((journal.new.items ≡ journal.old.items) × (application.new ≡ application.old)
         × (run.new ≡ run.old)) }
-    ensures capacity { vec_capacity journal.old ≤ vec_capacity journal.new }
+    ensures capacity { journal.old.capacity ≤ journal.new.capacity }
     ensures blocked { (holder : ℕ) → result ≡ Err (AppStepStop.Blocked holder) ↔
         (spec.blocker_by application.old run.old ≡ Some holder) }
     ensures full { (entries weight : ℕ) → result ≡ Err (AppStepStop.JournalFull entries weight) →

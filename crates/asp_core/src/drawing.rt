@@ -6,38 +6,40 @@ ghost use Rattle.std.specs.Prelude.{vec_capacity};
 ghost use Rattle.vb_value.specs.Outcome.{Gives, Changes};
 ghost use Rattle.asp_job.specs.History as history;
 ghost use Rattle.asp_job.specs.Journal as journals;
+ghost use Rattle.asp_job.specs.Keys as keys;
 ghost use Rattle.asp_job.specs.Size.{IsSmall};
 ghost use Rattle.asp_job.specs.declared.entry.TheConstants.{MOST_ENTRIES};
 ghost use Rattle.asp_core.specs.Drawing as drawing;
 ghost use Rattle.asp_core.specs.Kernel as kernel;
+ghost use Rattle.asp_core.specs.Standing as standing;
 
-use crate::admitted::{Drawn, answer_for, told_of};
+use crate::admitted::{Drawn, stand_in, told_of};
 use crate::cookie::asked_key;
-use crate::entries::tick_entries;
 use crate::keys::{has_most_keys, is_askable};
-use crate::room::append;
-use crate::scan::{drawn, made, makes_key, moment_of};
-use asp_job::{Entry, Job, Runner, SessionState, What};
+use asp_job::{Answer, Entry, Job, Runner, SessionState, What};
+use asp_journal::Journal;
+use asp_response::Unavailable;
+use std::alloc::Global;
 use vb_value::{Copied, Memory};
 
 /// How a job is admitted, or that it is refused.
 fn admission(
-    journal: &[Entry],
+    journal: &Journal,
     table: &[Option<SessionState>],
     keyed: bool,
     asked: u32,
     job: Job,
 ) -> What
-    requires { history.entries_in (reverse journal.now) ≤ MOST_ENTRIES + MOST_ENTRIES + 1 }
-    ensures { result ≡ journals.admission keyed asked (kernel.session_at table.now) (reverse journal.now) job }
+    requires { history.entries_in (reverse journal.now.items) ≤ MOST_ENTRIES + MOST_ENTRIES + 1 }
+    ensures { result ≡ journals.admission keyed asked (kernel.session_at table.now) (reverse journal.now.items) job }
 {
-    let run = drawn(journal) as u32 + 1;
+    let run = journal.drawn() as u32 + 1;
     let needs = keyed && !is_askable(journal, table, asked as u64);
     if needs && has_most_keys(journal, table) {
         return What::Refuse { run, job };
     }
     let key = if needs {
-        made(journal) as u32 + 1
+        journal.made() as u32 + 1
     } else if keyed {
         asked
     } else {
@@ -51,93 +53,89 @@ fn admission(
     }
 }
 
-/// The job as it is admitted: its moment is the journal's.
-fn job_now(journal: &[Entry], job: &Job) -> Result<Job, Memory>
-    ensures { Gives result (journals.job_now (reverse journal.now) job.now) }
+/// What is kept of a job that came, with the answer that it has where it is refused.
+fn drawn_of(what: &What, answer: Option<Answer>) -> Drawn
+    ensures told { result.told ≡ drawing.told_of what.now }
+    ensures fresh { result.fresh ≡ keys.makes_key what.now }
+    ensures answer { result.answer ≡ drawing.answer_if what.now answer }
 {
-    Ok(Job {
-        work: job.work.copy()?,
-        moment: moment_of(journal),
-        asked: job.asked,
-    })
+    Drawn {
+        told: told_of(what),
+        fresh: matches!(what, What::Admit { fresh: true, .. }),
+        answer: match what {
+            What::Refuse { .. } => answer,
+            _ => None,
+        },
+    }
+}
+
+/// The job as it is admitted: its moment is the journal's.
+fn job_now(journal: &Journal, job: Job) -> Job
+    ensures { result ≡ journals.job_now (reverse journal.now.items) job }
+{
+    let Job { work, moment: _, asked } = job;
+    Job {
+        work,
+        moment: journal.moment(),
+        asked,
+    }
 }
 
 fn admission_of<R: Runner>(
     runner: &R,
     site: &R::Site,
     seed: &[u8; 32],
-    journal: &[Entry],
+    journal: &Journal,
     table: &[Option<SessionState>],
-    job: &Job,
-) -> Result<What, Memory>
-    requires small { IsSmall job.now }
-    requires few { history.entries_in (reverse journal.now) ≤ MOST_ENTRIES + MOST_ENTRIES + 1 }
-    ensures { Gives result (drawing.drawn_by (kernel.rules_by (R.meaning runner.now site.now) seed.now)
-        (kernel.session_at table.now) (reverse journal.now) 0 job.now).what }
+    job: Job,
+) -> What
+    requires small { IsSmall job }
+    requires few { history.entries_in (reverse journal.now.items) ≤ MOST_ENTRIES + MOST_ENTRIES + 1 }
+    ensures { result ≡ (drawing.drawn_by (kernel.rules_by (R.meaning runner.now site.now) seed.now)
+        (kernel.session_at table.now) (reverse journal.now.items) 0 job).what }
 {
-    let now = job_now(journal, job)?;
+    let now = job_now(journal, job);
     let keyed = runner.keyed(site, &now);
     let asked = asked_key(seed, &now);
-    Ok(admission(journal, table, keyed, asked, now))
+    admission(journal, table, keyed, asked, now)
 }
 
-/// Adds the entry of a job.
-fn add_admission<R: Runner>(
+/// What the entry of a job takes of memory: a copy of the job, and the answer that it has where it is refused.
+pub fn prepared(alloc: Global, job: &Job) -> Result<(Job, Option<Answer>), Memory>
+    ensures job { IfOk result (λ made. made.0 ≡ job.now) }
+    ensures answer { IfOk result (λ made. made.1 ≡ standing.stand_in Unavailable.TooManySessions job.now.work) }
+{
+    let answer = stand_in(alloc, Unavailable::TooManySessions, &job.work)?;
+    let copy = job.copy()?;
+    Ok((copy, answer))
+}
+
+/// Adds the entry of a job that came with the answer that it has where it is refused. It takes no memory.
+#[tactic(auto, using(crate::proofs::Fits::drawn_fit, crate::proofs::Fits::answer_drawn))]
+pub fn add_admission<R: Runner>(
     runner: &R,
     site: &R::Site,
     seed: &[u8; 32],
-    journal: &mut Vec<Entry>,
+    journal: &mut Journal,
     table: &[Option<SessionState>],
     lane: u32,
-    job: &Job,
-) -> Result<Drawn, Memory>
-    requires small { IsSmall job.now }
+    job: Job,
+    answer: Option<Answer>,
+) -> Drawn
+    requires small { IsSmall job }
     requires few { history.entries_in (reverse journal.old.items) ≤ MOST_ENTRIES + MOST_ENTRIES + 1 }
-    ensures items { Changes result journal.old.items journal.new.items (journal.old.items
+    requires answer { answer ≡ standing.stand_in Unavailable.TooManySessions job.work }
+    requires room { length journal.old.items < journal.old.capacity }
+    ensures items { journal.new.items ≡ journal.old.items
         ++ drawing.drawn_by (kernel.rules_by (R.meaning runner.now site.now) seed.now)
-        (kernel.session_at table.now) (reverse journal.old.items) lane job.now ∷ []) }
-    ensures drawn { IfOk result (drawing.IsDrawn
+        (kernel.session_at table.now) (reverse journal.old.items) lane job ∷ [] }
+    ensures drawn { drawing.IsDrawn
         (drawing.drawn_by (kernel.rules_by (R.meaning runner.now site.now) seed.now)
-        (kernel.session_at table.now) (reverse journal.old.items) lane job.now).what) }
-    ensures capacity { vec_capacity journal.old ≤ vec_capacity journal.new }
+        (kernel.session_at table.now) (reverse journal.old.items) lane job).what result }
+    ensures capacity { journal.new.capacity ≡ journal.old.capacity }
 {
-    let alloc = *journal.allocator();
-    let what = admission_of(runner, site, seed, journal.as_slice(), table, job)?;
-    let told = told_of(&what);
-    let fresh = makes_key(&what);
-    let answer = answer_for(alloc, &what)?;
-    journal.push(Entry { lane, what })?;
-    Ok(Drawn {
-        told,
-        fresh,
-        answer,
-    })
-}
-
-/// Adds a Tick where the job's moment is greater, and the entry of the job. Without memory it may have added some.
-#[tactic(auto, using(crate::proofs::Ticking::few_after_tick, crate::proofs::Kept::past_of_more, crate::proofs::Past::take_first))]
-pub fn add_job<R: Runner>(
-    runner: &R,
-    site: &R::Site,
-    seed: &[u8; 32],
-    journal: &mut Vec<Entry>,
-    table: &[Option<SessionState>],
-    lane: u32,
-    job: &Job,
-) -> Result<Drawn, Memory>
-    requires small { IsSmall job.now }
-    requires few { history.entries_in (reverse journal.old.items) ≤ MOST_ENTRIES }
-    ensures begins { take (length journal.old.items) journal.new.items ≡ journal.old.items }
-    ensures items { OnOk result (journal.new.items ≡ journal.old.items
-        ++ drawing.entries_by (kernel.rules_by (R.meaning runner.now site.now) seed.now)
-        (kernel.session_at table.now) (reverse journal.old.items) lane job.now) }
-    ensures drawn { IfOk result (drawing.IsDrawn
-        (drawing.drawn_then (kernel.rules_by (R.meaning runner.now site.now) seed.now)
-        (kernel.session_at table.now) (reverse journal.old.items) lane job.now).what) }
-    ensures capacity { vec_capacity journal.old ≤ vec_capacity journal.new }
-{
-    let alloc = *journal.allocator();
-    let more = tick_entries(alloc, journal.as_slice(), table, lane, job.moment)?;
-    append(journal, more)?;
-    add_admission(runner, site, seed, journal, table, lane, job)
+    let what = admission_of(runner, site, seed, journal, table, job);
+    let drawn = drawn_of(&what, answer);
+    journal.push_reserved(Entry { lane, what });
+    drawn
 }

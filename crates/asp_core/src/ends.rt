@@ -1,7 +1,7 @@
 //! The call of the core that ends a run.
 #![tactic(auto)]
 
-ghost use Rattle.std.specs.Prelude.{◌≡◌, ◌≤◌, ◌<◌, ◌++◌, ◌∷◌, [], reverse, length, IfSome, vec_capacity, vec_len};
+ghost use Rattle.std.specs.Prelude.{◌≡◌, ◌≤◌, ◌<◌, ◌++◌, ◌∷◌, [], reverse, length, IfSome, true, vec_capacity, vec_len};
 ghost use Rattle.std.specs.Option.{option_copied};
 ghost use Rattle.asp_job.specs.History as history;
 ghost use Rattle.asp_job.specs.Journal as journals;
@@ -15,8 +15,8 @@ ghost use Rattle.asp_core.specs.Ready as waits;
 use crate::kernel::Core;
 use crate::places::add_answer;
 use crate::run::{Run, StandIns};
-use crate::scan::key_of;
 use asp_job::{Answer, EndKind, Entry, Finished, Runner, SessionState, What};
+use asp_journal::Journal;
 
 /// What a run leaves: its answer, its session, and how many objects it made and ended.
 #[derive(Debug, Drop)]
@@ -102,8 +102,9 @@ fn keep_session(
 }
 
 /// The parts of a core after the End of a run.
+#[tactic(auto, using(crate::proofs::Fits::end_fit))]
 fn end_run(
-    journal: &mut Vec<Entry>,
+    journal: &mut Journal,
     answers: &mut Vec<(u32, Answer)>,
     table: &mut Vec<Option<SessionState>>,
     lane: u32,
@@ -113,17 +114,19 @@ fn end_run(
 )
     requires bounded { IfSome left.answer IsBounded }
     requires key { runs.key_of (reverse journal.old.items) run ≤ length table.old.items }
-    requires room { vec_len journal.old < vec_capacity journal.old }
+    requires timely { runs.is_open (reverse journal.old.items) run ≡ true }
+    requires numbered { (0 < run) × (run ≤ runs.drawn (reverse journal.old.items)) }
+    requires room { length journal.old.items < journal.old.capacity }
     requires answer_room { vec_len answers.old < vec_capacity answers.old }
     ensures journal { journal.new.items
         ≡ journal.old.items ++ history.with_lane lane (spec.end_what run kind left) ∷ [] }
-    ensures capacity { vec_capacity journal.new ≡ vec_capacity journal.old }
+    ensures capacity { journal.new.capacity ≡ journal.old.capacity }
     ensures answers { answers.new.items ≡ waits.with_answer answers.old.items run left.answer }
     ensures capacity_of_answers { vec_capacity answers.new ≡ vec_capacity answers.old }
     ensures table { table.new.items ≡ kernel.table_after table.old.items kind
         (runs.key_of (reverse journal.old.items) run) left.session }
 {
-    let key = key_of(journal.as_slice(), run as u64);
+    let key = journal.key_of(run as u64);
     let what = end_what(run, kind, &left);
     let Left {
         answer,

@@ -12,8 +12,8 @@ ghost use Rattle.asp_job.specs.declared.entry.TheConstants.{MOST_ENTRIES};
 ghost use Rattle.asp_core.specs.Kernel as kernel;
 
 use crate::keys::{due_at, live};
-use crate::scan::{drawn, moment_of};
 use asp_job::{Entry, SessionState, What, Work};
+use asp_journal::Journal;
 use std::alloc::Global;
 use vb_value::{List, Memory};
 
@@ -40,18 +40,18 @@ fn add_closing(entries: &mut List<Entry>, lane: u32, first: u32, keys: &[u32]) -
 
 fn due_entries(
     alloc: Global,
-    journal: &[Entry],
+    journal: &Journal,
     table: &[Option<SessionState>],
     lane: u32,
     moment: u64,
 ) -> Result<List<Entry>, Memory>
-    requires { history.entries_in (reverse journal.now) ≤ MOST_ENTRIES }
+    requires { history.entries_in (reverse journal.now.items) ≤ MOST_ENTRIES }
     ensures { Gives result (history.with_lane lane (What.Tick moment)
-        ∷ journals.queue_entries lane (runs.drawn (reverse journal.now) + 1)
-        (turns.closing_runs (kernel.due_by table.now (reverse journal.now) moment))) }
+        ∷ journals.queue_entries lane (runs.drawn (reverse journal.now.items) + 1)
+        (turns.closing_runs (kernel.due_by table.now (reverse journal.now.items) moment))) }
 {
     let keys = due_at(alloc, journal, table, moment)?;
-    let first = drawn(journal) as u32 + 1;
+    let first = journal.drawn() as u32 + 1;
     let mut entries = List::new(alloc);
     entries.push(Entry {
         lane,
@@ -65,15 +65,15 @@ fn due_entries(
 #[tactic(auto)]
 pub fn tick_entries(
     alloc: Global,
-    journal: &[Entry],
+    journal: &Journal,
     table: &[Option<SessionState>],
     lane: u32,
     moment: u64,
 ) -> Result<List<Entry>, Memory>
-    requires { history.entries_in (reverse journal.now) ≤ MOST_ENTRIES }
-    ensures { Gives result (kernel.ticked (kernel.session_at table.now) (reverse journal.now) lane moment) }
+    requires { history.entries_in (reverse journal.now.items) ≤ MOST_ENTRIES }
+    ensures { Gives result (kernel.ticked (kernel.session_at table.now) (reverse journal.now.items) lane moment) }
 {
-    if moment_of(journal) < moment {
+    if journal.moment() < moment {
         due_entries(alloc, journal, table, lane, moment)
     } else {
         Ok(List::new(alloc))
@@ -84,15 +84,15 @@ pub fn tick_entries(
 #[tactic(auto, using(crate::proofs::Closing::queue_last))]
 pub fn stop_entries(
     alloc: Global,
-    journal: &[Entry],
+    journal: &Journal,
     table: &[Option<SessionState>],
     lane: u32,
 ) -> Result<List<Entry>, Memory>
-    requires { history.entries_in (reverse journal.now) ≤ MOST_ENTRIES }
-    ensures { Gives result (kernel.stopped_by (kernel.session_at table.now) (reverse journal.now) lane) }
+    requires { history.entries_in (reverse journal.now.items) ≤ MOST_ENTRIES }
+    ensures { Gives result (kernel.stopped_by (kernel.session_at table.now) (reverse journal.now.items) lane) }
 {
     let keys = live(alloc, journal, table)?;
-    let first = drawn(journal) as u32 + 1;
+    let first = journal.drawn() as u32 + 1;
     let mut entries = List::new(alloc);
     entries.push(Entry {
         lane,

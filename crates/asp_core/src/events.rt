@@ -13,11 +13,12 @@ ghost use Rattle.asp_core.specs.Drawing as drawing;
 ghost use Rattle.asp_core.specs.Kernel as kernel;
 
 use crate::admitted::Drawn;
-use crate::drawing::add_job;
+use crate::drawing::{add_admission, prepared};
 use crate::entries::{stop_entries, tick_entries};
-use crate::room::{append, fit};
+use crate::room::{add_calm, entries_weight, room_for};
 use crate::stop::EventStop;
 use asp_job::{Answer, Entry, Job, Runner, SessionState};
+use asp_journal::{Journal, work_weight};
 use std::alloc::Global;
 use std::snapshot::Snapshot;
 use vb_value::{List, Memory};
@@ -26,16 +27,16 @@ use vb_value::{List, Memory};
 #[tactic(auto, using(crate::proofs::Ticking::expired_is, crate::proofs::Ticking::tick_length))]
 fn ticked(
     alloc: Global,
-    journal: &[Entry],
+    journal: &Journal,
     table: &[Option<SessionState>],
     lane: u32,
     moment: u64,
 ) -> Result<(List<Entry>, u32), Memory>
-    requires { history.entries_in (reverse journal.now) ≤ MOST_ENTRIES }
+    requires { history.entries_in (reverse journal.now.items) ≤ MOST_ENTRIES }
     ensures entries { IfOk result (λ made. made.0
-        ≡ kernel.ticked (kernel.session_at table.now) (reverse journal.now) lane moment) }
+        ≡ kernel.ticked (kernel.session_at table.now) (reverse journal.now.items) lane moment) }
     ensures count { IfOk result (λ made. made.1
-        ≡ kernel.expired_by (kernel.session_at table.now) (reverse journal.now) moment) }
+        ≡ kernel.expired_by (kernel.session_at table.now) (reverse journal.now.items) moment) }
 {
     let entries = tick_entries(alloc, journal, table, lane, moment)?;
     let expired = entries.len().saturating_sub(1) as u32;
@@ -43,12 +44,12 @@ fn ticked(
 }
 
 /// The journal after a Tick, and how many keys' sessions are over by it. A refusal leaves it.
-#[tactic(auto, using(crate::proofs::Kept::ticked_is, crate::proofs::Kept::grown_past, crate::proofs::Past::take_first))]
+#[tactic(auto, using(crate::proofs::Kept::ticked_is, crate::proofs::Fits::tick_fit, crate::proofs::Fits::tick_calm))]
 pub fn with_tick<R: Runner>(
     runner: &Snapshot<R>,
     site: &Snapshot<R::Site>,
     seed: &[u8; 32],
-    journal: &mut Vec<Entry>,
+    journal: &mut Journal,
     answers: &mut Vec<(u32, Answer)>,
     table: &[Option<SessionState>],
     lane: u32,
@@ -65,11 +66,11 @@ pub fn with_tick<R: Runner>(
         (kernel.rules_by (R.meaning runner.now.value site.now.value) seed.now) (reverse journal.old.items) moment) }
     ensures err { OnErr result (journal.new.items ≡ journal.old.items) }
     ensures answers { answers.new.items ≡ answers.old.items }
-    ensures capacity { vec_capacity journal.old ≤ vec_capacity journal.new }
+    ensures capacity { journal.old.capacity ≤ journal.new.capacity }
     ensures capacity_of_answers { vec_capacity answers.old ≤ vec_capacity answers.new }
     ensures within { OnOk result (kernel.IsWithin (reverse journal.new.items)) }
     ensures room { OnOk result (kernel.HasRoom (reverse journal.new.items)
-        (length answers.old.items + 1) (vec_capacity journal.new)) }
+        (length answers.old.items + 1) (journal.new.capacity)) }
     ensures answer_room { OnOk result (kernel.HasAnswerRoom (reverse journal.new.items)
         (length answers.old.items + 1) (vec_capacity answers.new)) }
     ensures full { (entries weight : ℕ) → result ≡ Err (EventStop.JournalFull entries weight) →
@@ -78,28 +79,23 @@ pub fn with_tick<R: Runner>(
         (kernel.rules_by (R.meaning runner.now.value site.now.value) seed.now) (reverse journal.old.items) lane moment))
         entries weight }
 {
-    let first = journal.len();
-    let alloc = *journal.allocator();
-    let (more, expired) = match ticked(alloc, journal.as_slice(), table, lane, moment) {
+    let (more, expired) = match ticked(journal.alloc(), journal, table, lane, moment) {
         Ok(made) => made,
         Err(_) => return Err(EventStop::Memory),
     };
-    if append(journal, more).is_err() {
-        return Err(EventStop::Memory);
-    }
-    match fit(journal, answers, first) {
+    match add_calm(journal, answers, more) {
         Ok(()) => Ok(expired),
         Err(stop) => Err(stop),
     }
 }
 
 /// The journal after a Stop. A refusal leaves it.
-#[tactic(auto, using(crate::proofs::Kept::stop_made, crate::proofs::Past::take_first))]
+#[tactic(auto, using(crate::proofs::Kept::stop_made, crate::proofs::Fits::stop_fit, crate::proofs::Fits::stop_calm))]
 pub fn with_stop<R: Runner>(
     runner: &Snapshot<R>,
     site: &Snapshot<R::Site>,
     seed: &[u8; 32],
-    journal: &mut Vec<Entry>,
+    journal: &mut Journal,
     answers: &mut Vec<(u32, Answer)>,
     table: &[Option<SessionState>],
     lane: u32,
@@ -113,11 +109,11 @@ pub fn with_stop<R: Runner>(
         (kernel.rules_by (R.meaning runner.now.value site.now.value) seed.now) (reverse journal.old.items) lane) }
     ensures err { OnErr result (journal.new.items ≡ journal.old.items) }
     ensures answers { answers.new.items ≡ answers.old.items }
-    ensures capacity { vec_capacity journal.old ≤ vec_capacity journal.new }
+    ensures capacity { journal.old.capacity ≤ journal.new.capacity }
     ensures capacity_of_answers { vec_capacity answers.old ≤ vec_capacity answers.new }
     ensures within { OnOk result (kernel.IsWithin (reverse journal.new.items)) }
     ensures room { OnOk result (kernel.HasRoom (reverse journal.new.items)
-        (length answers.old.items + 1) (vec_capacity journal.new)) }
+        (length answers.old.items + 1) (journal.new.capacity)) }
     ensures answer_room { OnOk result (kernel.HasAnswerRoom (reverse journal.new.items)
         (length answers.old.items + 1) (vec_capacity answers.new)) }
     ensures full { (entries weight : ℕ) → result ≡ Err (EventStop.JournalFull entries weight) →
@@ -126,25 +122,19 @@ pub fn with_stop<R: Runner>(
         (kernel.rules_by (R.meaning runner.now.value site.now.value) seed.now) (reverse journal.old.items) lane))
         entries weight }
 {
-    let first = journal.len();
-    let alloc = *journal.allocator();
-    let more = match stop_entries(alloc, journal.as_slice(), table, lane) {
-        Ok(more) => more,
-        Err(_) => return Err(EventStop::Memory),
-    };
-    if append(journal, more).is_err() {
-        return Err(EventStop::Memory);
+    match stop_entries(journal.alloc(), journal, table, lane) {
+        Ok(more) => add_calm(journal, answers, more),
+        Err(_) => Err(EventStop::Memory),
     }
-    fit(journal, answers, first)
 }
 
 /// The journal after a job. A refusal leaves it.
-#[tactic(auto, using(crate::proofs::Admitting::job_made, crate::proofs::Admitting::job_entry, crate::proofs::Past::take_first))]
+#[tactic(auto, using(crate::proofs::Admitting::job_made, crate::proofs::Admitting::job_entry))]
 pub fn with_job<R: Runner>(
     runner: &R,
     site: &R::Site,
     seed: &[u8; 32],
-    journal: &mut Vec<Entry>,
+    journal: &mut Journal,
     answers: &mut Vec<(u32, Answer)>,
     table: &[Option<SessionState>],
     lane: u32,
@@ -160,11 +150,11 @@ pub fn with_job<R: Runner>(
         (kernel.rules_by (R.meaning runner.now site.now) seed.now) (reverse journal.old.items) lane job.now).what) }
     ensures err { OnErr result (journal.new.items ≡ journal.old.items) }
     ensures answers { answers.new.items ≡ answers.old.items }
-    ensures capacity { vec_capacity journal.old ≤ vec_capacity journal.new }
+    ensures capacity { journal.old.capacity ≤ journal.new.capacity }
     ensures capacity_of_answers { vec_capacity answers.old ≤ vec_capacity answers.new }
     ensures within { OnOk result (kernel.IsWithin (reverse journal.new.items)) }
     ensures room { OnOk result (kernel.HasRoom (reverse journal.new.items)
-        (length answers.old.items + 1) (vec_capacity journal.new)) }
+        (length answers.old.items + 1) (journal.new.capacity)) }
     ensures answer_room { OnOk result (kernel.HasAnswerRoom (reverse journal.new.items)
         (length answers.old.items + 1) (vec_capacity answers.new)) }
     ensures full { (entries weight : ℕ) → result ≡ Err (EventStop.JournalFull entries weight) →
@@ -172,15 +162,20 @@ pub fn with_job<R: Runner>(
         (kernel.rules_by (R.meaning runner.now site.now) seed.now) (reverse journal.old.items) lane job.now))
         entries weight }
 {
-    let first = journal.len();
-    match add_job(runner, site, seed, journal, table, lane, job) {
-        Ok(drawn) => match fit(journal, answers, first) {
-            Ok(()) => Ok(drawn),
-            Err(stop) => Err(stop),
-        },
-        Err(_) => {
-            journal.truncate(first);
-            Err(EventStop::Memory)
-        }
+    let more = match tick_entries(journal.alloc(), journal, table, lane, job.moment) {
+        Ok(more) => more,
+        Err(_) => return Err(EventStop::Memory),
+    };
+    let (job, answer) = match prepared(journal.alloc(), job) {
+        Ok(prepared) => prepared,
+        Err(_) => return Err(EventStop::Memory),
+    };
+    let weight = entries_weight(more.as_slice())
+        .saturating_add(work_weight(&job.work))
+        .saturating_add(64);
+    if let Err(stop) = room_for(journal, answers, more.len() + 1, weight) {
+        return Err(stop);
     }
+    journal.append_reserved(more);
+    Ok(add_admission(runner, site, seed, journal, table, lane, job, answer))
 }

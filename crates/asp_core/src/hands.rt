@@ -10,7 +10,6 @@ ghost use Rattle.asp_core.specs.Ready as spec;
 
 use crate::kernel::Core;
 use crate::ready::first_for;
-use crate::scan::is_halted;
 use crate::stop::CollectStop;
 use crate::takes::{collect_stop, take_run};
 use asp_job::{Answer, Entry, Runner, What};
@@ -25,7 +24,7 @@ impl<R: Runner> Core<R> {
         ensures ok { OnOk result (self.new ≡ grown self.old (with_lane lane (What.Take run) ∷ [])) }
         ensures err { OnErr result (self.new ≡ self.old) }
     {
-        if let Some(stop) = collect_stop(self.journal.as_slice(), lane, run) {
+        if let Some(stop) = collect_stop(&self.journal, lane, run) {
             return Err(stop);
         }
         Ok(take_run(&mut self.journal, &mut self.answers, lane, run))
@@ -41,7 +40,7 @@ impl<R: Runner> Core<R> {
         ensures some { IfSome result (λ given. self.new ≡ grown self.old (with_lane lane (What.Take given.0) ∷ [])) }
         ensures none { IfNone result (self.new ≡ self.old) }
     {
-        let Some(run) = first_for(self.journal.as_slice(), self.answers.as_slice(), lane) else {
+        let Some(run) = first_for(&self.journal, self.answers.as_slice(), lane) else {
             return None;
         };
         let answer = take_run(&mut self.journal, &mut self.answers, lane, run);
@@ -54,7 +53,7 @@ impl<R: Runner> Core<R> {
             self.new ≡ grown self.old (with_lane lane What.Halt ∷ []) }
         ensures again { runs.is_halted (past_of self.old) ≡ true → self.new ≡ self.old }
     {
-        if is_halted(self.journal.as_slice()) {
+        if self.journal.is_halted() {
             return;
         }
         self.journal.push_reserved(Entry {

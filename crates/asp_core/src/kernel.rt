@@ -12,12 +12,11 @@ ghost use Rattle.asp_core.specs.Kernel.{IsRunOf, HasRoom, HasAnswerRoom, expired
 ghost use Rattle.asp_core.specs.Ready.{IsAnswered};
 
 use crate::events::{with_stop, with_tick};
-use crate::keys::unfinished;
 use crate::room::make_room;
-use crate::scan::{entries_in, is_halted, is_stopping, moment_of};
 use crate::stop::EventStop;
 use asp_app::Application;
 use asp_job::{Answer, Entry, Runner, SessionState, What, Work};
+use asp_journal::Journal;
 use std::alloc::Global;
 use std::marker::Model;
 use std::snapshot::Snapshot;
@@ -26,7 +25,7 @@ use vb_value::Memory;
 /// The core of a host: the journal of the runs of a site.
 #[derive(Drop)]
 pub struct Core<R: Runner> {
-    pub(crate) journal: Vec<Entry>,
+    pub(crate) journal: Journal,
     pub(crate) table: Vec<Option<SessionState>>,
     pub(crate) opened: u32,
     pub(crate) application: Application,
@@ -53,7 +52,7 @@ impl<R: Runner> Model for Core<R> {
         IsKept (rules_by (R.meaning c.runner.value c.site.value) c.seed) (reverse c.journal.items)
         c.table.items c.opened c.application c.answers.items
         × IsWithin (reverse c.journal.items)
-        × HasRoom (reverse c.journal.items) (length c.answers.items) (vec_capacity c.journal)
+        × HasRoom (reverse c.journal.items) (length c.answers.items) c.journal.capacity
         × HasAnswerRoom (reverse c.journal.items) (length c.answers.items) (vec_capacity c.answers) };
 }
 
@@ -61,15 +60,15 @@ fn first_journal(
     alloc: Global,
     lane: u32,
     answers: &mut Vec<(u32, Answer)>,
-) -> Result<Vec<Entry>, Memory>
+) -> Result<Journal, Memory>
     ensures items { IfOk result (λ journal. journal.items ≡ history.with_lane lane (What.Queue 1 Work.Start 0) ∷ []) }
     ensures answers { answers.new.items ≡ answers.old.items }
     ensures room { IfOk result (λ journal. HasRoom (reverse journal.items)
-        (length answers.old.items + 1) (vec_capacity journal)) }
+        (length answers.old.items + 1) journal.capacity) }
     ensures answer_room { IfOk result (λ journal. HasAnswerRoom (reverse journal.items)
         (length answers.old.items + 1) (vec_capacity answers.new)) }
 {
-    let mut journal = Vec::new(alloc);
+    let mut journal = Journal::new(alloc);
     journal.push(Entry {
         lane,
         what: What::Queue {
@@ -78,7 +77,7 @@ fn first_journal(
             key: 0,
         },
     })?;
-    make_room(&mut journal, answers)?;
+    make_room(&mut journal, answers, 0)?;
     Ok(journal)
 }
 
@@ -117,42 +116,42 @@ impl<R: Runner> Core<R> {
         ensures answered { IsAnswered (rules_of R.meaning self.now) (past_of self.now) }
         ensures within { IsWithin (past_of self.now) }
     {
-        self.journal.as_slice()
+        self.journal.entries()
     }
 
     /// The moment of the last Tick, 0 before the first: seconds since 1970.
     pub fn moment(&self) -> u64
         ensures { result ≡ runs.moment_of (past_of self.now) }
     {
-        moment_of(self.journal.as_slice())
+        self.journal.moment()
     }
 
     /// How many entries the journal has. Those of hand-outs and of a Halt do not count.
     pub fn entries(&self) -> u64
         ensures { result ≡ history.entries_in (past_of self.now) }
     {
-        entries_in(self.journal.as_slice())
+        self.journal.entries_in()
     }
 
     /// How many runs are unfinished.
     pub fn unfinished(&self) -> u32
         ensures { result ≡ length (runs.unfinished (past_of self.now)) }
     {
-        unfinished(self.journal.as_slice()) as u32
+        self.journal.unfinished() as u32
     }
 
     /// Whether a Stop stands.
     pub fn stopping(&self) -> bool
         ensures { result ≡ runs.is_stopping (past_of self.now) }
     {
-        is_stopping(self.journal.as_slice())
+        self.journal.is_stopping()
     }
 
     /// Whether a Halt stands.
     pub fn halted(&self) -> bool
         ensures { result ≡ runs.is_halted (past_of self.now) }
     {
-        is_halted(self.journal.as_slice())
+        self.journal.is_halted()
     }
 
     /// Time goes on to `moment`, in seconds since 1970, and sessions end: it answers how many keys' sessions. An earlier
@@ -168,7 +167,7 @@ impl<R: Runner> Core<R> {
         ensures early { moment ≤ runs.moment_of (past_of self.old) → IsOk result }
         ensures err { OnErr result (self.new ≡ self.old) }
     {
-        if moment <= moment_of(self.journal.as_slice()) {
+        if moment <= self.journal.moment() {
             return Ok(0);
         }
         with_tick(
@@ -194,7 +193,7 @@ impl<R: Runner> Core<R> {
             (journals.stop_entries (rules_of R.meaning self.old) (past_of self.old) lane)) entries weight }
         ensures err { OnErr result (self.new ≡ self.old) }
     {
-        if is_stopping(self.journal.as_slice()) {
+        if self.journal.is_stopping() {
             return Ok(());
         }
         with_stop(

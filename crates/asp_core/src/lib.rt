@@ -19,12 +19,9 @@ mod places;
 mod ready;
 mod room;
 mod run;
-mod scan;
 mod stop;
 mod takes;
 mod tellers;
-mod weighing;
-mod works;
 
 pub use admitted::Admitted;
 pub use kernel::Core;

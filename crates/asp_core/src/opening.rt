@@ -12,9 +12,8 @@ ghost use Rattle.asp_core.specs.Standing as standing;
 use crate::admitted::stand_in;
 use crate::keys::session_at;
 use crate::run::StandIns;
-use crate::scan::{is_fresh, job_of, key_of};
-use crate::works::is_page_run;
-use asp_job::{Entry, Job, SessionState, Work, copy_session};
+use asp_job::{Job, SessionState, Work, copy_session};
+use asp_journal::Journal;
 use asp_response::Unavailable;
 use asp_session::letters;
 use std::alloc::Global;
@@ -49,18 +48,18 @@ fn serial_if(opened: u32, opens: bool, session: Option<&SessionState>) -> u32
 
 /// The number of the session with which the run begins, where so many were opened.
 pub fn session_number(
-    journal: &[Entry],
+    journal: &Journal,
     table: &[Option<SessionState>],
     opened: u32,
     run: u64,
 ) -> SessionNumber
     requires { opened + 1 < 2 ^ 31 }
-    ensures { spec.IsNumberOf (runs.draw_of (reverse journal.now) run)
-        (kernel.session_at table.now (runs.key_of (reverse journal.now) run)) opened result }
+    ensures { spec.IsNumberOf (runs.draw_of (reverse journal.now.items) run)
+        (kernel.session_at table.now (runs.key_of (reverse journal.now.items) run)) opened result }
 {
-    let key = key_of(journal, run);
+    let key = journal.key_of(run);
     let held = session_at(table, key as u64);
-    let is_new = is_page_run(journal, run) && key != 0 && held.is_none();
+    let is_new = journal.is_page_run(run) && key != 0 && held.is_none();
     SessionNumber {
         serial: serial_if(opened, is_new, held),
         is_new,
@@ -127,19 +126,19 @@ fn stand_ins(alloc: Global, work: &Work) -> Result<StandIns, Memory>
 pub fn open_run(
     alloc: Global,
     seed: &[u8; 32],
-    journal: &[Entry],
+    journal: &Journal,
     table: &[Option<SessionState>],
     number: SessionNumber,
     run: u64,
 ) -> Result<Opening, Memory>
-    requires { runs.is_fresh (reverse journal.now) run ≡ true → 0 < runs.key_of (reverse journal.now) run }
-    ensures { IfOk result (spec.IsOpening seed.now (runs.draw_of (reverse journal.now) run)
-        (kernel.session_at table.now (runs.key_of (reverse journal.now) run)) number) }
+    requires { runs.is_fresh (reverse journal.now.items) run ≡ true → 0 < runs.key_of (reverse journal.now.items) run }
+    ensures { IfOk result (spec.IsOpening seed.now (runs.draw_of (reverse journal.now.items) run)
+        (kernel.session_at table.now (runs.key_of (reverse journal.now.items) run)) number) }
 {
-    let job = job_of(journal, run)?;
-    let key = key_of(journal, run);
+    let job = journal.job_of(run)?;
+    let key = journal.key_of(run);
     let session = session_if(alloc, number, session_at(table, key as u64))?;
-    let cookie = cookie_if(alloc, seed, is_fresh(journal, run), key)?;
+    let cookie = cookie_if(alloc, seed, journal.is_fresh(run), key)?;
     let stand_ins = stand_ins(alloc, &job.work)?;
     Ok(Opening {
         job,

@@ -5,9 +5,8 @@ ghost use Rattle.std.specs.Prelude.{◌≡◌, ◌-◌, ◌^◌, min, reverse, n
 ghost use Rattle.std.specs.Option.{option_map};
 ghost use Rattle.asp_core.specs.Ready as spec;
 
-use crate::keys::unfinished;
-use crate::scan::asking_lane_of;
-use asp_job::{Answer, Entry};
+use asp_job::Answer;
+use asp_journal::Journal;
 
 /// At most so many bytes have the bodies of the answers that wait, with the room of those that may come.
 pub const MOST_BODIES: u64 = 268_435_456;
@@ -28,25 +27,25 @@ fn bodies_of(answers: &[(u32, Answer)]) -> u64
 }
 
 /// Whether there is room for the body of one more run.
-pub fn has_body_room(journal: &[Entry], answers: &[(u32, Answer)]) -> bool
-    ensures { result ≡ nat_le (spec.bodies_with_one answers.now (reverse journal.now)) MOST_BODIES }
+pub fn has_body_room(journal: &Journal, answers: &[(u32, Answer)]) -> bool
+    ensures { result ≡ nat_le (spec.bodies_with_one answers.now (reverse journal.now.items)) MOST_BODIES }
 {
-    let open = unfinished(journal) as u128 + 1;
+    let open = journal.unfinished() as u128 + 1;
     bodies_of(answers) as u128 + BODY_ROOM as u128 * open <= MOST_BODIES as u128
 }
 
-fn is_asked_by(journal: &[Entry], lane: u32, run: u32) -> bool
-    ensures { result ≡ spec.asked_by (reverse journal.now) lane run }
+fn is_asked_by(journal: &Journal, lane: u32, run: u32) -> bool
+    ensures { result ≡ spec.asked_by (reverse journal.now.items) lane run }
 {
-    match asking_lane_of(journal, run as u64) {
+    match journal.asking_lane_of(run as u64) {
         Some(asking) => asking == lane,
         None => false,
     }
 }
 
 /// The first answer for whose run a lane asked, as its run.
-pub fn first_for(journal: &[Entry], answers: &[(u32, Answer)], lane: u32) -> Option<u32>
-    ensures { result ≡ option_map (λ ready. ready.0) (spec.first_for (reverse journal.now) lane answers.now) }
+pub fn first_for(journal: &Journal, answers: &[(u32, Answer)], lane: u32) -> Option<u32>
+    ensures { result ≡ option_map (λ ready. ready.0) (spec.first_for (reverse journal.now.items) lane answers.now) }
 {
     match answers
         .iter()

@@ -1,27 +1,44 @@
 //! Room in a journal.
 #![tactic(auto)]
 
-ghost use Rattle.std.specs.Prelude.{◌≡◌, ◌+◌, ◌*◌, ◌<◌, ◌≤◌, ◌^◌, ◌++◌, ◌∷◌, [], ℕ, List as Items, reverse, length, take};
-ghost use Rattle.std.specs.Prelude.{OnOk, OnErr, IfNone, IfSome, IfErr, Err};
+ghost use Rattle.std.specs.Prelude.{◌≡◌, ◌+◌, ◌-◌, ◌*◌, ◌<◌, ◌≤◌, ◌^◌, ◌++◌, ◌⊎◌, ℕ, min, reverse, length, sum_by};
+ghost use Rattle.std.specs.Prelude.{OnOk, OnErr, IfNone, IfSome, Err};
 ghost use Rattle.std.specs.Prelude.{vec_capacity, vec_len};
-ghost use Rattle.vb_value.specs.Outcome.{Changes};
+ghost use Rattle.asp_job.specs.History as history;
+ghost use Rattle.asp_job.specs.Journal as journals;
 ghost use Rattle.asp_job.specs.Runs.{unfinished};
 ghost use Rattle.asp_job.specs.declared.entry.TheConstants.{MOST_ENTRIES};
+ghost use Rattle.asp_journal.specs.Tables.{AreFit};
+ghost use Rattle.asp_core.specs.Calm as spec;
 ghost use Rattle.asp_core.specs.Kernel as kernel;
 
-use crate::keys::{load, unfinished, weight_load};
 use crate::stop::EventStop;
 use asp_job::{Answer, Entry, MOST_ENTRIES, MOST_WEIGHT};
+use asp_journal::{Journal, what_weight};
 use vb_value::{List, Memory};
 
-/// How long and how heavy the journal would be, with one end for each unfinished run, where that is too much.
-pub fn overfull(journal: &[Entry]) -> Option<(u64, u64)>
-    requires { length journal.now < 2 ^ 63 }
-    ensures none { IfNone result (kernel.IsWithin (reverse journal.now)) }
-    ensures some { IfSome result (λ much. kernel.IsTooMuch (reverse journal.now) much.0 much.1) }
+/// What entries weigh. 2^64 - 1 stands for a greater weight.
+#[tactic(auto, using(crate::proofs::Past::sum_more))]
+pub fn entries_weight(entries: &[Entry]) -> u64
+    ensures { result ≡ min (sum_by spec.entry_weight entries.now) (2 ^ 64 - 1) }
 {
-    let entries = load(journal);
-    let weight = weight_load(journal);
+    let mut total: u64 = 0;
+    for entry in entries {
+        total = total.saturating_add(what_weight(&entry.what));
+    }
+    total
+}
+
+/// How long and how heavy the journal would be with so many entries more, of that weight, and one end for each
+/// unfinished run, where that is too much.
+fn overfull(journal: &Journal, count: u64, weight: u64) -> Option<(u64, u64)>
+    requires few { history.entries_in (reverse journal.now.items) ≤ MOST_ENTRIES }
+    requires count { count < 2 ^ 62 }
+    ensures none { IfNone result (spec.HasLoad (reverse journal.now.items) count weight) }
+    ensures some { IfSome result (λ much. spec.IsOver (reverse journal.now.items) count weight much.0 much.1) }
+{
+    let entries = journal.entries_in() + journal.unfinished() + count;
+    let weight = journal.weight_load().saturating_add(weight);
     if entries > MOST_ENTRIES || weight > MOST_WEIGHT {
         Some((entries, weight))
     } else {
@@ -29,63 +46,87 @@ pub fn overfull(journal: &[Entry]) -> Option<(u64, u64)>
     }
 }
 
-/// Makes room for all that is to come for sure, with one answer more than there are.
-#[tactic(auto, using(crate::proofs::Past::length_past, crate::proofs::Past::halts_few))]
-pub fn make_room(journal: &mut Vec<Entry>, answers: &mut Vec<(u32, Answer)>) -> Result<(), Memory>
+/// Makes room for so many entries and for all that is to come for sure, with one run begun and one answer more than
+/// there are.
+pub fn make_room(
+    journal: &mut Journal,
+    answers: &mut Vec<(u32, Answer)>,
+    count: usize,
+) -> Result<(), Memory>
     requires few { length (unfinished (reverse journal.old.items)) ≤ MOST_ENTRIES }
+    requires count { count < 2 ^ 62 }
     ensures items { journal.new.items ≡ journal.old.items }
     ensures answers { answers.new.items ≡ answers.old.items }
-    ensures capacity { vec_capacity journal.old ≤ vec_capacity journal.new }
+    ensures capacity { journal.old.capacity ≤ journal.new.capacity }
     ensures capacity_of_answers { vec_capacity answers.old ≤ vec_capacity answers.new }
-    ensures room { OnOk result (kernel.HasRoom (reverse journal.old.items)
-        (length answers.old.items + 1) (vec_capacity journal.new)) }
-    ensures answer_room { OnOk result (kernel.HasAnswerRoom (reverse journal.old.items)
-        (length answers.old.items + 1) (vec_capacity answers.new)) }
+    ensures room { OnOk result (length journal.old.items + count + 2 * length (unfinished (reverse journal.old.items))
+        + length answers.old.items + 3 ≤ journal.new.capacity) }
+    ensures answer_room { OnOk result (length answers.old.items + 2 + length (unfinished (reverse journal.old.items))
+        ≤ vec_capacity answers.new) }
 {
-    let open = unfinished(journal.as_slice()) as usize;
+    let open = journal.unfinished() as usize;
     let waiting = answers.len();
-    journal.reserve(2 * open + 2 + waiting)?;
-    Ok(answers.reserve(open + 1)?)
+    journal.reserve(2 * open + 3 + waiting + count)?;
+    Ok(answers.reserve(open + 2)?)
 }
 
-/// Adds entries at the end.
-pub fn append(journal: &mut Vec<Entry>, more: List<Entry>) -> Result<(), Memory>
-    ensures items { Changes result journal.old.items journal.new.items (journal.old.items ++ more) }
-    ensures capacity { vec_capacity journal.old ≤ vec_capacity journal.new }
-{
-    let mut more = more.into_vec();
-    Ok(journal.append(&mut more)?)
-}
-
-/// Keeps the journal if it is not too long or too heavy and there is room for all that is to come for sure; else only
-/// its first entries.
-pub fn fit(
-    journal: &mut Vec<Entry>,
+/// Looks whether so many entries of that weight fit, and makes room for them and for all that is to come for sure.
+pub fn room_for(
+    journal: &mut Journal,
     answers: &mut Vec<(u32, Answer)>,
-    first: usize,
+    count: usize,
+    weight: u64,
 ) -> Result<(), EventStop>
-    requires { first ≤ length journal.old.items }
-    ensures ok { OnOk result (journal.new.items ≡ journal.old.items) }
+    requires few { history.entries_in (reverse journal.old.items) ≤ MOST_ENTRIES }
+    requires count { count < 2 ^ 62 }
+    ensures items { journal.new.items ≡ journal.old.items }
     ensures answers { answers.new.items ≡ answers.old.items }
-    ensures err { OnErr result (journal.new.items ≡ take first journal.old.items) }
-    ensures capacity { vec_capacity journal.old ≤ vec_capacity journal.new }
+    ensures capacity { journal.old.capacity ≤ journal.new.capacity }
     ensures capacity_of_answers { vec_capacity answers.old ≤ vec_capacity answers.new }
-    ensures within { OnOk result (kernel.IsWithin (reverse journal.old.items)) }
-    ensures room { OnOk result (kernel.HasRoom (reverse journal.old.items)
-        (length answers.old.items + 1) (vec_capacity journal.new)) }
-    ensures answer_room { OnOk result (kernel.HasAnswerRoom (reverse journal.old.items)
-        (length answers.old.items + 1) (vec_capacity answers.new)) }
-    ensures full { (entries weight : ℕ) → result ≡ Err (EventStop.JournalFull entries weight) →
-        kernel.IsTooMuch (reverse journal.old.items) entries weight }
-    ensures fits { result ≡ Err EventStop.Memory → kernel.IsWithin (reverse journal.old.items) }
+    ensures within { OnOk result (spec.HasLoad (reverse journal.old.items) count weight) }
+    ensures room { OnOk result (length journal.old.items + count + 2 * length (unfinished (reverse journal.old.items))
+        + length answers.old.items + 3 ≤ journal.new.capacity) }
+    ensures answer_room { OnOk result (length answers.old.items + 2 + length (unfinished (reverse journal.old.items))
+        ≤ vec_capacity answers.new) }
+    ensures full { (entries total : ℕ) → result ≡ Err (EventStop.JournalFull entries total) →
+        spec.IsOver (reverse journal.old.items) count weight entries total }
+    ensures fits { result ≡ Err EventStop.Memory → spec.HasLoad (reverse journal.old.items) count weight }
 {
-    if let Some((entries, weight)) = overfull(journal.as_slice()) {
-        journal.truncate(first);
+    if let Some((entries, weight)) = overfull(journal, count as u64, weight) {
         return Err(EventStop::JournalFull { entries, weight });
     }
-    if make_room(journal, answers).is_err() {
-        journal.truncate(first);
+    if make_room(journal, answers, count).is_err() {
         return Err(EventStop::Memory);
     }
+    Ok(())
+}
+
+/// Adds entries that begin and end no run, if they fit. A refusal leaves the journal.
+pub fn add_calm(
+    journal: &mut Journal,
+    answers: &mut Vec<(u32, Answer)>,
+    more: List<Entry>,
+) -> Result<(), EventStop>
+    requires few { history.entries_in (reverse journal.old.items) ≤ MOST_ENTRIES }
+    requires fit { AreFit (reverse journal.old.items) more }
+    requires calm { spec.AreCalm more }
+    ensures ok { OnOk result (journal.new.items ≡ journal.old.items ++ more) }
+    ensures err { OnErr result (journal.new.items ≡ journal.old.items) }
+    ensures answers { answers.new.items ≡ answers.old.items }
+    ensures capacity { journal.old.capacity ≤ journal.new.capacity }
+    ensures capacity_of_answers { vec_capacity answers.old ≤ vec_capacity answers.new }
+    ensures within { OnOk result (kernel.IsWithin (reverse journal.new.items)) }
+    ensures room { OnOk result (kernel.HasRoom (reverse journal.new.items)
+        (length answers.old.items + 1) journal.new.capacity) }
+    ensures answer_room { OnOk result (kernel.HasAnswerRoom (reverse journal.new.items)
+        (length answers.old.items + 1) (vec_capacity answers.new)) }
+    ensures full { (entries weight : ℕ) → result ≡ Err (EventStop.JournalFull entries weight) →
+        kernel.IsTooMuch (journals.past_after (reverse journal.old.items) more) entries weight }
+{
+    let weight = entries_weight(more.as_slice());
+    if let Err(stop) = room_for(journal, answers, more.len(), weight) {
+        return Err(stop);
+    }
+    journal.append_reserved(more);
     Ok(())
 }

@@ -1,42 +1,18 @@
 //! Answers that are handed out.
 #![tactic(auto)]
 
-ghost use Rattle.std.specs.Prelude.{◌≡◌, ◌<◌, ◌==◌, ◌++◌, ◌∷◌, [], reverse, nat_eq, Some, IsSome};
+ghost use Rattle.std.specs.Prelude.{◌≡◌, ◌<◌, ◌==◌, ◌++◌, ◌∷◌, [], reverse, length, nat_eq, Some, IsSome};
 ghost use Rattle.std.specs.Prelude.{vec_capacity, vec_len};
 ghost use Rattle.std.specs.List.{position};
 ghost use Rattle.std.specs.Map.{lookup, remove_entry};
 ghost use Rattle.asp_job.specs.History.{with_lane};
 ghost use Rattle.asp_job.specs.Runs as runs;
+ghost use Rattle.asp_journal.specs.Tables.{IsFit};
 ghost use Rattle.asp_core.specs.Ready as spec;
 
-use crate::keys::has_ended;
-use crate::scan::asking_lane_of;
 use crate::stop::CollectStop;
-use crate::works::is_page_run;
 use asp_job::{Answer, Entry, What};
-
-fn takes(run: u64, what: &What) -> bool
-    ensures { result ≡ runs.takes run what.now }
-{
-    match what {
-        What::Take { run: about } => *about as u64 == run,
-        _ => false,
-    }
-}
-
-/// Whether the answer of a run was handed out.
-#[tactic(auto, using(crate::proofs::Past::past_more))]
-fn is_taken(journal: &[Entry], run: u64) -> bool
-    ensures { result ≡ runs.is_taken (reverse journal.now) run }
-{
-    let mut found = false;
-    for entry in journal {
-        if takes(run, &entry.what) {
-            found = true;
-        }
-    }
-    found
-}
+use asp_journal::Journal;
 
 fn ended_stop(ended: bool, page: bool, taken: bool) -> Option<CollectStop>
     ensures { result ≡ spec.ended_stop ended page taken }
@@ -72,15 +48,15 @@ fn lane_stop(
 }
 
 /// Why the answer of a run is not handed out to the lane.
-pub fn collect_stop(journal: &[Entry], lane: u32, run: u32) -> Option<CollectStop>
-    ensures { result ≡ spec.collect_stop (reverse journal.now) lane run }
+pub fn collect_stop(journal: &Journal, lane: u32, run: u32) -> Option<CollectStop>
+    ensures { result ≡ spec.collect_stop (reverse journal.now.items) lane run }
 {
     lane_stop(
         lane,
-        asking_lane_of(journal, run as u64),
-        has_ended(journal, run as u64),
-        is_page_run(journal, run as u64),
-        is_taken(journal, run as u64),
+        journal.asking_lane_of(run as u64),
+        journal.has_ended(run as u64),
+        journal.is_page_run(run as u64),
+        journal.is_taken(run as u64),
     )
 }
 
@@ -107,16 +83,17 @@ fn take_answer(answers: &mut Vec<(u32, Answer)>, run: u32) -> Answer
 
 /// Hands the answer of a run out: its entry comes, and the answer waits no more.
 pub fn take_run(
-    journal: &mut Vec<Entry>,
+    journal: &mut Journal,
     answers: &mut Vec<(u32, Answer)>,
     lane: u32,
     run: u32,
 ) -> Answer
     requires waits { IsSome (lookup (nat_eq run) answers.old.items) }
-    requires room { vec_len journal.old < vec_capacity journal.old }
+    requires fit { IsFit (reverse journal.old.items) (What.Take run) }
+    requires room { length journal.old.items < journal.old.capacity }
     ensures answer { lookup (nat_eq run) answers.old.items ≡ Some result }
     ensures journal { journal.new.items ≡ journal.old.items ++ with_lane lane (What.Take run) ∷ [] }
-    ensures capacity { vec_capacity journal.new ≡ vec_capacity journal.old }
+    ensures capacity { journal.new.capacity ≡ journal.old.capacity }
     ensures answers { answers.new.items ≡ remove_entry (nat_eq run) answers.old.items }
     ensures capacity_of_answers { vec_capacity answers.new ≡ vec_capacity answers.old }
 {

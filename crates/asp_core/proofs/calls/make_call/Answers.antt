@@ -63,7 +63,7 @@ push_reserved-requires g c =
     let ok = c.in-Ok.ensures.ok in
     let entry = with_lane c.args.lane (App c.number-number.result c.in-Some.call.now c.in-Ok.replies.0) in
     let few = room_one c.args.journal.now.items c.replies_to.new.journal.items entry (length c.args.answers.now)
-    (vec_capacity c.replies_to.new.journal) ok.room c.replies_to.ensures.items in
+    c.replies_to.new.journal.capacity ok.room c.replies_to.ensures.items in
     search rules
 
 pub returns-clause-ok : goal.returns-clause-ok
@@ -73,7 +73,7 @@ returns-clause-ok g c =
     c.replies_to.new.journal.items c.push_reserved.new.self.items c.args.application.now
     c.replies_to.new.application (length c.args.answers.now) c.args.run.now c.take_reply.new.self
     c.number-number.result c.in-Some.call.now c.in-Some-take_reply.call c.in-Ok.replies
-    (vec_capacity c.replies_to.new.journal) (vec_capacity c.push_reserved.new.self)
+    c.replies_to.new.journal.capacity c.push_reserved.new.self.capacity
     (sym c.in-Some.ensures.wanted) took.call c.number-number.ensures c.in-Ok.ensures.ok c.replies_to.ensures.items
     c.push_reserved.ensures.items c.push_reserved.ensures.capacity took.number took.stand_ins took.going took.stands
 

@@ -7,7 +7,7 @@ use Rattle.asp_core.proofs.keys.due_at.Given as goal
 abbrev pub invariant-loop-i : goal.invariant-loop-i
 invariant-loop-i l =
     record {
-      so_far : l.keys ≡ filter (keys.is_due_key (kernel.session_at l.table) (reverse l.journal) l.moment)
+      so_far : l.keys ≡ filter (keys.is_due_key (kernel.session_at l.table) (reverse l.journal.items) l.moment)
           (runs.numbers l.i);
       within : length l.keys ≤ l.i;
     }

@@ -7,7 +7,7 @@ use Rattle.asp_core.proofs.keys.has_most_keys.Given as goal
 abbrev pub invariant-loop-i : goal.invariant-loop-i
 invariant-loop-i l =
     record {
-      so_far : l.live ≡ length (filter (keys.is_live (kernel.session_at l.table) (reverse l.journal))
+      so_far : l.live ≡ length (filter (keys.is_live (kernel.session_at l.table) (reverse l.journal.items))
           (runs.numbers l.i));
       within : l.live ≤ l.i;
     }

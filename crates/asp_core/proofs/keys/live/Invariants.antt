@@ -6,7 +6,7 @@ use Rattle.asp_core.proofs.keys.live.Given as goal
 
 abbrev pub invariant-loop-i : goal.invariant-loop-i
 invariant-loop-i l = record {
-  so_far : l.keys ≡ filter (keys.is_live (kernel.session_at l.table) (reverse l.journal))
+  so_far : l.keys ≡ filter (keys.is_live (kernel.session_at l.table) (reverse l.journal.items))
       (runs.numbers l.i);
   within : length l.keys ≤ l.i;
 }

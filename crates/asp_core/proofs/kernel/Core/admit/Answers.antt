@@ -25,7 +25,7 @@ invariant_of-self g c =
     kept_taken c.take_job-made.result m core.seed core.journal.items c.take_job-made.new.journal.items core.table.items
     c.take_job-made.new.table.items core.opened core.application core.answers.items
     c.take_job-made.new.answers.items c.args.lane c.args.job.now
-    (vec_capacity core.journal) (vec_capacity c.take_job-made.new.journal) (vec_capacity core.answers)
+    core.journal.capacity c.take_job-made.new.journal.capacity (vec_capacity core.answers)
     (vec_capacity c.take_job-made.new.answers)
     c.self.invariant.0 c.self.invariant.1 c.self.invariant.2 c.self.invariant.3 free.0 c.requires.page c.requires.small
     free.1 ok c.take_job-made.ensures.err c.take_job-made.ensures.capacity

@@ -23,7 +23,7 @@ invariant_of-self g c =
     let ok = rw (runner, c.as_slice.ensures.value) at c.make_call.ensures.ok in
     kept_either_called c.make_call.result m (g.R.Runner.stands core.runner.value) c.args.lane core.journal.items
     c.make_call.new.journal.items core.table.items core.opened core.application c.make_call.new.application
-    core.answers.items run c.make_call.new.run (vec_capacity core.journal) (vec_capacity c.make_call.new.journal)
+    core.answers.items run c.make_call.new.run core.journal.capacity c.make_call.new.journal.capacity
     (vec_capacity core.answers) c.self.invariant.0 c.self.invariant.1 c.self.invariant.2 c.self.invariant.3
     is.running (λ call wants. run_wants g.R.Runner.meaning g.R.Runner.stands view c.args.lane run call is wants)
     ok c.make_call.ensures.err c.make_call.ensures.capacity
@@ -39,7 +39,7 @@ returns-clause-ok g c =
     on_ok c.make_call.result _ _ (λ has. core_called core.runner.value core.site.value core.seed
     (g.R.Runner.stands core.runner.value) c.args.lane core.journal.items core.application
     (length core.answers.items) run c.make_call.new.journal.items c.make_call.new.application
-    (vec_capacity c.make_call.new.journal) c.make_call.new.run c.self.invariant.0.held_is has ∙ old) ok
+    c.make_call.new.journal.capacity c.make_call.new.run c.self.invariant.0.held_is has ∙ old) ok
 
 pub returns-clause-run : goal.returns-clause-run
 returns-clause-run g c =
@@ -53,7 +53,7 @@ returns-clause-run g c =
     let ok = rw (runner, c.as_slice.ensures.value) at c.make_call.ensures.ok in
     on_ok c.make_call.result _ _ (λ has. run_of_called g.R.Runner.meaning g.R.Runner.stands core.runner.value
     core.site.value core.seed c.args.lane core.journal.items core.application (length core.answers.items) run
-    c.make_call.new.journal.items c.make_call.new.application (vec_capacity c.make_call.new.journal)
+    c.make_call.new.journal.items c.make_call.new.application c.make_call.new.journal.capacity
     c.make_call.new.run c.self.invariant.0.held_is is has) ok
 
 pub returns-clause-going : goal.returns-clause-going
@@ -68,7 +68,7 @@ returns-clause-free g c =
     c.self.view_is (on_ok c.make_call.result _ _ (λ has. subst (λ (h : AppState). blocker_by h run ≡ None)
     c.self.invariant.0.held_is (free_called (g.R.Runner.stands c.args.runner.now) c.args.lane core.journal.items
     core.application (length c.as_slice.result.now) run c.make_call.new.journal.items
-    c.make_call.new.application (vec_capacity c.make_call.new.journal) c.make_call.new.run has))
+    c.make_call.new.application c.make_call.new.journal.capacity c.make_call.new.run has))
     c.make_call.ensures.ok)
 
 pub returns-clause-blocked : goal.returns-clause-blocked

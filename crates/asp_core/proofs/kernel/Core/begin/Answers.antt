@@ -40,7 +40,7 @@ invariant_of-self g c =
     kept_either_begun c.begin_run.result m (g.R.Runner.stands core.runner.value core.site.value) c.args.lane
     core.journal.items c.begin_run.new.journal.items core.table.items core.opened c.begin_run.new.opened
     core.application core.answers.items c.begin_run.new.answers.items
-    (vec_capacity core.journal) (vec_capacity c.begin_run.new.journal)
+    core.journal.capacity c.begin_run.new.journal.capacity
     (vec_capacity core.answers) (vec_capacity c.begin_run.new.answers)
     c.self.invariant.0 c.self.invariant.1 c.self.invariant.2 c.self.invariant.3
     ok c.begin_run.ensures.err c.begin_run.ensures.capacity c.begin_run.ensures.capacity_of_answers
@@ -99,7 +99,7 @@ returns-clause-run g c =
     on_each c.begin_run.result _ _ (λ run has. begun_run g.R.Runner.meaning g.R.Runner.stands core.runner.value
     core.site.value core.seed c.args.lane core.journal.items c.begin_run.new.journal.items core.opened
     c.begin_run.new.opened core.answers.items
-    (vec_capacity c.begin_run.new.journal) (vec_capacity c.begin_run.new.answers) run has) ok
+    c.begin_run.new.journal.capacity (vec_capacity c.begin_run.new.answers) run has) ok
 
 pub returns-clause-idle : goal.returns-clause-idle
 returns-clause-idle g c =

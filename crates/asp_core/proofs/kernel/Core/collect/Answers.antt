@@ -5,6 +5,7 @@ use Rattle.std.proofs.lemmas.Grind.{common_steps}
 use Rattle.asp_core.specs.Kernel.{CoreView, past_of, rules_by, rules_of}
 use Rattle.asp_core.specs.Ready.{collect_stop}
 use Rattle.asp_job.specs.Output.{answer_of_run}
+use Rattle.asp_core.proofs.Fits.{take_fit}
 use Rattle.asp_core.proofs.Handing.{can_take, kept_after_take, take_room}
 use Rattle.asp_core.proofs.kernel.Core.collect.Goals as goal
 
@@ -18,10 +19,9 @@ take_run-requires g c =
     none in
     let some : IsSome (lookup (nat_eq c.args.run) core.answers.items) =
     subst (λ list. IsSome (lookup (nat_eq c.args.run) list)) (sym c.self.invariant.0.answers_are) can.some in
-    let room = take_room core.journal.items core.answers.items c.args.run (vec_capacity core.journal) c.self.invariant.2
+    let room = take_room core.journal.items core.answers.items c.args.run core.journal.capacity c.self.invariant.2
     some in
-    let len : length core.journal.items ≡ vec_len core.journal = grind (arith, common_steps) in
-    record { waits = some; room = omega arith }
+    record { waits = some; fit = take_fit rules past c.args.lane c.args.run c.self.invariant.0.account.entries can; room = room }
 
 pub invariant_of-self : goal.invariant_of-self
 invariant_of-self g c =
@@ -32,7 +32,7 @@ invariant_of-self g c =
     let can = can_take rules past c.args.lane c.args.run c.self.invariant.0.account.entries c.self.invariant.0.answered
     none in
     let all = kept_after_take rules core.journal.items c.take_run.new.journal.items core.table.items core.opened
-    core.application core.answers.items c.args.lane c.args.run (vec_capacity core.journal)
+    core.application core.answers.items c.args.lane c.args.run core.journal.capacity
     (vec_capacity core.answers)
     c.self.invariant.0 c.self.invariant.1 c.self.invariant.2 c.self.invariant.3 can c.take_run.ensures.journal in
     rw (c.take_run.ensures.answers, c.take_run.ensures.capacity, c.take_run.ensures.capacity_of_answers) all

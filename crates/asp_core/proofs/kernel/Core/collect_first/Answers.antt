@@ -5,6 +5,7 @@ use Rattle.std.proofs.lemmas.Grind.{common_steps}
 use Rattle.asp_job.specs.Output.{answer_of_run}
 use Rattle.asp_core.specs.Kernel.{CoreView, past_of, rules_by, rules_of}
 use Rattle.asp_core.specs.Ready.{first_for, ready}
+use Rattle.asp_core.proofs.Fits.{take_fit}
 use Rattle.asp_core.proofs.Handing.{IsFirst, can_take_run, first_is, kept_after_take, take_room}
 use Rattle.asp_core.proofs.kernel.Core.collect_first.Goals as goal
 
@@ -20,10 +21,9 @@ take_run-answer-requires g c =
     kept.answers_are first in
     let some : IsSome (lookup (nat_eq run) core.answers.items) =
     subst (λ list. IsSome (lookup (nat_eq run) list)) (sym kept.answers_are) can.some in
-    let room = take_room core.journal.items core.answers.items run (vec_capacity core.journal) c.self.invariant.2
+    let room = take_room core.journal.items core.answers.items run core.journal.capacity c.self.invariant.2
     some in
-    let len : length core.journal.items ≡ vec_len core.journal = grind (arith, common_steps) in
-    record { waits = some; room = omega arith }
+    record { waits = some; fit = take_fit rules past c.args.lane run c.self.invariant.0.account.entries can; room = room }
 
 pub invariant_of-self : goal.invariant_of-self
 invariant_of-self g c =
@@ -37,7 +37,7 @@ invariant_of-self g c =
     kept.answers_are first in
     let taken = c.take_run-answer in
     let all = kept_after_take rules core.journal.items taken.new.journal.items core.table.items core.opened
-    core.application core.answers.items c.args.lane run (vec_capacity core.journal) (vec_capacity core.answers)
+    core.application core.answers.items c.args.lane run core.journal.capacity (vec_capacity core.answers)
     kept c.self.invariant.1 c.self.invariant.2 c.self.invariant.3 can taken.ensures.journal in
     rw (taken.ensures.answers, taken.ensures.capacity, taken.ensures.capacity_of_answers) all
 

@@ -7,6 +7,8 @@ use Rattle.asp_core.specs.declared.run.Progress.TheVariants as progress
 use Rattle.asp_job.specs.History.{with_lane}
 use Rattle.asp_job.specs.Journal.{end_entry}
 use Rattle.asp_job.specs.Told.{Told}
+use Rattle.asp_journal.proofs.Open.{unfinished_open}
+use Rattle.asp_core.proofs.Fits.{end_numbered}
 use Rattle.asp_core.proofs.Ending.{end_grown, end_room, ending_of, kept_after_end}
 use Rattle.asp_core.proofs.Same.{view_of}
 use Rattle.asp_core.proofs.kernel.Core.end.Goals as goal
@@ -29,14 +31,20 @@ end_run-requires g c =
     c.self.view_is c.requires.run c.requires.kind finish leaves in
     let rules = rules_by (g.R.Runner.meaning core.runner.value core.site.value) core.seed in
     let number : c.number-number.result ≡ run = c.number-number.ensures in
-    let room = end_room rules core.journal.items run (length core.answers.items) (vec_capacity core.journal)
+    let room = end_room rules core.journal.items run (length core.answers.items) core.journal.capacity
     (vec_capacity core.answers) core.table.items core.opened core.application core.answers.items c.self.invariant.0
     ends.0.unfinished c.self.invariant.2 c.self.invariant.3 in
-    let len : length core.journal.items ≡ vec_len core.journal = grind (arith, common_steps) in
     let len_of : length core.answers.items ≡ vec_len core.answers = grind (arith, common_steps) in
     let one = room.0 in
     let two = room.1 in
-    record { bounded = ends.1.bounded; key = rw number room.2; room = omega arith; answer_room = omega arith }
+    record {
+      bounded = ends.1.bounded;
+      key = rw number room.2;
+      timely = rw number (unfinished_open past run ends.0.unfinished);
+      numbered = rw number (end_numbered rules past run c.self.invariant.0.account.entries ends.0.unfinished);
+      room = one;
+      answer_room = omega arith;
+    }
 
 pub invariant_of-self : goal.invariant_of-self
 invariant_of-self g c =
@@ -60,7 +68,7 @@ invariant_of-self g c =
     c.end_run.ensures.journal
     ∙ ap (λ n. core.journal.items ++ with_lane lane (end_what n kind left) ∷ []) number in
     let all = kept_after_end rules core.journal.items c.end_run.new.journal.items core.table.items core.opened
-    core.application core.answers.items lane run kind left (vec_capacity core.journal) (vec_capacity core.answers)
+    core.application core.answers.items lane run kind left core.journal.capacity (vec_capacity core.answers)
     c.self.invariant.0 c.self.invariant.1 c.self.invariant.2 c.self.invariant.3 ends.0 ends.1 made in
     rw (
       c.end_run.ensures.table,

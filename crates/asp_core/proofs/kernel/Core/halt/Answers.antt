@@ -16,6 +16,6 @@ invariant_of-self g c =
     let going : is_halted (reverse journal) ≡ false = grind (arith, common_steps) in
     let made : next ≡ journal ++ with_lane c.args.lane Halt ∷ [] = c.push_reserved.ensures.items in
     let kept = kept_after_halt m journal next core.table.items core.opened core.application core.answers.items
-    c.args.lane (vec_capacity core.journal) (vec_capacity core.answers) c.self.invariant.0 c.self.invariant.1
+    c.args.lane core.journal.capacity (vec_capacity core.answers) c.self.invariant.0 c.self.invariant.1
     c.self.invariant.2 c.self.invariant.3 going made in
     rw c.push_reserved.ensures.capacity kept

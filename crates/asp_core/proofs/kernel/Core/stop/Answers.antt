@@ -19,8 +19,8 @@ invariant_of-self g c =
     (λ made. kept_after_stop m core.journal.items next core.table.items core.opened core.application core.answers.items
     c.args.lane c.self.invariant.0 going made) c.with_stop.ensures.entries in
     kept_either c.with_stop.result m core.journal.items next core.table.items core.opened core.application
-    core.answers.items c.with_stop.new.answers.items (vec_capacity core.journal)
-    (vec_capacity c.with_stop.new.journal) (vec_capacity core.answers) (vec_capacity c.with_stop.new.answers)
+    core.answers.items c.with_stop.new.answers.items core.journal.capacity
+    c.with_stop.new.journal.capacity (vec_capacity core.answers) (vec_capacity c.with_stop.new.answers)
     c.self.invariant.0 c.self.invariant.1 c.self.invariant.2 c.self.invariant.3 kept c.with_stop.ensures.within
     c.with_stop.ensures.room c.with_stop.ensures.answer_room c.with_stop.ensures.err c.with_stop.ensures.capacity
     c.with_stop.ensures.capacity_of_answers c.with_stop.ensures.answers

@@ -16,8 +16,8 @@ invariant_of-self g c =
     (λ made. kept_after_tick m core.journal.items next core.table.items core.opened core.application core.answers.items
     c.args.lane c.args.moment c.self.invariant.0 made) c.with_tick.ensures.entries in
     kept_either c.with_tick.result m core.journal.items next core.table.items core.opened core.application
-    core.answers.items c.with_tick.new.answers.items (vec_capacity core.journal)
-    (vec_capacity c.with_tick.new.journal) (vec_capacity core.answers) (vec_capacity c.with_tick.new.answers)
+    core.answers.items c.with_tick.new.answers.items core.journal.capacity
+    c.with_tick.new.journal.capacity (vec_capacity core.answers) (vec_capacity c.with_tick.new.answers)
     c.self.invariant.0 c.self.invariant.1 c.self.invariant.2 c.self.invariant.3 kept c.with_tick.ensures.within
     c.with_tick.ensures.room c.with_tick.ensures.answer_room c.with_tick.ensures.err c.with_tick.ensures.capacity
     c.with_tick.ensures.capacity_of_answers c.with_tick.ensures.answers

@@ -1,6 +1,0 @@
-use Rattle.std.proofs.Common.{◌≡◌, take, reverse}
-use Rattle.asp_job.specs.Runs as runs
-use Rattle.asp_core.proofs.scan.is_halted.Given as goal
-
-abbrev pub invariant-loop-entry : goal.invariant-loop-entry
-invariant-loop-entry l = l.found ≡ runs.is_halted (reverse (take l.entry-index l.journal))

@@ -1,6 +1,0 @@
-use Rattle.std.proofs.Common.{◌≡◌, take, reverse}
-use Rattle.asp_job.specs.Keys as keys
-use Rattle.asp_core.proofs.scan.last_asked.Given as goal
-
-abbrev pub invariant-loop-entry : goal.invariant-loop-entry
-invariant-loop-entry l = l.moment ≡ keys.last_asked (reverse (take l.entry-index l.journal)) l.key
