@@ -15,6 +15,7 @@ use Rattle.asp_core.specs.Kernel.{RunView, StandsAt, past_of, rules_by, rules_of
 use Rattle.asp_core.specs.Kernel.{wanted_by}
 use Rattle.asp_core.specs.Ready.{ready, with_answer}
 use Rattle.asp_core.specs.Standing.{stand_in, stand_ins}
+use Rattle.asp_core.specs.Start.{fail_after, fail_by, fail_in, start_fail}
 use Rattle.asp_core.specs.declared.ends.Left.{Left}
 use Rattle.asp_core.specs.declared.run.Progress.{Progress}
 use Rattle.asp_core.specs.declared.run.Progress.TheVariants as progress
@@ -31,6 +32,7 @@ use Rattle.asp_job.specs.Runs.{is_unfinished, job_of, key_of, unfinished}
 use Rattle.asp_job.specs.Told.{Ends, Meaning, Outcome, Told, Wants}
 use Rattle.asp_job.specs.Turns.{IsRunning}
 use Rattle.asp_job.specs.declared.answer.Answer.{Answer}
+use Rattle.asp_job.specs.declared.answer.Fail.{Fail}
 use Rattle.asp_job.specs.declared.answer.Finished.{Finished}
 use Rattle.asp_job.specs.declared.entry.EndKind.{EndKind}
 use Rattle.asp_job.specs.declared.entry.EndKind.TheVariants as how
@@ -59,6 +61,7 @@ pub record IsEnding (m : Rules) (past : List Entry) (lane run : ℕ) (kind : End
   pub answer_is : left.answer ≡ answer_by m past run kind
   pub made_is : left.made ≡ counted kind (made_in (m.meaning.does (told m past run)))
   pub finished_is : left.finished ≡ counted kind (finished_in (m.meaning.does (told m past run)))
+  pub fail_is : left.fail ≡ fail_by m past run kind
   pub answered : is_some (answer_by m past run kind) ≡ is_page (job_of past run).work
   pub bounded : IfSome left.answer IsBounded
   pub valid : IsSessionIn left.session
@@ -101,6 +104,7 @@ done_ending m past lane run (Some f) ins is =
       answer_is = ap answer_in (sym does);
       made_is = ap made_in (sym does);
       finished_is = ap finished_in (sym does);
+      fail_is = ap fail_in (sym does);
       answered = ap is_some (ap answer_in does) ∙ is.1.answered;
       bounded = is.1.bounded;
       valid = is.1.session_is;
@@ -134,6 +138,7 @@ ending m seed past lane run Stands how.Memory finished of s told_at ins =
       answer_is = answer ∙ memory_in m seed w;
       made_is = refl;
       finished_is = refl;
+      fail_is = refl;
       answered = page_answered (rules_by m seed) OutOfMemory w;
       bounded = subst (λ (a : Option Answer). IfSome a IsBounded) (sym answer) (bounded_in cause.OutOfMemory w);
       valid = tt;
@@ -148,6 +153,7 @@ ending m seed past lane run Stands how.JournalFull finished of s told_at ins =
       answer_is = answer ∙ full_in m seed w;
       made_is = refl;
       finished_is = refl;
+      fail_is = refl;
       answered = page_answered rules JournalFull w;
       bounded = subst (λ (a : Option Answer). IfSome a IsBounded) (sym answer) (bounded_in cause.JournalFull w);
       valid = tt;
@@ -307,6 +313,19 @@ pub end_grown : (m : Rules) (journal next : List Entry) (lane run : ℕ) (kind :
     → next ≡ journal ++ end_entry m (reverse journal) lane run kind ∷ []
 end_grown m journal next lane run kind left is e = e ∙ ap (λ what. journal ++ with_lane lane what ∷ [])
     (end_is m (reverse journal) lane run kind left is)
+
+-- why the first run failed, after the End
+pub end_fails : (m : Rules) (journal next : List Entry) (before then_fail : Option Fail) (lane run : ℕ)
+    (kind : EndKind) (left : Left) → IsEnding m (reverse journal) lane run kind left
+    → before ≡ start_fail m (reverse journal) → next ≡ journal ++ with_lane lane (end_what run kind left) ∷ []
+    → then_fail ≡ fail_after before run left.fail → then_fail ≡ start_fail m (reverse next)
+end_fails m journal next before then_fail lane run kind left is was e after =
+    let past = reverse journal in
+    let entry = end_entry m past lane run kind in
+    let of : reverse next ≡ entry ∷ past = ap reverse (end_grown m journal next lane run kind left is e)
+    ∙ past_push journal entry in
+    after ∙ ap (λ fail. fail_after fail run left.fail) was
+    ∙ ap (fail_after (start_fail m past) run) is.fail_is ∙ ap (start_fail m) (sym of)
 
 -- a journal with an End is kept
 pub kept_after_end : (m : Rules) (journal next : List Entry) (table : List (Option SessionState)) (count : ℕ)

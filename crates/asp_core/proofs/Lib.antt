@@ -6,6 +6,7 @@ pub mod Least
 pub mod Kept
 pub mod Calm
 pub mod Fits
+pub mod Failing
 pub mod Begun
 pub mod Closing
 pub mod Waiting

@@ -5,6 +5,7 @@ use Rattle.std.proofs.Math.Path.{fun_ext}
 use Rattle.asp_job.specs.declared.job.Work.TheVariants as work
 use Rattle.std.proofs.lemmas.List.Elements.{All-nil}
 use Rattle.asp_core.specs.Kernel.{IsSessionIn, IsWithin, IsKept}
+use Rattle.asp_core.specs.Start.{start_fail}
 use Rattle.asp_job.specs.Application.{first_state}
 use Rattle.asp_job.specs.History.{with_lane}
 use Rattle.asp_job.specs.Rules.{Rules}
@@ -32,6 +33,10 @@ kept_start m journal table lane e f =
       valid = All-nil IsSessionIn;
     } in
     rw (e, f) whole
+
+pub fail_start : (m : Rules) (journal : List Entry) (lane : ℕ) → journal ≡ with_lane lane (Queue 1 work.Start 0) ∷ []
+    → None ≡ start_fail m (reverse journal)
+fail_start m journal lane e = rw e refl
 
 pub within_start : (journal : List Entry) (lane : ℕ) → journal ≡ with_lane lane (Queue 1 work.Start 0) ∷ []
     → IsWithin (reverse journal)

@@ -11,11 +11,17 @@ use Rattle.asp_core.specs.declared.run.StandIns.{StandIns}
 
 -- what the runner told, or one of the answers that stand in
 abbrev pub left_of : EndKind → Option Finished → StandIns → Left
-left_of kind.Done None ins = record { answer = None; session = None; made = 0; finished = 0 }
+left_of kind.Done None ins = record { answer = None; session = None; fail = None; made = 0; finished = 0 }
 left_of kind.Done (Some told) ins =
-    record { answer = told.answer; session = told.session; made = told.made; finished = told.finished }
-left_of kind.Memory told ins = record { answer = ins.memory; session = None; made = 0; finished = 0 }
-left_of kind.JournalFull told ins = record { answer = ins.full; session = None; made = 0; finished = 0 }
+    record {
+      answer = told.answer;
+      session = told.session;
+      fail = told.fail;
+      made = told.made;
+      finished = told.finished;
+    }
+left_of kind.Memory told ins = record { answer = ins.memory; session = None; fail = None; made = 0; finished = 0 }
+left_of kind.JournalFull told ins = record { answer = ins.full; session = None; fail = None; made = 0; finished = 0 }
 
 abbrev pub end_what : ℕ → EndKind → Left → What
 end_what run kind left = End run kind (status_in left.answer) (length_in left.answer) left.made left.finished

@@ -14,3 +14,4 @@ pub mod Wanted
 pub mod Given
 pub mod Alone
 pub mod Calm
+pub mod Start

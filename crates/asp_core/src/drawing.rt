@@ -73,7 +73,11 @@ fn drawn_of(what: &What, answer: Option<Answer>) -> Drawn
 fn job_now(journal: &Journal, job: Job) -> Job
     ensures { result ≡ journals.job_now (reverse journal.now.items) job }
 {
-    let Job { work, moment: _, asked } = job;
+    let Job {
+        work,
+        moment: _,
+        asked,
+    } = job;
     Job {
         work,
         moment: journal.moment(),

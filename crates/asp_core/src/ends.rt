@@ -11,18 +11,20 @@ ghost use Rattle.asp_job.specs.Running.{IsBounded};
 ghost use Rattle.asp_core.specs.Ends as spec;
 ghost use Rattle.asp_core.specs.Kernel as kernel;
 ghost use Rattle.asp_core.specs.Ready as waits;
+ghost use Rattle.asp_core.specs.Start as starts;
 
 use crate::kernel::Core;
 use crate::places::add_answer;
 use crate::run::{Run, StandIns};
-use asp_job::{Answer, EndKind, Entry, Finished, Runner, SessionState, What};
+use asp_job::{Answer, EndKind, Entry, Fail, Finished, Runner, SessionState, What};
 use asp_journal::Journal;
 
-/// What a run leaves: its answer, its session, and how many objects it made and ended.
+/// What a run leaves: its answer, its session, why it failed, and how many objects it made and ended.
 #[derive(Debug, Drop)]
 pub struct Left {
     pub answer: Option<Answer>,
     pub session: Option<SessionState>,
+    pub fail: Option<Fail>,
     pub made: u32,
     pub finished: u32,
 }
@@ -36,6 +38,7 @@ fn left_of(kind: EndKind, told: Option<Finished>, stand_ins: StandIns) -> Left
             Some(told) => return Left {
                 answer: told.answer,
                 session: told.session,
+                fail: told.fail,
                 made: told.made,
                 finished: told.finished,
             },
@@ -47,6 +50,7 @@ fn left_of(kind: EndKind, told: Option<Finished>, stand_ins: StandIns) -> Left
     Left {
         answer,
         session: None,
+        fail: None,
         made: 0,
         finished: 0,
     }
@@ -101,12 +105,20 @@ fn keep_session(
     }
 }
 
+/// Why the first run failed, after the end of a run that failed so.
+fn fail_after(before: Option<Fail>, run: u32, fail: Option<Fail>) -> Option<Fail>
+    ensures { result ≡ starts.fail_after before run fail }
+{
+    if run == 1 { fail } else { before }
+}
+
 /// The parts of a core after the End of a run.
 #[tactic(auto, using(crate::proofs::Fits::end_fit))]
 fn end_run(
     journal: &mut Journal,
     answers: &mut Vec<(u32, Answer)>,
     table: &mut Vec<Option<SessionState>>,
+    start_fail: &mut Option<Fail>,
     lane: u32,
     run: u32,
     kind: EndKind,
@@ -125,16 +137,19 @@ fn end_run(
     ensures capacity_of_answers { vec_capacity answers.new ≡ vec_capacity answers.old }
     ensures table { table.new.items ≡ kernel.table_after table.old.items kind
         (runs.key_of (reverse journal.old.items) run) left.session }
+    ensures start { start_fail.new ≡ starts.fail_after start_fail.old run left.fail }
 {
     let key = journal.key_of(run as u64);
     let what = end_what(run, kind, &left);
     let Left {
         answer,
         session,
+        fail,
         made: _,
         finished: _,
     } = left;
     keep_session(table.as_mut_slice(), kind, key, session);
+    *start_fail = fail_after(*start_fail, run, fail);
     add_answer(answers, run, answer);
     journal.push_reserved(Entry { lane, what });
 }
@@ -156,6 +171,7 @@ impl<R: Runner> Core<R> {
             &mut self.journal,
             &mut self.answers,
             &mut self.table,
+            &mut self.start_fail,
             lane,
             number,
             kind,

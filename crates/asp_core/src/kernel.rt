@@ -15,7 +15,7 @@ use crate::events::{with_stop, with_tick};
 use crate::room::make_room;
 use crate::stop::EventStop;
 use asp_app::Application;
-use asp_job::{Answer, Entry, Runner, SessionState, What, Work};
+use asp_job::{Answer, Entry, Fail, Runner, SessionState, What, Work};
 use asp_journal::Journal;
 use std::alloc::Global;
 use std::marker::Model;
@@ -30,16 +30,18 @@ pub struct Core<R: Runner> {
     pub(crate) opened: u32,
     pub(crate) application: Application,
     pub(crate) answers: Vec<(u32, Answer)>,
+    pub(crate) start_fail: Option<Fail>,
     pub(crate) runner: Snapshot<R>,
     pub(crate) site: Snapshot<R::Site>,
     pub(crate) seed: [u8; 32],
 }
 
 impl<R: Runner> Model for Core<R> {
-    ghost use Rattle.std.specs.Prelude.{vec_capacity, reverse, length};
+    ghost use Rattle.std.specs.Prelude.{◌≡◌, vec_capacity, reverse, length};
     ghost use Rattle.std.specs.Coded.{codes};
     ghost use Rattle.vb_value.specs.contracts.value.Value as contract;
     ghost use Rattle.asp_core.specs.Kernel.{CoreView, IsKept, IsWithin, HasRoom, HasAnswerRoom, rules_by};
+    ghost use Rattle.asp_core.specs.Start as starts;
 
     ghost Value = { CoreView R R.Site };
 
@@ -53,7 +55,8 @@ impl<R: Runner> Model for Core<R> {
         c.table.items c.opened c.application c.answers.items
         × IsWithin (reverse c.journal.items)
         × HasRoom (reverse c.journal.items) (length c.answers.items) c.journal.capacity
-        × HasAnswerRoom (reverse c.journal.items) (length c.answers.items) (vec_capacity c.answers) };
+        × HasAnswerRoom (reverse c.journal.items) (length c.answers.items) (vec_capacity c.answers)
+        × (c.start_fail ≡ starts.start_fail (rules_by (R.meaning c.runner.value c.site.value) c.seed) (reverse c.journal.items)) };
 }
 
 fn first_journal(
@@ -83,7 +86,7 @@ fn first_journal(
 
 impl<R: Runner> Core<R> {
     /// A core whose journal queues the first run. Later calls take the same runner and site.
-    #[tactic(auto, using(crate::proofs::Starting::kept_start, crate::proofs::Starting::within_start))]
+    #[tactic(auto, using(crate::proofs::Starting::kept_start, crate::proofs::Starting::within_start, crate::proofs::Starting::fail_start))]
     pub fn new(
         alloc: Global,
         lane: u32,
@@ -103,6 +106,7 @@ impl<R: Runner> Core<R> {
             opened: 0,
             application: Application::new(alloc),
             answers,
+            start_fail: None,
             runner: Snapshot::of(runner),
             site: Snapshot::of(site),
             seed,

@@ -4,11 +4,12 @@
 ghost use Rattle.std.specs.Prelude.{◌≡◌, ◌≤◌, reverse, length};
 ghost use Rattle.asp_job.specs.Runs as runs;
 ghost use Rattle.asp_job.specs.Turns as turns;
-ghost use Rattle.asp_core.specs.Kernel.{past_of};
+ghost use Rattle.asp_core.specs.Kernel.{past_of, rules_of};
+ghost use Rattle.asp_core.specs.Start as starts;
 ghost use Rattle.asp_journal.specs.Telling as spec;
 
 use crate::kernel::Core;
-use asp_job::{EndKind, Runner};
+use asp_job::{EndKind, Fail, Runner};
 
 impl<R: Runner> Core<R> {
     /// How many runs wait, those of pages and those that the host queued.
@@ -40,5 +41,12 @@ impl<R: Runner> Core<R> {
         ensures { result ≡ spec.end_kind (past_of self.now) 1 }
     {
         self.journal.end_kind(1)
+    }
+
+    /// Why the first run failed, once it has ended by itself.
+    pub fn start_fail(&self) -> Option<Fail>
+        ensures { result ≡ starts.start_fail (rules_of R.meaning self.now) (past_of self.now) }
+    {
+        self.start_fail
     }
 }

@@ -1,10 +1,13 @@
-use Rattle.std.proofs.Common.{◌≡◌, reverse, length, nat_eq, None, Some, IsSome, ap, sym}
+use Rattle.std.proofs.Common.{◌≡◌, reverse, length, nat_eq, None, Some, IsSome, ap, refl, sym}
 use Rattle.std.proofs.Common.{subst, ◌∙◌, arith, vec_capacity, vec_len}
 use Rattle.std.specs.Map.{lookup}
 use Rattle.std.proofs.lemmas.Grind.{common_steps}
 use Rattle.asp_core.specs.Kernel.{CoreView, past_of, rules_by, rules_of}
 use Rattle.asp_core.specs.Ready.{collect_stop}
+use Rattle.asp_job.specs.History.{with_lane}
 use Rattle.asp_job.specs.Output.{answer_of_run}
+use Rattle.asp_job.specs.declared.entry.What.TheVariants.{Take}
+use Rattle.asp_core.proofs.Failing.{fail_push}
 use Rattle.asp_core.proofs.Fits.{take_fit}
 use Rattle.asp_core.proofs.Handing.{can_take, kept_after_take, take_room}
 use Rattle.asp_core.proofs.kernel.Core.collect.Goals as goal
@@ -35,7 +38,10 @@ invariant_of-self g c =
     core.application core.answers.items c.args.lane c.args.run core.journal.capacity
     (vec_capacity core.answers)
     c.self.invariant.0 c.self.invariant.1 c.self.invariant.2 c.self.invariant.3 can c.take_run.ensures.journal in
-    rw (c.take_run.ensures.answers, c.take_run.ensures.capacity, c.take_run.ensures.capacity_of_answers) all
+    let same = fail_push rules core.journal.items c.take_run.new.journal.items
+    (with_lane c.args.lane (Take c.args.run)) c.take_run.ensures.journal refl in
+    rw (c.take_run.ensures.answers, c.take_run.ensures.capacity, c.take_run.ensures.capacity_of_answers)
+    (all.0, all.1, all.2, all.3, c.self.invariant.4 ∙ sym same)
 
 pub returns-clause-answer : goal.returns-clause-answer
 returns-clause-answer g c =

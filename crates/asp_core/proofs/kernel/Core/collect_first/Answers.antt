@@ -1,10 +1,13 @@
-use Rattle.std.proofs.Common.{◌≡◌, reverse, length, nat_eq, Some, IsSome, ap, sym}
+use Rattle.std.proofs.Common.{◌≡◌, reverse, length, nat_eq, Some, IsSome, ap, refl, sym}
 use Rattle.std.proofs.Common.{subst, ◌∙◌, arith, vec_capacity, vec_len}
 use Rattle.std.specs.Map.{lookup}
 use Rattle.std.proofs.lemmas.Grind.{common_steps}
+use Rattle.asp_job.specs.History.{with_lane}
 use Rattle.asp_job.specs.Output.{answer_of_run}
+use Rattle.asp_job.specs.declared.entry.What.TheVariants.{Take}
 use Rattle.asp_core.specs.Kernel.{CoreView, past_of, rules_by, rules_of}
 use Rattle.asp_core.specs.Ready.{first_for, ready}
+use Rattle.asp_core.proofs.Failing.{fail_push}
 use Rattle.asp_core.proofs.Fits.{take_fit}
 use Rattle.asp_core.proofs.Handing.{IsFirst, can_take_run, first_is, kept_after_take, take_room}
 use Rattle.asp_core.proofs.kernel.Core.collect_first.Goals as goal
@@ -39,7 +42,10 @@ invariant_of-self g c =
     let all = kept_after_take rules core.journal.items taken.new.journal.items core.table.items core.opened
     core.application core.answers.items c.args.lane run core.journal.capacity (vec_capacity core.answers)
     kept c.self.invariant.1 c.self.invariant.2 c.self.invariant.3 can taken.ensures.journal in
-    rw (taken.ensures.answers, taken.ensures.capacity, taken.ensures.capacity_of_answers) all
+    let same = fail_push rules core.journal.items taken.new.journal.items (with_lane c.args.lane (Take run))
+    taken.ensures.journal refl in
+    rw (taken.ensures.answers, taken.ensures.capacity, taken.ensures.capacity_of_answers)
+    (all.0, all.1, all.2, all.3, c.self.invariant.4 ∙ sym same)
 
 pub returns-clause-first : goal.returns-clause-first
 returns-clause-first g c =

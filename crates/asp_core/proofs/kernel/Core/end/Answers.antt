@@ -9,7 +9,8 @@ use Rattle.asp_job.specs.Journal.{end_entry}
 use Rattle.asp_job.specs.Told.{Told}
 use Rattle.asp_journal.proofs.Open.{unfinished_open}
 use Rattle.asp_core.proofs.Fits.{end_numbered}
-use Rattle.asp_core.proofs.Ending.{end_grown, end_room, ending_of, kept_after_end}
+use Rattle.asp_core.specs.Start.{fail_after}
+use Rattle.asp_core.proofs.Ending.{end_fails, end_grown, end_room, ending_of, kept_after_end}
 use Rattle.asp_core.proofs.Same.{view_of}
 use Rattle.asp_core.proofs.kernel.Core.end.Goals as goal
 
@@ -70,6 +71,9 @@ invariant_of-self g c =
     let all = kept_after_end rules core.journal.items c.end_run.new.journal.items core.table.items core.opened
     core.application core.answers.items lane run kind left core.journal.capacity (vec_capacity core.answers)
     c.self.invariant.0 c.self.invariant.1 c.self.invariant.2 c.self.invariant.3 ends.0 ends.1 made in
+    let failed = end_fails rules core.journal.items c.end_run.new.journal.items core.start_fail
+    c.end_run.new.start_fail lane run kind left ends.1 c.self.invariant.4 made
+    (c.end_run.ensures.start ∙ ap (λ n. fail_after core.start_fail n left.fail) number) in
     rw (
       c.end_run.ensures.table,
       c.end_run.ensures.answers,
@@ -77,7 +81,7 @@ invariant_of-self g c =
       c.end_run.ensures.capacity,
       c.end_run.ensures.capacity_of_answers,
       number,
-    ) all
+    ) (all.0, all.1, all.2, all.3, failed)
 
 pub returns : goal.returns
 returns g c =

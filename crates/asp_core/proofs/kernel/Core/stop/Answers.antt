@@ -1,8 +1,11 @@
-use Rattle.std.proofs.Common.{◌≡◌, ◌++◌, reverse, arith, ap, subst, ◌∙◌, false, vec_capacity}
+use Rattle.std.proofs.Common.{◌≡◌, ◌++◌, reverse, arith, ap, refl, subst, ◌∙◌, false, vec_capacity}
 use Rattle.std.proofs.lemmas.Grind.{common_steps}
 use Rattle.asp_job.specs.Journal.{stop_entries, past_after}
 use Rattle.asp_job.specs.Runs.{is_stopping}
 use Rattle.asp_core.specs.Kernel.{CoreView, rules_by, rules_of, past_of, grown, IsTooMuch, IsKept}
+use Rattle.asp_job.specs.Keys.{session_of}
+use Rattle.asp_core.proofs.Failing.{fail_calm, fail_either}
+use Rattle.asp_core.proofs.Fits.{stop_calm}
 use Rattle.asp_core.proofs.Kept.{kept_after_stop}
 use Rattle.asp_core.proofs.Same.{kept_either, on_ok, view_of}
 use Rattle.asp_core.proofs.kernel.Core.stop.Goals as goal
@@ -18,12 +21,22 @@ invariant_of-self g c =
     (IsKept m (reverse next) core.table.items core.opened core.application core.answers.items)
     (λ made. kept_after_stop m core.journal.items next core.table.items core.opened core.application core.answers.items
     c.args.lane c.self.invariant.0 going made) c.with_stop.ensures.entries in
-    kept_either c.with_stop.result m core.journal.items next core.table.items core.opened core.application
+    let all = kept_either c.with_stop.result m core.journal.items next core.table.items core.opened core.application
     core.answers.items c.with_stop.new.answers.items core.journal.capacity
     c.with_stop.new.journal.capacity (vec_capacity core.answers) (vec_capacity c.with_stop.new.answers)
     c.self.invariant.0 c.self.invariant.1 c.self.invariant.2 c.self.invariant.3 kept c.with_stop.ensures.within
     c.with_stop.ensures.room c.with_stop.ensures.answer_room c.with_stop.ensures.err c.with_stop.ensures.capacity
-    c.with_stop.ensures.capacity_of_answers c.with_stop.ensures.answers
+    c.with_stop.ensures.capacity_of_answers c.with_stop.ensures.answers in
+    let more = stop_entries m past c.args.lane in
+    let same = on_ok c.with_stop.result _ _ (λ made. fail_calm m core.journal.items next more made
+    (stop_calm (session_of m past) past more c.args.lane refl)) c.with_stop.ensures.entries in (
+      all.0,
+      all.1,
+      all.2,
+      all.3,
+      fail_either c.with_stop.result m core.journal.items next core.start_fail
+          c.self.invariant.4 same c.with_stop.ensures.err,
+    )
 
 pub returns-clause-ok : goal.returns-clause-ok
 returns-clause-ok g c =

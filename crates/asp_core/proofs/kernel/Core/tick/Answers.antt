@@ -1,6 +1,9 @@
-use Rattle.std.proofs.Common.{◌≡◌, ◌++◌, IfOk, reverse, ap, subst, ◌∙◌, vec_capacity}
+use Rattle.std.proofs.Common.{◌≡◌, ◌++◌, IfOk, reverse, ap, refl, subst, ◌∙◌, vec_capacity}
 use Rattle.asp_job.specs.Journal.{tick_entries, past_after}
 use Rattle.asp_core.specs.Kernel.{CoreView, rules_by, rules_of, past_of, grown, expired, IsTooMuch, IsKept}
+use Rattle.asp_job.specs.Keys.{session_of}
+use Rattle.asp_core.proofs.Failing.{fail_calm, fail_either}
+use Rattle.asp_core.proofs.Fits.{tick_calm}
 use Rattle.asp_core.proofs.Kept.{kept_after_tick}
 use Rattle.asp_core.proofs.Same.{kept_either, on_ok, view_of}
 use Rattle.asp_core.proofs.kernel.Core.tick.Goals as goal
@@ -15,12 +18,22 @@ invariant_of-self g c =
     (IsKept m (reverse next) core.table.items core.opened core.application core.answers.items)
     (λ made. kept_after_tick m core.journal.items next core.table.items core.opened core.application core.answers.items
     c.args.lane c.args.moment c.self.invariant.0 made) c.with_tick.ensures.entries in
-    kept_either c.with_tick.result m core.journal.items next core.table.items core.opened core.application
+    let all = kept_either c.with_tick.result m core.journal.items next core.table.items core.opened core.application
     core.answers.items c.with_tick.new.answers.items core.journal.capacity
     c.with_tick.new.journal.capacity (vec_capacity core.answers) (vec_capacity c.with_tick.new.answers)
     c.self.invariant.0 c.self.invariant.1 c.self.invariant.2 c.self.invariant.3 kept c.with_tick.ensures.within
     c.with_tick.ensures.room c.with_tick.ensures.answer_room c.with_tick.ensures.err c.with_tick.ensures.capacity
-    c.with_tick.ensures.capacity_of_answers c.with_tick.ensures.answers
+    c.with_tick.ensures.capacity_of_answers c.with_tick.ensures.answers in
+    let more = tick_entries m past c.args.lane c.args.moment in
+    let same = on_ok c.with_tick.result _ _ (λ made. fail_calm m core.journal.items next more made
+    (tick_calm (session_of m past) past more c.args.lane c.args.moment refl)) c.with_tick.ensures.entries in (
+      all.0,
+      all.1,
+      all.2,
+      all.3,
+      fail_either c.with_tick.result m core.journal.items next core.start_fail
+          c.self.invariant.4 same c.with_tick.ensures.err,
+    )
 
 pub returns-clause-ok : goal.returns-clause-ok
 returns-clause-ok g c =
