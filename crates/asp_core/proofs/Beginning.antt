@@ -1,23 +1,24 @@
 -- What a Begin leaves of a right journal.
 use Rattle.std.proofs.Common.{◌≡◌, ℕ, ◌+◌, ◌<◌, ◌≤◌, ◌==◌, ◌&&◌, ◌^◌, Bool, true, false, not}
-use Rattle.std.proofs.Common.{if◌then◌else◌, List, [], ◌∷◌, ◌++◌, length, reverse, Option}
+use Rattle.std.proofs.Common.{◌↔◌, ◌*◌, if◌then◌else◌, List, [], ◌∷◌, ◌++◌, length, reverse, Option}
 use Rattle.std.proofs.Common.{Result, Ok, Err, IfOk, OnOk, OnErr, refl, ap, sym, ◌∙◌, subst, arith}
 use Rattle.std.proofs.Common.{inl, inr}
-use Rattle.std.proofs.lemmas.Bool.{cases_lt}
-use Rattle.asp_core.specs.Kernel.{HasAnswerRoom, HasRoom, IsBeginTooMuch, IsKept, IsRunOf, IsTooMuch}
-use Rattle.asp_core.specs.Kernel.{IsWithin, NextFits, RunView, StandsAt, halts_to_come, rules_by, session_at, to_come}
+use Rattle.asp_core.specs.Calm.{HasLoad, IsOver}
+use Rattle.asp_core.specs.Kernel.{HasAnswerRoom, HasRoom, IsBeginTooMuch, IsKept, IsRunOf}
+use Rattle.asp_core.specs.Kernel.{IsWithin, NextFits, RunView, StandsAt, rules_by, session_at}
 use Rattle.asp_core.specs.Opening.{CanBegin, CanOpen, HasBegun, HasOpened, IsIdleWith, IsNumberOf}
-use Rattle.asp_core.specs.Opening.{count_after}
+use Rattle.asp_core.specs.Opening.{IsNext, IsNextOver, IsNextWith, count_after}
 use Rattle.asp_core.specs.Ready.{bodies_with_one}
 use Rattle.asp_core.specs.Stops.{begin_stop}
 use Rattle.asp_core.specs.declared.opening.SessionNumber.{SessionNumber}
 use Rattle.asp_core.specs.declared.ready.TheConstants.{MOST_BODIES}
+use Rattle.asp_core.specs.declared.stop.BeginStop.{BeginStop}
 use Rattle.asp_core.specs.declared.stop.BeginStop.TheVariants as stops
 use Rattle.asp_core.specs.declared.stop.EventStop.{EventStop}
 use Rattle.asp_core.specs.declared.stop.EventStop.TheVariants as event
 use Rattle.asp_job.specs.Application.{AppState}
 use Rattle.asp_job.specs.History.{entries_in, load, with_lane}
-use Rattle.asp_job.specs.Journal.{begin_entry}
+use Rattle.asp_job.specs.Journal.{AreRight, begin_entry}
 use Rattle.asp_job.specs.Keys.{given, opened, opens, session_of}
 use Rattle.asp_job.specs.Keys.{told}
 use Rattle.asp_job.specs.Rules.{Rules}
@@ -25,19 +26,20 @@ use Rattle.asp_job.specs.Running.{is_page}
 use Rattle.asp_job.specs.Runs.{draw_of, drawn, is_halted, key_of}
 use Rattle.asp_job.specs.Runs.{unfinished}
 use Rattle.asp_job.specs.Told.{Meaning, Told}
-use Rattle.asp_job.specs.Turns.{IsNextRun, IsRunning}
+use Rattle.asp_job.specs.Turns.{IsNextRun, IsRunning, serial_of}
 use Rattle.asp_job.specs.declared.answer.Answer.{Answer}
 use Rattle.asp_job.specs.declared.entry.Entry.{Entry}
 use Rattle.asp_job.specs.declared.entry.TheConstants.{MOST_ENTRIES, MOST_UNFINISHED}
 use Rattle.asp_job.specs.declared.entry.What.{What}
 use Rattle.asp_job.specs.declared.entry.What.TheVariants.{Admit, App, Begin, End, Halt, Queue, Refuse, Stop, Take, Tick}
 use Rattle.asp_job.specs.declared.session.SessionState.{SessionState}
+use Rattle.asp_core.proofs.Begun.{begin_answers, begin_much, begin_room, begin_within}
 use Rattle.asp_core.proofs.Bounds.{drawn_small}
 use Rattle.asp_core.proofs.Jobs.{fresh_key, small_job}
 use Rattle.asp_core.proofs.Kept.{may_follow}
 use Rattle.asp_core.proofs.Least.{AreNumbered, are_numbered}
 use Rattle.asp_core.proofs.Others.{own_number}
-use Rattle.asp_core.proofs.Past.{length_past, past_push}
+use Rattle.asp_core.proofs.Past.{past_push}
 use Rattle.asp_core.proofs.Same.{view_of}
 use Rattle.asp_core.proofs.Opened.{valid_at, session_valid, serial_right, number_right, told_right}
 
@@ -78,48 +80,36 @@ can_count m past table count answers capacity can =
     let few : load past ≤ MOST_ENTRIES = can.within.few in
     omega arith
 
-pub can_draw : (m : Rules) (past : List Entry) (table : List (Option SessionState)) (count : ℕ)
-    (answers : List (ℕ × Answer)) (capacity run : ℕ) → CanBegin m past table count answers capacity →
-    run ≤ drawn past → run < 2 ^ 32
-can_draw m past table count answers capacity run can low =
-    let small = drawn_small past in
+pub can_add : (m : Rules) (past : List Entry) (table : List (Option SessionState)) (count : ℕ)
+    (answers : List (ℕ × Answer)) (capacity : ℕ) → CanBegin m past table count answers capacity →
+    entries_in past ≤ MOST_ENTRIES
+can_add m past table count answers capacity can =
     let few : load past ≤ MOST_ENTRIES = can.within.few in
     omega arith
 
-one_to_come : (halted : Bool) → halted ≡ false → 1 ≤ (if halted then 0 else 1)
-one_to_come true e = absurd cc
-one_to_come false e = omega arith
-
--- while no Halt stands there is room for one
-pub can_push : (m : Rules) (journal : List Entry) (table : List (Option SessionState)) (count : ℕ)
-    (answers : List (ℕ × Answer)) (capacity : ℕ) → CanBegin m (reverse journal) table count answers capacity →
-    is_halted (reverse journal) ≡ false → length journal < capacity
-can_push m journal table count answers capacity can going =
-    let same = length_past journal in
-    let one : 1 ≤ halts_to_come (reverse journal) = one_to_come (is_halted (reverse journal)) going in
-    let room : length (reverse journal) + to_come (reverse journal) (length answers) ≤ capacity = can.room in
-    omega arith
+-- a run that was drawn has a small number
+pub few_drawn : (past : List Entry) (run : ℕ) → entries_in past ≤ MOST_ENTRIES → run ≤ drawn past → run < 2 ^ 32
+few_drawn past run few low = let small = drawn_small past in omega arith
 
 -- ---- the run that is begun
 
 -- what the runner needs is there
-pub can_open : (m : Rules) (past then_past : List Entry) (table : List (Option SessionState)) (count : ℕ)
-    (answers : List (ℕ × Answer)) (capacity lane run serial : ℕ) (number : SessionNumber) →
+pub can_open : (m : Rules) (past : List Entry) (table : List (Option SessionState)) (count : ℕ)
+    (answers : List (ℕ × Answer)) (capacity run : ℕ) (number : SessionNumber) →
     CanBegin m past table count answers capacity →
     IsNumberOf (draw_of past run) (session_at table (key_of past run)) count number →
-    then_past ≡ with_lane lane (Begin run serial) ∷ past →
-    CanOpen (draw_of then_past run) (session_at table (key_of then_past run)) number
-can_open m past then_past table count answers capacity lane run serial number can is of =
+    CanOpen (draw_of past run) (session_at table (key_of past run)) number
+can_open m past table count answers capacity run number can is =
     let draw = draw_of past run in
     let s = session_at table (key_of past run) in
     let serial_is = is.serial_is ∙ serial_right count draw s in
     let valid = session_valid (is_page draw.job.work && not (draw.key == 0)) s count
     (valid_at table (key_of past run) can.kept.valid) (can_count m past table count answers capacity can) in
-    rw of (record {
+    record {
       fresh = fresh_key m past can.kept.account.entries run;
       small = small_job m past can.kept.account.entries can.kept.small run;
       valid = rw (is.new_is, serial_is) valid;
-    })
+    }
 
 -- ---- which run is next
 
@@ -133,15 +123,29 @@ not_idle past answers run next few going light (inl (inr (inr none))) =
     let begins = next.begins in let may = none run in cc
 not_idle past answers run next few going light (inr heavy) = omega arith
 
--- only one run is next
-one_next : (past : List Entry) (run other : ℕ) → IsNextRun past run → IsNextRun past other → other ≡ run
-one_next past run other next then_next = elim (cases_lt run other) [
-  | inl less ↦ absurd (let begins = next.begins in let may = then_next.least run less in cc)
-  | inr most ↦ elim (cases_lt other run) [
-    | inl less ↦ absurd (let begins = then_next.begins in let may = next.least other less in cc)
-    | inr least ↦ omega arith
-  ]
-]
+-- a run is next, and it does not fit
+pub refused_busy : (past : List Entry) (answers : List (ℕ × Answer)) (run : ℕ) (why : EventStop) (stop : BeginStop) →
+    IsNextRun past run → length (unfinished past) < MOST_UNFINISHED → is_halted past ≡ false →
+    bodies_with_one answers past ≤ MOST_BODIES → stop ≡ begin_stop why →
+    stop ≡ stops.Idle ↔ IsIdleWith answers past
+refused_busy past answers run (event.JournalFull entries weight) stop next few going light e =
+    (λ idle. absurd cc, λ idle. absurd (not_idle past answers run next few going light idle))
+refused_busy past answers run event.Memory stop next few going light e =
+    (λ idle. absurd cc, λ idle. absurd (not_idle past answers run next few going light idle))
+
+-- why it does not
+pub full_over : (past : List Entry) (run entries weight : ℕ) (why : EventStop) (stop : BeginStop) →
+    IsNextRun past run → length (unfinished past) < MOST_UNFINISHED → is_halted past ≡ false →
+    ((total most : ℕ) → why ≡ event.JournalFull total most → IsOver past 2 128 total most) →
+    stop ≡ begin_stop why → stop ≡ stops.JournalFull entries weight → IsNextOver past entries weight
+full_over past run entries weight (event.JournalFull total most) stop next few going over e full =
+    let same : event.JournalFull total most ≡ event.JournalFull entries weight = cc in
+    record {
+      run = run;
+      next = record { first = next; few = few; going = going };
+      over = over entries weight same;
+    }
+full_over past run entries weight event.Memory stop next few going over e full = absurd cc
 
 -- ---- the Begin
 
@@ -179,42 +183,42 @@ pub has_begun : {State : Type 0} → (m : Meaning) (seed : List ℕ) (stands : S
     (journal mid : List Entry) (table : List (Option SessionState)) (count then_count : ℕ)
     (answers : List (ℕ × Answer)) (run : RunView State) (next : ℕ) (number : SessionNumber)
     (old capacity capacity_of : ℕ) → let rules = rules_by m seed in let past = reverse journal in
-    CanBegin rules past table count answers old → IsNextRun past next →
-    length (unfinished past) < MOST_UNFINISHED → is_halted past ≡ false → bodies_with_one answers past ≤ MOST_BODIES →
-    IsNumberOf (draw_of past next) (session_at table (key_of past next)) count number →
+    CanBegin rules past table count answers old → IsNextWith past table count answers next number →
     mid ≡ journal ++ with_lane lane (Begin next number.serial) ∷ [] →
-    IsWithin (reverse mid) → HasRoom (reverse mid) (length answers + 1) capacity →
-    HasAnswerRoom (reverse mid) (length answers + 1) capacity_of →
+    length journal + 2 + 2 * length (unfinished past) + length answers + 3 ≤ capacity →
+    length answers + 2 + length (unfinished past) ≤ capacity_of →
     then_count ≡ (if number.is_new then count + 1 else count) →
-    HasOpened stands seed (draw_of (reverse mid) next) (session_at table (key_of (reverse mid) next)) number next run →
+    HasOpened stands seed (draw_of past next) (session_at table (key_of past next)) number next run →
     HasBegun rules stands lane journal count answers mid then_count capacity capacity_of run
 has_begun m seed stands lane journal mid table count then_count answers run next number old capacity capacity_of can
-    is_next few going light is made within room room_of counted told =
+    is made room room_of counted opened_so =
     let rules = rules_by m seed in
     let past = reverse journal in
     let entry = with_lane lane (Begin next number.serial) in
+    let right : AreRight rules past = can.kept.account.entries in
+    let may = is.next.first.begins in
     let of : reverse mid ≡ entry ∷ past = ap reverse made ∙ past_push journal entry in
-    let is_right = number_right rules past table count next number can.kept.sessions can.kept.opened_is is in
-    let same = told_right m seed past table count lane next number can.kept.account.entries is_next.begins
-    can.kept.sessions can.kept.opened_is is in
-    let after : HasOpened stands seed (draw_of past next) (session_at table (key_of past next)) number next run =
-    subst (λ p. HasOpened stands seed (draw_of p next) (session_at table (key_of p next)) number next run) of told in
-    let has : HasRoom (reverse mid) (length answers) capacity = omega arith in
-    let has_of : HasAnswerRoom (reverse mid) (length answers) capacity_of = omega arith in
-    rw after.number_is (record {
-      is_next = is_next;
-      few = few;
-      going = going;
-      light = light;
+    let is_right = number_right rules past table count next number can.kept.sessions can.kept.opened_is is.number_is in
+    let same = told_right m seed past table count lane next number right may can.kept.sessions can.kept.opened_is
+    is.number_is in
+    let has_more = begin_room rules journal lane next number.serial (length answers) capacity right may room in
+    let has : HasRoom (entry ∷ past) (length answers) capacity = omega arith in
+    let has_more_of = begin_answers rules past lane next number.serial (length answers) capacity_of right may room_of in
+    let has_of : HasAnswerRoom (entry ∷ past) (length answers) capacity_of = omega arith in
+    rw opened_so.number_is (record {
+      is_next = is.next.first;
+      few = is.next.few;
+      going = is.next.going;
+      light = is.light;
       journal_is = made ∙ ap (λ s. journal ++ with_lane lane (Begin next s) ∷ []) is_right.0;
       count_is = counted ∙ ap (λ b. if b then count + 1 else count) is_right.1;
-      within = within;
-      room = has;
-      answer_room = has_of;
-      progress_is = after.progress_is;
-      told_is = subst (λ t. stands run.state t 0) same after.told_is;
-      stand_ins_are = after.stand_ins_are;
-      turns_is = after.turns_is;
+      within = subst IsWithin (sym of) (begin_within rules past lane next number.serial right may is.load);
+      room = subst (λ p. HasRoom p (length answers) capacity) (sym of) has;
+      answer_room = subst (λ p. HasAnswerRoom p (length answers) capacity_of) (sym of) has_of;
+      progress_is = opened_so.progress_is;
+      told_is = subst (λ t. stands run.state t 0) same opened_so.told_is;
+      stand_ins_are = opened_so.stand_ins_are;
+      turns_is = opened_so.turns_is;
     })
 
 -- what is kept then
@@ -276,27 +280,22 @@ begun_run meaning stands runner site seed lane journal next count then_count ans
 -- ---- a Begin that does not fit, and one that does
 
 pub begin_too_much : (m : Rules) (past : List Entry) (table : List (Option SessionState)) (count : ℕ)
-    (answers : List (ℕ × Answer)) (capacity lane run entries weight : ℕ) (number : SessionNumber) →
-    CanBegin m past table count answers capacity → IsNextRun past run → length (unfinished past) < MOST_UNFINISHED →
-    is_halted past ≡ false → IsNumberOf (draw_of past run) (session_at table (key_of past run)) count number →
-    IsTooMuch (with_lane lane (Begin run number.serial) ∷ past) entries weight →
+    (answers : List (ℕ × Answer)) (capacity lane entries weight : ℕ) →
+    CanBegin m past table count answers capacity → IsNextOver past entries weight →
     IsBeginTooMuch m past lane entries weight
-begin_too_much m past table count answers capacity lane run entries weight number can next few going is much =
-    let is_right = number_right m past table count run number can.kept.sessions can.kept.opened_is is in (
-      run,
-      record { next = next; few = few; going = going; session = refl },
-      subst (λ s. IsTooMuch (with_lane lane (Begin run s) ∷ past) entries weight) is_right.0 much,
+begin_too_much m past table count answers capacity lane entries weight can is =
+    let next = is.next in (
+      is.run,
+      record { next = next.first; few = next.few; going = next.going; session = refl },
+      begin_much m past lane is.run (serial_of m past is.run) entries weight can.kept.account.entries
+          next.first.begins is.over,
     )
 
 pub begin_fits : (m : Rules) (past : List Entry) (table : List (Option SessionState)) (count : ℕ)
-    (answers : List (ℕ × Answer)) (capacity lane run : ℕ) (number : SessionNumber) →
-    CanBegin m past table count answers capacity → IsNextRun past run →
-    IsNumberOf (draw_of past run) (session_at table (key_of past run)) count number →
-    IsWithin (with_lane lane (Begin run number.serial) ∷ past) → NextFits m past lane
-begin_fits m past table count answers capacity lane run number can next is within other then_next =
-    let is_right = number_right m past table count run number can.kept.sessions can.kept.opened_is is in
-    let one = one_next past run other next then_next in
-    rw one (subst (λ s. IsWithin (with_lane lane (Begin run s) ∷ past)) is_right.0 within)
+    (answers : List (ℕ × Answer)) (capacity lane : ℕ) → CanBegin m past table count answers capacity →
+    HasLoad past 2 128 → NextFits m past lane
+begin_fits m past table count answers capacity lane can load run next =
+    begin_within m past lane run (serial_of m past run) can.kept.account.entries next.begins load
 
 -- a fact of a result that was given becomes one that does not name it
 pub on_each_ok : {T E : Type 0} → (result : Result T E) (P : T → Type 0) (Q : Type 0) → ((x : T) → P x → Q) →
@@ -305,9 +304,10 @@ on_each_ok (Ok given) P Q f p = f given p
 on_each_ok (Err stop) P Q f p = tt
 
 -- a run that did not begin for want of memory was refused so
-pub memory_back : (stop : EventStop) → begin_stop stop ≡ stops.Memory → stop ≡ event.Memory
-memory_back (event.JournalFull entries weight) e = absurd cc
-memory_back event.Memory e = refl
+pub memory_back : (why : EventStop) (stop : BeginStop) → stop ≡ begin_stop why → stop ≡ stops.Memory →
+    why ≡ event.Memory
+memory_back (event.JournalFull entries weight) stop e out = absurd cc
+memory_back event.Memory stop e out = refl
 
 -- the rules of the runner and the site that a core was given
 pub rules_same : {R Site : Type 0} → (meaning : R → Site → Meaning) (runner then_runner : R) (site then_site : Site)

@@ -19,7 +19,8 @@ use Rattle.asp_core.specs.declared.opening.Opening.{Opening}
 use Rattle.asp_core.specs.declared.opening.SessionNumber.{SessionNumber}
 use Rattle.asp_core.specs.declared.ready.TheConstants.{MOST_BODIES}
 use Rattle.asp_core.specs.declared.run.Progress.TheVariants as progress
-use Rattle.asp_core.specs.Kernel.{RunView, IsKept, IsWithin, HasRoom, HasAnswerRoom, NoneIsNext}
+use Rattle.asp_core.specs.Calm.{HasLoad, IsOver}
+use Rattle.asp_core.specs.Kernel.{RunView, IsKept, IsWithin, HasRoom, HasAnswerRoom, NoneIsNext, session_at}
 use Rattle.asp_core.specs.Ready.{bodies_with_one}
 use Rattle.asp_core.specs.Standing.{stand_ins}
 
@@ -79,6 +80,26 @@ pub record CanBegin (rules : Rules) (past : List Entry) (table : List (Option Se
   pub kept : IsKept rules past table count held answers
   pub within : IsWithin past
   pub room : HasRoom past (length answers) capacity
+
+-- the run is next, few are unfinished and no Halt stands
+pub record IsNext (past : List Entry) (run : ℕ) : Type 0 where
+  pub first : IsNextRun past run
+  pub few : length (unfinished past) < MOST_UNFINISHED
+  pub going : is_halted past ≡ false
+
+-- the Begin and the body of the run that is next fit, and that is the number of its session
+pub record IsNextWith (past : List Entry) (table : List (Option SessionState)) (count : ℕ)
+    (answers : List (ℕ × Answer)) (run : ℕ) (number : SessionNumber) : Type 0 where
+  pub next : IsNext past run
+  pub number_is : IsNumberOf (draw_of past run) (session_at table (key_of past run)) count number
+  pub light : bodies_with_one answers past ≤ MOST_BODIES
+  pub load : HasLoad past 2 128
+
+-- there would be so many entries of that weight with the Begin of the run that is next, too many or too heavy
+pub record IsNextOver (past : List Entry) (entries weight : ℕ) : Type 0 where
+  pub run : ℕ
+  pub next : IsNext past run
+  pub over : IsOver past 2 128 entries weight
 
 -- how many sessions were opened after the Begin of a run
 abbrev pub count_after : Rules → List Entry → ℕ → ℕ → ℕ

@@ -1,13 +1,16 @@
 //! The call of the core that begins a run.
 #![tactic(auto)]
 
-ghost use Rattle.std.specs.Prelude.{◌≡◌, ◌≤◌, ◌<◌, ◌+◌, ◌++◌, ◌∷◌, ◌↔◌, [], ℕ, reverse, length, true, false};
+ghost use Rattle.std.specs.Prelude.{◌≡◌, ◌≤◌, ◌<◌, ◌+◌, ◌*◌, ◌^◌, ◌++◌, ◌∷◌, ◌↔◌, [], ℕ, reverse, length, true, false};
+ghost use Rattle.std.specs.Prelude.{if◌then◌else◌};
 ghost use Rattle.std.specs.Prelude.{OnOk, OnErr, IfOk, IfErr, IfNone, IfSome, OnSome, Err, vec_capacity, vec_len};
 ghost use Rattle.asp_job.specs.History as history;
 ghost use Rattle.asp_job.specs.Journal as journals;
 ghost use Rattle.asp_job.specs.Runs as runs;
 ghost use Rattle.asp_job.specs.Turns as turns;
-ghost use Rattle.asp_job.specs.declared.entry.TheConstants.{MOST_UNFINISHED};
+ghost use Rattle.asp_job.specs.declared.entry.TheConstants.{MOST_ENTRIES, MOST_UNFINISHED};
+ghost use Rattle.asp_journal.specs.Tables.{IsFit};
+ghost use Rattle.asp_core.specs.Calm.{HasLoad};
 ghost use Rattle.asp_core.specs.Kernel as kernel;
 ghost use Rattle.asp_core.specs.Opening as spec;
 ghost use Rattle.asp_core.specs.Ready as waits;
@@ -41,6 +44,66 @@ fn next_to_begin(journal: &Journal, answers: &[(u32, Answer)]) -> Option<u64>
         least_run(journal)
     } else {
         None
+    }
+}
+
+/// The run that is next and the number of its session, with room for its Begin. The entries stay.
+fn next_with_room(
+    journal: &mut Journal,
+    answers: &mut Vec<(u32, Answer)>,
+    table: &[Option<SessionState>],
+    opened: u32,
+) -> Result<(u32, SessionNumber), BeginStop>
+    requires numbered { (run : ℕ) → turns.may_begin (reverse journal.old.items) run ≡ true →
+        (0 < run) × (run ≤ runs.drawn (reverse journal.old.items)) }
+    requires few { history.entries_in (reverse journal.old.items) ≤ MOST_ENTRIES }
+    requires count { opened + 1 < 2 ^ 31 }
+    ensures ok { IfOk result (λ next. spec.IsNextWith (reverse journal.old.items) table.now opened
+        answers.old.items next.0 next.1) }
+    ensures items { journal.new.items ≡ journal.old.items }
+    ensures answers { answers.new.items ≡ answers.old.items }
+    ensures capacity { journal.old.capacity ≤ journal.new.capacity }
+    ensures capacity_of_answers { vec_capacity answers.old ≤ vec_capacity answers.new }
+    ensures room { OnOk result (length journal.old.items + 2
+        + 2 * length (runs.unfinished (reverse journal.old.items)) + length answers.old.items + 3
+        ≤ journal.new.capacity) }
+    ensures answer_room { OnOk result (length answers.old.items + 2
+        + length (runs.unfinished (reverse journal.old.items)) ≤ vec_capacity answers.new) }
+    ensures idle { IfErr result (λ stop. stop ≡ BeginStop.Idle ↔
+        spec.IsIdleWith answers.old.items (reverse journal.old.items)) }
+    ensures full { (entries weight : ℕ) → result ≡ Err (BeginStop.JournalFull entries weight) →
+        spec.IsNextOver (reverse journal.old.items) entries weight }
+    ensures fits { result ≡ Err BeginStop.Memory → HasLoad (reverse journal.old.items) 2 128 }
+{
+    let Some(next) = next_to_begin(journal, answers.as_slice()) else {
+        return Err(BeginStop::Idle);
+    };
+    let number = session_number(journal, table, opened, next);
+    if let Err(stop) = room_for(journal, answers, 2, 128) {
+        return Err(begin_stop(stop));
+    }
+    Ok((next as u32, number))
+}
+
+/// Adds the Begin of a run, and counts the session that it opens.
+fn add_begin(journal: &mut Journal, opened: &mut u32, lane: u32, run: u32, number: SessionNumber)
+    requires fit { IsFit (reverse journal.old.items) (What.Begin run number.serial) }
+    requires room { length journal.old.items < journal.old.capacity }
+    requires count { opened.old + 1 < 2 ^ 31 }
+    ensures items { journal.new.items ≡ journal.old.items
+        ++ history.with_lane lane (What.Begin run number.serial) ∷ [] }
+    ensures capacity { journal.new.capacity ≡ journal.old.capacity }
+    ensures count { opened.new ≡ (if number.is_new then opened.old + 1 else opened.old) }
+{
+    journal.push_reserved(Entry {
+        lane,
+        what: What::Begin {
+            run,
+            serial: number.serial,
+        },
+    });
+    if number.is_new {
+        *opened += 1;
     }
 }
 
@@ -113,14 +176,10 @@ fn begin_run<R: Runner>(
         kernel.NextFits (kernel.rules_by (R.meaning runner.now site.now) seed.now)
         (reverse journal.old.items) lane) }
 {
-    let Some(next) = next_to_begin(journal, answers.as_slice()) else {
-        return Err((store, BeginStop::Idle));
+    let (run, number) = match next_with_room(journal, answers, table, *opened) {
+        Ok(next) => next,
+        Err(stop) => return Err((store, stop)),
     };
-    let run = next as u32;
-    let number = session_number(journal, table, *opened, next);
-    if let Err(stop) = room_for(journal, answers, 2, 128) {
-        return Err((store, begin_stop(stop)));
-    }
     match start_run(
         runner,
         site,
@@ -133,16 +192,7 @@ fn begin_run<R: Runner>(
         store,
     ) {
         Ok(begun) => {
-            journal.push_reserved(Entry {
-                lane,
-                what: What::Begin {
-                    run,
-                    serial: number.serial,
-                },
-            });
-            if number.is_new {
-                *opened += 1;
-            }
+            add_begin(journal, opened, lane, run, number);
             Ok(begun)
         }
         Err(store) => Err((store, BeginStop::Memory)),
