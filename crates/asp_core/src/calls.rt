@@ -40,7 +40,8 @@ fn room_for_call(
     ensures full { (entries weight : ℕ) → result ≡ Err (EventStop.JournalFull entries weight) → kernel.IsTooMuch
         (history.with_lane lane (What.App run call.now reply.now) ∷ reverse journal.old.items) entries weight }
 {
-    let entries = journal.load() + 1;
+    let open = journal.unfinished();
+    let entries = journal.entries_in() + open + 1;
     let weight = journal
         .weight_load()
         .saturating_add(call_weight(call))
@@ -49,8 +50,8 @@ fn room_for_call(
     if entries > MOST_ENTRIES || weight > MOST_WEIGHT {
         return Err(EventStop::JournalFull { entries, weight });
     }
-    let open = journal.unfinished() as usize;
-    if journal.reserve(2 * open + 3 + answers.len()).is_err() {
+    let more = 2 * open as usize + 3 + answers.len();
+    if journal.reserve(more).is_err() {
         return Err(EventStop::Memory);
     }
     Ok(())

@@ -90,9 +90,11 @@ returns-in-Err-start_run-clause-err g c = (c.next_with_room.ensures.items, refl)
 
 pub returns-in-Err-start_run-clause-idle : goal.returns-in-Err-start_run-clause-idle
 returns-in-Err-start_run-clause-idle g c =
-    let is = c.in-Ok.ensures.ok in
-    (λ e. absurd cc, λ idle. absurd (not_idle (reverse c.args.journal.now.items) c.args.answers.now.items
-    c.in-Ok.next.0 is.next.first is.next.few is.next.going is.light idle))
+    let is = c.in-Ok.ensures.ok in (
+      λ e. absurd cc,
+      λ idle. absurd (not_idle (reverse c.args.journal.now.items) c.args.answers.now.items
+          c.in-Ok.next.0 is.next.first is.next.few is.next.going is.light idle),
+    )
 
 pub returns-in-Err-start_run-clause-full : goal.returns-in-Err-start_run-clause-full
 returns-in-Err-start_run-clause-full g c entries weight = λ e. absurd cc
