@@ -35,6 +35,11 @@ pub on_ok : {T E : Type 0} → (result : Result T E) (P Q : Type 0) → (P → Q
 on_ok (Ok done) P Q f p = f p
 on_ok (Err stop) P Q f p = tt
 
+-- a fact of a refusal becomes another
+pub on_err : {T E : Type 0} → (result : Result T E) (P Q : Type 0) → (P → Q) → OnErr result P → OnErr result Q
+on_err (Ok done) P Q f p = tt
+on_err (Err stop) P Q f p = f p
+
 -- what is seen of a core
 abbrev pub view_of : {R Site : Type 0} → R → Site → List ℕ → List Entry → CoreView R Site
 view_of runner site seed journal = record { journal = journal; runner = runner; site = site; seed = seed }

@@ -3,12 +3,15 @@ use Rattle.std.proofs.Common.{Err}
 use Rattle.asp_core.specs.declared.stop.AdmitStop.TheVariants as admit
 use Rattle.std.proofs.lemmas.Grind.{common_steps}
 use Rattle.asp_core.specs.Drawing.{entry_then, told_of}
-use Rattle.asp_core.specs.Kernel.{CoreView, IsTooMuch, rules_of, past_of, grown}
+use Rattle.asp_core.specs.Kernel.{CoreView, IsTooMuch, rules_by, rules_of, past_of, grown}
 use Rattle.asp_core.specs.Taking.{refused_before}
 use Rattle.asp_job.specs.Journal.{admit_entries, past_after}
 use Rattle.asp_core.proofs.Admitting.{kept_taken}
 use Rattle.asp_core.proofs.Refusing.{full_back, none_before}
-use Rattle.asp_core.proofs.Same.{view_of}
+use Rattle.asp_job.specs.Keys.{session_of}
+use Rattle.asp_core.proofs.Failing.{fail_calm, fail_either}
+use Rattle.asp_core.proofs.Fits.{job_calm}
+use Rattle.asp_core.proofs.Same.{on_err, on_ok, view_of}
 use Rattle.asp_core.proofs.kernel.Core.admit.Goals as goal
 
 pub invariant_of-self : goal.invariant_of-self
@@ -22,13 +25,21 @@ invariant_of-self g c =
     let none : refused_before past ≡ None = grind (arith, common_steps) in
     let free = none_before past none in
     let ok = rw (runner, site) at c.take_job-made.ensures.ok in
-    kept_taken c.take_job-made.result m core.seed core.journal.items c.take_job-made.new.journal.items core.table.items
+    let all = kept_taken c.take_job-made.result m core.seed core.journal.items c.take_job-made.new.journal.items core.table.items
     c.take_job-made.new.table.items core.opened core.application core.answers.items
     c.take_job-made.new.answers.items c.args.lane c.args.job.now
     core.journal.capacity c.take_job-made.new.journal.capacity (vec_capacity core.answers)
     (vec_capacity c.take_job-made.new.answers)
     c.self.invariant.0 c.self.invariant.1 c.self.invariant.2 c.self.invariant.3 free.0 c.requires.page c.requires.small
-    free.1 ok c.take_job-made.ensures.err c.take_job-made.ensures.capacity
+    free.1 ok c.take_job-made.ensures.err c.take_job-made.ensures.capacity in
+    let rules = rules_by m core.seed in
+    let next = c.take_job-made.new.journal.items in
+    let more = admit_entries rules past c.args.lane c.args.job.now in
+    let same = on_ok c.take_job-made.result _ _ (λ taken. fail_calm rules core.journal.items next more taken.journal_is
+    (job_calm rules (session_of rules past) past c.args.lane c.args.job.now)) ok in
+    let still = on_err c.take_job-made.result _ _ (λ both. both.0) c.take_job-made.ensures.err in
+    (all.0, all.1, all.2, all.3, fail_either c.take_job-made.result rules core.journal.items next core.start_fail
+    c.self.invariant.4 same still)
 
 pub returns-clause-ok : goal.returns-clause-ok
 returns-clause-ok g c =

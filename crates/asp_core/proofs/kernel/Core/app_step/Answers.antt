@@ -1,13 +1,16 @@
-use Rattle.std.proofs.Common.{◌≡◌, ◌↔◌, length, Some, None, Err, OnOk, ap, sym, subst, ◌∙◌}
+use Rattle.std.proofs.Common.{◌≡◌, ◌↔◌, length, Some, None, Err, OnOk, ap, refl, sym, subst, ◌∙◌}
 use Rattle.std.proofs.Common.{vec_capacity}
-use Rattle.asp_job.specs.Application.{AppState}
+use Rattle.asp_job.specs.Application.{AppState, apply}
+use Rattle.asp_job.specs.History.{with_lane}
+use Rattle.asp_job.specs.declared.entry.What.TheVariants.{App}
 use Rattle.asp_job.specs.Journal.{past_after}
 use Rattle.asp_core.specs.Calling.{blocker_by}
 use Rattle.asp_core.specs.Kernel.{CoreView, HasNotFitFor, IsRunOf, IsTooMuch, blocker, called, grown, past_of, rules_by}
 use Rattle.asp_core.specs.declared.stop.AppStepStop.TheVariants as step
 use Rattle.asp_core.proofs.Called.{core_called, free_called, full_called, run_of_called}
 use Rattle.asp_core.proofs.Calling.{kept_either_called, run_wants}
-use Rattle.asp_core.proofs.Same.{on_ok, view_of}
+use Rattle.asp_core.proofs.Failing.{fail_either, fail_push}
+use Rattle.asp_core.proofs.Same.{on_err, on_ok, view_of}
 use Rattle.asp_core.proofs.kernel.Core.app_step.Goals as goal
 
 pub invariant_of-self : goal.invariant_of-self
@@ -21,12 +24,18 @@ invariant_of-self g c =
     subst (λ (v : CoreView g.row.R.Denot g.row.R-Site.Denot).
     IsRunOf g.R.Runner.meaning g.R.Runner.stands v c.args.lane run) (sym c.self.view_is) c.requires.run in
     let ok = rw (runner, c.as_slice.ensures.value) at c.make_call.ensures.ok in
-    kept_either_called c.make_call.result m (g.R.Runner.stands core.runner.value) c.args.lane core.journal.items
+    let all = kept_either_called c.make_call.result m (g.R.Runner.stands core.runner.value) c.args.lane core.journal.items
     c.make_call.new.journal.items core.table.items core.opened core.application c.make_call.new.application
     core.answers.items run c.make_call.new.run core.journal.capacity c.make_call.new.journal.capacity
     (vec_capacity core.answers) c.self.invariant.0 c.self.invariant.1 c.self.invariant.2 c.self.invariant.3
     is.running (λ call wants. run_wants g.R.Runner.meaning g.R.Runner.stands view c.args.lane run call is wants)
-    ok c.make_call.ensures.err c.make_call.ensures.capacity
+    ok c.make_call.ensures.err c.make_call.ensures.capacity in
+    let same = on_ok c.make_call.result _ _ (λ has. fail_push m core.journal.items c.make_call.new.journal.items
+    (with_lane c.args.lane (App run.number has.call (apply core.application run.number has.call).1)) has.journal_is
+    refl) ok in
+    let still = on_err c.make_call.result _ _ (λ all. all.0) c.make_call.ensures.err in
+    (all.0, all.1, all.2, all.3, fail_either c.make_call.result m core.journal.items c.make_call.new.journal.items
+    core.start_fail c.self.invariant.4 same still)
 
 pub returns-clause-ok : goal.returns-clause-ok
 returns-clause-ok g c =

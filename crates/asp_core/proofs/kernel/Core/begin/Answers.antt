@@ -11,7 +11,8 @@ use Rattle.asp_job.specs.Rules.{Rules}
 use Rattle.asp_job.specs.Turns.{IsBegin, serial_of}
 use Rattle.asp_job.specs.declared.answer.Answer.{Answer}
 use Rattle.asp_core.proofs.Beginning.{begun_run, kept_either_begun, on_each_ok, rules_same}
-use Rattle.asp_core.proofs.Same.{on_each, view_of}
+use Rattle.asp_core.proofs.Failing.{fail_either, fail_push}
+use Rattle.asp_core.proofs.Same.{on_each, on_err, view_of}
 use Rattle.asp_core.proofs.kernel.Core.begin.Goals as goal
 
 pub begin_run-requires : goal.begin_run-requires
@@ -37,14 +38,20 @@ invariant_of-self g c =
     let site : c.args.site.now ≡ core.site.value =
     c.requires.host.site_is ∙ sym (ap (λ v. v.site) c.self.view_is) in
     let ok = rw (runner, site) at c.begin_run.ensures.ok in
-    kept_either_begun c.begin_run.result m (g.R.Runner.stands core.runner.value core.site.value) c.args.lane
+    let all = kept_either_begun c.begin_run.result m (g.R.Runner.stands core.runner.value core.site.value) c.args.lane
     core.journal.items c.begin_run.new.journal.items core.table.items core.opened c.begin_run.new.opened
     core.application core.answers.items c.begin_run.new.answers.items
     core.journal.capacity c.begin_run.new.journal.capacity
     (vec_capacity core.answers) (vec_capacity c.begin_run.new.answers)
     c.self.invariant.0 c.self.invariant.1 c.self.invariant.2 c.self.invariant.3
     ok c.begin_run.ensures.err c.begin_run.ensures.capacity c.begin_run.ensures.capacity_of_answers
-    c.begin_run.ensures.answers
+    c.begin_run.ensures.answers in
+    let same = on_each_ok c.begin_run.result _ _ (λ run has. fail_push m core.journal.items
+    c.begin_run.new.journal.items (begin_entry m (reverse core.journal.items) c.args.lane run.number) has.journal_is
+    refl) ok in
+    let still = on_err c.begin_run.result _ _ (λ both. both.0) c.begin_run.ensures.err in
+    (all.0, all.1, all.2, all.3, fail_either c.begin_run.result m core.journal.items c.begin_run.new.journal.items
+    core.start_fail c.self.invariant.4 same still)
 
 pub returns-clause-next : goal.returns-clause-next
 returns-clause-next g c =
