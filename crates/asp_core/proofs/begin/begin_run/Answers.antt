@@ -1,4 +1,4 @@
-use Rattle.std.proofs.Common.{◌≡◌, reverse, length, Err, ap, arith, refl, vec_capacity}
+use Rattle.std.proofs.Common.{reverse, length, Err, ap, arith, refl, vec_capacity}
 use Rattle.asp_core.specs.Kernel.{rules_by}
 use Rattle.asp_core.proofs.Beginning.{begin_fits, begin_too_much, can_add, can_count, can_number, can_open}
 use Rattle.asp_core.proofs.Beginning.{has_begun, not_idle}
@@ -90,9 +90,11 @@ returns-in-Err-start_run-clause-err g c = (c.next_with_room.ensures.items, refl)
 
 pub returns-in-Err-start_run-clause-idle : goal.returns-in-Err-start_run-clause-idle
 returns-in-Err-start_run-clause-idle g c =
-    let is = c.in-Ok.ensures.ok in
-    (λ e. absurd cc, λ idle. absurd (not_idle (reverse c.args.journal.now.items) c.args.answers.now.items
-    c.in-Ok.next.0 is.next.first is.next.few is.next.going is.light idle))
+    let is = c.in-Ok.ensures.ok in (
+      λ e. absurd cc,
+      λ idle. absurd (not_idle (reverse c.args.journal.now.items) c.args.answers.now.items
+          c.in-Ok.next.0 is.next.first is.next.few is.next.going is.light idle),
+    )
 
 pub returns-in-Err-start_run-clause-full : goal.returns-in-Err-start_run-clause-full
 returns-in-Err-start_run-clause-full g c entries weight = λ e. absurd cc
