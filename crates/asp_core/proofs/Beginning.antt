@@ -7,7 +7,7 @@ use Rattle.asp_core.specs.Calm.{HasLoad, IsOver}
 use Rattle.asp_core.specs.Kernel.{HasAnswerRoom, HasRoom, IsBeginTooMuch, IsKept, IsRunOf}
 use Rattle.asp_core.specs.Kernel.{IsWithin, NextFits, RunView, StandsAt, rules_by, session_at}
 use Rattle.asp_core.specs.Opening.{CanBegin, CanOpen, HasBegun, HasOpened, IsIdleWith, IsNumberOf}
-use Rattle.asp_core.specs.Opening.{IsNext, IsNextOver, IsNextWith, count_after}
+use Rattle.asp_core.specs.Opening.{IsNextOver, IsNextWith, count_after}
 use Rattle.asp_core.specs.Ready.{bodies_with_one}
 use Rattle.asp_core.specs.Stops.{begin_stop}
 use Rattle.asp_core.specs.declared.opening.SessionNumber.{SessionNumber}

@@ -2,10 +2,10 @@
 use Rattle.std.proofs.Common.{◌≡◌, ℕ, ◌+◌, ◌*◌, ◌-◌, ◌^◌, ◌<◌, ◌≤◌, ◌∷◌, true, false, List, length, min, reverse}
 use Rattle.std.proofs.Common.{refl, ap, sym, ◌∙◌, arith}
 use Rattle.asp_job.specs.declared.entry.Entry.{Entry}
-use Rattle.asp_job.specs.declared.entry.Stage.TheVariants.{Unfinished, Waiting}
-use Rattle.asp_job.specs.declared.entry.TheConstants.{MOST_ENTRIES, MOST_WEIGHT}
+use Rattle.asp_job.specs.declared.entry.Stage.TheVariants.{Unfinished}
+use Rattle.asp_job.specs.declared.entry.TheConstants.{MOST_WEIGHT}
 use Rattle.asp_job.specs.declared.entry.What.TheVariants.{Begin}
-use Rattle.asp_job.specs.History.{load, weight_in, weight_load, with_lane}
+use Rattle.asp_job.specs.History.{load, weight_load, with_lane}
 use Rattle.asp_job.specs.Journal.{AreRight}
 use Rattle.asp_job.specs.Rules.{Rules}
 use Rattle.asp_job.specs.Runs.{drawn, is_halted, is_stage_unfinished, is_stage_waiting}

@@ -3,7 +3,7 @@
 
 ghost use Rattle.std.specs.Prelude.{◌≡◌, ◌≤◌, ◌<◌, ◌+◌, ◌*◌, ◌^◌, ◌++◌, ◌∷◌, ◌↔◌, [], ℕ, reverse, length, true, false};
 ghost use Rattle.std.specs.Prelude.{if◌then◌else◌};
-ghost use Rattle.std.specs.Prelude.{OnOk, OnErr, IfOk, IfErr, IfNone, IfSome, OnSome, Err, vec_capacity, vec_len};
+ghost use Rattle.std.specs.Prelude.{OnOk, OnErr, IfOk, IfErr, IfNone, IfSome, OnSome, Err, vec_capacity};
 ghost use Rattle.asp_job.specs.History as history;
 ghost use Rattle.asp_job.specs.Journal as journals;
 ghost use Rattle.asp_job.specs.Runs as runs;
@@ -14,7 +14,6 @@ ghost use Rattle.asp_core.specs.Calm.{HasLoad};
 ghost use Rattle.asp_core.specs.Kernel as kernel;
 ghost use Rattle.asp_core.specs.Opening as spec;
 ghost use Rattle.asp_core.specs.Ready as waits;
-ghost use Rattle.asp_core.specs.Stops as stops;
 ghost use Rattle.asp_core.specs.declared.ready.TheConstants.{MOST_BODIES};
 
 use crate::kernel::Core;

@@ -1,4 +1,4 @@
-use Rattle.std.proofs.Common.{refl, sym}
+use Rattle.std.proofs.Common.{refl}
 use Rattle.asp_core.proofs.begin.add_begin.Goals as goal
 
 pub push_reserved-requires-clause-fit : goal.push_reserved-requires-clause-fit

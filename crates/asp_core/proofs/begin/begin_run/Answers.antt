@@ -1,4 +1,4 @@
-use Rattle.std.proofs.Common.{◌≡◌, reverse, length, Err, ap, arith, refl, vec_capacity}
+use Rattle.std.proofs.Common.{reverse, length, Err, ap, arith, refl, vec_capacity}
 use Rattle.asp_core.specs.Kernel.{rules_by}
 use Rattle.asp_core.proofs.Beginning.{begin_fits, begin_too_much, can_add, can_count, can_number, can_open}
 use Rattle.asp_core.proofs.Beginning.{has_begun, not_idle}
