@@ -205,18 +205,12 @@ job_entry m past table lane job right =
     (sym then_right)
 
 -- what the code makes of a job is what the job adds
-pub job_made : (m : Rules) (journal next : List Entry) (table : List (Option SessionState)) (lane : ℕ) (job : Job)
-    → session_at table ≡ session_of m (reverse journal) → next ≡ journal ++ entries_by m (session_at table)
-    (reverse journal) lane job → (next ≡ journal ++ admit_entries m (reverse journal) lane job)
-    × (reverse next ≡ past_after (reverse journal) (admit_entries m (reverse journal) lane job))
-job_made m journal next table lane job right e =
-    let past = reverse journal in
+pub job_made : (m : Rules) (past : List Entry) (table : List (Option SessionState)) (lane : ℕ) (job : Job)
+    → session_at table ≡ session_of m past → entries_by m (session_at table) past lane job ≡ admit_entries m past lane job
+job_made m past table lane job right =
     let entries = tick_entries m past lane job.moment in
-    let same : entries_by m (session_at table) past lane job ≡ admit_entries m past lane job =
     ap (λ s. tick_before s past lane job ++ drawn_then m (session_at table) past lane job ∷ []) right
-    ∙ ap (λ entry. entries ++ entry ∷ []) (job_entry m past table lane job right) in
-    let is : next ≡ journal ++ admit_entries m past lane job = e ∙ ap (λ es. journal ++ es) same in
-    (is, grown_past journal next (admit_entries m past lane job) is)
+    ∙ ap (λ entry. entries ++ entry ∷ []) (job_entry m past table lane job right)
 
 -- a core's parts after a job that may have been refused
 pub kept_taken : {T E : Type 0} → (result : Result T E) (m : Meaning) (seed : List ℕ) (journal next : List Entry)

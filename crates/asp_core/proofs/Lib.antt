@@ -18,6 +18,7 @@ pub mod Locking
 pub mod Trimming
 pub mod Ticking
 pub mod Admitting
+pub mod Coming
 pub mod Halting
 pub mod Refusing
 pub mod Jobs

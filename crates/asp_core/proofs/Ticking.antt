@@ -1,6 +1,6 @@
 -- How many entries a Tick adds, with the runs that are then owed.
 use Rattle.std.proofs.Common.{◌≡◌, ℕ, zero, suc, ◌+◌, ◌-◌, ◌≤◌, Bool, true, false, if◌then◌else◌, List, [], ◌∷◌, ◌++◌}
-use Rattle.std.proofs.Common.{length, reverse, filter, Option, Result, Ok, Err, OnOk, append_assoc, ap, ◌∙◌, refl, sym}
+use Rattle.std.proofs.Common.{length, reverse, filter, Option, append_assoc, ap, ◌∙◌, refl, sym}
 use Rattle.std.proofs.Common.{arith, length-append, nat_lt, subst}
 use Rattle.asp_core.specs.Drawing.{drawn_by, drawn_then, entries_by, tick_before}
 use Rattle.asp_core.specs.Kernel.{expired_by, ticked}
@@ -16,7 +16,6 @@ use Rattle.asp_job.specs.declared.entry.What.TheVariants.{Tick}
 use Rattle.asp_job.specs.declared.job.Job.{Job}
 use Rattle.asp_job.specs.declared.session.SessionState.{SessionState}
 use Rattle.asp_core.proofs.Bounds.{made_small}
-use Rattle.vb_value.specs.Outcome.{Changes}
 use Rattle.asp_core.proofs.Kept.{past_of_more}
 
 one_or_none : (b : Bool) (n k : ℕ) → n ≤ k → (if b then n + 1 else n) ≤ k + 1
@@ -111,13 +110,12 @@ then_drawn rules sessions journal next lane job e =
     (ap reverse e ∙ past_of_more journal (tick_before sessions (reverse journal) lane job))
 
 -- both are added
-pub job_added : {T E : Type 0} → (result : Result T E) (rules : Rules) (sessions : ℕ → Option SessionState)
-    (journal mid new : List Entry) (lane : ℕ) (job : Job) → mid ≡ journal ++ tick_before sessions (reverse journal) lane
-    job → Changes result mid new (mid ++ drawn_by rules sessions (reverse mid) lane job ∷ [])
-    → OnOk result (new ≡ journal ++ entries_by rules sessions (reverse journal) lane job)
-job_added (Ok done) rules sessions journal mid new lane job more is =
+pub job_added : (rules : Rules) (sessions : ℕ → Option SessionState) (journal mid new : List Entry) (lane : ℕ) (job : Job)
+    → mid ≡ journal ++ tick_before sessions (reverse journal) lane job
+    → new ≡ mid ++ drawn_by rules sessions (reverse mid) lane job ∷ []
+    → new ≡ journal ++ entries_by rules sessions (reverse journal) lane job
+job_added rules sessions journal mid new lane job more is =
     let entry = drawn_then rules sessions (reverse journal) lane job in
     is ∙ ap (λ last. mid ++ last ∷ []) (then_drawn rules sessions journal mid lane job more)
     ∙ ap (λ xs. xs ++ entry ∷ []) more
     ∙ append_assoc journal (tick_before sessions (reverse journal) lane job) (entry ∷ [])
-job_added (Err stop) rules sessions journal mid new lane job more is = tt

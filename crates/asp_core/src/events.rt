@@ -13,12 +13,12 @@ ghost use Rattle.asp_core.specs.Drawing as drawing;
 ghost use Rattle.asp_core.specs.Kernel as kernel;
 
 use crate::admitted::Drawn;
-use crate::drawing::{add_admission, prepared};
+use crate::drawing::{add_job, prepared};
 use crate::entries::{stop_entries, tick_entries};
-use crate::room::{add_calm, entries_weight, room_for};
+use crate::room::add_calm;
 use crate::stop::EventStop;
 use asp_job::{Answer, Entry, Job, Runner, SessionState};
-use asp_journal::{Journal, work_weight};
+use asp_journal::Journal;
 use std::alloc::Global;
 use std::snapshot::Snapshot;
 use vb_value::{List, Memory};
@@ -129,7 +129,7 @@ pub fn with_stop<R: Runner>(
 }
 
 /// The journal after a job. A refusal leaves it.
-#[tactic(auto, using(crate::proofs::Admitting::job_made, crate::proofs::Admitting::job_entry))]
+#[tactic(auto)]
 pub fn with_job<R: Runner>(
     runner: &R,
     site: &R::Site,
@@ -166,16 +166,10 @@ pub fn with_job<R: Runner>(
         Ok(more) => more,
         Err(_) => return Err(EventStop::Memory),
     };
-    let (job, answer) = match prepared(journal.alloc(), job) {
-        Ok(prepared) => prepared,
-        Err(_) => return Err(EventStop::Memory),
-    };
-    let weight = entries_weight(more.as_slice())
-        .saturating_add(work_weight(&job.work))
-        .saturating_add(64);
-    if let Err(stop) = room_for(journal, answers, more.len() + 1, weight) {
-        return Err(stop);
+    match prepared(journal.alloc(), job) {
+        Ok((job, answer)) => add_job(
+            runner, site, seed, journal, answers, table, lane, more, job, answer,
+        ),
+        Err(_) => Err(EventStop::Memory),
     }
-    journal.append_reserved(more);
-    Ok(add_admission(runner, site, seed, journal, table, lane, job, answer))
 }
