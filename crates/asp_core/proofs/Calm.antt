@@ -1,19 +1,19 @@
 -- Entries that begin and end no run, one after another.
-use Rattle.std.proofs.Common.{◌≡◌, ℕ, ◌+◌, ◌*◌, ◌-◌, ◌^◌, ◌≤◌, ◌<◌, ◌==◌, ◌⊎◌, ◌++◌, Bool, true, false, if◌then◌else◌}
+use Rattle.std.proofs.Common.{◌≡◌, ℕ, ◌+◌, ◌*◌, ◌-◌, ◌^◌, ◌≤◌, ◌<◌, ◌==◌, ◌++◌, Bool, true, false, if◌then◌else◌}
 use Rattle.std.proofs.Common.{List, [], ◌∷◌, length, filter, min, sum_by, refl, ap, sym, ◌∙◌, arith, append-nil, reverse, subst}
 use Rattle.std.proofs.lemmas.List.Sums.{sum_by-cons}
 use Rattle.asp_job.specs.declared.entry.Entry.{Entry}
 use Rattle.asp_job.specs.declared.entry.Stage.TheVariants.{Ended, Waiting}
-use Rattle.asp_job.specs.declared.entry.TheConstants.{MOST_ENTRIES, MOST_WEIGHT}
+use Rattle.asp_job.specs.declared.entry.TheConstants.{MOST_WEIGHT}
 use Rattle.asp_job.specs.declared.entry.What.{What}
 use Rattle.asp_job.specs.declared.entry.What.TheVariants.{Admit, App, Begin, End, Halt, Queue, Refuse, Stop, Take, Tick}
 use Rattle.asp_job.specs.History.{entries_in, load, run_in, weight_in, weight_load, what_weight, with_lane}
 use Rattle.asp_job.specs.Journal.{past_after}
 use Rattle.asp_job.specs.Runs.{drawn, is_halted, is_stage_unfinished, is_unfinished, numbers, stage_of, unfinished}
 use Rattle.asp_journal.specs.Rows.{IsNumberedFor}
-use Rattle.asp_journal.specs.Tables.{AreFit, IsFit}
+use Rattle.asp_journal.specs.Tables.{AreFit}
 use Rattle.asp_core.specs.Calm.{AreCalm, HasLoad, IsCalm, IsOver, entry_weight}
-use Rattle.asp_core.specs.Kernel.{HasAnswerRoom, HasRoom, IsTooMuch, IsWithin, halts_to_come}
+use Rattle.asp_core.specs.Kernel.{HasAnswerRoom, HasRoom, IsTooMuch, IsWithin}
 use Rattle.asp_core.proofs.Kept.{grown_past}
 use Rattle.asp_core.proofs.Past.{length_past}
 use Rattle.asp_core.proofs.Numbers.{filter_more, filter_same}

@@ -1,6 +1,6 @@
 -- Room for the entries of a job's Tick and for the job's own.
-use Rattle.std.proofs.Common.{◌≡◌, ℕ, ◌+◌, ◌*◌, ◌-◌, ◌^◌, ◌≤◌, ◌++◌, List, [], ◌∷◌, Option, length, min, reverse, sum_by}
-use Rattle.std.proofs.Common.{ap, sym, ◌∙◌, arith}
+use Rattle.std.proofs.Common.{◌≡◌, ℕ, ◌+◌, ◌*◌, ◌-◌, ◌^◌, ◌≤◌, ◌++◌, List, Option, length, min, reverse, sum_by}
+use Rattle.std.proofs.Common.{ap, sym, ◌∙◌}
 use Rattle.asp_job.specs.declared.entry.Entry.{Entry}
 use Rattle.asp_job.specs.declared.job.Job.{Job}
 use Rattle.asp_job.specs.declared.session.SessionState.{SessionState}

@@ -1,12 +1,10 @@
 -- The entries of events may be added.
 use Rattle.std.proofs.Common.{◌≡◌, ℕ, ◌+◌, ◌<◌, ◌≤◌, ◌==◌, ◌&&◌, ◌++◌, Bool, true, false, if◌then◌else◌, not, nat_le, nat_lt}
-use Rattle.std.proofs.Common.{List, [], ◌∷◌, All, filter, length, Option, refl, ap, sym, ◌∙◌, arith, inl, inr, subst}
+use Rattle.std.proofs.Common.{List, [], ◌∷◌, filter, length, Option, refl, ap, sym, ◌∙◌, arith, inl, inr, subst}
 use Rattle.std.proofs.Common.{zero, suc, add-one, length-append, sum_by}
 use Rattle.std.proofs.lemmas.List.Sums.{sum_by_push}
 use Rattle.std.proofs.lemmas.Bool.{cases_Bool}
-use Rattle.asp_job.specs.declared.answer.Answer.{Answer}
 use Rattle.asp_job.specs.declared.entry.Entry.{Entry}
-use Rattle.asp_job.specs.declared.entry.What.{What}
 use Rattle.asp_job.specs.declared.entry.EndKind.{EndKind}
 use Rattle.asp_job.specs.declared.entry.Stage.{Stage}
 use Rattle.asp_job.specs.declared.entry.Stage.TheVariants.{Ended, Undrawn, Unfinished, Waiting}
@@ -16,7 +14,7 @@ use Rattle.asp_job.specs.declared.job.Work.{Work}
 use Rattle.asp_job.specs.declared.job.Work.TheVariants as work
 use Rattle.asp_job.specs.declared.session.SessionState.{SessionState}
 use Rattle.asp_job.specs.History.{what_weight, with_lane, work_weight}
-use Rattle.asp_job.specs.Journal.{AreRight, admission, job_now, past_after, queue_entries}
+use Rattle.asp_job.specs.Journal.{AreRight, job_now, past_after, queue_entries}
 use Rattle.asp_job.specs.Keys.{due_at, is_askable, is_due_key, is_live, live, made}
 use Rattle.asp_job.specs.Rules.{Rules}
 use Rattle.asp_job.specs.Runs.{drawn, is_open, is_stage_ended, is_stopping, is_unfinished, moment_of, numbers, stage_of}

@@ -3,7 +3,6 @@
 
 ghost use Rattle.std.specs.Prelude.{◌≡◌, ◌↔◌, ◌≤◌, ◌<◌, ℕ, length, reverse, true, false, Err, OnOk, OnErr, IfOk};
 ghost use Rattle.std.specs.Prelude.{vec_capacity, Result, Ok};
-ghost use Rattle.vb_value.specs.Outcome.{Changes};
 ghost use Rattle.asp_job.specs.History as history;
 ghost use Rattle.asp_job.specs.Journal as journals;
 ghost use Rattle.asp_job.specs.Keys as spec;
@@ -14,7 +13,6 @@ ghost use Rattle.asp_job.specs.Turns as turns;
 ghost use Rattle.asp_job.specs.declared.entry.TheConstants.{MOST_ENTRIES, MOST_WAITING};
 ghost use Rattle.asp_core.specs.Drawing as drawing;
 ghost use Rattle.asp_core.specs.Kernel as kernel;
-ghost use Rattle.asp_core.specs.Stops as stops;
 ghost use Rattle.asp_core.specs.Taking as taking;
 
 use crate::admitted::Admitted;

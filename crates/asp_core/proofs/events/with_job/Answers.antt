@@ -1,7 +1,7 @@
-use Rattle.std.proofs.Common.{ap, reverse, subst, ◌++◌, ◌∙◌}
+use Rattle.std.proofs.Common.{◌≡◌, ◌++◌, ◌∙◌, IfOk, List, OnOk, ap, reverse, subst}
 use Rattle.asp_job.specs.declared.entry.Entry.{Entry}
-use Rattle.asp_job.specs.Journal.{past_after}
-use Rattle.asp_core.specs.Drawing.{IsDrawn}
+use Rattle.asp_job.specs.Journal.{admit_entries, past_after}
+use Rattle.asp_core.specs.Drawing.{IsDrawn, entry_then}
 use Rattle.asp_core.specs.Kernel.{IsTooMuch, rules_by}
 use Rattle.asp_core.proofs.Admitting.{job_entry, job_made}
 use Rattle.asp_core.proofs.events.with_job.Goals as goal
@@ -9,12 +9,25 @@ use Rattle.asp_core.proofs.events.with_job.Goals as goal
 pub returns-in-Ok-prepared-clause-entries : goal.returns-in-Ok-prepared-clause-entries
 returns-in-Ok-prepared-clause-entries g c =
     let m = rules_by (g.R.Runner.meaning c.args.runner.now c.args.site.now) c.args.seed.now in
-    let made = job_made m (reverse c.args.journal.now.items) c.args.table.now c.args.lane c.in-Ok-prepared.job
-    c.requires.sessions in
-    ?
+    let past = reverse c.args.journal.now.items in
+    let made = job_made m past c.args.table.now c.args.lane c.in-Ok-prepared.job c.requires.sessions
+    ∙ ap (admit_entries m past c.args.lane) c.in-Ok-prepared.ensures.job in
+    subst (λ (more : List Entry). OnOk c.add_job.result (c.add_job.new.journal.items ≡ c.args.journal.now.items ++ more))
+    made c.add_job.ensures.entries
 
 pub returns-in-Ok-prepared-clause-drawn : goal.returns-in-Ok-prepared-clause-drawn
-returns-in-Ok-prepared-clause-drawn g c = ?
+returns-in-Ok-prepared-clause-drawn g c =
+    let m = rules_by (g.R.Runner.meaning c.args.runner.now c.args.site.now) c.args.seed.now in
+    let past = reverse c.args.journal.now.items in
+    let made = job_entry m past c.args.table.now c.args.lane c.in-Ok-prepared.job c.requires.sessions
+    ∙ ap (entry_then m past c.args.lane) c.in-Ok-prepared.ensures.job in
+    subst (λ (entry : Entry). IfOk c.add_job.result (IsDrawn entry.what)) made c.add_job.ensures.drawn
 
 pub returns-in-Ok-prepared-clause-full : goal.returns-in-Ok-prepared-clause-full
-returns-in-Ok-prepared-clause-full g c entries weight e = ?
+returns-in-Ok-prepared-clause-full g c entries weight e =
+    let m = rules_by (g.R.Runner.meaning c.args.runner.now c.args.site.now) c.args.seed.now in
+    let past = reverse c.args.journal.now.items in
+    let made = job_made m past c.args.table.now c.args.lane c.in-Ok-prepared.job c.requires.sessions
+    ∙ ap (admit_entries m past c.args.lane) c.in-Ok-prepared.ensures.job in
+    subst (λ (more : List Entry). IsTooMuch (past_after past more) entries weight) made
+    (c.add_job.ensures.full entries weight e)

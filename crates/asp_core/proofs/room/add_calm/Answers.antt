@@ -1,7 +1,6 @@
-use Rattle.std.proofs.Common.{◌≡◌, ◌++◌, ◌-◌, ◌^◌, ◌≤◌, Err, ap, arith, length, min, reverse, sum_by, vec_capacity, ◌∙◌}
+use Rattle.std.proofs.Common.{◌≡◌, ◌++◌, ◌-◌, ◌^◌, ap, arith, length, min, reverse, sum_by, vec_capacity, ◌∙◌}
 use Rattle.std.proofs.lemmas.Grind.{common_steps}
 use Rattle.asp_core.specs.Calm.{entry_weight}
-use Rattle.asp_core.specs.Kernel.{HasRoom}
 use Rattle.asp_core.proofs.Calm.{calm_answers, calm_much, calm_room, calm_within}
 use Rattle.asp_core.proofs.room.add_calm.Goals as goal
 
