@@ -41,8 +41,7 @@ fn room_for_call(
         (history.with_lane lane (What.App run call.now reply.now) ∷ reverse journal.old.items) entries weight }
 {
     let entries = journal.load() + 1;
-    let weight = journal
-        .weight_load()
+    let weight = journal.weight_load()
         .saturating_add(call_weight(call))
         .saturating_add(reply_weight(reply))
         .saturating_add(64);
