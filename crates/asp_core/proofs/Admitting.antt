@@ -206,7 +206,8 @@ job_entry m past table lane job right =
 
 -- what the code makes of a job is what the job adds
 pub job_made : (m : Rules) (past : List Entry) (table : List (Option SessionState)) (lane : ℕ) (job : Job)
-    → session_at table ≡ session_of m past → entries_by m (session_at table) past lane job ≡ admit_entries m past lane job
+    → session_at table ≡ session_of m past
+    → entries_by m (session_at table) past lane job ≡ admit_entries m past lane job
 job_made m past table lane job right =
     let entries = tick_entries m past lane job.moment in
     ap (λ s. tick_before s past lane job ++ drawn_then m (session_at table) past lane job ∷ []) right

@@ -1,6 +1,7 @@
 -- Entries that begin and end no run, one after another.
 use Rattle.std.proofs.Common.{◌≡◌, ℕ, ◌+◌, ◌*◌, ◌-◌, ◌^◌, ◌≤◌, ◌<◌, ◌==◌, ◌++◌, Bool, true, false, if◌then◌else◌}
-use Rattle.std.proofs.Common.{List, [], ◌∷◌, length, filter, min, sum_by, refl, ap, sym, ◌∙◌, arith, append-nil, reverse, subst}
+use Rattle.std.proofs.Common.{List, [], ◌∷◌, length, filter, min, sum_by, refl, ap, sym, ◌∙◌, arith, append-nil}
+use Rattle.std.proofs.Common.{reverse, subst}
 use Rattle.std.proofs.lemmas.List.Sums.{sum_by-cons}
 use Rattle.asp_job.specs.declared.entry.Entry.{Entry}
 use Rattle.asp_job.specs.declared.entry.Stage.TheVariants.{Ended, Waiting}
@@ -143,7 +144,8 @@ within_after : (past more : List Entry) (count weight : ℕ) → AreFit past mor
 within_after past more count weight fit calm c w has =
     let loads = calm_load past more fit calm in
     let few = has.few in
-    let both : min (weight_load past + weight) (2 ^ 64 - 1) ≡ min (weight_load past + sum_by entry_weight more) (2 ^ 64 - 1) =
+    let both : min (weight_load past + weight) (2 ^ 64 - 1)
+    ≡ min (weight_load past + sum_by entry_weight more) (2 ^ 64 - 1) =
     ap (λ x. min (weight_load past + x) (2 ^ 64 - 1)) w
     ∙ twice_bounded (weight_load past) (sum_by entry_weight more) (2 ^ 64 - 1) in
     let light : weight_load past + sum_by entry_weight more ≤ MOST_WEIGHT =
@@ -155,7 +157,8 @@ within_after past more count weight fit calm c w has =
 
 pub calm_within : (journal next more : List Entry) (count weight : ℕ) → next ≡ journal ++ more
     → AreFit (reverse journal) more → AreCalm more → count ≡ length more
-    → weight ≡ min (sum_by entry_weight more) (2 ^ 64 - 1) → HasLoad (reverse journal) count weight → IsWithin (reverse next)
+    → weight ≡ min (sum_by entry_weight more) (2 ^ 64 - 1) → HasLoad (reverse journal) count weight
+    → IsWithin (reverse next)
 calm_within journal next more count weight e fit calm c w has =
     rw (grown_past journal next more e) (within_after (reverse journal) more count weight fit calm c w has)
 

@@ -14,8 +14,8 @@ use Rattle.asp_core.specs.Kernel.{HasAnswerRoom, HasRoom, IsTooMuch, IsWithin}
 use Rattle.asp_core.proofs.Calm.{calm_answers, calm_much, calm_room, calm_within}
 use Rattle.asp_core.proofs.Fits.{job_calm, job_fit, job_length, job_weight}
 
-count_is : (rules : Rules) (sessions : ℕ → Option SessionState) (past more : List Entry) (lane : ℕ) (job : Job) (count : ℕ)
-    → more ≡ tick_before sessions past lane job → count ≡ length more
+count_is : (rules : Rules) (sessions : ℕ → Option SessionState) (past more : List Entry) (lane : ℕ) (job : Job)
+    (count : ℕ) → more ≡ tick_before sessions past lane job → count ≡ length more
     → count + 1 ≡ length (entries_by rules sessions past lane job)
 count_is rules sessions past more lane job count tick c =
     ap (λ n. n + 1) (c ∙ ap length tick) ∙ sym (job_length rules sessions past lane job)
@@ -62,9 +62,10 @@ job_room rules sessions journal next more lane job count answers capacity tick e
     (job_fit rules sessions past lane job) (job_calm rules sessions past lane job)
     (count_is rules sessions past more lane job count tick c) room
 
-pub job_answers : (rules : Rules) (sessions : ℕ → Option SessionState) (journal next : List Entry) (lane : ℕ) (job : Job)
-    (answers capacity : ℕ) → next ≡ journal ++ entries_by rules sessions (reverse journal) lane job
-    → answers + 2 + length (unfinished (reverse journal)) ≤ capacity → HasAnswerRoom (reverse next) (answers + 1) capacity
+pub job_answers : (rules : Rules) (sessions : ℕ → Option SessionState) (journal next : List Entry) (lane : ℕ)
+    (job : Job) (answers capacity : ℕ) → next ≡ journal ++ entries_by rules sessions (reverse journal) lane job
+    → answers + 2 + length (unfinished (reverse journal)) ≤ capacity
+    → HasAnswerRoom (reverse next) (answers + 1) capacity
 job_answers rules sessions journal next lane job answers capacity e room =
     let past = reverse journal in
     calm_answers journal next (entries_by rules sessions past lane job) answers capacity e

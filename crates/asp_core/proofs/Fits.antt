@@ -1,5 +1,6 @@
 -- The entries of events may be added.
-use Rattle.std.proofs.Common.{◌≡◌, ℕ, ◌+◌, ◌<◌, ◌≤◌, ◌==◌, ◌&&◌, ◌++◌, Bool, true, false, if◌then◌else◌, not, nat_le, nat_lt}
+use Rattle.std.proofs.Common.{◌≡◌, ℕ, ◌+◌, ◌<◌, ◌≤◌, ◌==◌, ◌&&◌, ◌++◌, Bool, true, false, if◌then◌else◌, not}
+use Rattle.std.proofs.Common.{nat_le, nat_lt}
 use Rattle.std.proofs.Common.{List, [], ◌∷◌, filter, length, Option, refl, ap, sym, ◌∙◌, arith, inl, inr, subst}
 use Rattle.std.proofs.Common.{zero, suc, add-one, length-append, sum_by}
 use Rattle.std.proofs.lemmas.List.Sums.{sum_by_push}
@@ -108,7 +109,8 @@ pub tick_fit : (sessions : ℕ → Option SessionState) (past more : List Entry)
     → more ≡ ticked sessions past lane moment → AreFit past more
 tick_fit sessions past more lane moment e =
     let keys = due_at sessions past moment in
-    let queued : AreFit (with_lane lane (Tick moment) ∷ past) (queue_entries lane (drawn past + 1) (closing_runs keys)) =
+    let queued : AreFit (with_lane lane (Tick moment) ∷ past)
+    (queue_entries lane (drawn past + 1) (closing_runs keys)) =
     queue_fit (with_lane lane (Tick moment) ∷ past) lane (drawn past + 1) (closing_runs keys) refl
     (no_more (made past) keys (due_made sessions past moment)) in
     subst (AreFit past) (sym e) (fit_if (nat_lt (moment_of past) moment) past _
@@ -134,7 +136,8 @@ stop_fit sessions past more lane e =
 pub stop_calm : (sessions : ℕ → Option SessionState) (past more : List Entry) (lane : ℕ)
     → more ≡ stopped_by sessions past lane → AreCalm more
 stop_calm sessions past more lane e =
-    subst AreCalm (sym e) (tt, queue_calm lane (drawn past + 1) (closing_runs (live sessions past) ++ (work.Stop, 0) ∷ []))
+    let runs = closing_runs (live sessions past) ++ (work.Stop, 0) ∷ [] in
+    subst AreCalm (sym e) (tt, queue_calm lane (drawn past + 1) runs)
 
 -- ---- the entry of a job
 

@@ -110,8 +110,8 @@ then_drawn rules sessions journal next lane job e =
     (ap reverse e ∙ past_of_more journal (tick_before sessions (reverse journal) lane job))
 
 -- both are added
-pub job_added : (rules : Rules) (sessions : ℕ → Option SessionState) (journal mid new : List Entry) (lane : ℕ) (job : Job)
-    → mid ≡ journal ++ tick_before sessions (reverse journal) lane job
+pub job_added : (rules : Rules) (sessions : ℕ → Option SessionState) (journal mid new : List Entry) (lane : ℕ)
+    (job : Job) → mid ≡ journal ++ tick_before sessions (reverse journal) lane job
     → new ≡ mid ++ drawn_by rules sessions (reverse mid) lane job ∷ []
     → new ≡ journal ++ entries_by rules sessions (reverse journal) lane job
 job_added rules sessions journal mid new lane job more is =

@@ -61,7 +61,8 @@ pub fn with_tick<R: Runner>(
     requires small { history.entries_in (reverse journal.old.items) ≤ MOST_ENTRIES }
     ensures entries { OnOk result (journal.new.items ≡ journal.old.items
         ++ journals.tick_entries
-        (kernel.rules_by (R.meaning runner.now.value site.now.value) seed.now) (reverse journal.old.items) lane moment) }
+        (kernel.rules_by (R.meaning runner.now.value site.now.value) seed.now)
+        (reverse journal.old.items) lane moment) }
     ensures count { IfOk result (λ count. count ≡ kernel.expired
         (kernel.rules_by (R.meaning runner.now.value site.now.value) seed.now) (reverse journal.old.items) moment) }
     ensures err { OnErr result (journal.new.items ≡ journal.old.items) }

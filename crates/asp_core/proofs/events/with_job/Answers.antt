@@ -12,8 +12,9 @@ returns-in-Ok-prepared-clause-entries g c =
     let past = reverse c.args.journal.now.items in
     let made = job_made m past c.args.table.now c.args.lane c.in-Ok-prepared.job c.requires.sessions
     ∙ ap (admit_entries m past c.args.lane) c.in-Ok-prepared.ensures.job in
-    subst (λ (more : List Entry). OnOk c.add_job.result (c.add_job.new.journal.items ≡ c.args.journal.now.items ++ more))
-    made c.add_job.ensures.entries
+    let old = c.args.journal.now.items in
+    subst (λ (more : List Entry). OnOk c.add_job.result (c.add_job.new.journal.items ≡ old ++ more)) made
+    c.add_job.ensures.entries
 
 pub returns-in-Ok-prepared-clause-drawn : goal.returns-in-Ok-prepared-clause-drawn
 returns-in-Ok-prepared-clause-drawn g c =

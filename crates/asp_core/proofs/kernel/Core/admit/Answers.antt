@@ -3,12 +3,12 @@ use Rattle.std.proofs.Common.{Err}
 use Rattle.asp_core.specs.declared.stop.AdmitStop.TheVariants as admit
 use Rattle.std.proofs.lemmas.Grind.{common_steps}
 use Rattle.asp_core.specs.Drawing.{entry_then, told_of}
-use Rattle.asp_core.specs.Kernel.{CoreView, IsTooMuch, rules_by, rules_of, past_of, grown}
+use Rattle.asp_core.specs.Kernel.{CoreView, IsTooMuch, rules_by, rules_of, past_of, grown, session_at}
 use Rattle.asp_core.specs.Taking.{refused_before}
 use Rattle.asp_job.specs.Journal.{admit_entries, past_after}
-use Rattle.asp_core.proofs.Admitting.{kept_taken}
+use Rattle.asp_core.proofs.Admitting.{job_made, kept_taken}
 use Rattle.asp_core.proofs.Refusing.{full_back, none_before}
-use Rattle.asp_job.specs.Keys.{session_of}
+use Rattle.asp_core.specs.Calm.{AreCalm}
 use Rattle.asp_core.proofs.Failing.{fail_calm, fail_either}
 use Rattle.asp_core.proofs.Fits.{job_calm}
 use Rattle.asp_core.proofs.Same.{on_err, on_ok, view_of}
@@ -35,8 +35,10 @@ invariant_of-self g c =
     let rules = rules_by m core.seed in
     let next = c.take_job-made.new.journal.items in
     let more = admit_entries rules past c.args.lane c.args.job.now in
-    let same = on_ok c.take_job-made.result _ _ (λ taken. fail_calm rules core.journal.items next more taken.journal_is
-    (job_calm rules (session_of rules past) past c.args.lane c.args.job.now)) ok in
+    let made = job_made rules past core.table.items c.args.lane c.args.job.now c.self.invariant.0.sessions in
+    let calm = subst AreCalm made (job_calm rules (session_at core.table.items) past c.args.lane c.args.job.now) in
+    let same = on_ok c.take_job-made.result _ _ (λ taken.
+    fail_calm rules core.journal.items next more taken.journal_is calm) ok in
     let still = on_err c.take_job-made.result _ _ (λ both. both.0) c.take_job-made.ensures.err in
     (all.0, all.1, all.2, all.3, fail_either c.take_job-made.result rules core.journal.items next core.start_fail
     c.self.invariant.4 same still)
