@@ -3,9 +3,9 @@ use Rattle.std.proofs.Common.{arith, ap, sym, subst, ◌∙◌, vec_capacity, Er
 use Rattle.asp_job.specs.History.{with_lane}
 use Rattle.asp_job.specs.declared.entry.What.TheVariants.{Begin}
 use Rattle.asp_core.specs.Kernel.{rules_by, IsWithin}
+use Rattle.asp_journal.proofs.Past.{past_push}
 use Rattle.asp_core.proofs.Beginning.{begin_fits, can_count, can_draw, can_number, can_open}
 use Rattle.asp_core.proofs.Beginning.{has_begun, memory_back}
-use Rattle.asp_core.proofs.Past.{past_push}
 use Rattle.asp_core.proofs.begin.begin_run.Goals as goal
 use Rattle.asp_core.proofs.begin.begin_run.Goals.{then-number, else-number}
 
