@@ -21,7 +21,8 @@ use Rattle.asp_job.specs.declared.entry.What.TheVariants.{Admit, App, Begin, End
 use Rattle.asp_job.specs.declared.job.Job.{Job}
 use Rattle.asp_job.specs.declared.job.Work.{Work}
 use Rattle.asp_job.specs.declared.job.Work.TheVariants as work
-use Rattle.asp_core.proofs.Others.{job_other, stage_other}
+use Rattle.asp_journal.proofs.Others.{stage_other}
+use Rattle.asp_core.proofs.Others.{job_other}
 use Rattle.asp_core.proofs.Right.{begin_right, drawn_next, end_running, may_begin_waits, next_undrawn, unfinished_is}
 
 -- ---- lists of answers

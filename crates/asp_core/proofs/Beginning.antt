@@ -33,13 +33,13 @@ use Rattle.asp_job.specs.declared.entry.TheConstants.{MOST_ENTRIES, MOST_UNFINIS
 use Rattle.asp_job.specs.declared.entry.What.{What}
 use Rattle.asp_job.specs.declared.entry.What.TheVariants.{Admit, App, Begin, End, Halt, Queue, Refuse, Stop, Take, Tick}
 use Rattle.asp_job.specs.declared.session.SessionState.{SessionState}
+use Rattle.asp_journal.proofs.Bounds.{drawn_small}
+use Rattle.asp_journal.proofs.Others.{own_number}
+use Rattle.asp_journal.proofs.Past.{past_push}
 use Rattle.asp_core.proofs.Begun.{begin_answers, begin_much, begin_room, begin_within}
-use Rattle.asp_core.proofs.Bounds.{drawn_small}
 use Rattle.asp_core.proofs.Jobs.{fresh_key, small_job}
 use Rattle.asp_core.proofs.Kept.{may_follow}
 use Rattle.asp_core.proofs.Least.{AreNumbered, are_numbered}
-use Rattle.asp_core.proofs.Others.{own_number}
-use Rattle.asp_core.proofs.Past.{past_push}
 use Rattle.asp_core.proofs.Same.{view_of}
 use Rattle.asp_core.proofs.Opened.{valid_at, session_valid, serial_right, number_right, told_right}
 

@@ -15,10 +15,10 @@ use Rattle.asp_journal.specs.Tables.{IsFit}
 use Rattle.asp_journal.proofs.Open.{waiting_open}
 use Rattle.asp_core.specs.Calm.{HasLoad, IsOver}
 use Rattle.asp_core.specs.Kernel.{HasAnswerRoom, HasRoom, IsTooMuch, IsWithin}
+use Rattle.asp_journal.proofs.Others.{own_number, stage_other}
+use Rattle.asp_journal.proofs.Past.{length_past}
 use Rattle.asp_core.proofs.Calm.{bounded, one_at_most}
 use Rattle.asp_core.proofs.Counts.{filter_one}
-use Rattle.asp_core.proofs.Others.{own_number, stage_other}
-use Rattle.asp_core.proofs.Past.{length_past}
 use Rattle.asp_core.proofs.Right.{is_drawn, may_begin_waits, numbered}
 
 waits : (past : List Entry) (run : ℕ) → may_begin past run ≡ true → is_waiting past run ≡ true

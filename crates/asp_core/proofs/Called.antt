@@ -22,7 +22,7 @@ use Rattle.asp_job.specs.declared.entry.What.TheVariants.{App}
 use Rattle.asp_job.specs.declared.session.SessionState.{SessionState}
 use Rattle.vb_value.specs.declared.application.AppCall.{AppCall}
 use Rattle.vb_value.specs.declared.application.AppReply.{AppReply}
-use Rattle.asp_core.proofs.Past.{length_past, past_push}
+use Rattle.asp_journal.proofs.Past.{length_past, past_push}
 use Rattle.asp_core.proofs.Same.{view_of}
 use Rattle.asp_job.specs.Journal.{past_after}
 use Rattle.asp_core.proofs.Calling.{call_grown, run_called, not_fit}

@@ -24,9 +24,9 @@ use Rattle.vb_value.specs.declared.application.AppCall.{AppCall}
 use Rattle.vb_value.specs.declared.application.AppCall.TheVariants as call
 use Rattle.vb_value.specs.declared.application.AppReply.{AppReply}
 use Rattle.vb_value.specs.declared.application.AppReply.TheVariants as reply
+use Rattle.asp_journal.proofs.Others.{own_number}
+use Rattle.asp_journal.proofs.Past.{past_push}
 use Rattle.asp_core.proofs.Kept.{may_follow}
-use Rattle.asp_core.proofs.Others.{own_number}
-use Rattle.asp_core.proofs.Past.{past_push}
 
 -- ---- calls that read, and calls that write
 

@@ -15,18 +15,13 @@ use Rattle.asp_journal.specs.Rows.{IsNumberedFor}
 use Rattle.asp_journal.specs.Tables.{AreFit}
 use Rattle.asp_core.specs.Calm.{AreCalm, HasLoad, IsCalm, IsOver, entry_weight}
 use Rattle.asp_core.specs.Kernel.{HasAnswerRoom, HasRoom, IsTooMuch, IsWithin}
+use Rattle.asp_journal.proofs.Numbers.{filter_more, filter_same}
+use Rattle.asp_journal.proofs.Others.{stage_other}
+use Rattle.asp_journal.proofs.Past.{length_past}
+use Rattle.asp_journal.proofs.Open.{next_is, own_next}
 use Rattle.asp_core.proofs.Kept.{grown_past}
-use Rattle.asp_core.proofs.Past.{length_past}
-use Rattle.asp_core.proofs.Numbers.{filter_more, filter_same}
-use Rattle.asp_core.proofs.Others.{other_number, own_number, stage_other}
 
 -- ---- one entry
-
-next_is : (run n r : ℕ) → run ≡ n + 1 → r ≤ n → (run == r) ≡ false
-next_is run n r e l = ap (λ i. i == r) e ∙ other_number r n l
-
-own_next : (run n : ℕ) → run ≡ n + 1 → (run == (n + 1)) ≡ true
-own_next run n e = ap (λ i. i == (n + 1)) e ∙ own_number (n + 1)
 
 drawn_idle : (past : List Entry) (lane run : ℕ) (what : What) → run_in what ≡ run → run ≡ drawn past + 1
     → is_unfinished (with_lane lane what ∷ past) (drawn past + 1) ≡ false
@@ -75,19 +70,6 @@ calm_counts past lane (End run kind status size n1 n2) calm = absurd calm
 calm_counts past lane (Take run) calm = absurd calm
 calm_counts past lane Halt calm = absurd calm
 
-calm_halts : (past : List Entry) (lane : ℕ) (what : What) → IsCalm what
-    → is_halted (with_lane lane what ∷ past) ≡ is_halted past
-calm_halts past lane (Queue run work key) calm = refl
-calm_halts past lane (Admit run key fresh job) calm = refl
-calm_halts past lane (Refuse run job) calm = refl
-calm_halts past lane (Tick moment) calm = refl
-calm_halts past lane Stop calm = refl
-calm_halts past lane (Begin run serial) calm = absurd calm
-calm_halts past lane (App run call reply) calm = absurd calm
-calm_halts past lane (End run kind status size n1 n2) calm = absurd calm
-calm_halts past lane (Take run) calm = absurd calm
-calm_halts past lane Halt calm = absurd calm
-
 -- ---- more entries
 
 pub calm_unfinished : (past more : List Entry) → AreFit past more → AreCalm more
@@ -112,11 +94,6 @@ calm_weight past (entry ∷ more) =
     let sum : sum_by entry_weight (entry ∷ more) ≡ what_weight entry.what + sum_by entry_weight more =
     sum_by-cons entry_weight entry more in
     omega arith
-
-calm_halted : (past more : List Entry) → AreCalm more → is_halted (past_after past more) ≡ is_halted past
-calm_halted past [] calm = refl
-calm_halted past (entry ∷ more) calm = calm_halted (entry ∷ past) more calm.1
-    ∙ calm_halts past entry.lane entry.what calm.0
 
 length_after : (past more : List Entry) → length (past_after past more) ≡ length past + length more
 length_after past [] = omega arith
@@ -178,6 +155,10 @@ calm_much past more count weight entries total fit calm c w over =
 pub one_at_most : (b : Bool) → (if b then 0 else 1) ≤ 1
 one_at_most true = omega arith
 one_at_most false = omega arith
+
+-- at most one Halt is to come
+pub halts_few : (past : List Entry) → halts_to_come past ≤ 1
+halts_few past = one_at_most (is_halted past)
 
 pub calm_room : (journal next more : List Entry) (count answers capacity : ℕ) → next ≡ journal ++ more
     → AreFit (reverse journal) more → AreCalm more → count ≡ length more

@@ -11,8 +11,8 @@ use Rattle.asp_job.specs.declared.entry.EndKind.{EndKind}
 use Rattle.asp_job.specs.declared.entry.Entry.{Entry}
 use Rattle.asp_job.specs.declared.entry.Stage.TheVariants.{Ended, Unfinished}
 use Rattle.asp_job.specs.declared.entry.What.TheVariants.{End}
-use Rattle.asp_core.proofs.Numbers.{filter_same}
-use Rattle.asp_core.proofs.Others.{own_number, stage_other}
+use Rattle.asp_journal.proofs.Numbers.{filter_same}
+use Rattle.asp_journal.proofs.Others.{own_number, stage_other}
 use Rattle.asp_core.proofs.Right.{is_drawn, numbered, unfinished_is}
 
 not_same : (r other n : ℕ) → r ≡ suc n → other ≤ n → (r == other) ≡ false

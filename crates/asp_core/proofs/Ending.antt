@@ -45,12 +45,12 @@ use Rattle.asp_response.specs.Fixed.{why}
 use Rattle.asp_response.specs.declared.fixed.Unavailable.{Unavailable}
 use Rattle.asp_response.specs.declared.fixed.Unavailable.TheVariants as cause
 use Rattle.vb_value.specs.declared.application.AppCall.{AppCall}
+use Rattle.asp_journal.proofs.Past.{past_push}
 use Rattle.asp_core.proofs.Admitting.{answers_few}
 use Rattle.asp_core.proofs.Answering.{page_answered}
 use Rattle.asp_core.proofs.Counts.{fewer_unfinished}
 use Rattle.asp_core.proofs.Kept.{may_follow}
 use Rattle.asp_core.proofs.Made.{keys_made}
-use Rattle.asp_core.proofs.Past.{past_push}
 
 -- ---- what the run leaves is what its meaning has
 

@@ -10,7 +10,7 @@ use Rattle.asp_job.specs.Rules.{Rules}
 use Rattle.asp_core.specs.Calm.{AreCalm, IsCalm}
 use Rattle.asp_core.specs.Start.{start_fail}
 use Rattle.asp_core.proofs.Kept.{grown_past}
-use Rattle.asp_core.proofs.Past.{past_push}
+use Rattle.asp_journal.proofs.Past.{past_push}
 
 calm_fail : (m : Rules) (past : List Entry) (lane : ℕ) (what : What) → IsCalm what
     → start_fail m (with_lane lane what ∷ past) ≡ start_fail m past

@@ -1,7 +1,6 @@
 -- What a Halt leaves of a right journal.
-use Rattle.std.proofs.Common.{◌≡◌, ℕ, ◌<◌, true, false, if◌then◌else◌, Bool, List, [], ◌∷◌, ◌++◌, length}
+use Rattle.std.proofs.Common.{◌≡◌, ℕ, true, false, if◌then◌else◌, Bool, List, [], ◌∷◌, ◌++◌, length}
 use Rattle.std.proofs.Common.{reverse, Option, refl, ap, ◌∙◌, arith}
-use Rattle.std.proofs.lemmas.List.{length-reverse}
 use Rattle.asp_core.specs.Kernel.{HasAnswerRoom, HasRoom, IsKept, IsWithin, halts_to_come}
 use Rattle.asp_job.specs.Application.{AppState}
 use Rattle.asp_job.specs.History.{with_lane}
@@ -11,8 +10,8 @@ use Rattle.asp_job.specs.declared.answer.Answer.{Answer}
 use Rattle.asp_job.specs.declared.entry.Entry.{Entry}
 use Rattle.asp_job.specs.declared.entry.What.TheVariants.{Halt}
 use Rattle.asp_job.specs.declared.session.SessionState.{SessionState}
+use Rattle.asp_journal.proofs.Past.{past_push}
 use Rattle.asp_core.proofs.Kept.{kept_quiet, may_follow}
-use Rattle.asp_core.proofs.Past.{past_push}
 
 kept_halt : (m : Rules) (past : List Entry) (table : List (Option SessionState)) (count : ℕ) (held : AppState)
     (answers : List (ℕ × Answer)) (lane : ℕ) → IsKept m past table count held answers → is_halted past ≡ false
@@ -36,14 +35,6 @@ kept_halt m past table count held answers lane kept going =
 going_one : (b : Bool) (n : ℕ) → n ≡ (if b then 0 else 1) → b ≡ false → n ≡ 1
 going_one true n is e = absurd cc
 going_one false n is e = is
-
--- there is room for the Halt
-pub halt_room : (past : List Entry) (journal : List Entry) (answers capacity : ℕ) → past ≡ reverse journal
-    → is_halted past ≡ false → HasRoom past answers capacity → length journal < capacity
-halt_room past journal answers capacity e going room =
-    let one : halts_to_come past ≡ 1 = going_one (is_halted past) (halts_to_come past) refl going in
-    let same : length past ≡ length journal = ap length e ∙ length-reverse journal in
-    omega arith
 
 room_halt : (past : List Entry) (lane answers capacity : ℕ) → is_halted past ≡ false → HasRoom past answers capacity
     → HasRoom (with_lane lane Halt ∷ past) answers capacity

@@ -24,11 +24,11 @@ use Rattle.asp_job.specs.declared.answer.Answer.{Answer}
 use Rattle.asp_job.specs.declared.entry.Entry.{Entry}
 use Rattle.asp_job.specs.declared.entry.What.TheVariants.{Take}
 use Rattle.asp_job.specs.declared.session.SessionState.{SessionState}
+use Rattle.asp_journal.proofs.Others.{own_number}
+use Rattle.asp_journal.proofs.Past.{past_push}
 use Rattle.asp_core.proofs.Answering.{are_those, its_answer, removed_length}
 use Rattle.asp_core.proofs.Jobs.{page_asked}
 use Rattle.asp_core.proofs.Kept.{may_follow}
-use Rattle.asp_core.proofs.Others.{own_number}
-use Rattle.asp_core.proofs.Past.{past_push}
 
 -- ---- the place of a run's answer
 

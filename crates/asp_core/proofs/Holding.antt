@@ -17,7 +17,7 @@ use Rattle.asp_job.specs.Journal.{IsRight, AreRight}
 use Rattle.asp_job.specs.Rules.{Rules}
 use Rattle.asp_job.specs.Runs.{draws, is_stage_unfinished, is_unfinished, stage_of}
 use Rattle.asp_job.specs.Turns.{owed}
-use Rattle.asp_core.proofs.Others.{stage_other}
+use Rattle.asp_journal.proofs.Others.{stage_other}
 use Rattle.asp_core.proofs.Right.{call_running, drawn_next, is_drawn, numbered, unfinished_is}
 use Rattle.asp_core.proofs.Staying.{unequal}
 

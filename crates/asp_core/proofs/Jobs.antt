@@ -18,7 +18,8 @@ use Rattle.asp_job.specs.declared.entry.What.TheVariants.{Admit, App, Begin, End
 use Rattle.asp_job.specs.declared.job.Job.{Job}
 use Rattle.asp_job.specs.declared.job.Work.{Work}
 use Rattle.asp_job.specs.declared.job.Work.TheVariants as work
-use Rattle.asp_core.proofs.Others.{fresh_other, job_other, key_other}
+use Rattle.asp_journal.proofs.Others.{key_other}
+use Rattle.asp_core.proofs.Others.{fresh_other, job_other}
 
 -- ---- runs that the host queued are no pages
 

@@ -1,5 +1,3 @@
-pub mod Past
-pub mod Numbers
 pub mod Others
 pub mod Right
 pub mod Least
@@ -11,7 +9,6 @@ pub mod Begun
 pub mod Closing
 pub mod Waiting
 pub mod Starting
-pub mod Bounds
 pub mod Same
 pub mod Staying
 pub mod Locking

@@ -16,8 +16,8 @@ use Rattle.asp_job.specs.declared.job.Job.{Job}
 use Rattle.asp_job.specs.declared.job.Work.{Work}
 use Rattle.asp_job.specs.declared.job.Work.TheVariants as work
 use Rattle.asp_job.specs.declared.session.SessionState.{SessionState}
+use Rattle.asp_journal.proofs.Others.{key_other}
 use Rattle.asp_core.proofs.Jobs.{admit_right}
-use Rattle.asp_core.proofs.Others.{key_other}
 
 abbrev AreWithin : ℕ → List ℕ → Type 0
 AreWithin n [] = Unit {0}

@@ -20,7 +20,7 @@ use Rattle.asp_job.specs.Turns.{may_begin, serial_of}
 use Rattle.asp_job.specs.declared.entry.Entry.{Entry}
 use Rattle.asp_job.specs.declared.entry.Stage.TheVariants.{Waiting}
 use Rattle.asp_job.specs.declared.session.SessionState.{SessionState}
-use Rattle.asp_core.proofs.Others.{own_number}
+use Rattle.asp_journal.proofs.Others.{own_number}
 use Rattle.asp_core.proofs.Right.{is_begun, may_begin_waits, no_replies}
 
 -- ---- the session of a run

@@ -12,7 +12,7 @@ use Rattle.asp_job.specs.Output.{answer_by, unavailable_in}
 use Rattle.asp_job.specs.Rules.{Rules, TooManySessions}
 use Rattle.asp_core.specs.Given.{AreOfFirst, answer_among, given, handed, hands_out, made_by}
 use Rattle.asp_core.specs.Ready.{ready, with_answer}
-use Rattle.asp_core.proofs.Others.{own_number}
+use Rattle.asp_journal.proofs.Others.{own_number}
 
 -- ---- one more entry
 

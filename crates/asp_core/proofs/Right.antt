@@ -18,7 +18,8 @@ use Rattle.asp_job.specs.declared.entry.What.TheVariants.{Admit, App, Begin, End
 use Rattle.asp_job.specs.declared.job.Work.{Work}
 use Rattle.vb_value.specs.declared.application.AppCall.{AppCall}
 use Rattle.vb_value.specs.declared.application.AppReply.{AppReply}
-use Rattle.asp_core.proofs.Others.{stage_other, replies_other}
+use Rattle.asp_journal.proofs.Others.{stage_other}
+use Rattle.asp_core.proofs.Others.{replies_other}
 
 and_left : (a b : Bool) → (a && b) ≡ true → a ≡ true
 and_left true b e = refl

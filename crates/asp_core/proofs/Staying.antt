@@ -1,5 +1,5 @@
 -- Runs stay as they are while other entries come.
-use Rattle.std.proofs.Common.{◌≡◌, ◌≢◌, ℕ, ◌==◌, false, List, [], ◌∷◌, ◌++◌, reverse, refl, ap, ◌∙◌, subst, arith, inl}
+use Rattle.std.proofs.Common.{◌≡◌, ◌≢◌, ℕ, ◌==◌, false, List, [], ◌∷◌, refl, ap, ◌∙◌, arith, inl}
 use Rattle.std.proofs.Common.{inr}
 use Rattle.std.proofs.lemmas.Bool.{cases_Bool, eqb-true}
 use Rattle.asp_core.specs.Laws.{AreNoSteps, AreOfOthers, RunStays, is_step_of}
@@ -12,10 +12,10 @@ use Rattle.asp_job.specs.declared.entry.Entry.{Entry}
 use Rattle.asp_job.specs.declared.entry.Stage.TheVariants.{Unfinished, Waiting}
 use Rattle.asp_job.specs.declared.entry.What.{What}
 use Rattle.asp_job.specs.declared.entry.What.TheVariants.{Admit, App, Begin, End, Halt, Queue, Refuse, Stop, Take, Tick}
-use Rattle.asp_core.proofs.Others.{stage_other, lane_other, told_other}
+use Rattle.asp_journal.proofs.Others.{stage_other}
+use Rattle.asp_core.proofs.Others.{lane_other, told_other}
 use Rattle.asp_core.proofs.Right.{numbered, drawn_next, begin_right, call_running, end_running, may_begin_waits}
 use Rattle.asp_core.proofs.Right.{unfinished_is, is_drawn}
-use Rattle.asp_core.proofs.Kept.{past_of_more}
 
 pub unequal : (a b : ℕ) → (a ≡ b → ⊥) → (a == b) ≡ false
 unequal a b n = elim (cases_Bool (a == b)) [ inl e ↦ absurd (n (eqb-true a b e)) | inr e ↦ e ]
@@ -117,12 +117,3 @@ stays_lane m past (entry ∷ entries) lane r right running others =
     others.0) in
     let rest = stays_lane m (entry ∷ past) entries lane r right one.running others.1 in
     record { running = rest.running; same = rest.same ∙ one.same }
-
--- the same over journals
-pub stays_journal : (m : Rules) (journal entries : List Entry) (lane r : ℕ) → AreRight m (reverse (journal ++ entries))
-    → IsRunning (reverse journal) lane r → AreOfOthers lane entries
-    → RunStays m (reverse journal) (reverse (journal ++ entries)) lane r
-stays_journal m journal entries lane r right running others =
-    let of = past_of_more journal entries in
-    let right' : AreRight m (past_after (reverse journal) entries) = subst (AreRight m) of right in
-    rw of (stays_lane m (reverse journal) entries lane r right' running others)

@@ -1,6 +1,6 @@
 -- How many runs wait, and how many jobs came, at most.
-use Rattle.std.proofs.Common.{◌≡◌, ℕ, suc, zero, ◌+◌, ◌≤◌, Bool, true, false, if◌then◌else◌, List, [], ◌∷◌}
-use Rattle.std.proofs.Common.{length, filter, refl, arith, length-append}
+use Rattle.std.proofs.Common.{ℕ, ◌≤◌, Bool, List, [], ◌∷◌}
+use Rattle.std.proofs.Common.{length, filter, arith}
 use Rattle.asp_job.specs.History.{entries_in, with_lane}
 use Rattle.asp_job.specs.Runs.{drawn, is_waiting, numbers, waiting}
 use Rattle.asp_job.specs.Turns.{is_waiting_page, waiting_pages}
@@ -8,27 +8,13 @@ use Rattle.asp_job.specs.declared.entry.Entry.{Entry}
 use Rattle.asp_job.specs.declared.entry.What.{What}
 use Rattle.asp_job.specs.declared.entry.What.TheVariants.{Admit, App, Begin, End, Halt, Queue, Refuse, Stop, Take, Tick}
 use Rattle.asp_journal.specs.Telling.{admitted}
-use Rattle.asp_core.proofs.Bounds.{drawn_small}
-
-length-numbers : (n : ℕ) → length (numbers n) ≡ n
-length-numbers zero = refl
-length-numbers (suc n) =
-    let before = length-numbers n in
-    let more = length-append (numbers n) (suc n ∷ []) in
-    omega arith
-
-if_few : (b : Bool) (x : ℕ) (xs : List ℕ) (n : ℕ) → length xs ≤ n → length (if b then x ∷ xs else xs) ≤ n + 1
-if_few true x xs n few = omega arith
-if_few false x xs n few = omega arith
-
-filter_few : (p : ℕ → Bool) (xs : List ℕ) → length (filter p xs) ≤ length xs
-filter_few p [] = omega arith
-filter_few p (x ∷ xs) = let more = if_few (p x) x (filter p xs) (length xs) (filter_few p xs) in omega arith
+use Rattle.asp_journal.proofs.Bounds.{drawn_small}
+use Rattle.asp_journal.proofs.Open.{length_numbers, passed_few}
 
 runs_few : (p : ℕ → Bool) (past : List Entry) → length (filter p (numbers (drawn past))) ≤ entries_in past
 runs_few p past =
-    let few = filter_few p (numbers (drawn past)) in
-    let all = length-numbers (drawn past) in
+    let few = passed_few p (numbers (drawn past)) in
+    let all = length_numbers (drawn past) in
     let small = drawn_small past in
     omega arith
 

@@ -1,7 +1,7 @@
 -- How many entries a Tick adds, with the runs that are then owed.
-use Rattle.std.proofs.Common.{◌≡◌, ℕ, zero, suc, ◌+◌, ◌-◌, ◌≤◌, Bool, true, false, if◌then◌else◌, List, [], ◌∷◌, ◌++◌}
+use Rattle.std.proofs.Common.{◌≡◌, ℕ, suc, ◌+◌, ◌-◌, ◌≤◌, Bool, true, false, if◌then◌else◌, List, [], ◌∷◌, ◌++◌}
 use Rattle.std.proofs.Common.{length, reverse, filter, Option, append_assoc, ap, ◌∙◌, refl, sym}
-use Rattle.std.proofs.Common.{arith, length-append, nat_lt, subst}
+use Rattle.std.proofs.Common.{arith, nat_lt, subst}
 use Rattle.asp_core.specs.Drawing.{drawn_by, drawn_then, entries_by, tick_before}
 use Rattle.asp_core.specs.Kernel.{expired_by, ticked}
 use Rattle.asp_job.specs.History.{counts, entries_in, with_lane}
@@ -15,7 +15,8 @@ use Rattle.asp_job.specs.declared.entry.TheConstants.{MOST_ENTRIES}
 use Rattle.asp_job.specs.declared.entry.What.TheVariants.{Tick}
 use Rattle.asp_job.specs.declared.job.Job.{Job}
 use Rattle.asp_job.specs.declared.session.SessionState.{SessionState}
-use Rattle.asp_core.proofs.Bounds.{made_small}
+use Rattle.asp_journal.proofs.Bounds.{made_small}
+use Rattle.asp_journal.proofs.Open.{length_numbers, passed_few}
 use Rattle.asp_core.proofs.Kept.{past_of_more}
 
 one_or_none : (b : Bool) (n k : ℕ) → n ≤ k → (if b then n + 1 else n) ≤ k + 1
@@ -33,22 +34,6 @@ queue_length : (lane run : ℕ) (keys : List ℕ) → length (queue_entries lane
 queue_length lane run [] = refl
 queue_length lane run (k ∷ keys) = ap suc (queue_length lane (run + 1) keys)
 
-kept_or_not : (b : Bool) (x : ℕ) (xs ys : List ℕ) → length xs ≤ length ys → length (if b then x ∷ xs else xs) ≤ length
-    ys + 1
-kept_or_not true x xs ys h = omega arith
-kept_or_not false x xs ys h = omega arith
-
-filter_length : (p : ℕ → Bool) (xs : List ℕ) → length (filter p xs) ≤ length xs
-filter_length p [] = omega arith
-filter_length p (x ∷ xs) = let one = kept_or_not (p x) x (filter p xs) xs (filter_length p xs) in omega arith
-
-numbers_length : (n : ℕ) → length (numbers n) ≡ n
-numbers_length zero = refl
-numbers_length (suc n) =
-    let all = length-append (numbers n) (suc n ∷ []) in
-    let before = numbers_length n in
-    omega arith
-
 due_if : (b : Bool) (keys : List ℕ) (n : ℕ) → length keys ≤ n → length (if b then [] else keys) ≤ n
 due_if true keys n h = omega arith
 due_if false keys n h = h
@@ -56,8 +41,8 @@ due_if false keys n h = h
 due_length : (sessions : ℕ → Option SessionState) (past : List Entry) (moment : ℕ)
     → length (due_at sessions past moment) ≤ made past
 due_length sessions past moment =
-    let all = filter_length (is_due_key sessions past moment) (numbers (made past)) in
-    let size = numbers_length (made past) in
+    let all = passed_few (is_due_key sessions past moment) (numbers (made past)) in
+    let size = length_numbers (made past) in
     due_if (is_stopping past) (filter (is_due_key sessions past moment) (numbers (made past))) (made past) (omega arith)
 
 ticked_if : (b : Bool) (entries : List Entry) (n : ℕ) → length entries ≤ n → length (if b then entries else []) ≤ n

@@ -16,8 +16,9 @@ use Rattle.asp_job.specs.declared.entry.Stage.TheVariants.{Waiting}
 use Rattle.asp_job.specs.declared.entry.What.TheVariants.{Queue, Tick}
 use Rattle.asp_job.specs.declared.job.Job.{Job}
 use Rattle.asp_job.specs.declared.job.Work.{Work}
-use Rattle.asp_core.proofs.Others.{other_number, own_number, stage_other, job_other}
-use Rattle.asp_core.proofs.Numbers.{filter_same, filter_more}
+use Rattle.asp_journal.proofs.Numbers.{filter_more, filter_same}
+use Rattle.asp_journal.proofs.Others.{other_number, own_number, stage_other}
+use Rattle.asp_core.proofs.Others.{job_other}
 use Rattle.asp_core.proofs.Kept.{tick_is, no_tick_is}
 
 queue_stopping : (past : List Entry) (lane run : ℕ) (list : List (Work × ℕ))

@@ -21,7 +21,7 @@ use asp_journal::{Journal, call_weight, reply_weight};
 use vb_value::{AppCall, AppReply};
 
 /// Makes room for the entry of a call and for all that is to come for sure, if the entry fits.
-#[tactic(auto, using(crate::proofs::Past::length_past, crate::proofs::Past::halts_few))]
+#[tactic(auto, using(asp_journal::proofs::Past::length_past, crate::proofs::Calm::halts_few))]
 fn room_for_call(
     journal: &mut Journal,
     answers: &[(u32, Answer)],

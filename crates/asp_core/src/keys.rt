@@ -1,5 +1,5 @@
 //! What a journal and the sessions tell of runs and keys.
-#![tactic(auto, using(crate::proofs::Numbers::any_more, crate::proofs::Numbers::filter_more))]
+#![tactic(auto, using(asp_journal::proofs::Numbers::filter_more))]
 
 ghost use Rattle.std.specs.Prelude.{◌≡◌, ◌≤◌, ◌+◌, ◌-◌, ◌<◌, ◌^◌, ◌*◌, ◌==◌, ◌&&◌, Option, reverse, length, ℕ, false};
 ghost use Rattle.std.specs.Prelude.{true, List, filter, min};

@@ -15,7 +15,7 @@ pub const MOST_BODIES: u64 = 268_435_456;
 pub const BODY_ROOM: u64 = 4_194_304;
 
 /// The bytes of the bodies of the answers. 2^64 - 1 stands for more.
-#[tactic(auto, using(crate::proofs::Past::sum_more))]
+#[tactic(auto, using(asp_journal::proofs::Past::sum_more))]
 fn bodies_of(answers: &[(u32, Answer)]) -> u64
     ensures { result ≡ min (spec.bodies_of answers.now) (2 ^ 64 - 1) }
 {

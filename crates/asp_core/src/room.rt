@@ -18,7 +18,7 @@ use asp_journal::{Journal, what_weight};
 use vb_value::{List, Memory};
 
 /// What entries weigh. 2^64 - 1 stands for a greater weight.
-#[tactic(auto, using(crate::proofs::Past::sum_more))]
+#[tactic(auto, using(asp_journal::proofs::Past::sum_more))]
 pub fn entries_weight(entries: &[Entry]) -> u64
     ensures { result ≡ min (sum_by spec.entry_weight entries.now) (2 ^ 64 - 1) }
 {

@@ -39,9 +39,14 @@ invariant_of-self g c =
     let calm = subst AreCalm made (job_calm rules (session_at core.table.items) past c.args.lane c.args.job.now) in
     let same = on_ok c.take_job-made.result _ _ (λ taken.
     fail_calm rules core.journal.items next more taken.journal_is calm) ok in
-    let still = on_err c.take_job-made.result _ _ (λ both. both.0) c.take_job-made.ensures.err in
-    (all.0, all.1, all.2, all.3, fail_either c.take_job-made.result rules core.journal.items next core.start_fail
-    c.self.invariant.4 same still)
+    let still = on_err c.take_job-made.result _ _ (λ both. both.0) c.take_job-made.ensures.err in (
+      all.0,
+      all.1,
+      all.2,
+      all.3,
+      fail_either c.take_job-made.result rules core.journal.items next core.start_fail
+          c.self.invariant.4 same still,
+    )
 
 pub returns-clause-ok : goal.returns-clause-ok
 returns-clause-ok g c =

@@ -33,9 +33,14 @@ invariant_of-self g c =
     let same = on_ok c.make_call.result _ _ (λ has. fail_push m core.journal.items c.make_call.new.journal.items
     (with_lane c.args.lane (App run.number has.call (apply core.application run.number has.call).1)) has.journal_is
     refl) ok in
-    let still = on_err c.make_call.result _ _ (λ all. all.0) c.make_call.ensures.err in
-    (all.0, all.1, all.2, all.3, fail_either c.make_call.result m core.journal.items c.make_call.new.journal.items
-    core.start_fail c.self.invariant.4 same still)
+    let still = on_err c.make_call.result _ _ (λ all. all.0) c.make_call.ensures.err in (
+      all.0,
+      all.1,
+      all.2,
+      all.3,
+      fail_either c.make_call.result m core.journal.items c.make_call.new.journal.items
+          core.start_fail c.self.invariant.4 same still,
+    )
 
 pub returns-clause-ok : goal.returns-clause-ok
 returns-clause-ok g c =

@@ -49,9 +49,14 @@ invariant_of-self g c =
     let same = on_each_ok c.begin_run.result _ _ (λ run has. fail_push m core.journal.items
     c.begin_run.new.journal.items (begin_entry m (reverse core.journal.items) c.args.lane run.number) has.journal_is
     refl) ok in
-    let still = on_err c.begin_run.result _ _ (λ both. both.0) c.begin_run.ensures.err in
-    (all.0, all.1, all.2, all.3, fail_either c.begin_run.result m core.journal.items c.begin_run.new.journal.items
-    core.start_fail c.self.invariant.4 same still)
+    let still = on_err c.begin_run.result _ _ (λ both. both.0) c.begin_run.ensures.err in (
+      all.0,
+      all.1,
+      all.2,
+      all.3,
+      fail_either c.begin_run.result m core.journal.items c.begin_run.new.journal.items
+          core.start_fail c.self.invariant.4 same still,
+    )
 
 pub returns-clause-next : goal.returns-clause-next
 returns-clause-next g c =
