@@ -14,7 +14,7 @@ use Rattle.asp_job.specs.Runs.{drawn, is_halted, is_stage_unfinished, is_unfinis
 use Rattle.asp_journal.specs.Rows.{IsNumberedFor}
 use Rattle.asp_journal.specs.Tables.{AreFit}
 use Rattle.asp_core.specs.Calm.{AreCalm, HasLoad, IsCalm, IsOver, entry_weight}
-use Rattle.asp_core.specs.Kernel.{HasAnswerRoom, HasRoom, IsTooMuch, IsWithin}
+use Rattle.asp_core.specs.Kernel.{HasAnswerRoom, HasRoom, IsTooMuch, IsWithin, halts_to_come}
 use Rattle.asp_journal.proofs.Numbers.{filter_more, filter_same}
 use Rattle.asp_journal.proofs.Others.{stage_other}
 use Rattle.asp_journal.proofs.Past.{length_past}
