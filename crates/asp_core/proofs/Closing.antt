@@ -5,7 +5,7 @@ use Rattle.asp_job.specs.declared.job.Work.TheVariants as work
 use Rattle.asp_job.specs.History.{with_lane}
 use Rattle.asp_job.specs.Journal.{queue_entries}
 use Rattle.asp_job.specs.Turns.{closing_runs}
-use Rattle.asp_job.specs.declared.entry.What.TheVariants.{Queue, Stop}
+use Rattle.asp_job.specs.declared.entry.What.TheVariants.{Queue}
 
 -- the first of what is left, and the others
 pub queue_first : (lane run : ℕ) (keys : List ℕ) (i : ℕ) (d : ℕ) → i < length keys

@@ -1,5 +1,5 @@
 use Rattle.std.proofs.Common.{◌≡◌, ◌∷◌, reverse, Some, None, Err, ap, sym, subst, ◌∙◌}
-use Rattle.std.proofs.Common.{length, rules, vec_capacity}
+use Rattle.std.proofs.Common.{length, rules}
 use Rattle.asp_job.specs.Application.{apply, blocker_of}
 use Rattle.asp_job.specs.Calls.{IsReply}
 use Rattle.asp_job.specs.History.{with_lane}

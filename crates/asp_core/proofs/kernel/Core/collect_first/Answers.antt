@@ -1,5 +1,5 @@
-use Rattle.std.proofs.Common.{◌≡◌, reverse, length, nat_eq, Some, IsSome, ap, refl, sym}
-use Rattle.std.proofs.Common.{subst, ◌∙◌, arith, vec_capacity, vec_len}
+use Rattle.std.proofs.Common.{◌≡◌, reverse, nat_eq, Some, IsSome, ap, refl, sym}
+use Rattle.std.proofs.Common.{subst, ◌∙◌, arith, vec_capacity}
 use Rattle.std.specs.Map.{lookup}
 use Rattle.std.proofs.lemmas.Grind.{common_steps}
 use Rattle.asp_job.specs.History.{with_lane}
