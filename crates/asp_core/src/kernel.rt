@@ -56,7 +56,8 @@ impl<R: Runner> Model for Core<R> {
         × IsWithin (reverse c.journal.items)
         × HasRoom (reverse c.journal.items) (length c.answers.items) c.journal.capacity
         × HasAnswerRoom (reverse c.journal.items) (length c.answers.items) (vec_capacity c.answers)
-        × (c.start_fail ≡ starts.start_fail (rules_by (R.meaning c.runner.value c.site.value) c.seed) (reverse c.journal.items)) };
+        × (c.start_fail ≡ starts.start_fail (rules_by (R.meaning c.runner.value c.site.value) c.seed)
+        (reverse c.journal.items)) };
 }
 
 fn first_journal(
