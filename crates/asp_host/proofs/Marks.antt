@@ -1,13 +1,13 @@
 -- Marks of runs, and the answers of a journal.
 use Rattle.std.proofs.Common.{◌≡◌, ℕ, zero, suc, ◌+◌, ◌<◌, ◌==◌, Bool, true, false, List, [], ◌∷◌, ◌++◌}
 use Rattle.std.proofs.Common.{Option, Some, None, is_some, length, slice_set, unwrap_or, refl, ap, sym, ◌∙◌}
-use Rattle.std.proofs.Common.{arith, length-append, inl, inr}
+use Rattle.std.proofs.Common.{arith, length-append, inl, inr, get_or, reverse, take}
 use Rattle.std.specs.Option.{option_map}
 use Rattle.std.proofs.lemmas.Bool.{cases_Bool, eqb-true}
 use Rattle.std.proofs.lemmas.Grind.{get_or-set_at}
-use Rattle.std.proofs.lemmas.List.{get_or-set_other}
+use Rattle.std.proofs.lemmas.List.{get_or-set_other, reverse-append, take_more}
 use Rattle.asp_core.specs.Ready.{IsAnswered, IsAnsweredBy}
-use Rattle.asp_core.proofs.Past.{page_more}
+use Rattle.asp_journal.proofs.Past.{page_more}
 use Rattle.asp_job.specs.declared.entry.Entry.{Entry}
 use Rattle.asp_job.specs.declared.entry.What.{What}
 use Rattle.asp_job.specs.declared.entry.What.TheVariants.{Queue, Admit, Refuse, Tick, Begin, App, End, Take, Stop, Halt}
@@ -100,3 +100,9 @@ counted_more past entry pages count marks counted rules answered =
 
 pub none_counted : AreCounted [] 0
 none_counted rules answered = refl
+
+-- the past of a journal read one entry further
+pub past_more : (journal : List Entry) (i : ℕ) (d : Entry) → i < length journal
+    → reverse (take (i + 1) journal) ≡ get_or journal i d ∷ reverse (take i journal)
+past_more journal i d h = ap reverse (take_more journal i d h)
+    ∙ reverse-append (take i journal) (get_or journal i d ∷ [])

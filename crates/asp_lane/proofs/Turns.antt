@@ -20,7 +20,7 @@ use Rattle.asp_core.specs.declared.stop.BeginStop.{BeginStop}
 use Rattle.asp_core.specs.declared.stop.BeginStop.TheVariants as begin
 use Rattle.asp_core.specs.Kernel.{CoreView, RunView, IsBeginTooMuch, IsIdle, IsRunOf, IsTooMuch, StandsAsBefore}
 use Rattle.asp_core.specs.Kernel.{StandsAt, blocker, called, grown, past_of, rules_of, wanted_by}
-use Rattle.asp_core.proofs.Past.{past_push}
+use Rattle.asp_journal.proofs.Past.{past_push}
 use Rattle.asp_lane.specs.declared.turn.Turn.{Turn}
 use Rattle.asp_lane.specs.declared.turn.Turn.TheVariants as turn
 use Rattle.asp_lane.specs.Turns.{Adds, IsAlone, IsTurn, turn_of}

@@ -16,7 +16,7 @@ use Rattle.asp_job.specs.Runs.{drawn, is_stage_unfinished, is_unfinished, number
 use Rattle.asp_job.specs.Turns.{may_begin}
 use Rattle.asp_core.proofs.Counts.{fewer_unfinished, smaller}
 use Rattle.asp_core.proofs.Holding.{holder_unfinished}
-use Rattle.asp_core.proofs.Others.{own_number, stage_other}
+use Rattle.asp_journal.proofs.Others.{own_number, stage_other}
 use Rattle.asp_core.proofs.Right.{is_drawn, may_begin_waits, numbered, unfinished_is}
 
 -- ---- numbers that pass a test

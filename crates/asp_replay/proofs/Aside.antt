@@ -22,8 +22,8 @@ use Rattle.asp_core.specs.Kernel.{CoreView, RunView, StandsFor, grown, past_of, 
 use Rattle.asp_core.specs.Laws.{AreNoSteps, is_step_of}
 use Rattle.asp_core.specs.Standing.{stand_ins}
 use Rattle.asp_core.proofs.Kept.{no_tick_is, past_of_more, tick_is}
-use Rattle.asp_core.proofs.Numbers.{filter_more, filter_same}
-use Rattle.asp_core.proofs.Others.{other_number, own_number, stage_other}
+use Rattle.asp_journal.proofs.Numbers.{filter_more, filter_same}
+use Rattle.asp_journal.proofs.Others.{other_number, own_number, stage_other}
 use Rattle.asp_core.proofs.Right.{drawn_next}
 use Rattle.asp_core.proofs.Staying.{stays}
 use Rattle.asp_lane.specs.Turns.{Fits}

@@ -6,7 +6,8 @@ use Rattle.std.proofs.lemmas.Bool.{cases_Bool, eqb-true}
 use Rattle.std.proofs.lemmas.List.Elements.{filter-append}
 use Rattle.asp_core.proofs.Counts.{smaller}
 use Rattle.asp_core.proofs.Jobs.{admit_right, page_asked}
-use Rattle.asp_core.proofs.Others.{job_other, stage_other}
+use Rattle.asp_core.proofs.Others.{job_other}
+use Rattle.asp_journal.proofs.Others.{stage_other}
 use Rattle.asp_core.proofs.Right.{begin_right, drawn_next, is_drawn, may_begin_waits, next_undrawn, numbered}
 use Rattle.asp_core.proofs.Right.{unfinished_is, waiting_is}
 use Rattle.asp_job.specs.declared.entry.Entry.{Entry}

@@ -6,7 +6,7 @@ use Rattle.std.proofs.Common.{inl, inr}
 use Rattle.std.proofs.lemmas.Bool.{cases_lt, lt-ltb}
 use Rattle.asp_core.specs.Drawing.{entry_then}
 use Rattle.asp_core.specs.Laws.{NoneIs}
-use Rattle.asp_core.specs.Telling.{end_kind}
+use Rattle.asp_journal.specs.Telling.{end_kind}
 use Rattle.asp_core.proofs.Kept.{no_tick_is, tick_is}
 use Rattle.asp_core.proofs.Waiting.{tick_stopping}
 use Rattle.asp_job.specs.declared.answer.Answer.{Answer}

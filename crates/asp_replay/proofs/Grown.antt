@@ -6,7 +6,7 @@ use Rattle.std.proofs.Common.{Result, Ok, Err}
 use Rattle.std.proofs.lemmas.List.{reverse-append}
 use Rattle.asp_core.specs.Kernel.{CoreView, past_of, rules_of}
 use Rattle.asp_core.specs.Ready.{IsAnswered, ready}
-use Rattle.asp_core.specs.Telling.{end_kind}
+use Rattle.asp_journal.specs.Telling.{end_kind}
 use Rattle.asp_core.proofs.Kept.{past_of_more}
 use Rattle.asp_io.specs.Sink.{with_bytes}
 use Rattle.asp_job.specs.declared.answer.Answer.{Answer}

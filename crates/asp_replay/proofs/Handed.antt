@@ -1,7 +1,7 @@
 -- What hand-outs leave of a journal.
 use Rattle.std.proofs.Common.{◌≡◌, ℕ, nat_eq, List, [], ◌∷◌, ◌++◌, refl, ap, sym, ◌∙◌, append-nil}
 use Rattle.std.specs.Map.{remove_entry}
-use Rattle.asp_core.proofs.Others.{own_number}
+use Rattle.asp_journal.proofs.Others.{own_number}
 use Rattle.asp_core.specs.Ready.{IsAnswered, first_for, ready}
 use Rattle.asp_job.specs.declared.answer.Answer.{Answer}
 use Rattle.asp_job.specs.declared.entry.Entry.{Entry}

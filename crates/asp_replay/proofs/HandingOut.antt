@@ -8,7 +8,7 @@ use Rattle.std.proofs.lemmas.List.{map-append}
 use Rattle.asp_core.proofs.Answering.{are_those, its_answer}
 use Rattle.asp_core.proofs.Jobs.{page_asked}
 use Rattle.asp_core.proofs.Kept.{past_of_more}
-use Rattle.asp_core.proofs.Others.{own_number}
+use Rattle.asp_journal.proofs.Others.{own_number}
 use Rattle.asp_lane.proofs.Turns.{grown_none}
 use Rattle.asp_core.specs.Kernel.{CoreView, grown, past_of, rules_of}
 use Rattle.asp_core.specs.Ready.{IsAnswered, asked_by, first_for, ready}

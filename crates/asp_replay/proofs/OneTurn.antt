@@ -4,7 +4,7 @@ use Rattle.std.proofs.Common.{filter}
 use Rattle.std.proofs.Common.{refl, sym, ◌∙◌, inl, inr, Option, Result, Ok, Err}
 use Rattle.std.proofs.lemmas.Bool.{cases_Bool}
 use Rattle.std.specs.Borrow.{Bor}
-use Rattle.asp_core.specs.Telling.{end_kind}
+use Rattle.asp_journal.specs.Telling.{end_kind}
 use Rattle.asp_job.specs.declared.entry.Entry.{Entry}
 use Rattle.asp_job.specs.declared.entry.TheConstants.{MOST_WAITING}
 use Rattle.asp_job.specs.Rules.{Rules}

@@ -3,7 +3,7 @@ use Rattle.std.proofs.Common.{◌≡◌, ℕ, ◌++◌, ◌&&◌, Bool, true, fa
 use Rattle.std.proofs.Common.{subst, append-nil}
 use Rattle.std.proofs.Common.{Option, Result, Ok, Err, IfErr, IfOk, OnOk, ◌<◌, ◌≤◌, ◌^◌}
 use Rattle.asp_core.specs.Kernel.{CoreView, IsHostOf, grown, rules_of}
-use Rattle.asp_core.specs.Telling.{end_kind}
+use Rattle.asp_journal.specs.Telling.{end_kind}
 use Rattle.asp_io.specs.Faults.{HasCause}
 use Rattle.asp_job.specs.declared.entry.Entry.{Entry}
 use Rattle.asp_job.specs.Rules.{Rules}

@@ -3,7 +3,7 @@ use Rattle.std.proofs.Common.{◌≡◌, ℕ, ◌&&◌, Bool, true, false, is_so
 use Rattle.std.proofs.Common.{inr}
 use Rattle.std.proofs.Common.{Option, Some, None}
 use Rattle.asp_core.specs.Kernel.{CoreView, grown, past_of}
-use Rattle.asp_core.specs.Telling.{end_kind, kind_in}
+use Rattle.asp_journal.specs.Telling.{end_kind, kind_in}
 use Rattle.asp_core.proofs.Kept.{past_of_more}
 use Rattle.asp_job.specs.declared.entry.EndKind.{EndKind}
 use Rattle.asp_job.specs.declared.entry.Entry.{Entry}

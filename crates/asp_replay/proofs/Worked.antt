@@ -8,7 +8,7 @@ use Rattle.asp_job.specs.Told.{Meaning, Told}
 use Rattle.asp_job.specs.Turns.{serial_of}
 use Rattle.asp_core.specs.Kernel.{CoreView, RunView, grown, past_of, rules_of}
 use Rattle.asp_core.specs.Ready.{ready}
-use Rattle.asp_core.proofs.Past.{past_push}
+use Rattle.asp_journal.proofs.Past.{past_push}
 use Rattle.asp_lane.specs.declared.turn.Turn.{Turn}
 use Rattle.asp_lane.specs.declared.turn.Turn.TheVariants as turn
 use Rattle.asp_lane.specs.Turns.{AddsBegin, AddsStep, Fits, IsTurn}

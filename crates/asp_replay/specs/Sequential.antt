@@ -19,7 +19,7 @@ use Rattle.asp_job.specs.Runs.{is_stopping, moment_of, unfinished}
 use Rattle.asp_job.specs.Told.{Wants}
 use Rattle.asp_job.specs.Turns.{IsBegin, serial_of, waiting_pages}
 use Rattle.asp_core.specs.Ready.{ready}
-use Rattle.asp_core.specs.Telling.{end_kind}
+use Rattle.asp_journal.specs.Telling.{end_kind}
 use Rattle.asp_record.specs.declared.recording.Item.{Item}
 use Rattle.asp_record.specs.declared.recording.Item.TheVariants as item
 use Rattle.asp_record.specs.Recorded as recorded

@@ -7,7 +7,7 @@ ghost use Rattle.asp_job.specs.declared.entry.What.{What};
 ghost use Rattle.asp_job.specs.Journal.{stop_entries, past_after};
 ghost use Rattle.asp_job.specs.Runs.{is_stopping};
 ghost use Rattle.asp_core.specs.Drawing as drawing;
-ghost use Rattle.asp_core.specs.Telling.{end_kind};
+ghost use Rattle.asp_journal.specs.Telling.{end_kind};
 ghost use Rattle.asp_core.specs.Kernel.{IsHostOf, IsTooMuch, grown, past_of, rules_of};
 ghost use Rattle.asp_record.specs.Recorded as recorded;
 ghost use Rattle.asp_replay.specs.Feeding as feeding;

@@ -1,6 +1,6 @@
 use Rattle.std.specs.Prelude.{◌≡◌, ◌<◌, ◌≤◌, ◌^◌, ℕ, List, Option, is_some, true}
 use Rattle.asp_core.specs.Kernel.{grown, past_of, rules_of}
-use Rattle.asp_core.specs.Telling.{end_kind}
+use Rattle.asp_journal.specs.Telling.{end_kind}
 use Rattle.asp_job.specs.declared.entry.Entry.{Entry}
 use Rattle.asp_lane.specs.Turns.{Fits, run_in}
 use Rattle.asp_replay.specs.Underway.{IsUnderWay}

@@ -1,7 +1,7 @@
 use Rattle.std.proofs.Common.{◌≡◌, [], arith, is_some, subst, sym, true}
 use Rattle.std.proofs.lemmas.Result.{err_from_is_err_and}
 use Rattle.asp_core.specs.Kernel.{past_of, rules_of}
-use Rattle.asp_core.specs.Telling.{end_kind}
+use Rattle.asp_journal.specs.Telling.{end_kind}
 use Rattle.asp_lane.specs.Turns.{Fits, run_in}
 use Rattle.asp_replay.specs.declared.stop.FeedStop.TheVariants as stop
 use Rattle.asp_replay.specs.Underway.{EndsSo, IsOfOneLane, is_starting}
