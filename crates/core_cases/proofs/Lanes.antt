@@ -1,7 +1,7 @@
 -- The runs of other lanes stay while a lane makes a call.
 use Rattle.std.proofs.Common.{◌≡◌, ℕ, zero, suc, ◌+◌, ◌<◌, Bool, true, false, if◌then◌else◌, List, [], ◌∷◌, ◌++◌}
-use Rattle.std.proofs.Common.{length, get_or, reverse, refl, ap, sym, ◌∙◌, subst, arith, append-nil, inl, inr, Option}
-use Rattle.std.proofs.Common.{Some, None, Result, Ok, Err, OnOk, OnErr, IfOk, IsOk, IfSome, IfNone, nat_lt}
+use Rattle.std.proofs.Common.{length, get_or, reverse, refl, ap, sym, ◌∙◌, subst, append-nil, inl, inr, Option}
+use Rattle.std.proofs.Common.{Some, None, Result, Ok, Err, OnOk, OnErr, IsOk, IfSome, IfNone, nat_lt}
 use Rattle.std.proofs.lemmas.Bool.{cases_Bool, cases_eq}
 use Rattle.std.proofs.lemmas.List.{get_or-set_same, get_or-set_other, length-set}
 use Rattle.std.proofs.lemmas.Grind.{get_or-set_at}
@@ -14,20 +14,32 @@ use Rattle.asp_job.specs.declared.entry.What.TheVariants.{Take, Halt, Tick, Stop
 use Rattle.asp_job.specs.declared.job.Job.{Job}
 use Rattle.asp_job.specs.declared.job.Work.{Work}
 use Rattle.asp_job.specs.History.{call_entry, with_lane}
-use Rattle.asp_job.specs.Journal.{IsValidJournal, past_after, queue_entries, with_owed, tick_entries, stop_entries}
+use Rattle.asp_job.specs.Journal.{AreRight, IsValidJournal, past_after, queue_entries, with_owed, tick_entries, stop_entries}
 use Rattle.asp_job.specs.Journal.{admit_entries, admit_entry}
 use Rattle.asp_job.specs.Keys.{told}
 use Rattle.asp_job.specs.Rules.{Rules}
 use Rattle.asp_job.specs.Runs.{drawn, moment_of, is_stopping, is_halted}
 use Rattle.asp_job.specs.Told.{Told, Meaning}
-use Rattle.asp_job.specs.Turns.{owed}
+use Rattle.asp_job.specs.Turns.{IsRunning, owed}
 use Rattle.asp_core.specs.Kernel.{CoreView, RunView, IsHostOf, IsRunOf, StandsFor, called, grown, past_of}
 use Rattle.asp_core.specs.Kernel.{rules_of, wanted_by, HasNotFitFor}
-use Rattle.asp_core.specs.Laws.{AreOfOthers}
+use Rattle.asp_core.specs.Laws.{AreOfOthers, RunStays}
 use Rattle.asp_core.specs.Standing.{stand_ins}
 use Rattle.asp_core.proofs.Same.{on_ok}
-use Rattle.asp_core.proofs.Staying.{stays_journal}
+use Rattle.asp_core.proofs.Kept.{past_of_more}
+use Rattle.asp_core.proofs.Staying.{stays_lane}
 use Rattle.core_cases.specs.Lanes.{IsDesk, IsFree, IsTaken, HasGone, AreNone}
+
+-- ---- runs of other lanes
+
+-- they stay in a journal with entries of others
+stays_journal : (m : Rules) (journal entries : List Entry) (lane r : ℕ) → AreRight m (reverse (journal ++ entries))
+    → IsRunning (reverse journal) lane r → AreOfOthers lane entries
+    → RunStays m (reverse journal) (reverse (journal ++ entries)) lane r
+stays_journal m journal entries lane r right running others =
+    let of = past_of_more journal entries in
+    let right' : AreRight m (past_after (reverse journal) entries) = subst (AreRight m) of right in
+    rw of (stays_lane m (reverse journal) entries lane r right' running others)
 
 -- ---- entries of a lane
 

@@ -1,7 +1,7 @@
 use Rattle.std.proofs.Common.{[], ◌∷◌, refl}
 use Rattle.asp_job.specs.declared.entry.What.TheVariants.{Take}
 use Rattle.asp_job.specs.History.{with_lane}
-use Rattle.asp_core.specs.Kernel.{past_of, rules_of}
+use Rattle.asp_core.specs.Kernel.{rules_of}
 use Rattle.core_cases.proofs.Lanes.{stays, ok_grown}
 use Rattle.core_cases.proofs.desk.Desk.collect.Goals as goal
 

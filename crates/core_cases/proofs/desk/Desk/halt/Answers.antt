@@ -1,5 +1,5 @@
 use Rattle.std.proofs.Common.{refl}
-use Rattle.asp_core.specs.Kernel.{past_of, rules_of}
+use Rattle.asp_core.specs.Kernel.{rules_of}
 use Rattle.core_cases.proofs.Lanes.{stays, halt_grown}
 use Rattle.core_cases.proofs.desk.Desk.halt.Goals as goal
 
