@@ -1,7 +1,9 @@
 use Rattle.std.proofs.Common.{subst, sym}
 use Rattle.std.proofs.lemmas.Result.{err_from_is_err_and}
 use Rattle.asp_core.specs.Kernel.{rules_by}
+use Rattle.asp_replay.specs.declared.stop.FeedStop.TheVariants.{WriteFault}
 use Rattle.asp_host.specs.Replayed.{HasStopped}
+use Rattle.asp_host.proofs.Causes.{cause_after}
 use Rattle.asp_host.proofs.Replaying.{feed_stopped, replay_err, replay_ok}
 use Rattle.asp_host.proofs.output.write_replay.Goals as goal
 
@@ -28,3 +30,9 @@ returns-clause-err g c =
     c.args.recording.now.items c.args.journal (g.K.Sink.held c.args.sink.now) (g.K.Sink.held c.feed.new.sink)
     (g.K.Sink.held c.write_end.new.sink) c.write_end.result c.in_ok-core.ensures.core c.journal.ensures.valid
     c.in_ok-core.ensures.ok c.write_end.ensures.wrote
+
+pub returns-clause-cause : goal.returns-clause-cause
+returns-clause-cause g c =
+    cause_after WriteFault (g.K.Sink.faults c.args.sink.now) (g.K.Sink.faults c.feed.new.sink)
+    (g.K.Sink.faults c.write_end.new.sink) c.feed.result c.write_end.result c.feed.ensures.cause
+    c.write_end.ensures.cause
