@@ -7,7 +7,7 @@ use Rattle.asp_core.proofs.Fits.{job_calm, job_fit}
 use Rattle.asp_core.proofs.Kept.{no_tick_is, past_of_more, quiet_tick, tick_is}
 use Rattle.asp_core.specs.Drawing.{drawn_by, entries_by, entry_then, told_of}
 use Rattle.asp_core.specs.Kernel.{CoreView, grown, past_of, rules_of}
-use Rattle.asp_get.proofs.Going.{Leaves, grows_more, rules_grown}
+use Rattle.asp_get.proofs.Turns.{Leaves, grows_more, rules_grown}
 use Rattle.asp_get.proofs.Started.{started_grown}
 use Rattle.asp_get.specs.Jobs.{jobs_in}
 use Rattle.asp_get.specs.Underway.{Grows, HasGoneOn, IsAsked, IsReady}

@@ -1,4 +1,4 @@
-pub mod Going
+pub mod Turns
 pub mod Started
 pub mod Coming
 pub mod Stopped

@@ -5,7 +5,7 @@ use Rattle.asp_core.specs.declared.stop.AdmitStop.{AdmitStop}
 use Rattle.asp_core.specs.declared.stop.AdmitStop.TheVariants as admit
 use Rattle.asp_core.specs.Kernel.{CoreView, IsBeginTooMuch, IsHostOf, IsTooMuch, past_of, rules_by, rules_of}
 use Rattle.asp_core.specs.Start.{start_fail}
-use Rattle.asp_get.proofs.Going.{rules_grown}
+use Rattle.asp_get.proofs.Turns.{rules_grown}
 use Rattle.asp_get.specs.Answered.{HasAnswered, HasEndedWith, HasFailed, HasNoOther, HasStarted, IsGetStop}
 use Rattle.asp_get.specs.Answered.{IsTooMuchNext, OfBegin, OfCall, OfJob}
 use Rattle.asp_get.specs.declared.stop.GetStop.{GetStop}
