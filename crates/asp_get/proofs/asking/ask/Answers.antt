@@ -1,4 +1,4 @@
-use Rattle.std.proofs.Common.{[], ◌∙◌, Err, IfErr, ap, inr, subst, sym}
+use Rattle.std.proofs.Common.{◌≡◌, [], ◌∙◌, Err, IfErr, ap, inr, subst, sym}
 use Rattle.asp_core.specs.Drawing.{entry_then, told_of}
 use Rattle.asp_core.specs.Kernel.{past_of, rules_of}
 use Rattle.asp_get.proofs.Coming.{asked_so, free_still, grows_asked, job_there}
@@ -35,10 +35,11 @@ returns-in-Ok-clause-ok g c =
     let job = c.args.job.now in
     let asked = asked_so meaning old c.admit.new.self job c.requires.ready c.in-Ok.ensures.ok new
     c.go_on-gone.ensures.gone c.journal-in-Ok.ensures.valid in
+    let number : c.in-Ok.told.run ≡ (told_of (entry_then (rules_of meaning old) (past_of old) 0 job).what).run =
+    ap (λ told. told.run) c.in-Ok.ensures.told in
     number_so c.in-Ok.told.run c.go_on-gone.result c.number_back.result
     (IsAsked (rules_of meaning old) (past_of new) job) c.number_back.ensures
-    (subst (IsAsked (rules_of meaning old) (past_of new) job)
-    (sym (ap (λ told. told.run) c.in-Ok.ensures.told)) asked)
+    (subst (IsAsked (rules_of meaning old) (past_of new) job) (sym number) asked)
 
 pub returns-in-Ok-clause-err : goal.returns-in-Ok-clause-err
 returns-in-Ok-clause-err g c =
