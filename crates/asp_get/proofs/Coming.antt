@@ -1,16 +1,18 @@
 -- How the job comes to a host whose first run has ended.
 use Rattle.std.proofs.Common.{◌≡◌, ℕ, ◌+◌, Bool, true, false, if◌then◌else◌, List, [], ◌∷◌, ◌++◌, Option}
-use Rattle.std.proofs.Common.{refl, ap, sym, ◌∙◌, subst, arith, inl, inr}
+use Rattle.std.proofs.Common.{Result, IfErr, refl, ap, sym, ◌∙◌, subst, arith, inl, inr}
 use Rattle.std.proofs.lemmas.Bool.{cases_lt}
 use Rattle.asp_core.proofs.Calm.{calm_unfinished}
 use Rattle.asp_core.proofs.Fits.{job_calm, job_fit}
 use Rattle.asp_core.proofs.Kept.{no_tick_is, past_of_more, quiet_tick, tick_is}
+use Rattle.asp_core.specs.declared.admitted.Admitted.{Admitted}
 use Rattle.asp_core.specs.Drawing.{drawn_by, entries_by, entry_then, told_of}
 use Rattle.asp_core.specs.Kernel.{CoreView, grown, past_of, rules_of}
 use Rattle.asp_get.proofs.Turns.{Leaves, grows_more, rules_grown}
 use Rattle.asp_get.proofs.Started.{started_grown}
+use Rattle.asp_get.specs.declared.stop.GetStop.{GetStop}
 use Rattle.asp_get.specs.Jobs.{jobs_in}
-use Rattle.asp_get.specs.Underway.{Grows, HasGoneOn, IsAsked, IsReady}
+use Rattle.asp_get.specs.Underway.{Grows, HasGoneOn, IsAsked, IsGoingStop, IsReady}
 use Rattle.asp_job.specs.declared.entry.Entry.{Entry}
 use Rattle.asp_job.specs.declared.entry.What.TheVariants.{Admit, Queue, Refuse, Tick}
 use Rattle.asp_job.specs.declared.job.Job.{Job}
@@ -107,22 +109,32 @@ module _ {R Site : Type 0} (meaning : R → Site → Meaning) (old mid : CoreVie
   pub free_still : unfinished (past_of mid) ≡ []
   free_still = ap unfinished past_is ∙ job_waits (rules_of meaning old) (past_of old) job ∙ ready.free
 
-  pub job_there : jobs_in (past_of mid)
-      ≡ ((told_of (entry_then (rules_of meaning old) (past_of old) 0 job).what).run, job) ∷ []
-  job_there = ap jobs_in past_is ∙ job_came (rules_of meaning old) (past_of old) job ready.first
-      ∙ ap (λ (rest : List (ℕ × Job)). ((told_of (entry_then (rules_of meaning old) (past_of old) 0 job).what).run, job)
-      ∷ rest) ready.none_came
+  -- under the number that was told
+  abbrev IsTold : Admitted → Type 0
+  IsTold told = told ≡ told_of (entry_then (rules_of meaning old) (past_of old) 0 job).what
+
+  pub job_there : (told : Admitted) → IsTold told → jobs_in (past_of mid) ≡ (told.run, job) ∷ []
+  job_there told is = ap jobs_in past_is ∙ job_came (rules_of meaning old) (past_of old) job ready.first
+      ∙ ap (λ (some : Admitted). (some.run, job) ∷ jobs_in (past_of old)) (sym is)
+      ∙ ap (λ (rest : List (ℕ × Job)). (told.run, job) ∷ rest) ready.none_came
+
+  -- what turns came to afterwards is held against what the core was held against before
+  pub going_still : {T : Type 0} → (result : Result T GetStop)
+      → IfErr result (IsGoingStop (rules_of meaning mid) (jobs_in (past_of mid)))
+      → IfErr result (IsGoingStop (rules_of meaning old) (jobs_in (past_of mid)))
+  going_still result is = subst (λ (m : Rules). IfErr result (IsGoingStop m (jobs_in (past_of mid))))
+      (rules_grown meaning old mid (entries, mid_is)) is
 
   pub grows_asked : (new : CoreView R Site) → HasGoneOn mid new → Grows old new
   grows_asked new gone = grows_more old mid new (entries, mid_is) gone.grows
 
-  pub asked_so : (new : CoreView R Site) → HasGoneOn mid new → IsValidJournal (rules_of meaning new) (past_of new)
-      → IsAsked (rules_of meaning old) (past_of new) job
-      (told_of (entry_then (rules_of meaning old) (past_of old) 0 job).what).run
-  asked_so new gone valid =
+  pub asked_so : (new : CoreView R Site) (told : Admitted) → IsTold told → HasGoneOn mid new
+      → IsValidJournal (rules_of meaning new) (past_of new)
+      → IsAsked (rules_of meaning old) (past_of new) job told.run
+  asked_so new told is gone valid =
       let grows = grows_asked new gone in
       record {
         valid = subst (λ (m : Rules). IsValidJournal m (past_of new)) (rules_grown meaning old new grows) valid;
         started = started_grown meaning old new grows valid ready.started;
-        jobs_are = gone.jobs_stay ∙ job_there;
+        jobs_are = gone.jobs_stay ∙ job_there told is;
       }

@@ -96,9 +96,9 @@ started_one m past lane (End run kind status size n1 n2) all right is = elim (ca
       let both : Ended ≡ Unfinished = sym (at_end m past all 1 (ap is_some is.ended)) ∙ busy in
       cc)
   | inr other ↦ record {
-      ended = kind_other past lane 1 (End run kind status size n1 n2) other ∙ is.ended;
-      sound = ap (λ (b : Bool). if b then fail_by m past run kind else start_fail m past) other ∙ is.sound;
-    }
+    ended = kind_other past lane 1 (End run kind status size n1 n2) other ∙ is.ended;
+    sound = ap (λ (b : Bool). if b then fail_by m past run kind else start_fail m past) other ∙ is.sound;
+  }
 ]
 
 right_before : (m : Rules) (past entries : List Entry) → AreRight m (past_after past entries) → AreRight m past

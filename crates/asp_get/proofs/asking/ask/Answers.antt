@@ -1,13 +1,12 @@
-use Rattle.std.proofs.Common.{◌≡◌, [], ◌∙◌, Err, IfErr, ap, inr, subst, sym}
-use Rattle.asp_core.specs.Drawing.{entry_then, told_of}
+use Rattle.std.proofs.Common.{[], ◌∙◌, Err, ap, inr, subst, sym}
 use Rattle.asp_core.specs.Kernel.{past_of, rules_of}
-use Rattle.asp_get.proofs.Coming.{asked_so, free_still, grows_asked, job_there}
+use Rattle.asp_get.proofs.Coming.{asked_so, free_still, going_still, grows_asked, job_there}
 use Rattle.asp_get.proofs.Turns.{host_grown}
 use Rattle.asp_get.proofs.Stopped.{admit_get, number_not, number_so}
 use Rattle.asp_get.proofs.asking.ask.Goals as goal
 use Rattle.asp_get.specs.Answered.{IsGetStop}
 use Rattle.asp_get.specs.Jobs.{jobs_in}
-use Rattle.asp_get.specs.Underway.{IsAsked, IsGoingStop}
+use Rattle.asp_get.specs.Underway.{IsAsked}
 use Rattle.asp_job.specs.Journal.{admit_entries}
 use Rattle.asp_lane.proofs.Turns.{grown_none}
 
@@ -33,13 +32,10 @@ returns-in-Ok-clause-ok g c =
     let old = c.args.core.now in
     let new = c.go_on-gone.new.core in
     let job = c.args.job.now in
-    let asked = asked_so meaning old c.admit.new.self job c.requires.ready c.in-Ok.ensures.ok new
-    c.go_on-gone.ensures.gone c.journal-in-Ok.ensures.valid in
-    let number : c.in-Ok.told.run ≡ (told_of (entry_then (rules_of meaning old) (past_of old) 0 job).what).run =
-    ap (λ told. told.run) c.in-Ok.ensures.told in
     number_so c.in-Ok.told.run c.go_on-gone.result c.number_back.result
     (IsAsked (rules_of meaning old) (past_of new) job) c.number_back.ensures
-    (subst (IsAsked (rules_of meaning old) (past_of new) job) (sym number) asked)
+    (asked_so meaning old c.admit.new.self job c.requires.ready c.in-Ok.ensures.ok new c.in-Ok.told
+    c.in-Ok.ensures.told c.go_on-gone.ensures.gone c.journal-in-Ok.ensures.valid)
 
 pub returns-in-Ok-clause-err : goal.returns-in-Ok-clause-err
 returns-in-Ok-clause-err g c =
@@ -48,12 +44,14 @@ returns-in-Ok-clause-err g c =
     let mid = c.admit.new.self in
     let job = c.args.job.now in
     let jobs = jobs_in (past_of mid) in
-    let going = subst (λ m. IfErr c.go_on-gone.result (IsGoingStop m jobs))
-    (ap (λ core. rules_of meaning core) c.in-Ok.ensures.ok) c.go_on-gone.ensures.err in
+    let going = going_still meaning old mid job c.requires.ready c.in-Ok.ensures.ok c.go_on-gone.result
+    c.go_on-gone.ensures.err in
     number_not (rules_of meaning old) jobs job c.in-Ok.told.run c.go_on-gone.result c.number_back.result
     c.number_back.ensures
-    (inr ((told_of (entry_then (rules_of meaning old) (past_of old) 0 job).what).run,
-    job_there meaning old mid job c.requires.ready c.in-Ok.ensures.ok)) going
+    (inr (
+      c.in-Ok.told.run,
+      job_there meaning old mid job c.requires.ready c.in-Ok.ensures.ok c.in-Ok.told c.in-Ok.ensures.told,
+    )) going
 
 pub returns-in-Err-clause-grows : goal.returns-in-Err-clause-grows
 returns-in-Err-clause-grows g c = ([], c.in-Err.ensures.err ∙ sym (grown_none c.args.core.now))
