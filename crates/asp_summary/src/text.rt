@@ -1,0 +1,23 @@
+//! The lines of a summary.
+ghost use Rattle.std.specs.Prelude.{◌≡◌, IfOk};
+ghost use Rattle.std.specs.String.{string_bytes};
+ghost use Rattle.asp_summary.specs.Lines as spec;
+
+use crate::summary::Summary;
+use std::alloc::Global;
+use vb_value::Memory;
+
+/// The four lines of a summary.
+pub fn summary_text(alloc: Global, summary: &Summary) -> Result<String, Memory>
+    ensures { IfOk result (λ text. string_bytes text ≡ spec.summary_lines summary.now) }
+{
+    let Summary {
+        requests,
+        answers,
+        sessions,
+        total,
+    } = *summary;
+    Ok(format!(in alloc;
+        "requests {requests}\nanswers {answers}\nsessions {sessions}\ntotal {total}\n"
+    )?)
+}
