@@ -2,6 +2,7 @@
 use Rattle.std.specs.Prelude.{ℕ, ◌+◌, ◌==◌, nat_eq, nat_lt, ℤ, pos, Bool, false, if◌then◌else◌, List, [], ◌∷◌, map}
 use Rattle.std.specs.Prelude.{filter, codes, Option, Some, None, unwrap_or}
 use Rattle.std.specs.Set.{distinct_count}
+use Rattle.vb_value.specs.declared.application.AppCall.{AppCall}
 use Rattle.vb_value.specs.declared.application.AppCall.TheVariants as call
 use Rattle.vb_value.specs.declared.value.Value.{Value, Int, Long}
 use Rattle.asp_job.specs.declared.entry.Entry.{Entry}
@@ -45,15 +46,19 @@ number_of (Int number) = number
 number_of (Long number) = number
 number_of _ = pos 0
 
--- the number that a call of the Application object puts under the name `n`, if it does
-abbrev pub total_in : What → Option ℤ
-total_in (App run (call.Put name value) reply) = if is_name (codes "n") name then Some (number_of value) else None
-total_in _ = None
+-- the number that a call of the Application object puts under the name `n`, if it puts one
+abbrev pub put_by : AppCall → Option ℤ
+put_by (call.Put name value) = if is_name (codes "n") name then Some (number_of value) else None
+put_by _ = None
+
+abbrev pub put_in : What → Option ℤ
+put_in (App run call reply) = put_by call
+put_in _ = None
 
 -- the last one that was put, 0 where none was
 abbrev pub last_total : List Entry → ℤ
 last_total [] = pos 0
-last_total (entry ∷ past) = unwrap_or (total_in entry.what) (last_total past)
+last_total (entry ∷ past) = unwrap_or (put_in entry.what) (last_total past)
 
 -- ---- the summary
 

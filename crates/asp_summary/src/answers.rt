@@ -1,5 +1,5 @@
 //! How many runs ended with an answer of status 200.
-ghost use Rattle.std.specs.Prelude.{◌≡◌, reverse};
+ghost use Rattle.std.specs.Prelude.{◌≡◌, ◌+◌, if◌then◌else◌, reverse};
 ghost use Rattle.vb_value.specs.Outcome.{Gives};
 ghost use Rattle.asp_summary.specs.Counted as spec;
 
@@ -10,7 +10,21 @@ use vb_value::Memory;
 fn is_answer(what: &What) -> bool
     ensures { result ≡ spec.is_answer what.now }
 {
-    matches!(what, What::End { status: 200, .. })
+    match what {
+        What::End { status, .. } => *status == 200,
+        _ => false,
+    }
+}
+
+/// One answer more, where the entry tells one.
+fn with_answer(count: u32, what: &What) -> Result<u32, Memory>
+    ensures { Gives result (if spec.is_answer what.now then count + 1 else count) }
+{
+    if is_answer(what) {
+        count.checked_add(1).ok_or(Memory)
+    } else {
+        Ok(count)
+    }
 }
 
 /// How many runs of pages ended with an answer of status 200.
@@ -19,9 +33,7 @@ pub fn count_answers(journal: &[Entry]) -> Result<u32, Memory>
 {
     let mut count = 0u32;
     for entry in journal {
-        if is_answer(&entry.what) {
-            count = count.checked_add(1).ok_or(Memory)?;
-        }
+        count = with_answer(count, &entry.what)?;
     }
     Ok(count)
 }

@@ -1,6 +1,7 @@
 //! How many different sessions had runs that began.
-ghost use Rattle.std.specs.Prelude.{◌≡◌, nat_lt, OnOk, reverse};
+ghost use Rattle.std.specs.Prelude.{◌≡◌, [], OnOk, reverse};
 ghost use Rattle.vb_value.specs.Outcome.{Gives};
+ghost use Rattle.indexmap.specs.IndexSet.{index_set_len};
 ghost use Rattle.asp_summary.specs.Counted as spec;
 ghost use Rattle.asp_summary.specs.Gathered as gathered;
 
@@ -20,7 +21,8 @@ fn serial_in(what: &What) -> u32
 }
 
 /// Adds a session number above 0.
-fn gather(serials: &mut IndexSet<u32>, serial: u32) -> Result<(), Memory>
+#[tactic(auto, using(crate::proofs::Serials::one_more))]
+fn add(serials: &mut IndexSet<u32>, serial: u32) -> Result<(), Memory>
     ensures { OnOk result (gathered.IsWith serial serials.old serials.new) }
 {
     if serial > 0 {
@@ -29,17 +31,35 @@ fn gather(serials: &mut IndexSet<u32>, serial: u32) -> Result<(), Memory>
     Ok(())
 }
 
+/// Adds the session numbers of the Begin entries.
+fn add_all(serials: &mut IndexSet<u32>, journal: &[Entry]) -> Result<(), Memory>
+    requires { gathered.Holds [] serials.old }
+    ensures { OnOk result (gathered.Holds (spec.serials_in (reverse journal.now)) serials.new) }
+{
+    for entry in journal {
+        add(serials, serial_in(&entry.what))?;
+    }
+    Ok(())
+}
+
+/// How many there are.
+fn count_of(serials: &IndexSet<u32>) -> Result<u32, Memory>
+    ensures { Gives result (index_set_len serials.now) }
+{
+    let count = serials.len();
+    if count <= u32::MAX as usize {
+        Ok(count as u32)
+    } else {
+        Err(Memory)
+    }
+}
+
 /// How many different session numbers above 0 stand in the Begin entries.
+#[tactic(auto, using(crate::proofs::Serials::none_held, crate::proofs::Serials::counted))]
 pub fn count_sessions(alloc: Global, journal: &[Entry]) -> Result<u32, Memory>
     ensures { Gives result (spec.sessions_in (reverse journal.now)) }
 {
     let mut serials = IndexSet::new(alloc);
-    for entry in journal {
-        gather(&mut serials, serial_in(&entry.what))?;
-    }
-    let count = serials.len();
-    if count > u32::MAX as usize {
-        return Err(Memory);
-    }
-    Ok(count as u32)
+    add_all(&mut serials, journal)?;
+    count_of(&serials)
 }

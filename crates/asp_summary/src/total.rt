@@ -1,5 +1,5 @@
 //! The total that the pages keep.
-ghost use Rattle.std.specs.Prelude.{◌≡◌, codes, reverse};
+ghost use Rattle.std.specs.Prelude.{◌≡◌, codes, reverse, unwrap_or};
 ghost use Rattle.asp_job.specs.Application.{is_name};
 ghost use Rattle.asp_summary.specs.Counted as spec;
 
@@ -13,7 +13,7 @@ fn is_total(name: &Text) -> bool
     ['n'].as_slice() == name.as_slice()
 }
 
-/// The number that a value is; one of another kind counts as 0.
+/// The whole number that a value is; one of another kind counts as 0.
 fn number_of(value: &Value) -> i32
     ensures { result ≡ spec.number_of value.now }
 {
@@ -24,26 +24,39 @@ fn number_of(value: &Value) -> i32
     }
 }
 
-/// The total that the entry puts, if it puts one.
-fn total_in(what: &What) -> Option<i32>
-    ensures { result ≡ spec.total_in what.now }
+/// The total that the call puts, if it puts one.
+fn put_by(call: &AppCall) -> Option<i32>
+    ensures { result ≡ spec.put_by call.now }
 {
-    match what {
-        What::App {
-            call: AppCall::Put(name, value),
-            ..
-        } if is_total(name) => Some(number_of(value)),
+    match call {
+        AppCall::Put(name, value) => {
+            if is_total(name) {
+                Some(number_of(value))
+            } else {
+                None
+            }
+        }
         _ => None,
     }
 }
 
-/// The last total that was put, 0 where there is none.
+/// The total after the entry.
+fn total_after(total: i32, what: &What) -> i32
+    ensures { result ≡ unwrap_or (spec.put_in what.now) total }
+{
+    match what {
+        What::App { call, .. } => put_by(call).unwrap_or(total),
+        _ => total,
+    }
+}
+
+/// The last total that was put, 0 where none was.
 pub fn last_total(journal: &[Entry]) -> i32
     ensures { result ≡ spec.last_total (reverse journal.now) }
 {
     let mut total = 0;
     for entry in journal {
-        total = total_in(&entry.what).unwrap_or(total);
+        total = total_after(total, &entry.what);
     }
     total
 }

@@ -1,0 +1,31 @@
+-- The session numbers that are gathered.
+use Rattle.std.proofs.Common.{◌≡◌, ℕ, Bool, true, false, cond, ◌||◌, nat_eq, List, [], ◌∷◌, refl, ap, ◌∙◌}
+use Rattle.std.specs.Cmp.{nat_eq_equiv}
+use Rattle.std.specs.List.{list_any}
+use Rattle.std.specs.Set.{distinct_count}
+use Rattle.std.proofs.lemmas.Map.Made.{hash_set_len-from_list}
+use Rattle.indexmap.specs.IndexSet.{IndexSet, contains, index_set_len, IsEmpty, IsUnique, Updates}
+use Rattle.asp_summary.specs.Gathered.{Holds}
+
+module _ {S : Type 0} where
+  pub none_held : (set : IndexSet ℕ S) → IsEmpty set → IsUnique nat_eq set → Holds [] set
+  none_held set empty unique = ((λ q. ap (list_any (nat_eq q)) empty), unique)
+
+  or_of : (b x : Bool) → cond b true x ≡ (b || x)
+  or_of true x = refl
+  or_of false x = refl
+
+  -- one number more
+  pub one_more : (serial : ℕ) (serials : List ℕ) (old new : IndexSet ℕ S) → Holds serials old
+      → Updates nat_eq old new serial true → IsUnique nat_eq new → Holds (serial ∷ serials) new
+  one_more serial serials old new held updates unique = (
+    (λ q. updates.0 q ∙ (or_of (nat_eq serial q) (contains nat_eq old q)
+        ∙ (ap (λ b. b || contains nat_eq old q) (nat_eq_equiv.symm serial q)
+        ∙ ap (λ x. nat_eq q serial || x) (held.0 q)))),
+    unique,
+  )
+
+  -- the set is as large as there are different numbers
+  pub counted : (serials : List ℕ) (set : IndexSet ℕ S) → Holds serials set
+      → index_set_len set ≡ distinct_count nat_eq serials
+  counted serials set held = hash_set_len-from_list nat_eq_equiv serials set held
