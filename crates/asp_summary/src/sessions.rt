@@ -21,13 +21,14 @@ fn serial_in(what: &What) -> u32
 }
 
 /// Adds a session number above 0.
-#[tactic(auto, using(crate::proofs::Serials::one_more))]
+#[tactic(auto, using(crate::proofs::Serials::none_more, crate::proofs::Serials::one_more))]
 fn add(serials: &mut IndexSet<u32>, serial: u32) -> Result<(), Memory>
     ensures { OnOk result (gathered.IsWith serial serials.old serials.new) }
 {
-    if serial > 0 {
-        serials.insert(serial)?;
+    if serial == 0 {
+        return Ok(());
     }
+    serials.insert(serial)?;
     Ok(())
 }
 
