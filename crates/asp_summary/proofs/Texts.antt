@@ -1,10 +1,20 @@
 -- The pieces of a summary's text.
-use Rattle.std.proofs.Common.{◌≡◌, ℕ, List, ◌++◌, codes, append_assoc}
+use Rattle.std.proofs.Common.{◌≡◌, ℕ, List, [], ◌∷◌, ◌++◌, codes, append_assoc}
 use Rattle.asp_summary.specs.Lines.{line}
+
+-- lines of a word, a space, a number and a line end
+joined : (a b c d space line_end x y z w : List ℕ)
+    → (a ++ space) ++ (x ++ ((line_end ++ (b ++ space)) ++ (y ++ ((line_end ++ (c ++ space)) ++ (z
+    ++ ((line_end ++ (d ++ space)) ++ (w ++ line_end)))))))
+    ≡ (a ++ space ++ x ++ line_end) ++ (b ++ space ++ y ++ line_end) ++ (c ++ space ++ z ++ line_end)
+    ++ (d ++ space ++ w ++ line_end)
+joined a b c d space line_end x y z w = simp append_assoc
 
 pub four_lines : (requests answers sessions total : List ℕ)
     → codes "requests " ++ (requests ++ (codes "\nanswers " ++ (answers ++ (codes "\nsessions " ++ (sessions
     ++ (codes "\ntotal " ++ (total ++ codes "\n")))))))
     ≡ line (codes "requests") requests ++ line (codes "answers") answers ++ line (codes "sessions") sessions
     ++ line (codes "total") total
-four_lines requests answers sessions total = simp append_assoc
+four_lines requests answers sessions total =
+    joined (codes "requests") (codes "answers") (codes "sessions") (codes "total") (codes " ") (10 ∷ []) requests
+    answers sessions total
