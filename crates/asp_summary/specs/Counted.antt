@@ -46,7 +46,7 @@ number_of (Int number) = number
 number_of (Long number) = number
 number_of _ = pos 0
 
--- the number that a call of the Application object puts under the name `n`, if it puts one
+-- the number that a call of the Application object puts under the name `n`, if it puts one; its reply is not looked at
 abbrev pub put_by : AppCall → Option ℤ
 put_by (call.Put name value) = if is_name (codes "n") name then Some (number_of value) else None
 put_by _ = None

@@ -1,5 +1,5 @@
 -- The lines of a summary. All of it is the profile's.
-use Rattle.std.specs.Prelude.{List, ℕ, ◌∷◌, [], ◌++◌, codes}
+use Rattle.std.specs.Prelude.{List, ℕ, ℤ, ◌∷◌, [], ◌++◌, codes}
 use Rattle.std.specs.Fmt.{decimal, signed_decimal}
 use Rattle.asp_summary.specs.declared.summary.Summary.{Summary}
 
@@ -7,10 +7,13 @@ use Rattle.asp_summary.specs.declared.summary.Summary.{Summary}
 abbrev pub line : List ℕ → List ℕ → List ℕ
 line word number = word ++ codes " " ++ number ++ 10 ∷ []
 
--- the four lines; a number below 0 has a `-`
+-- the four lines; a total below 0 has a `-`
+abbrev pub lines_of : ℕ → ℕ → ℕ → ℤ → List ℕ
+lines_of requests answers sessions total =
+    line (codes "requests") (decimal requests)
+    ++ line (codes "answers") (decimal answers)
+    ++ line (codes "sessions") (decimal sessions)
+    ++ line (codes "total") (signed_decimal total)
+
 abbrev pub summary_lines : Summary → List ℕ
-summary_lines summary =
-    line (codes "requests") (decimal summary.requests)
-    ++ line (codes "answers") (decimal summary.answers)
-    ++ line (codes "sessions") (decimal summary.sessions)
-    ++ line (codes "total") (signed_decimal summary.total)
+summary_lines summary = lines_of summary.requests summary.answers summary.sessions summary.total

@@ -7,17 +7,30 @@ use crate::summary::Summary;
 use std::alloc::Global;
 use vb_value::Memory;
 
+/// The lines of these numbers.
+fn lines_of(
+    alloc: Global,
+    requests: u32,
+    answers: u32,
+    sessions: u32,
+    total: i32,
+) -> Result<String, Memory>
+    ensures { IfOk result (λ text. string_bytes text ≡ spec.lines_of requests answers sessions total) }
+{
+    Ok(format!(in alloc;
+        "requests {requests}\nanswers {answers}\nsessions {sessions}\ntotal {total}\n"
+    )?)
+}
+
 /// The four lines of a summary.
 pub fn summary_text(alloc: Global, summary: &Summary) -> Result<String, Memory>
     ensures { IfOk result (λ text. string_bytes text ≡ spec.summary_lines summary.now) }
 {
-    let Summary {
-        requests,
-        answers,
-        sessions,
-        total,
-    } = *summary;
-    Ok(format!(in alloc;
-        "requests {requests}\nanswers {answers}\nsessions {sessions}\ntotal {total}\n"
-    )?)
+    lines_of(
+        alloc,
+        summary.requests,
+        summary.answers,
+        summary.sessions,
+        summary.total,
+    )
 }

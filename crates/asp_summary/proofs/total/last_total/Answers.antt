@@ -1,4 +1,5 @@
-use Rattle.std.proofs.Common.{◌∷◌, ℤ, unwrap_or, reverse, take, sym, ap, ◌∙◌}
+use Rattle.std.proofs.Common.{◌∷◌, ℤ, unwrap_or, reverse, take, sym, ap, ◌∙◌, rules, SFits, w32}
+use Rattle.std.proofs.lemmas.Int.{to_z-of_z}
 use Rattle.asp_job.specs.declared.entry.Entry.{Entry}
 use Rattle.asp_summary.specs.Counted.{last_total, put_in}
 use Rattle.asp_summary.proofs.Past.{past_more}
@@ -12,5 +13,7 @@ loop-entry-preserved c =
     let past = reverse (take at journal) in
     let grown = past_more journal at entry c.loop-entry-test.true
     ∙ ap (λ (one : Entry). one ∷ past) (sym c.entry-item.is) in
-    c.total_after.ensures ∙ (ap (λ (n : ℤ). unwrap_or (put_in entry.what) n) c.loop-entry.invariant
-    ∙ sym (ap last_total grown))
+    let total = c.total_after-total.result in
+    let fits : SFits w32 total = search rules in
+    to_z-of_z w32 total fits ∙ (c.total_after-total.ensures ∙ (ap (λ (n : ℤ). unwrap_or (put_in entry.what) n) c.loop-entry.invariant
+    ∙ sym (ap last_total grown)))
