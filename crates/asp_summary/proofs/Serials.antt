@@ -18,8 +18,8 @@ module _ {S : Type 0} where
   none_held set empty unique = ((λ q. ap (list_any (nat_eq q)) empty), unique)
 
   -- a number is put in
-  put : (serial : ℕ) (serials : List ℕ) (old new : IndexSet ℕ S) → Holds serials old → Updates nat_eq old new serial true
-      → IsUnique nat_eq new → Holds (serial ∷ serials) new
+  put : (serial : ℕ) (serials : List ℕ) (old new : IndexSet ℕ S) → Holds serials old
+      → Updates nat_eq old new serial true → IsUnique nat_eq new → Holds (serial ∷ serials) new
   put serial serials old new held updates unique = (
     (λ q. updates.0 q ∙ (or_of (nat_eq serial q) (contains nat_eq old q)
         ∙ (ap (λ b. b || contains nat_eq old q) (nat_eq_equiv.symm serial q)

@@ -17,7 +17,8 @@ pub four_lines : (requests answers sessions : List ℕ) (written total : ℤ) �
     ≡ line (codes "requests") requests ++ line (codes "answers") answers ++ line (codes "sessions") sessions
     ++ line (codes "total") (signed_decimal total)
 four_lines requests answers sessions written total same =
-    let lines = line (codes "requests") requests ++ line (codes "answers") answers ++ line (codes "sessions") sessions in
+    let counts = line (codes "requests") requests ++ line (codes "answers") answers
+    ++ line (codes "sessions") sessions in
     joined (codes "requests") (codes "answers") (codes "sessions") (codes "total") (codes " ") (10 ∷ []) requests
     answers sessions (signed_decimal written)
-    ∙ ap (λ (number : ℤ). lines ++ line (codes "total") (signed_decimal number)) same
+    ∙ ap (λ (number : ℤ). counts ++ line (codes "total") (signed_decimal number)) same

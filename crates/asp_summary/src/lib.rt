@@ -1,4 +1,4 @@
-//! The summary of a host's journal: how many requests, answers and sessions there were, and a total that the pages keep.
+//! The summary of a host's journal: how many requests, answers and sessions there were, and the total of its pages.
 #![tactic(auto)]
 
 mod answers;

@@ -1,4 +1,4 @@
-use Rattle.std.proofs.Common.{◌≡◌, ℕ, List, ◌∷◌, reverse, take, sym, ap, subst, ◌∙◌}
+use Rattle.std.proofs.Common.{ℕ, List, ◌∷◌, reverse, take, sym, ap, subst, ◌∙◌}
 use Rattle.asp_job.specs.declared.entry.Entry.{Entry}
 use Rattle.asp_summary.specs.Counted.{serials_in}
 use Rattle.asp_summary.specs.Gathered.{Holds, with_serial}

@@ -15,5 +15,6 @@ loop-entry-preserved c =
     ∙ ap (λ (one : Entry). one ∷ past) (sym c.entry-item.is) in
     let total = c.total_after-total.result in
     let fits : SFits w32 total = search rules in
-    to_z-of_z w32 total fits ∙ (c.total_after-total.ensures ∙ (ap (λ (n : ℤ). unwrap_or (put_in entry.what) n) c.loop-entry.invariant
+    to_z-of_z w32 total fits ∙ (c.total_after-total.ensures
+    ∙ (ap (λ (before : ℤ). unwrap_or (put_in entry.what) before) c.loop-entry.invariant
     ∙ sym (ap last_total grown)))
