@@ -6,7 +6,7 @@ use Rattle.asp_core.specs.Kernel.{CoreView, IsBeginTooMuch, IsHostOf, RunView, g
 use Rattle.asp_get.specs.declared.stop.GetStop.{GetStop}
 use Rattle.asp_get.specs.declared.stop.GetStop.TheVariants as stop
 use Rattle.asp_get.specs.Jobs.{jobs_in}
-use Rattle.asp_get.specs.Underway.{Grows, HasGoneOn, IsGoingStop, IsTurnStop, WasFull}
+use Rattle.asp_get.specs.Underway.{Grows, HasGoneOn, IsGoingStop, IsTurnStop, WasFull, turn_stop}
 use Rattle.asp_job.specs.declared.entry.EndKind.{EndKind}
 use Rattle.asp_job.specs.declared.entry.EndKind.TheVariants as kind
 use Rattle.asp_job.specs.declared.entry.Entry.{Entry}
@@ -112,6 +112,29 @@ goes_then old mid new first second = record {
   moment_stays = second.moment_stays ∙ first.moment_stays;
 }
 
+not_both : (xs : List ℕ) (n : ℕ) → xs ≡ [] → xs ≡ n ∷ [] → ⊥
+not_both [] n e f = absurd cc
+not_both (x ∷ xs) n e f = absurd cc
+
+pub idle_so : (t : Turn) → None ≡ turn_stop t → t ≡ turn.Idle
+idle_so turn.Idle e = refl
+idle_so turn.More e = absurd cc
+idle_so turn.Done e = absurd cc
+idle_so turn.Memory e = absurd cc
+idle_so (turn.JournalFull entries weight) e = absurd cc
+
+memory_so : (t : Turn) (ended : GetStop) → ended ≡ stop.Memory → IsTurnStop t ended
+memory_so t ended is = subst (λ (some : GetStop). IsTurnStop t some) (sym is) tt
+
+pub stop_so : (t : Turn) (ended : GetStop) → Some ended ≡ turn_stop t → IsTurnStop t ended
+stop_so turn.Idle ended e = absurd cc
+stop_so turn.More ended e = let is : ended ≡ stop.Memory = cc in memory_so turn.More ended is
+stop_so turn.Done ended e = let is : ended ≡ stop.Memory = cc in memory_so turn.Done ended is
+stop_so turn.Memory ended e = let is : ended ≡ stop.Memory = cc in memory_so turn.Memory ended is
+stop_so (turn.JournalFull entries weight) ended e =
+    let is : ended ≡ stop.JournalFull entries weight = cc in
+    subst (λ (some : GetStop). IsTurnStop (turn.JournalFull entries weight) some) (sym is) refl
+
 module _ {R Site State : Type 0} (meaning : R → Site → Meaning) (stands : R → Site → State → Told → ℕ → Type 0) where
   turn_goes : (lane : ℕ) (old new : CoreView R Site) (in_hand then_in_hand : Option (RunView State)) (t : Turn)
       → IsTurn meaning stands lane old in_hand new then_in_hand t → HasGoneOn old new
@@ -145,6 +168,34 @@ module _ {R Site State : Type 0} (meaning : R → Site → Meaning) (stands : R 
   free_back lane core in_hand (Ok given) fits none =
       subst (λ (some : Option (RunView State)). Fits meaning stands core lane some) none fits
   free_back lane core in_hand (Err ended) fits none = tt
+
+  -- what was in hand before a turn fits the core
+  held_fits : (lane : ℕ) (old mid : CoreView R Site) (in_hand held : Option (RunView State)) (count : ℕ)
+      → Fits meaning stands old lane in_hand → Turned meaning stands lane old in_hand count mid held
+      → Fits meaning stands mid lane held
+  held_fits lane old mid in_hand held zero fits turned =
+      subst (λ (core : CoreView R Site). Fits meaning stands core lane held) (sym turned.0)
+      (subst (λ (some : Option (RunView State)). Fits meaning stands old lane some) (sym turned.1) fits)
+  held_fits lane old mid in_hand held (suc n) fits turned = turned.4.fits
+
+  idle_free : (lane : ℕ) (mid new : CoreView R Site) (held then_in_hand : Option (RunView State))
+      → Fits meaning stands mid lane held → IsTurn meaning stands lane mid held new then_in_hand turn.Idle
+      → then_in_hand ≡ None
+  idle_free lane mid new None None fits is = refl
+  idle_free lane mid new None (Some run) fits is =
+      let same : new ≡ mid = is.new_is ∙ ap (λ (added : List Entry). grown mid added) is.adds.1 ∙ grown_none mid in
+      absurd (not_both (unfinished (past_of new)) run.number
+      (ap (λ core. unfinished (past_of core)) same ∙ fits) is.fits.0.alone)
+  idle_free lane mid new (Some run) then_in_hand fits is = absurd is.adds
+
+  -- an idle lane has no run in hand
+  pub turns_free : (lane : ℕ) (old new : CoreView R Site) (in_hand then_in_hand : Option (RunView State)) (last : Turn)
+      → Fits meaning stands old lane in_hand → HasTurned meaning stands lane old in_hand new then_in_hand last
+      → last ≡ turn.Idle → then_in_hand ≡ None
+  turns_free lane old new in_hand then_in_hand last fits is idle =
+      idle_free lane is.mid new is.held then_in_hand
+      (held_fits lane old is.mid in_hand is.held is.count fits is.before)
+      (subst (λ (came_to : Turn). IsTurn meaning stands lane is.mid is.held new then_in_hand came_to) idle is.last_turn)
 
   -- ---- a journal that is full
 

@@ -50,7 +50,8 @@ pub record HasFailed (rules : Rules) (fail : Fail) : Type 0 where
 abbrev pub HasNoOther : Job → List Entry → Type 0
 HasNoOther job past = (jobs_in past ≡ []) ⊎ ((run : ℕ) × (jobs_in past ≡ (run, job) ∷ []))
 
--- with what comes next, the job, a Begin or a call, there would be so many entries of that weight, too many or too heavy
+-- with what comes next, the job, a Begin or a call, there would be so many entries of that weight, too many or too
+-- heavy
 pub data IsTooMuchNext (rules : Rules) (past : List Entry) (job : Job) (entries weight : ℕ) : Type 0 where
   OfJob : jobs_in past ≡ [] → IsTooMuch (past_after past (admit_entries rules past 0 job)) entries weight
       → IsTooMuchNext rules past job entries weight

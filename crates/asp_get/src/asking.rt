@@ -1,7 +1,7 @@
 //! The request's job: it is admitted, run, and its answer handed out.
 #![tactic(auto)]
 
-ghost use Rattle.std.specs.Prelude.{◌≡◌, ◌≤◌, true, IfErr, IfOk, OnOk, Some};
+ghost use Rattle.std.specs.Prelude.{◌≡◌, true, IfErr, IfOk, Some};
 ghost use Rattle.asp_core.specs.Kernel.{IsHostOf, past_of, rules_of};
 ghost use Rattle.asp_get.specs.Answered as answered;
 ghost use Rattle.asp_get.specs.Underway as spec;

@@ -21,24 +21,31 @@ where
     R::Store: Drop,
 {}
 
-/// The store, where the lane is idle.
+/// The store that is in hand.
+fn free_store<R: Runner>(hand: Hand<R>) -> R::Store
+    requires { run_in hand ≡ None }
+{
+    match hand {
+        Hand::Free(store) => store,
+        Hand::Runs(_) => unreachable!(),
+    }
+}
+
+/// The store, where the lane is idle: then no run is in hand.
 fn store_back<R>(hand: Hand<R>, turn: Turn) -> Result<R::Store, GetStop>
 where
     R: Runner,
     R::State: Drop,
     R::Store: Drop,
+    requires { turn ≡ Turn.Idle → run_in hand ≡ None }
     ensures ok { OnOk result (run_in hand ≡ None) }
     ensures err { IfErr result (spec.IsTurnStop turn) }
 {
-    if let Some(stop) = turn_stop(turn) {
-        let_go(hand);
-        return Err(stop);
-    }
-    match hand {
-        Hand::Free(store) => Ok(store),
-        Hand::Runs(run) => {
-            let_go(Hand::Runs(run));
-            Err(GetStop::Memory)
+    match turn_stop(turn) {
+        None => Ok(free_store(hand)),
+        Some(stop) => {
+            let_go(hand);
+            Err(stop)
         }
     }
 }

@@ -1,10 +1,15 @@
 use Rattle.std.proofs.Common.{None}
-use Rattle.asp_get.proofs.Turns.{free_back, going_stop, turns_go}
+use Rattle.asp_get.proofs.Turns.{free_back, going_stop, turns_free, turns_go}
 use Rattle.asp_get.proofs.going.go_on.Goals as goal
 use Rattle.asp_lane.specs.Turns.{run_in}
 
 pub take_turns-hand-requires-clause-hand : goal.take_turns-hand-requires-clause-hand
 take_turns-hand-requires-clause-hand g c = c.requires.free
+
+pub store_back-requires : goal.store_back-requires
+store_back-requires g c =
+    turns_free g.R.Runner.meaning g.R.Runner.stands 0 c.args.core.now c.take_turns-hand.new.core None
+    (run_in c.take_turns-hand.result.0) c.take_turns-hand.result.1 c.requires.free c.take_turns-hand.ensures.turns
 
 pub returns-clause-gone : goal.returns-clause-gone
 returns-clause-gone g c =
