@@ -1,0 +1,4 @@
+pub mod Turns
+pub mod Started
+pub mod Coming
+pub mod Stopped
