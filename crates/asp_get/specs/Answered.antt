@@ -23,6 +23,12 @@ pub record HasStarted (rules : Rules) (past : List Entry) : Type 0 where
   pub ended : end_kind past 1 ≡ Some kind.Done
   pub sound : start_fail rules past ≡ None
 
+-- so it is in a valid journal
+pub record HasBegun (rules : Rules) : Type 0 where
+  pub past : List Entry
+  pub valid : IsValidJournal rules past
+  pub started : HasStarted rules past
+
 -- the run has ended by itself, and this is its answer
 pub record HasEndedWith (rules : Rules) (past : List Entry) (run : ℕ) (answer : Answer) : Type 0 where
   pub ended : end_kind past run ≡ Some kind.Done
