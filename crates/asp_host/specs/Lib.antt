@@ -1,9 +1,6 @@
 pub mod Status
 pub mod Around
-pub mod Answer
-pub mod Journal
-pub mod OnTheWay
-pub mod Runs
+pub mod Request
 pub mod Input
 pub mod Answered
 pub mod Replayed
@@ -11,4 +8,4 @@ pub mod Get
 pub mod Check
 pub mod Replay
 pub mod Host
-pub mod Stopping
+pub mod Starting

@@ -10,10 +10,9 @@ mod output;
 mod recording;
 mod replay;
 mod replay_text;
-mod running;
+mod request;
 mod source;
 mod status;
-mod stop;
 
 pub use asp_command::{Command, WordStop, one_command, read_words};
 pub use host::run_host;

@@ -1,15 +1,15 @@
 //! The command `replay`.
-ghost use Rattle.std.specs.Prelude.{◌≡◌, ◌⊎◌, IfErr};
+ghost use Rattle.std.specs.Prelude.{◌≡◌, ◌⊎◌, IfSome};
+ghost use Rattle.asp_core.specs.Kernel.{rules_by};
 ghost use Rattle.asp_io.specs.Faults.{HasRisen};
+ghost use Rattle.asp_run.specs.Running.{meaning_of};
 ghost use Rattle.asp_host.specs.Replay.{ReplayWrites};
-ghost use Rattle.asp_host.specs.Stopping.{IsStartStop};
+ghost use Rattle.asp_host.specs.Starting.{IsFirstStop};
 
 use crate::output::write_replay;
 use crate::recording::source_recording;
-use crate::running::start;
 use crate::status::Status;
-use crate::stop::StartStop;
-use asp_app::Application;
+use asp_get::{GetStop, begins};
 use asp_io::{Folder, Sink, Source};
 use asp_run::PlainRunner;
 use asp_site::Site;
@@ -39,8 +39,8 @@ pub fn replay<F: Folder, S: Source, K: Sink>(
         Ok(recording) => recording,
         Err(stop) => return Status::from(stop),
     };
-    if let Err(stop) = begin(alloc, &site) {
-        return Status::from(stop);
+    if let Some(stop) = first_stop(alloc, &site, recording.seed) {
+        return stop;
     }
     match write_replay(
         alloc,
@@ -55,14 +55,14 @@ pub fn replay<F: Folder, S: Source, K: Sink>(
     }
 }
 
-/// Sees that the application begins, by its first run.
-fn begin(alloc: Global, site: &Site) -> Result<(), StartStop>
-    ensures { IfErr result (IsStartStop site.now) }
+/// Sees that the application begins, by its first run: how the command ends, where it does not. A first run that fills
+/// the journal fills that of the replay too, which tells it.
+fn first_stop(alloc: Global, site: &Site, seed: [u8; 32]) -> Option<Status>
+    ensures { IfSome result (IsFirstStop (rules_by (meaning_of site.now) seed)) }
 {
-    let mut application = Application::new(alloc);
-    let beginning = start(alloc, site, &mut application)?;
-    match beginning.fail {
-        Some(fail) => Err(StartStop::Failed(fail)),
-        None => Ok(()),
+    match begins(alloc, &PlainRunner { alloc }, site, seed) {
+        Err(GetStop::StartFailed(fail)) => Some(Status::StartFailed(fail)),
+        Err(GetStop::Memory) => Some(Status::Memory),
+        Ok(()) | Err(GetStop::JournalFull { .. }) => None,
     }
 }

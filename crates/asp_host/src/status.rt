@@ -7,7 +7,7 @@ ghost use Rattle.asp_host.specs.Status.{code_of, fault_text_of, kind_text_of, pl
 use crate::fail_text::fail_text;
 use crate::recording::RecordingStop;
 use crate::replay_text::{full_text, refused_text};
-use crate::stop::StartStop;
+use asp_get::GetStop;
 use asp_job::Fail;
 use asp_replay::FeedStop;
 use site_load::LoadStop;
@@ -62,15 +62,16 @@ impl From<LoadStop> for Status {
     }
 }
 
-impl From<StartStop> for Status {
-    ghost use Rattle.asp_host.specs.Status.{start_status_of};
+impl From<GetStop> for Status {
+    ghost use Rattle.asp_host.specs.Status.{get_status_of};
 
-    ghost from_gives = { λ stop status. status ≡ start_status_of stop };
+    ghost from_gives = { λ stop status. status ≡ get_status_of stop };
 
-    fn from(stop: StartStop) -> Status {
+    fn from(stop: GetStop) -> Status {
         match stop {
-            StartStop::Failed(fail) => Status::StartFailed(fail),
-            StartStop::Memory => Status::Memory,
+            GetStop::StartFailed(fail) => Status::StartFailed(fail),
+            GetStop::JournalFull { entries, weight } => Status::JournalFull { entries, weight },
+            GetStop::Memory => Status::Memory,
         }
     }
 }
