@@ -1,8 +1,7 @@
-use Rattle.std.proofs.Common.{subst, sym}
+use Rattle.std.proofs.Common.{subst}
 use Rattle.asp_core.specs.Kernel.{past_of}
 use Rattle.asp_get.proofs.Turns.{rules_grown}
 use Rattle.asp_get.proofs.answer.begin_over.Goals as goal
-use Rattle.asp_get.specs.Answered.{HasStarted}
 use Rattle.asp_job.specs.Journal.{IsValidJournal}
 
 pub returns-in-Ok-clause-ok : goal.returns-in-Ok-clause-ok
