@@ -111,12 +111,7 @@ where
 }
 
 /// Sees that the application begins: a host is made, and its first run goes to its end. No job comes.
-pub fn begins<R>(
-    alloc: Global,
-    runner: &R,
-    site: &R::Site,
-    seed: [u8; 32],
-) -> Result<(), GetStop>
+pub fn begins<R>(alloc: Global, runner: &R, site: &R::Site, seed: [u8; 32]) -> Result<(), GetStop>
 where
     R: Runner,
     R::State: Drop,

@@ -37,6 +37,6 @@ returns-in-Err-answer-clause-writes g c =
     let nothing = nothing_answered path query c.args.seed files c.in-Ok.site held c.in-Err-answer.stop
     c.in-Ok.ensures.ok c.in-Err-answer.ensures.err in
     subst
-        (λ (status : Status). GetWrites path query c.args.seed files (record { before = held; after = held }) status)
-        (sym c.from-in-Err-answer.ensures)
-        nothing
+    (λ (status : Status). GetWrites path query c.args.seed files (record { before = held; after = held }) status)
+    (sym c.from-in-Err-answer.ensures)
+    nothing
