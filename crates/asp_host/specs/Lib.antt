@@ -7,5 +7,6 @@ pub mod Replayed
 pub mod Get
 pub mod Check
 pub mod Replay
+pub mod Gen
 pub mod Host
 pub mod Starting

@@ -4,6 +4,7 @@
 mod answers;
 mod check;
 mod fail_text;
+mod gen;
 mod get;
 mod host;
 mod output;
@@ -13,6 +14,7 @@ mod replay_text;
 mod request;
 mod source;
 mod status;
+mod summing;
 
 pub use asp_command::{Command, WordStop, one_command, read_words};
 pub use host::run_host;

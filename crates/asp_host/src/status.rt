@@ -14,7 +14,7 @@ use site_load::LoadStop;
 use std::alloc::Global;
 use vb_value::{Copied, FaultKind, Memory, SiteFault, Text};
 
-/// The commands. Those but `get`, `check` and `replay` are not run yet.
+/// The commands. `serve` is not run yet.
 const USAGE: &str = "usage: get SITE PATH, check SITE, replay SITE, serve SITE --requests N, gen N";
 
 /// How a command ended.
