@@ -4,7 +4,7 @@
 mod answers;
 mod check;
 mod fail_text;
-mod gen;
+mod generated;
 mod get;
 mod host;
 mod output;

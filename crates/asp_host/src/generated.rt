@@ -6,8 +6,8 @@ ghost use Rattle.asp_host.specs.Gen as spec;
 ghost use Rattle.site_load.specs.Accepted.{IsAccepted};
 
 use crate::fail_text::ascii;
-use crate::summing::write_generated;
 use crate::status::Status;
+use crate::summing::write_generated;
 use asp_io::{Sink, SureFolder};
 use asp_record::generate;
 use asp_run::PlainRunner;
@@ -22,7 +22,7 @@ Session(\"c\") = Session(\"c\") + 1 : Application.Unlock %><%= Session(\"c\") %>
 
 /// Makes a recording of so many requests, replays it, and writes the summary of its journal, behind its lines where
 /// they are asked for. The answers are let go.
-pub fn gen<K: Sink>(alloc: Global, count: u32, journal: bool, sink: &mut K) -> Status
+pub fn replay_generated<K: Sink>(alloc: Global, count: u32, journal: bool, sink: &mut K) -> Status
     requires { count ≤ 10000 }
     ensures writes { spec.GenWrites count journal (record { before = K.held sink.old; after = K.held sink.new }) result }
     ensures write_fault { result ≡ Status.WriteFault → HasRisen (K.faults sink.old) (K.faults sink.new) }
