@@ -1,6 +1,11 @@
 -- What `replay` ran and wrote.
 use Rattle.std.proofs.Common.{◌≡◌, ◌⊎◌, ℕ, Bool, List, Option, IfSome, refl, inl, inr}
 use Rattle.vb_value.specs.declared.site_file.SiteFile.{SiteFile}
+use Rattle.asp_get.specs.Answered.{IsGetStop}
+use Rattle.asp_get.specs.declared.stop.GetStop.{GetStop}
+use Rattle.asp_get.specs.declared.stop.GetStop.TheVariants as get
+use Rattle.asp_job.specs.declared.job.Job.{Job}
+use Rattle.asp_job.specs.Rules.{Rules}
 use Rattle.asp_record.specs.declared.recording.Recording.{Recording}
 use Rattle.asp_replay.specs.declared.stop.FeedStop.{FeedStop}
 use Rattle.asp_replay.specs.declared.stop.FeedStop.TheVariants as feed
@@ -17,7 +22,7 @@ use Rattle.asp_host.specs.declared.status.Status.TheVariants as status
 use Rattle.asp_host.specs.Input.{IsAllRecording, IsRecordingStop}
 use Rattle.asp_host.specs.Replay.{IsFor, ReplayWrites, rules_for}
 use Rattle.asp_host.specs.Replayed.{HasStopped}
-use Rattle.asp_host.specs.Starting.{IsFirstStop}
+use Rattle.asp_host.specs.Starting.{IsFirstStop, start_status}
 use Rattle.asp_host.specs.Status.{feed_status_of, recording_status_of, status_of}
 
 -- where the folder is no site, nothing is read or written
@@ -37,6 +42,13 @@ no_recording journal files site source held (recording.Refused offset) accepted 
     (record { site = site; accepted = accepted; refused = refused }, refl)
 no_recording journal files site source held recording.ReadFault accepted refused = refl
 no_recording journal files site source held recording.Memory accepted refused = inl refl
+
+-- the first run stopped so, whatever job was to come
+pub first_told : (rules : Rules) (job : Job) (stop : GetStop) → IsGetStop rules job stop
+    → IfSome (start_status stop) (IsFirstStop rules)
+first_told rules job (get.StartFailed fail) failed = failed
+first_told rules job (get.JournalFull entries weight) much = tt
+first_told rules job get.Memory none = tt
 
 -- nor where the application does not begin
 pub no_replay : (journal : Bool) (files : Option (List SiteFile)) (site : Site) (source : Change) (recording : Recording)

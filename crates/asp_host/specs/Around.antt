@@ -1,4 +1,4 @@
--- What the outside tells of a command: its seed, the files of its folder, and what its streams have before it and after it.
+-- What the outside tells of a command: the files of its folder, and what its streams have before it and after it.
 use Rattle.std.specs.Prelude.{◌≡◌, ℕ, Option, List}
 use Rattle.vb_value.specs.declared.site_file.SiteFile.{SiteFile}
 
@@ -11,9 +11,8 @@ pub record Change : Type 0 where
 abbrev pub IsLeft : Change → Type 0
 IsLeft stream = stream.after ≡ stream.before
 
--- what is told of a command, and the seed that it was given; a folder, a source or a sink of the system tells nothing
+-- what is told of a command; a folder, a source or a sink of the system tells nothing
 pub record Around : Type 0 where
-  pub seed : List ℕ
   pub files : Option (List SiteFile)
   pub source : Change
   pub sink : Change

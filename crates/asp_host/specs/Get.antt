@@ -1,5 +1,5 @@
 -- How `get` ends, by its status, and what it then leaves in the sink.
-use Rattle.std.specs.Prelude.{◌≡◌, ℕ, IfSome, List, Option}
+use Rattle.std.specs.Prelude.{◌≡◌, ℕ, IfSome, List, Option, replicate}
 use Rattle.vb_value.specs.declared.site_file.SiteFile.{SiteFile}
 use Rattle.asp_core.specs.Kernel.{rules_by}
 use Rattle.asp_get.specs.Answered.{HasAnswered, HasFailed, WasTooMuch}
@@ -7,6 +7,7 @@ use Rattle.asp_io.specs.Copying.{AddsPart}
 use Rattle.asp_io.specs.Sink.{with_bytes}
 use Rattle.asp_job.specs.declared.answer.Answer.{Answer}
 use Rattle.asp_job.specs.declared.answer.Fail.{Fail}
+use Rattle.asp_job.specs.Rules.{Rules}
 use Rattle.asp_run.specs.Running.{meaning_of}
 use Rattle.asp_site.specs.declared.site.Site.{Site}
 use Rattle.site_load.specs.Accepted.{IsAccepted, IsFolderFault}
@@ -16,41 +17,48 @@ use Rattle.asp_host.specs.declared.status.Status.TheVariants.{ReadFault, WriteFa
 use Rattle.asp_host.specs.Around.{Around, Change, IsLeft}
 use Rattle.asp_host.specs.Request.{job_of}
 
--- The files that are told are a site, and on a host of it with this seed the request for the path with the query has this
--- answer.
-pub record Answers (path query seed : List ℕ) (files : Option (List SiteFile)) (answer : Answer) : Type 0 where
+-- a seed of 32 zero bytes
+abbrev pub zero_seed : List ℕ
+zero_seed = replicate 32 0
+
+-- what the journal of a host of the site with that seed is held against
+abbrev pub site_rules : Site → Rules
+site_rules site = rules_by (meaning_of site) zero_seed
+
+-- The files that are told are a site, and on a host of it the request for the path with the query has this answer.
+pub record Answers (path query : List ℕ) (files : Option (List SiteFile)) (answer : Answer) : Type 0 where
   pub site : Site
   pub accepted : IfSome files (λ all. IsAccepted all site)
-  pub answered : HasAnswered (rules_by (meaning_of site) seed) (job_of path query) answer
+  pub answered : HasAnswered (site_rules site) (job_of path query) answer
 
 -- they are a site whose application fails to begin so
-pub record FailsToBegin (seed : List ℕ) (files : Option (List SiteFile)) (fail : Fail) : Type 0 where
+pub record FailsToBegin (files : Option (List SiteFile)) (fail : Fail) : Type 0 where
   pub site : Site
   pub accepted : IfSome files (λ all. IsAccepted all site)
-  pub failed : HasFailed (rules_by (meaning_of site) seed) fail
+  pub failed : HasFailed (site_rules site) fail
 
 -- they are a site, and with the request there would be so many entries of that weight
-pub record IsFull (path query seed : List ℕ) (files : Option (List SiteFile)) (entries weight : ℕ) : Type 0 where
+pub record IsFull (path query : List ℕ) (files : Option (List SiteFile)) (entries weight : ℕ) : Type 0 where
   pub site : Site
   pub accepted : IfSome files (λ all. IsAccepted all site)
-  pub much : WasTooMuch (rules_by (meaning_of site) seed) (job_of path query) entries weight
+  pub much : WasTooMuch (site_rules site) (job_of path query) entries weight
 
 -- what `get` ran and wrote, by its status
-abbrev pub GetWrites : List ℕ → List ℕ → List ℕ → Option (List SiteFile) → Change → Status → Type 0
-GetWrites path query seed files sink Ok =
-    (answer : Answer) × Answers path query seed files answer × (sink.after ≡ with_bytes sink.before answer.body)
-GetWrites path query seed files sink WriteFault =
-    (answer : Answer) × Answers path query seed files answer × AddsPart sink.before sink.after answer.body
-GetWrites path query seed files sink (SiteRefused fault) = IfSome files (λ all. IsFolderFault all fault) × IsLeft sink
-GetWrites path query seed files sink (StartFailed fail) = FailsToBegin seed files fail × IsLeft sink
-GetWrites path query seed files sink (JournalFull entries weight) =
-    IsFull path query seed files entries weight × IsLeft sink
-GetWrites path query seed files sink ReadFault = IsLeft sink
-GetWrites path query seed files sink Memory = IsLeft sink
-GetWrites path query seed files sink Usage = ⊥
-GetWrites path query seed files sink (RecordRefused offset) = ⊥
+abbrev pub GetWrites : List ℕ → List ℕ → Option (List SiteFile) → Change → Status → Type 0
+GetWrites path query files sink Ok =
+    (answer : Answer) × Answers path query files answer × (sink.after ≡ with_bytes sink.before answer.body)
+GetWrites path query files sink WriteFault =
+    (answer : Answer) × Answers path query files answer × AddsPart sink.before sink.after answer.body
+GetWrites path query files sink (SiteRefused fault) = IfSome files (λ all. IsFolderFault all fault) × IsLeft sink
+GetWrites path query files sink (StartFailed fail) = FailsToBegin files fail × IsLeft sink
+GetWrites path query files sink (JournalFull entries weight) =
+    IsFull path query files entries weight × IsLeft sink
+GetWrites path query files sink ReadFault = IsLeft sink
+GetWrites path query files sink Memory = IsLeft sink
+GetWrites path query files sink Usage = ⊥
+GetWrites path query files sink (RecordRefused offset) = ⊥
 
 -- how `get` ends: its source is left as it was, and the sink has what was run
 abbrev pub GetEnds : List ℕ → List ℕ → Around → Status → Type 0
 GetEnds path query around status =
-    IsLeft around.source × GetWrites path query around.seed around.files around.sink status
+    IsLeft around.source × GetWrites path query around.files around.sink status

@@ -1,10 +1,8 @@
 //! The command `get`.
 ghost use Rattle.std.specs.Prelude.{◌≡◌, ◌+◌, ◌^◌, ◌<◌, IfErr, IfOk, length};
-ghost use Rattle.asp_core.specs.Kernel.{rules_by};
 ghost use Rattle.asp_get.specs.Answered.{HasAnswered, IsGetStop};
 ghost use Rattle.asp_io.specs.Faults.{HasRisen};
-ghost use Rattle.asp_run.specs.Running.{meaning_of};
-ghost use Rattle.asp_host.specs.Get.{GetWrites};
+ghost use Rattle.asp_host.specs.Get.{GetWrites, site_rules};
 ghost use Rattle.asp_host.specs.Request.{job_of};
 
 use crate::request::get_job;
@@ -23,12 +21,11 @@ pub fn get<F: Folder, K: Sink>(
     alloc: Global,
     path: &Text,
     query: &Bytes,
-    seed: [u8; 32],
     folder: &mut F,
     sink: &mut K,
 ) -> Status
     requires { length path.now + length query.now < 2 ^ 24 }
-    ensures writes { GetWrites path.now query.now seed (F.files folder.old)
+    ensures writes { GetWrites path.now query.now (F.files folder.old)
         (record { before = K.held sink.old; after = K.held sink.new }) result }
     ensures read_fault { result ≡ Status.ReadFault → HasRisen (F.faults folder.old) (F.faults folder.new) }
     ensures write_fault { result ≡ Status.WriteFault → HasRisen (K.faults sink.old) (K.faults sink.new) }
@@ -37,7 +34,7 @@ pub fn get<F: Folder, K: Sink>(
         Ok(site) => site,
         Err(stop) => return Status::from(stop),
     };
-    let answer = match answer(alloc, &site, seed, path, query) {
+    let answer = match answer(alloc, &site, path, query) {
         Ok(answer) => answer,
         Err(stop) => return Status::from(stop),
     };
@@ -48,19 +45,13 @@ pub fn get<F: Folder, K: Sink>(
 }
 
 /// The answer of the site to the request.
-fn answer(
-    alloc: Global,
-    site: &Site,
-    seed: [u8; 32],
-    path: &Text,
-    query: &Bytes,
-) -> Result<Answer, GetStop>
+fn answer(alloc: Global, site: &Site, path: &Text, query: &Bytes) -> Result<Answer, GetStop>
     requires { length path.now + length query.now < 2 ^ 24 }
-    ensures ok { IfOk result (HasAnswered (rules_by (meaning_of site.now) seed) (job_of path.now query.now)) }
-    ensures err { IfErr result (IsGetStop (rules_by (meaning_of site.now) seed) (job_of path.now query.now)) }
+    ensures ok { IfOk result (HasAnswered (site_rules site.now) (job_of path.now query.now)) }
+    ensures err { IfErr result (IsGetStop (site_rules site.now) (job_of path.now query.now)) }
 {
     match get_job(alloc, path, query) {
-        Ok(job) => answer_one(alloc, &PlainRunner { alloc }, site, seed, &job),
+        Ok(job) => answer_one(alloc, &PlainRunner { alloc }, site, [0; 32], &job),
         Err(Memory) => Err(GetStop::Memory),
     }
 }

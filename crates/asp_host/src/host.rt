@@ -43,7 +43,6 @@ where
     // The command that the words say ends as its own statement has it: see `specs/Host.antt`.
     ensures ends { (command : Said) → IsCommand (map string_bytes words.now) command
         → Ends command (record {
-          seed = seed;
           files = F.files folder.old;
           source = record { before = S.left source.old; after = S.left source.new };
           sink = record { before = K.held sink.old; after = K.held sink.new };
@@ -70,7 +69,7 @@ where
                 path,
                 query,
             },
-        ) => get(alloc, &path, &query, seed, folder, sink),
+        ) => get(alloc, &path, &query, folder, sink),
         Ok(Command::Check { site: _ }) => check(alloc, folder, sink),
         Ok(
             Command::Replay {

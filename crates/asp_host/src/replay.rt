@@ -4,7 +4,7 @@ ghost use Rattle.asp_core.specs.Kernel.{rules_by};
 ghost use Rattle.asp_io.specs.Faults.{HasRisen};
 ghost use Rattle.asp_run.specs.Running.{meaning_of};
 ghost use Rattle.asp_host.specs.Replay.{ReplayWrites};
-ghost use Rattle.asp_host.specs.Starting.{IsFirstStop};
+ghost use Rattle.asp_host.specs.Starting as spec;
 
 use crate::output::write_replay;
 use crate::recording::source_recording;
@@ -55,14 +55,24 @@ pub fn replay<F: Folder, S: Source, K: Sink>(
     }
 }
 
-/// Sees that the application begins, by its first run: how the command ends, where it does not. A first run that fills
-/// the journal fills that of the replay too, which tells it.
+/// How the command ends where the first run stopped so, if that ends it. A first run that fills the journal fills that of
+/// the replay too, which tells it.
+fn start_status(stop: GetStop) -> Option<Status>
+    ensures { result ≡ spec.start_status stop }
+{
+    match stop {
+        GetStop::StartFailed(fail) => Some(Status::StartFailed(fail)),
+        GetStop::JournalFull { .. } => None,
+        GetStop::Memory => Some(Status::Memory),
+    }
+}
+
+/// Sees that the application begins, by its first run: how the command ends, where it does not.
 fn first_stop(alloc: Global, site: &Site, seed: [u8; 32]) -> Option<Status>
-    ensures { IfSome result (IsFirstStop (rules_by (meaning_of site.now) seed)) }
+    ensures { IfSome result (spec.IsFirstStop (rules_by (meaning_of site.now) seed)) }
 {
     match begins(alloc, &PlainRunner { alloc }, site, seed) {
-        Err(GetStop::StartFailed(fail)) => Some(Status::StartFailed(fail)),
-        Err(GetStop::Memory) => Some(Status::Memory),
-        Ok(()) | Err(GetStop::JournalFull { .. }) => None,
+        Ok(()) => None,
+        Err(stop) => start_status(stop),
     }
 }

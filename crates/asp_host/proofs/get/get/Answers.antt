@@ -34,9 +34,9 @@ returns-in-Err-answer-clause-writes g c =
     let held = g.K.Sink.held c.args.sink.now in
     let path = c.args.path.now in
     let query = c.args.query.now in
-    let nothing = nothing_answered path query c.args.seed files c.in-Ok.site held c.in-Err-answer.stop
+    let nothing = nothing_answered path query files c.in-Ok.site held c.in-Err-answer.stop
     c.in-Ok.ensures.ok c.in-Err-answer.ensures.err in
     subst
-    (λ (status : Status). GetWrites path query c.args.seed files (record { before = held; after = held }) status)
+    (λ (status : Status). GetWrites path query files (record { before = held; after = held }) status)
     (sym c.from-in-Err-answer.ensures)
     nothing
