@@ -82,6 +82,9 @@ under_rules m other items left past clients before after same is =
 
 -- ---- answers
 
+pub none_still : (old new : List Entry) → events_of new ≡ events_of old → events_of old ≡ [] → events_of new ≡ []
+none_still old new same none = same ∙ none
+
 pub started_back : {T U : Type 0} → (told : Result T FeedStop) (hand : U) (back : Result U FeedStop) (P : Type 0)
     → IsHandedBack hand told back → OnOk told P → OnOk back P
 started_back (Ok given) hand back P is holds = rw is holds

@@ -1,4 +1,4 @@
-use Rattle.std.proofs.Common.{◌≡◌, [], ◌∙◌, OnOk, arith, subst, sym, true}
+use Rattle.std.proofs.Common.{◌≡◌, [], OnOk, arith, subst, sym, true}
 use Rattle.std.proofs.lemmas.Result.{err_from_is_err_and}
 use Rattle.asp_core.specs.Kernel.{past_of, rules_of}
 use Rattle.asp_lane.specs.Started.{HasStarted}
@@ -6,8 +6,8 @@ use Rattle.asp_lane.specs.Turns.{Fits, run_in}
 use Rattle.asp_replay.specs.declared.stop.FeedStop.TheVariants as stop
 use Rattle.asp_replay.specs.Underway.{EndsSo, IsOfOneLane, is_starting}
 use Rattle.asp_replay.proofs.Grown.{ends_here}
-use Rattle.asp_replay.proofs.Starting.{grown_more, grown_none, host_grown, rules_grown, start_ends, start_no_fault}
-use Rattle.asp_replay.proofs.Starting.{started_back, starting_busy, starting_parts, under_rules}
+use Rattle.asp_replay.proofs.Starting.{grown_more, grown_none, host_grown, none_still, rules_grown, start_ends}
+use Rattle.asp_replay.proofs.Starting.{start_no_fault, started_back, starting_busy, starting_parts, under_rules}
 use Rattle.asp_replay.proofs.Turning.{fits_back}
 use Rattle.asp_replay.proofs.feeding.start.Goals as goal
 
@@ -107,7 +107,8 @@ loop-preserved g c =
       grows = grown_more c.args.core.now c.loop.core c.work_turn.new.core c.loop.invariant.grows
           c.in_ok-hand.ensures.grows;
       fits = c.in_ok-hand.ensures.fits;
-      none_came = c.in_ok-hand.ensures.quiet ∙ c.loop.invariant.none_came;
+      none_came = none_still (past_of c.loop.core) (past_of c.work_turn.new.core) c.in_ok-hand.ensures.quiet
+          c.loop.invariant.none_came;
       under = λ items left clients before is.
           let now = under_rules (rules_of meaning c.args.core.now) (rules_of meaning c.loop.core) items left
           (past_of c.loop.core) clients before (g.K.Sink.held c.loop.sink) (sym same)
