@@ -106,15 +106,14 @@ none_first : (first later : List Shown) → [] ≡ first ++ later → first ≡ 
 none_first [] later e = refl
 none_first (one ∷ first) later e = absurd cc
 
-take_none : (count : ℕ) → take count ([] {A = ℕ}) ≡ []
-take_none zero = refl
-take_none (suc count) = refl
+take_none : (count : ℕ) (bytes : List ℕ) → bytes ≡ [] → take count bytes ≡ []
+take_none zero [] e = refl
+take_none (suc count) [] e = refl
+take_none count (byte ∷ bytes) e = absurd cc
 
 part_none : (before after : Option (List ℕ)) (bytes : List ℕ) → bytes ≡ [] → AddsPart before after bytes → after ≡ before
 part_none before after bytes none part =
-    let all = part.added in
-    let taken : take part.count bytes ≡ [] = ap (take part.count) none ∙ take_none part.count in
-    all ∙ ap (with_bytes before) taken ∙ with_none before
+    part.added ∙ ap (with_bytes before) (take_none part.count bytes none) ∙ with_none before
 
 -- where a journal has no answer, no first part of their records has a byte
 pub none_written : (rules : Rules) (past : List Entry) (before after : Option (List ℕ)) → shown_of rules past ≡ []
