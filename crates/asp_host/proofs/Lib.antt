@@ -6,3 +6,4 @@ mod Marks
 mod Outputs
 mod ReplayEnds
 pub mod Replaying
+mod Silent

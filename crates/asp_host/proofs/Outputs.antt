@@ -11,6 +11,7 @@ pub text_then : {T : Type 0} (result : Result T FeedStop) (before middle after :
     → middle ≡ with_bytes before first → WritesText second result middle after
     → WritesText (first ++ second) result before after
 text_then (Ok given) before middle after first second was wrote = wrote_more before middle after first second was wrote
+text_then (Err (stop.StartFailed fail)) before middle after first second was none = none
 text_then (Err (stop.JournalFull entries weight)) before middle after first second was none = none
 text_then (Err stop.WriteFault) before middle after first second was part =
     part_more before middle after first second was part

@@ -19,6 +19,7 @@ use Rattle.asp_replay.specs.Underway.{HasNotBegun, IsCoreOf, WritesText}
 use Rattle.asp_replay.proofs.FedBack.{rules_here}
 use Rattle.asp_replay.proofs.Pieces.{part_more, with_none, wrote_more}
 use Rattle.asp_host.specs.Replayed.{HasReplayed, HasReplayedPart, HasStopped}
+use Rattle.asp_host.proofs.Silent.{none_shown, none_written}
 
 -- ---- a feed that stopped
 
@@ -56,6 +57,14 @@ pub feed_stopped : (rules : Rules) (items : List Item) (journal : Bool) (before 
     → HasNotBegun ended before after
     ⊎ ((past : List Entry) × HasFedPart rules items past ended before after)
     → HasStopped rules items journal before after ended
+feed_stopped rules items journal before after (stop.StartFailed fail) (inl none) = absurd (let e = none.0 in cc)
+feed_stopped rules items journal before after (stop.StartFailed fail) (inr part) = record {
+  past = part.0;
+  account = part.1.account;
+  failed = part.1.cause;
+  none_wrote = none_written rules part.0 before after (none_shown rules part.0 part.1.account.entries part.1.answered
+  part.1.cause.none_came) part.1.written;
+}
 feed_stopped rules items journal before after (stop.JournalFull entries weight) (inl none) = absurd (let e = none.0 in cc)
 feed_stopped rules items journal before after (stop.JournalFull entries weight) (inr part) = part
 feed_stopped rules items journal before after stop.WriteFault (inl none) = absurd (let e = none.0 in cc)
@@ -134,6 +143,8 @@ module _ {R Site : Type 0} (meaning : R → Site → Meaning) where
       ++ done_line (length (shown_of (rules_of meaning core) (past_of core)))) result held after
       → IfErr result (HasStopped (rules_by (meaning runner site) seed) items journal before after)
   replay_err core runner site seed items journal before held after (Ok given) of valid fed wrote = tt
+  replay_err core runner site seed items journal before held after (Err (stop.StartFailed fail)) of valid fed wrote =
+      absurd wrote
   replay_err core runner site seed items journal before held after (Err (stop.JournalFull entries weight)) of valid fed
       wrote = absurd wrote
   replay_err core runner site seed items journal before held after (Err stop.WriteFault) of valid fed wrote =
