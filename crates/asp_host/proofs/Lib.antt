@@ -7,4 +7,4 @@ mod Marks
 mod Outputs
 mod ReplayEnds
 pub mod Replaying
-mod Summing
+mod Summed

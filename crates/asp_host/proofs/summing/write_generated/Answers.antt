@@ -2,7 +2,7 @@ use Rattle.std.proofs.Common.{subst, sym}
 use Rattle.asp_core.specs.Kernel.{rules_by}
 use Rattle.asp_host.specs.Gen.{IsSumStop}
 use Rattle.asp_host.proofs.Causes.{handed_on}
-use Rattle.asp_host.proofs.Summing.{no_cause, sum_err, sum_ok, sum_stopped}
+use Rattle.asp_host.proofs.Summed.{no_cause, sum_err, sum_ok, sum_stopped}
 use Rattle.asp_host.proofs.summing.write_generated.Goals as goal
 
 pub returns-in_err-core-clause-err : goal.returns-in_err-core-clause-err
