@@ -1,5 +1,6 @@
 mod Literals
 mod Causes
+mod GenEnds
 mod GetEnds
 mod Inputs
 mod Marks
@@ -7,3 +8,4 @@ mod Outputs
 mod ReplayEnds
 pub mod Replaying
 mod Silent
+mod Summed
