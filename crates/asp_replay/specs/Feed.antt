@@ -2,6 +2,7 @@
 use Rattle.std.specs.Prelude.{◌≡◌, ℕ, Bool, true, false, ⊤, List, [], ◌++◌, Option, Some}
 use Rattle.asp_core.specs.Kernel.{IsBeginTooMuch, IsTooMuch}
 use Rattle.asp_core.specs.Laws.{NoneIs}
+use Rattle.asp_core.specs.Ready.{IsAnswered}
 use Rattle.asp_core.specs.Start.{start_fail}
 use Rattle.asp_io.specs.Copying.{AddsPart}
 use Rattle.asp_io.specs.Sink.{with_bytes}
@@ -63,8 +64,7 @@ pub record HasFed (rules : Rules) (items : List Item) (past : List Entry) (befor
 -- ---- not to the end
 
 -- with what comes next, an item, the Stop, a Begin or a call, there would be so many entries of that weight, too many
--- or too
--- heavy
+-- or too heavy
 pub data IsTooMuchNext (rules : Rules) (past : List Entry) (entries weight : ℕ) : Type 0 where
   OfItem : (clients then_clients : Clients) (next : Item) (added : List Entry)
       → Adds rules past clients next added then_clients
@@ -91,10 +91,12 @@ HasCause rules past (stop.JournalFull entries weight) = WasTooMuch rules past en
 HasCause rules past stop.WriteFault = ⊤
 HasCause rules past stop.Memory = ⊤
 
--- the items were fed in part, to a host with this valid journal, and the first answers were written
+-- The items were fed in part, to a host with this valid journal, each page that ended has an answer, and the first
+-- answers were written.
 pub record HasFedPart (rules : Rules) (items : List Item) (past : List Entry) (ended : FeedStop)
     (before after : Option (List ℕ)) : Type 0 where
   pub account : IsValidJournal rules past
+  pub answered : IsAnswered rules past
   pub fed : IsFedPart items past
   pub cause : HasCause rules past ended
   pub written : ArePartWritten rules past before after

@@ -82,8 +82,7 @@ is_done turn.Done = true
 is_done _ = false
 
 -- the entries of a step of the run in hand that came to this: its next call or its End, its End because its call does
--- not
--- fit, or nothing
+-- not fit, or nothing
 abbrev pub Steps : Rules → List Entry → ℕ → List Entry → Turn → Type 0
 Steps rules past run entries turn.Done =
     (entry : Entry) × IsStep rules past 0 run entry × (entries ≡ entry ∷ [])
