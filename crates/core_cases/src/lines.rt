@@ -2,21 +2,26 @@
 
 use crate::entries::{entry_of, read_entry};
 use crate::said::record_stop;
+use asp_job::Entry;
 use asp_record::{Line, entry_line, read_lines};
 use case_files::{CaseStop, Subject, read_text};
 use std::alloc::Global;
-use vb_value::{Bytes, List};
+use vb_value::{Bytes, List, Memory};
 
 /// `read` and the text of lines: how many they are, and whether their entries have the same lines again; or where they
 /// are refused. `made` and an entry in words: its line.
 pub struct Lines;
 
+/// The line of an entry.
+fn line_of(alloc: Global, entry: Entry) -> Result<Bytes, Memory> {
+    entry_line(alloc, &entry)
+}
+
 /// The lines of the entries of which lines tell.
 fn lines_again(alloc: Global, lines: List<Line>) -> Result<Bytes, CaseStop> {
     let mut again = Bytes::new(alloc);
     for line in lines.into_vec() {
-        let entry = entry_of(alloc, line)?;
-        again.append(entry_line(alloc, &entry)?)?;
+        again.append(line_of(alloc, entry_of(alloc, line)?)?)?;
     }
     Ok(again)
 }
@@ -36,8 +41,7 @@ fn read(alloc: Global, bytes: &[u8]) -> Result<String, CaseStop> {
 }
 
 fn make(alloc: Global, written: &str) -> Result<String, CaseStop> {
-    let entry = read_entry(alloc, written)?;
-    let line = entry_line(alloc, &entry)?;
+    let line = line_of(alloc, read_entry(alloc, written)?)?;
     Ok(String::from_utf8_lossy(alloc, line.as_slice())?)
 }
 
