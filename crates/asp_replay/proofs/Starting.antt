@@ -97,8 +97,8 @@ no_fault m past stop.WriteFault is e = absurd is
 no_fault m past stop.Memory is e = absurd cc
 
 -- why nothing comes is no fault of the sink
-pub start_no_fault : {T U : Type 0} → (m : Rules) (past : List Entry) (old new : ℕ) (told : Result T FeedStop)
-    (hand : U) (back : Result U FeedStop) → old ≤ new → (old < 2 ^ 64 → new < 2 ^ 64) → IsHandedBack hand told back
+pub start_no_fault : {T U : Type 0} → (m : Rules) (past : List Entry) (old new : ℕ) (told : Result T FeedStop) (hand : U)
+    (back : Result U FeedStop) → old ≤ new → (old < 2 ^ 64 → new < 2 ^ 64) → IsHandedBack hand told back
     → IfErr told (IsStartStop m past) → HasCause stop.WriteFault old new back
 start_no_fault m past old new (Ok given) hand back later within is why =
     rw is (record { later = later; within = within; failed = λ e. absurd cc })

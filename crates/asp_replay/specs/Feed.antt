@@ -46,8 +46,8 @@ abbrev pub is_full_end : What → Bool
 is_full_end (what.End run kind.JournalFull status size made finished) = true
 is_full_end _ = false
 
--- All items were fed to a host with this journal: the first run has ended by itself and did not fail, and each run has
--- ended, none because the journal was full. Unless memory ran out for a run, the journal is the history of one lane.
+-- All items were fed to a host with this journal: the first run has ended by itself and did not fail, each run has
+-- ended, and none because the journal was full. Unless memory ran out for a run, the journal is the history of one lane.
 pub record IsWhole (rules : Rules) (items : List Item) (past : List Entry) : Type 0 where
   pub fed : IsFed items past
   pub started : HasStarted rules past
