@@ -1,0 +1,4 @@
+mod OneFolder
+pub mod OneSite
+pub mod Refusals
+pub mod OneReplayOutput
