@@ -5,12 +5,12 @@ use Rattle.std.proofs.lemmas.Bool.{cases_lt}
 use Rattle.std.proofs.lemmas.Cmp.{nat_list_cmp_total}
 use Rattle.std.proofs.lemmas.List.{get_or-map, get_or_default, length-map}
 use Rattle.std.proofs.lemmas.List.Elements.{All-contains}
-use Rattle.std.specs.List.{All, AllPairs, Contains}
+use Rattle.std.specs.List.{AllPairs, Contains}
 use Rattle.std.specs.declared.cmp.Ordering.TheVariants.{Greater}
 use Rattle.vb_value.specs.declared.site_file.SiteFile.{SiteFile}
 use Rattle.vb_value.specs.Folding.{folded}
 use Rattle.asp_io.specs.Folder.{AreSitePaths, path_of}
-use Rattle.site_load.specs.Chosen.{AreChosen, IsBefore, IsChosen, compared}
+use Rattle.site_load.specs.Chosen.{IsBefore, IsChosen, compared}
 use Rattle.site_load.specs.Files.{AreSiteFiles, IsSiteOf}
 
 -- ---- lists in a strict order

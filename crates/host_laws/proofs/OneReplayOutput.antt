@@ -4,7 +4,6 @@ use Rattle.vb_value.specs.declared.site_file.SiteFile.{SiteFile}
 use Rattle.asp_io.specs.Sink.{with_bytes}
 use Rattle.asp_record.specs.declared.recording.Recording.{Recording}
 use Rattle.asp_record.specs.Recorded.{Stands}
-use Rattle.asp_site.specs.declared.site.Site.{Site}
 use Rattle.site_load.specs.Accepted.{IsAccepted}
 use Rattle.replay_laws.specs.Laws.{IsReplay, OneReplay}
 use Rattle.asp_host.specs.Around.{Around}

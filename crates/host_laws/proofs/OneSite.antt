@@ -1,5 +1,5 @@
 -- A folder is one site.
-use Rattle.std.proofs.Common.{◌≡◌, ◌∙◌, List, [], ◌∷◌, ℕ, Bool, true, false, Some, Ok, refl, sym, ap, subst, map}
+use Rattle.std.proofs.Common.{◌≡◌, ◌∙◌, List, [], ◌∷◌, ℕ, Bool, true, false, Some, Ok, sym, ap, subst, map}
 use Rattle.vb_value.specs.declared.site_file.SiteFile.{SiteFile}
 use Rattle.vb_syntax.specs.declared.program.Program.{Program}
 use Rattle.vb_syntax.specs.declared.unit.Unit.{Unit as Script}

@@ -1,20 +1,17 @@
 -- A command refuses nothing without a cause.
-use Rattle.std.proofs.Common.{◌≡◌, ◌∙◌, inl, inr, ℕ, ◌<◌, ◌≤◌, Bool, List, Option, Some, None, IfSome, length, map}
-use Rattle.std.proofs.Common.{arith, refl, sym, ap, subst}
+use Rattle.std.proofs.Common.{◌≡◌, ◌⊎◌, inl, inr, ℕ, zero, suc, ◌≤◌, Bool, List, Option, Some, None, IfSome, length}
+use Rattle.std.proofs.Common.{map, arith, refl, subst}
+use Rattle.std.specs.List.{All}
 use Rattle.vb_value.specs.declared.site_file.SiteFault.{SiteFault}
 use Rattle.vb_value.specs.declared.site_file.SiteFile.{SiteFile}
-use Rattle.asp_get.specs.Answered.{HasFailed}
-use Rattle.asp_io.specs.Copying.{AddsPart}
-use Rattle.asp_io.specs.Folder.{AreSitePaths, path_of}
+use Rattle.asp_get.specs.Answered.{HasFailed, WasTooMuch}
+use Rattle.asp_io.specs.Folder.{AreSitePaths, IsRooted, path_of}
 use Rattle.asp_job.specs.declared.answer.Fail.{Fail}
-use Rattle.asp_job.specs.declared.entry.Entry.{Entry}
 use Rattle.asp_job.specs.Rules.{Rules}
 use Rattle.asp_record.specs.declared.recording.Item.{Item}
 use Rattle.asp_record.specs.declared.recording.Recording.{Recording}
 use Rattle.asp_record.specs.Generated.{generated}
 use Rattle.asp_record.specs.Recorded.{IsRefusedAt, Stands}
-use Rattle.asp_replay.specs.Feed.{ArePartWritten, HasFedPart}
-use Rattle.asp_replay.specs.declared.stop.FeedStop.TheVariants as feed
 use Rattle.asp_site.specs.declared.site.Site.{Site}
 use Rattle.site_load.specs.Accepted.{IsAccepted, IsFolderFault}
 use Rattle.asp_host.specs.declared.status.Status.{Status}
@@ -30,7 +27,7 @@ use Rattle.asp_host.specs.Replay.{Fills, HasRefused, IsFor, ReplayEnds, rules_fo
 use Rattle.asp_host.specs.Replay as replay
 use Rattle.asp_host.specs.Replayed.{HasFilled}
 use Rattle.asp_host.specs.Request.{job_of}
-use Rattle.host_laws.specs.Laws.{IsNoRefusal, NeverFails, NeverFills, NeverTooMuch, OneSite, TellsFiles}
+use Rattle.host_laws.specs.Laws.{IsFullFor, IsNoRefusal, NeverFails, NeverFills, OneSite, TellsFiles}
 use Rattle.host_laws.specs.Laws.{TellsRecording, TellsSite}
 
 -- ---- the laws that these stand on
@@ -88,54 +85,62 @@ module _ (sites : OneSite) (faultless : SiteOrFault) where
   no_failure around site fail tells never fails = never fail (subst (λ site. HasFailed (site_rules site) fail)
       (same_site around tells.files site fails.site tells.tells tells.accepted fails.accepted) fails.failed)
 
-  never_full : (path query : List ℕ) (around : Around) (site : Site) (entries weight : ℕ) → TellsSite around site
-      → NeverTooMuch (site_rules site) (job_of path query) → get.IsFull path query around.files entries weight → ⊥
-  never_full path query around site entries weight tells never full =
-      let same = same_site around tells.files site full.site tells.tells tells.accepted full.accepted in
-      subst (λ site. NeverTooMuch (site_rules site) (job_of path query)) (sym same) never entries weight full.much
+  is_full : (path query : List ℕ) (around : Around) (site : Site) (entries weight : ℕ) → TellsSite around site
+      → get.IsFull path query around.files entries weight
+      → WasTooMuch (site_rules site) (job_of path query) entries weight
+  is_full path query around site entries weight tells full =
+      subst (λ site. WasTooMuch (site_rules site) (job_of path query) entries weight)
+      (same_site around tells.files site full.site tells.tells tells.accepted full.accepted) full.much
 
   pub get_refuses_none : (path query : List ℕ) (around : Around) (site : Site) (status : Status)
-      → TellsSite around site → NeverFails (site_rules site) → NeverTooMuch (site_rules site) (job_of path query)
-      → GetEnds path query around status → IsNoRefusal status
-  get_refuses_none path query around site Ok tells never little ends = tt
-  get_refuses_none path query around site Memory tells never little ends = tt
-  get_refuses_none path query around site ReadFault tells never little ends = tt
-  get_refuses_none path query around site WriteFault tells never little ends = tt
-  get_refuses_none path query around site (SiteRefused fault) tells never little ends =
-      no_folder_fault around site fault tells ends.1.0
-  get_refuses_none path query around site (StartFailed fail) tells never little ends =
-      no_failure around site fail tells never ends.1.0
-  get_refuses_none path query around site (JournalFull entries weight) tells never little ends =
-      never_full path query around site entries weight tells little ends.1.0
-  get_refuses_none path query around site Usage tells never little ends = ends.1
-  get_refuses_none path query around site (RecordRefused offset) tells never little ends = ends.1
+      → TellsSite around site → NeverFails (site_rules site) → GetEnds path query around status
+      → IsNoRefusal status ⊎ IsFullFor (site_rules site) (job_of path query) status
+  get_refuses_none path query around site Ok tells never ends = inl tt
+  get_refuses_none path query around site Memory tells never ends = inl tt
+  get_refuses_none path query around site ReadFault tells never ends = inl tt
+  get_refuses_none path query around site WriteFault tells never ends = inl tt
+  get_refuses_none path query around site (SiteRefused fault) tells never ends =
+      absurd (no_folder_fault around site fault tells ends.1.0)
+  get_refuses_none path query around site (StartFailed fail) tells never ends =
+      absurd (no_failure around site fail tells never ends.1.0)
+  get_refuses_none path query around site (JournalFull entries weight) tells never ends =
+      inr (is_full path query around site entries weight tells ends.1.0)
+  get_refuses_none path query around site Usage tells never ends = absurd ends.1
+  get_refuses_none path query around site (RecordRefused offset) tells never ends = absurd ends.1
 
   -- ---- `gen`
 
   never_filled : (rules : Rules) (items : List Item) (entries weight : ℕ) (before after : Option (List ℕ))
       → NeverFills rules items → HasFilled rules items entries weight before after → ⊥
-  never_filled rules items entries weight before after never filled = never entries weight (filled.0, record {
-    account = filled.1.account;
-    fed = filled.1.fed;
-    cause = filled.1.cause;
-    written = record {
-      first = filled.1.written.first;
-      later = filled.1.written.later;
-      shown_are = filled.1.written.shown_are;
-      records = filled.1.written.records;
-      are_records = filled.1.written.are_records;
-      wrote = record {
-        count = filled.1.written.wrote.count;
-        within = filled.1.written.wrote.within;
-        added = refl;
+  never_filled rules items entries weight before after never filled = never entries weight (
+    filled.0,
+    record {
+      account = filled.1.account;
+      fed = filled.1.fed;
+      cause = filled.1.cause;
+      written = record {
+        first = filled.1.written.first;
+        later = filled.1.written.later;
+        shown_are = filled.1.written.shown_are;
+        records = filled.1.written.records;
+        are_records = filled.1.written.are_records;
+        wrote = record {
+          count = filled.1.written.wrote.count;
+          within = filled.1.written.wrote.within;
+          added = refl;
+        };
       };
-    };
-  })
+    },
+  )
+
+  count_rooted : All IsRooted (map path_of count_files)
+  count_rooted zero path within = refl
+  count_rooted (suc i) path within = absurd (omega (arith, within))
 
   count_paths : AreSitePaths (map path_of count_files)
   count_paths = record {
-    rooted = λ i d within. ?;
-    distinct = λ i j d less within. absurd (omega (arith, less, within));
+    rooted = count_rooted;
+    distinct = λ i j path less within. absurd (omega (arith, less, within));
   }
 
   count_refused : (site : Site) (fault : SiteFault) → IsAccepted count_files site → IsFolderFault count_files fault → ⊥

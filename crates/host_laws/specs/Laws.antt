@@ -1,5 +1,5 @@
 -- Laws of the host's commands, over the statements by which they end.
-use Rattle.std.specs.Prelude.{◌≡◌, ℕ, Bool, List, Option, Some, None, length, map}
+use Rattle.std.specs.Prelude.{◌≡◌, ◌⊎◌, ℕ, Bool, List, Some, None, length, map}
 use Rattle.vb_value.specs.declared.site_file.SiteFile.{SiteFile}
 use Rattle.asp_core.specs.Laws.{NoneIs}
 use Rattle.asp_get.specs.Answered.{HasFailed, WasTooMuch}
@@ -16,7 +16,7 @@ use Rattle.asp_replay.specs.Sequential.{is_memory_end}
 use Rattle.asp_site.specs.declared.site.Site.{Site}
 use Rattle.site_load.specs.Accepted.{IsAccepted}
 use Rattle.asp_host.specs.declared.status.Status.{Status}
-use Rattle.asp_host.specs.declared.status.Status.TheVariants.{Ok, Memory, ReadFault, WriteFault}
+use Rattle.asp_host.specs.declared.status.Status.TheVariants.{Ok, Memory, ReadFault, WriteFault, JournalFull}
 use Rattle.asp_host.specs.Around.{Around, Change}
 use Rattle.asp_host.specs.Check.{CheckEnds}
 use Rattle.asp_host.specs.Gen.{GenEnds, count_files}
@@ -65,9 +65,10 @@ IsNoRefusal _ = ⊥
 abbrev pub NeverFails : Rules → Type 0
 NeverFails rules = (fail : Fail) → ¬ (HasFailed rules fail)
 
--- in no valid journal the job, or what comes of it, is too much
-abbrev pub NeverTooMuch : Rules → Job → Type 0
-NeverTooMuch rules job = (entries weight : ℕ) → ¬ (WasTooMuch rules job entries weight)
+-- the journal was full, and there is a valid journal in which the job, or what came of it, was so much too much
+abbrev pub IsFullFor : Rules → Job → Status → Type 0
+IsFullFor rules job (JournalFull entries weight) = WasTooMuch rules job entries weight
+IsFullFor rules job _ = ⊥
 
 -- no valid journal that is fed with the items comes to be full, whatever is written
 abbrev pub NeverFills : Rules → List Item → Type 0
@@ -78,11 +79,12 @@ abbrev pub CheckRefusesNone : Type 0
 CheckRefusesNone = (around : Around) (site : Site) (status : Status) → TellsSite around site
     → CheckEnds around status → IsNoRefusal status
 
--- nor a request by `get`, where the application's beginning never fails and nothing is too much
+-- nor a request by `get`, where the application's beginning never fails; but for a full journal, by these rules and
+-- with this job
 abbrev pub GetRefusesNone : Type 0
 GetRefusesNone = (path query : List ℕ) (around : Around) (site : Site) (status : Status) → TellsSite around site
-    → NeverFails (site_rules site) → NeverTooMuch (site_rules site) (job_of path query)
-    → GetEnds path query around status → IsNoRefusal status
+    → NeverFails (site_rules site) → GetEnds path query around status
+    → IsNoRefusal status ⊎ IsFullFor (site_rules site) (job_of path query) status
 
 -- nor a recording by `replay`, where the same holds with its seed and its items
 abbrev pub ReplayRefusesNone : Type 0

@@ -27,7 +27,7 @@ pub fn nothing_refused_without_cause()
     ensures check { CheckRefusesNone }
     ensures get { GetRefusesNone }
     ensures replay { ReplayRefusesNone }
-    ensures gen { GenRefusesNone }
+    ensures generated { GenRefusesNone }
 {
     one_site();
     site_or_fault();
