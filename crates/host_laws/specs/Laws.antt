@@ -65,34 +65,35 @@ IsNoRefusal _ = ⊥
 abbrev pub NeverFails : Rules → Type 0
 NeverFails rules = (fail : Fail) → ¬ (HasFailed rules fail)
 
--- the journal was full, and there is a valid journal in which the job, or what came of it, was so much too much
+-- the journal was full, with the numbers of a valid journal in which the job, or what came of it, was too much
 abbrev pub IsFullFor : Rules → Job → Status → Type 0
 IsFullFor rules job (JournalFull entries weight) = WasTooMuch rules job entries weight
 IsFullFor rules job _ = ⊥
 
--- no valid journal that is fed with the items comes to be full, whatever is written
+-- in no valid journal that is fed with the items, or with the first of them, was what could come next too much
 abbrev pub NeverFills : Rules → List Item → Type 0
 NeverFills rules items = (entries weight : ℕ) → ¬ (HasFilled rules items entries weight None None)
 
--- a folder that is a site is not refused by `check`
+-- `check` refuses no folder that is a site
 abbrev pub CheckRefusesNone : Type 0
 CheckRefusesNone = (around : Around) (site : Site) (status : Status) → TellsSite around site
     → CheckEnds around status → IsNoRefusal status
 
--- nor a request by `get`, where the application's beginning never fails; but for a full journal, by these rules and
--- with this job
+-- `get` refuses no request to a site whose application never fails to begin; but the journal may be full, by the rules
+-- of that site and with that job
 abbrev pub GetRefusesNone : Type 0
 GetRefusesNone = (path query : List ℕ) (around : Around) (site : Site) (status : Status) → TellsSite around site
     → NeverFails (site_rules site) → GetEnds path query around status
     → IsNoRefusal status ⊎ IsFullFor (site_rules site) (job_of path query) status
 
--- nor a recording by `replay`, where the same holds with its seed and its items
+-- `replay` refuses no recording for a site whose application never fails to begin with its seed, where no journal that
+-- its items feed comes to be full
 abbrev pub ReplayRefusesNone : Type 0
 ReplayRefusesNone = (journal : Bool) (around : Around) (site : Site) (recording : Recording) (status : Status)
     → TellsSite around site → TellsRecording around recording → NeverFails (rules_for site recording)
     → NeverFills (rules_for site recording) recording.items → ReplayEnds journal around status → IsNoRefusal status
 
--- nor anything by `gen`, where its one page is a site and its requests never fill the journal
+-- `gen` refuses nothing, where its one page is a site and no journal that its requests feed comes to be full
 abbrev pub GenRefusesNone : Type 0
 GenRefusesNone = (count : ℕ) (journal : Bool) (around : Around) (site : Site) (status : Status)
     → IsAccepted count_files site → NeverFills (rules_for site (generated count)) (generated count).items
@@ -110,7 +111,7 @@ abbrev pub AreAddedAlike : Change → Change → Type 0
 AreAddedAlike sink other = (output : List ℕ) × (sink.after ≡ with_bytes sink.before output)
     × (other.after ≡ with_bytes other.before output)
 
--- two such replays of the same files and the same bytes of a source write the same
+-- two such replays of the same files and the same bytes of a source leave the same
 abbrev pub OneReplayOutput : Type 0
 OneReplayOutput = (journal : Bool) (files : List SiteFile) (bytes : List ℕ) (around other : Around)
     → TellsFiles around files → TellsFiles other files → around.source.before ≡ Some bytes
