@@ -9,7 +9,6 @@ use Rattle.asp_core.specs.declared.admitted.Admitted.{Admitted}
 use Rattle.asp_core.specs.Drawing.{drawn_by, entries_by, entry_then, told_of}
 use Rattle.asp_core.specs.Kernel.{CoreView, grown, past_of, rules_of}
 use Rattle.asp_get.proofs.Turns.{Leaves, grows_more, rules_grown}
-use Rattle.asp_get.proofs.Started.{started_grown}
 use Rattle.asp_get.specs.declared.stop.GetStop.{GetStop}
 use Rattle.asp_get.specs.Jobs.{jobs_in}
 use Rattle.asp_get.specs.Underway.{Grows, HasGoneOn, IsAsked, IsGoingStop, IsReady}
@@ -26,6 +25,7 @@ use Rattle.asp_job.specs.Rules.{Rules}
 use Rattle.asp_job.specs.Runs.{drawn, moment_of, unfinished}
 use Rattle.asp_job.specs.Told.{Meaning}
 use Rattle.asp_job.specs.Turns.{key_asked_by, key_for, needs_key, owed}
+use Rattle.asp_lane.proofs.Started.{started_grown}
 
 -- ---- the Tick of the job
 

@@ -1,4 +1,4 @@
 pub mod Turns
-pub mod Started
+pub mod JustEnded
 pub mod Coming
 pub mod Stopped

@@ -6,7 +6,7 @@ use Rattle.asp_core.specs.declared.stop.AdmitStop.TheVariants as admit
 use Rattle.asp_core.specs.Kernel.{CoreView, IsBeginTooMuch, IsHostOf, IsTooMuch, past_of, rules_by, rules_of}
 use Rattle.asp_core.specs.Start.{start_fail}
 use Rattle.asp_get.proofs.Turns.{rules_grown}
-use Rattle.asp_get.specs.Answered.{HasAnswered, HasEndedWith, HasFailed, HasNoOther, HasStarted, IsGetStop}
+use Rattle.asp_get.specs.Answered.{HasAnswered, HasEndedWith, HasFailed, HasNoOther, IsGetStop}
 use Rattle.asp_get.specs.Answered.{IsTooMuchNext, OfBegin, OfCall, OfJob}
 use Rattle.asp_get.specs.declared.stop.GetStop.{GetStop}
 use Rattle.asp_get.specs.declared.stop.GetStop.TheVariants as stop
@@ -27,6 +27,7 @@ use Rattle.asp_job.specs.Rules.{Rules}
 use Rattle.asp_job.specs.Runs.{moment_of, unfinished}
 use Rattle.asp_job.specs.Told.{Meaning}
 use Rattle.asp_journal.specs.Telling.{end_kind}
+use Rattle.asp_lane.specs.Started.{HasStarted}
 use Rattle.asp_lane.specs.Turns.{IsCallTooMuch}
 
 -- ---- turns that came to no end

@@ -1,5 +1,5 @@
 -- What it means that one request was answered, and why one was not. All of it is the product's own.
-use Rattle.std.specs.Prelude.{◌≡◌, ◌⊎◌, ⊤, ℕ, List, [], ◌∷◌, Some, None}
+use Rattle.std.specs.Prelude.{◌≡◌, ◌⊎◌, ⊤, ℕ, List, [], ◌∷◌, Some}
 use Rattle.asp_core.specs.Kernel.{IsBeginTooMuch, IsTooMuch}
 use Rattle.asp_core.specs.Start.{start_fail}
 use Rattle.asp_job.specs.declared.answer.Answer.{Answer}
@@ -11,23 +11,13 @@ use Rattle.asp_job.specs.Journal.{IsValidJournal, admit_entries, past_after}
 use Rattle.asp_job.specs.Output.{answer_of_run}
 use Rattle.asp_job.specs.Rules.{Rules}
 use Rattle.asp_journal.specs.Telling.{end_kind}
+use Rattle.asp_lane.specs.Started.{HasStarted}
 use Rattle.asp_lane.specs.Turns.{IsCallTooMuch}
 use Rattle.asp_get.specs.declared.stop.GetStop.{GetStop}
 use Rattle.asp_get.specs.declared.stop.GetStop.TheVariants as stop
 use Rattle.asp_get.specs.Jobs.{jobs_in}
 
 -- ---- answered
-
--- the first run has ended by itself, and did not fail
-pub record HasStarted (rules : Rules) (past : List Entry) : Type 0 where
-  pub ended : end_kind past 1 ≡ Some kind.Done
-  pub sound : start_fail rules past ≡ None
-
--- so it is in a valid journal
-pub record HasBegun (rules : Rules) : Type 0 where
-  pub past : List Entry
-  pub valid : IsValidJournal rules past
-  pub started : HasStarted rules past
 
 -- the run has ended by itself, and this is its answer
 pub record HasEndedWith (rules : Rules) (past : List Entry) (run : ℕ) (answer : Answer) : Type 0 where

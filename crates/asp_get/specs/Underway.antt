@@ -16,10 +16,10 @@ use Rattle.asp_job.specs.Rules.{Rules}
 use Rattle.asp_job.specs.Runs.{moment_of, unfinished}
 use Rattle.asp_lane.specs.declared.turn.Turn.{Turn}
 use Rattle.asp_lane.specs.declared.turn.Turn.TheVariants as turn
+use Rattle.asp_lane.specs.Started.{HasStarted}
 use Rattle.asp_lane.specs.Turns.{IsCallTooMuch}
 use Rattle.asp_get.specs.declared.stop.GetStop.{GetStop}
 use Rattle.asp_get.specs.declared.stop.GetStop.TheVariants as stop
-use Rattle.asp_get.specs.Answered.{HasStarted}
 use Rattle.asp_get.specs.Jobs.{jobs_in}
 
 -- ---- turns

@@ -1,14 +1,13 @@
-//! One request is answered; or the first run alone is taken to its end.
+//! One request is answered.
 #![tactic(auto)]
 
-ghost use Rattle.std.specs.Prelude.{◌≡◌, ◌∷◌, [], true, IfErr, IfOk, OnOk};
+ghost use Rattle.std.specs.Prelude.{◌≡◌, ◌∷◌, [], true, IfErr, IfOk};
 ghost use Rattle.asp_core.specs.Kernel.{IsHostOf, rules_by, rules_of};
-ghost use Rattle.asp_get.specs.Answered.{HasAnswered, HasBegun, IsGetStop};
+ghost use Rattle.asp_get.specs.Answered.{HasAnswered, IsGetStop};
 ghost use Rattle.asp_job.specs.History.{with_lane};
 ghost use Rattle.asp_job.specs.Running.{is_page};
 ghost use Rattle.asp_job.specs.Size.{IsSmall};
 ghost use Rattle.asp_job.specs.declared.entry.What.TheVariants as What;
-ghost use Rattle.asp_job.specs.declared.job.Job.{Job as JobView};
 ghost use Rattle.asp_job.specs.declared.job.Work.TheVariants as Work;
 
 use crate::asking::answer_job;
@@ -81,56 +80,4 @@ where
     let answered = answer_over(&mut core, runner, site, store, job);
     let_core_go(core);
     answered
-}
-
-/// Takes the first run of a host that was just made to its end.
-fn begin_over<R>(
-    core: &mut Core<R>,
-    runner: &R,
-    site: &R::Site,
-    store: R::Store,
-) -> Result<(), GetStop>
-where
-    R: Runner,
-    R::State: Drop,
-    R::Store: Drop,
-    requires host { IsHostOf core.old runner.now site.now }
-    requires first { core.old.journal ≡ with_lane 0 (What.Queue 1 Work.Start 0) ∷ [] }
-    ensures ok { OnOk result (HasBegun (rules_of R.meaning core.old)) }
-    ensures err { (job : JobView) → IfErr result (IsGetStop (rules_of R.meaning core.old) job) }
-{
-    match start(core, runner, site, store) {
-        Ok(store) => {
-            let_go::<R>(Hand::Free(store));
-            // The journal is valid.
-            let _ = core.journal();
-            Ok(())
-        }
-        Err(stop) => Err(stop),
-    }
-}
-
-/// Sees that the application begins: a host is made, and its first run goes to its end. No job comes.
-pub fn begins<R>(alloc: Global, runner: &R, site: &R::Site, seed: [u8; 32]) -> Result<(), GetStop>
-where
-    R: Runner,
-    R::State: Drop,
-    R::Store: Drop,
-    ensures ok { OnOk result (HasBegun (rules_by (R.meaning runner.now site.now) seed)) }
-    ensures err { (job : JobView) → IfErr result (IsGetStop (rules_by (R.meaning runner.now site.now) seed) job) }
-{
-    let store = match runner.store() {
-        Ok(store) => store,
-        Err(_) => return Err(GetStop::Memory),
-    };
-    let mut core = match Core::new(alloc, 0, runner, site, seed) {
-        Ok(core) => core,
-        Err(_) => {
-            let_go::<R>(Hand::Free(store));
-            return Err(GetStop::Memory);
-        }
-    };
-    let begun = begin_over(&mut core, runner, site, store);
-    let_core_go(core);
-    begun
 }

@@ -7,5 +7,5 @@ mod going;
 mod starting;
 mod stop;
 
-pub use answer::{answer_one, begins};
+pub use answer::answer_one;
 pub use stop::GetStop;

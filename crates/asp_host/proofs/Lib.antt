@@ -1,8 +1,11 @@
 mod Literals
 mod Causes
+mod GenEnds
 mod GetEnds
 mod Inputs
 mod Marks
 mod Outputs
 mod ReplayEnds
 pub mod Replaying
+mod Silent
+mod Summed

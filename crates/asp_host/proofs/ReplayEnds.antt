@@ -1,11 +1,6 @@
 -- What `replay` ran and wrote.
 use Rattle.std.proofs.Common.{◌≡◌, ◌⊎◌, ℕ, Bool, List, Option, IfSome, refl, inl, inr}
 use Rattle.vb_value.specs.declared.site_file.SiteFile.{SiteFile}
-use Rattle.asp_get.specs.Answered.{IsGetStop}
-use Rattle.asp_get.specs.declared.stop.GetStop.{GetStop}
-use Rattle.asp_get.specs.declared.stop.GetStop.TheVariants as get
-use Rattle.asp_job.specs.declared.job.Job.{Job}
-use Rattle.asp_job.specs.Rules.{Rules}
 use Rattle.asp_record.specs.declared.recording.Recording.{Recording}
 use Rattle.asp_replay.specs.declared.stop.FeedStop.{FeedStop}
 use Rattle.asp_replay.specs.declared.stop.FeedStop.TheVariants as feed
@@ -17,12 +12,9 @@ use Rattle.site_load.specs.Stopping.{Refuses}
 use Rattle.asp_host.specs.Around.{Change}
 use Rattle.asp_host.specs.declared.recording.RecordingStop.{RecordingStop}
 use Rattle.asp_host.specs.declared.recording.RecordingStop.TheVariants as recording
-use Rattle.asp_host.specs.declared.status.Status.{Status}
-use Rattle.asp_host.specs.declared.status.Status.TheVariants as status
 use Rattle.asp_host.specs.Input.{IsAllRecording, IsRecordingStop}
 use Rattle.asp_host.specs.Replay.{IsFor, ReplayWrites, rules_for}
 use Rattle.asp_host.specs.Replayed.{HasStopped}
-use Rattle.asp_host.specs.Starting.{IsFirstStop, start_status}
 use Rattle.asp_host.specs.Status.{feed_status_of, recording_status_of, status_of}
 
 -- where the folder is no site, nothing is read or written
@@ -43,35 +35,18 @@ no_recording journal files site source held (recording.Refused offset) accepted 
 no_recording journal files site source held recording.ReadFault accepted refused = refl
 no_recording journal files site source held recording.Memory accepted refused = inl refl
 
--- the first run stopped so, whatever job was to come
-pub first_told : (rules : Rules) (job : Job) (stop : GetStop) → IsGetStop rules job stop
-    → IfSome (start_status stop) (IsFirstStop rules)
-first_told rules job (get.StartFailed fail) failed = failed
-first_told rules job (get.JournalFull entries weight) much = tt
-first_told rules job get.Memory none = tt
-
--- nor where the application does not begin
-pub no_replay : (journal : Bool) (files : Option (List SiteFile)) (site : Site) (source : Change) (recording : Recording)
-    (held : Option (List ℕ)) (stop : Status) → IfSome files (λ all. IsAccepted all site)
-    → IsAllRecording source.before source.after recording → IsFirstStop (rules_for site recording) stop
-    → ReplayWrites journal files source (record { before = held; after = held }) stop
-no_replay journal files site source recording held (status.StartFailed fail) accepted whole failed = (
-  record {
-    site = site;
-    recording = recording;
-    is_for = record { accepted = accepted; whole = whole };
-    failed = failed;
-  },
-  refl,
-)
-no_replay journal files site source recording held status.Memory accepted whole failed = inl refl
-
 -- where the replay stopped
 pub replay_stopped : (journal : Bool) (files : Option (List SiteFile)) (site : Site) (source sink : Change)
     (recording : Recording) (stop : FeedStop) → IfSome files (λ all. IsAccepted all site)
     → IsAllRecording source.before source.after recording
     → HasStopped (rules_for site recording) recording.items journal sink.before sink.after stop
     → ReplayWrites journal files source sink (feed_status_of stop)
+replay_stopped journal files site source sink recording (feed.StartFailed fail) accepted whole stopped = record {
+  site = site;
+  recording = recording;
+  is_for = record { accepted = accepted; whole = whole };
+  failed = stopped;
+}
 replay_stopped journal files site source sink recording (feed.JournalFull entries weight) accepted whole stopped = record {
   site = site;
   recording = recording;

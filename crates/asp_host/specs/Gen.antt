@@ -3,6 +3,7 @@ use Rattle.std.specs.Prelude.{◌≡◌, ◌⊎◌, ℕ, Bool, List, [], ◌∷�
 use Rattle.vb_value.specs.declared.site_file.SiteFile.{SiteFile}
 use Rattle.asp_io.specs.Copying.{AddsPart}
 use Rattle.asp_io.specs.Sink.{with_bytes}
+use Rattle.asp_job.specs.declared.answer.Fail.{Fail}
 use Rattle.asp_job.specs.declared.entry.Entry.{Entry}
 use Rattle.asp_job.specs.Journal.{IsValidJournal}
 use Rattle.asp_job.specs.Rules.{Rules}
@@ -23,7 +24,7 @@ use Rattle.asp_host.specs.declared.status.Status.TheVariants.{Ok, Memory, Usage,
 use Rattle.asp_host.specs.declared.status.Status.TheVariants.{ReadFault, WriteFault, RecordRefused, JournalFull}
 use Rattle.asp_host.specs.Around.{Around, Change, IsLeft}
 use Rattle.asp_host.specs.Replay.{rules_for}
-use Rattle.asp_host.specs.Replayed.{HasFilled}
+use Rattle.asp_host.specs.Replayed.{HasFilled, HasNotStarted}
 
 -- the one page of the site: it counts for the application, and for the session (the profile's)
 abbrev pub count_page : SiteFile
@@ -54,6 +55,7 @@ HasSummedPart rules items count journal sink =
 
 -- why they were not, or their summary was not written whole. The answers go to a sink that tells nothing.
 abbrev pub IsSumStop : Rules → List Item → ℕ → Bool → Change → FeedStop → Type 0
+IsSumStop rules items count journal sink (feed.StartFailed fail) = HasNotStarted rules fail None None × IsLeft sink
 IsSumStop rules items count journal sink (feed.JournalFull entries weight) =
     HasFilled rules items entries weight None None × IsLeft sink
 IsSumStop rules items count journal sink feed.WriteFault = HasSummedPart rules items count journal sink
@@ -72,6 +74,12 @@ pub record HasGenerated (count : ℕ) (journal : Bool) (output : List ℕ) : Typ
   pub site : Site
   pub accepted : IsAccepted count_files site
   pub summed : HasSummed (rules_for site (generated count)) (generated count).items count journal output
+
+-- the first run of the site failed
+pub record FailsGenerated (count : ℕ) (fail : Fail) : Type 0 where
+  pub site : Site
+  pub accepted : IsAccepted count_files site
+  pub failed : HasNotStarted (rules_for site (generated count)) fail None None
 
 -- they were fed in part, until the journal was full
 pub record FillsGenerated (count entries weight : ℕ) : Type 0 where
@@ -92,7 +100,7 @@ GenWrites count journal sink WriteFault = GeneratesPart count journal sink
 GenWrites count journal sink Memory = IsLeft sink ⊎ GeneratesPart count journal sink
 GenWrites count journal sink (JournalFull entries weight) = FillsGenerated count entries weight × IsLeft sink
 GenWrites count journal sink (SiteRefused fault) = IsFolderFault count_files fault × IsLeft sink
-GenWrites count journal sink (StartFailed fail) = ⊥
+GenWrites count journal sink (StartFailed fail) = FailsGenerated count fail × IsLeft sink
 GenWrites count journal sink ReadFault = ⊥
 GenWrites count journal sink (RecordRefused offset) = ⊥
 GenWrites count journal sink Usage = ⊥

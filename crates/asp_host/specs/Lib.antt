@@ -9,4 +9,3 @@ pub mod Check
 pub mod Replay
 pub mod Gen
 pub mod Host
-pub mod Starting

@@ -2,7 +2,6 @@
 use Rattle.std.specs.Prelude.{◌≡◌, ◌⊎◌, ℕ, Bool, IfSome, List, Option}
 use Rattle.vb_value.specs.declared.site_file.SiteFile.{SiteFile}
 use Rattle.asp_core.specs.Kernel.{rules_by}
-use Rattle.asp_get.specs.Answered.{HasFailed}
 use Rattle.asp_job.specs.declared.answer.Fail.{Fail}
 use Rattle.asp_job.specs.Rules.{Rules}
 use Rattle.asp_record.specs.declared.recording.Recording.{Recording}
@@ -14,7 +13,7 @@ use Rattle.asp_host.specs.declared.status.Status.TheVariants.{Ok, Memory, Usage,
 use Rattle.asp_host.specs.declared.status.Status.TheVariants.{ReadFault, WriteFault, RecordRefused, JournalFull}
 use Rattle.asp_host.specs.Around.{Around, Change, IsLeft}
 use Rattle.asp_host.specs.Input.{IsAllRecording, IsSourceRefusedAt}
-use Rattle.asp_host.specs.Replayed.{HasFilled, HasReplayed, HasReplayedPart}
+use Rattle.asp_host.specs.Replayed.{HasFilled, HasNotStarted, HasReplayed, HasReplayedPart}
 
 -- what the journal of a replay is held against
 abbrev pub rules_for : Site → Recording → Rules
@@ -50,12 +49,12 @@ pub record HasRefused (files : Option (List SiteFile)) (source : Change) (offset
   pub accepted : IfSome files (λ all. IsAccepted all site)
   pub refused : IfSome source.before (λ all. IsSourceRefusedAt all offset)
 
--- the application fails to begin so, on a host with the recording's seed
-pub record FailsToBegin (files : Option (List SiteFile)) (source : Change) (fail : Fail) : Type 0 where
+-- the application fails to begin so, on a host with the recording's seed, and nothing is written
+pub record FailsToBegin (files : Option (List SiteFile)) (source sink : Change) (fail : Fail) : Type 0 where
   pub site : Site
   pub recording : Recording
   pub is_for : IsFor files source site recording
-  pub failed : HasFailed (rules_for site recording) fail
+  pub failed : HasNotStarted (rules_for site recording) fail sink.before sink.after
 
 -- what `replay` ran and wrote, by its status
 abbrev pub ReplayWrites : Bool → Option (List SiteFile) → Change → Change → Status → Type 0
@@ -66,7 +65,7 @@ ReplayWrites journal files source sink Memory = IsLeft sink ⊎ ReplaysPart jour
 ReplayWrites journal files source sink (RecordRefused offset) = HasRefused files source offset × IsLeft sink
 ReplayWrites journal files source sink (SiteRefused fault) =
     IfSome files (λ all. IsFolderFault all fault) × IsLeft source × IsLeft sink
-ReplayWrites journal files source sink (StartFailed fail) = FailsToBegin files source fail × IsLeft sink
+ReplayWrites journal files source sink (StartFailed fail) = FailsToBegin files source sink fail
 ReplayWrites journal files source sink ReadFault = IsLeft sink
 ReplayWrites journal files source sink Usage = ⊥
 

@@ -39,6 +39,7 @@ recording_status_of recording.Memory = Memory
 
 -- how a command ends where a recording was not replayed to its end
 abbrev pub feed_status_of : FeedStop → Status
+feed_status_of (feed.StartFailed fail) = StartFailed fail
 feed_status_of (feed.JournalFull entries weight) = JournalFull entries weight
 feed_status_of feed.WriteFault = WriteFault
 feed_status_of feed.Memory = Memory

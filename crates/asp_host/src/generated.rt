@@ -9,7 +9,7 @@ use crate::fail_text::ascii;
 use crate::status::Status;
 use crate::summing::write_generated;
 use asp_io::{Sink, SureFolder};
-use asp_record::generate;
+use asp_record::{generate, generated_sound};
 use asp_run::PlainRunner;
 use asp_site::Site;
 use site_load::{LoadStop, load};
@@ -35,8 +35,17 @@ pub fn replay_generated<K: Sink>(alloc: Global, count: u32, journal: bool, sink:
         Ok(recording) => recording,
         Err(Memory) => return Status::Memory,
     };
-    let runner = PlainRunner { alloc };
-    match write_generated(alloc, &runner, &site, &recording, count, journal, sink) {
+    // What is generated is sound.
+    generated_sound();
+    match write_generated(
+        alloc,
+        &PlainRunner { alloc },
+        &site,
+        &recording,
+        count,
+        journal,
+        sink,
+    ) {
         Ok(()) => Status::Ok,
         Err(stop) => Status::from(stop),
     }
@@ -64,11 +73,8 @@ fn count_folder(alloc: Global) -> Result<SureFolder, Memory>
 /// The site of the one page. A folder in memory does not fail.
 fn count_site(alloc: Global) -> Result<Site, LoadStop>
     ensures ok { IfOk result (IsAccepted spec.count_files) }
-    ensures err { IfErr result (spec.IsCountStop) }
+    ensures err { IfErr result spec.IsCountStop }
 {
-    let mut folder = match count_folder(alloc) {
-        Ok(folder) => folder,
-        Err(Memory) => return Err(LoadStop::Memory),
-    };
+    let mut folder = count_folder(alloc)?;
     load(alloc, &mut folder)
 }

@@ -1,18 +1,13 @@
 //! The command `replay`.
-ghost use Rattle.std.specs.Prelude.{◌≡◌, ◌⊎◌, IfSome};
-ghost use Rattle.asp_core.specs.Kernel.{rules_by};
+ghost use Rattle.std.specs.Prelude.{◌≡◌, ◌⊎◌};
 ghost use Rattle.asp_io.specs.Faults.{HasRisen};
-ghost use Rattle.asp_run.specs.Running.{meaning_of};
 ghost use Rattle.asp_host.specs.Replay.{ReplayWrites};
-ghost use Rattle.asp_host.specs.Starting as spec;
 
 use crate::output::write_replay;
 use crate::recording::source_recording;
 use crate::status::Status;
-use asp_get::{GetStop, begins};
 use asp_io::{Folder, Sink, Source};
 use asp_run::PlainRunner;
-use asp_site::Site;
 use site_load::load;
 use std::alloc::Global;
 
@@ -39,9 +34,6 @@ pub fn replay<F: Folder, S: Source, K: Sink>(
         Ok(recording) => recording,
         Err(stop) => return Status::from(stop),
     };
-    if let Some(stop) = first_stop(alloc, &site, recording.seed) {
-        return stop;
-    }
     match write_replay(
         alloc,
         &PlainRunner { alloc },
@@ -52,27 +44,5 @@ pub fn replay<F: Folder, S: Source, K: Sink>(
     ) {
         Ok(()) => Status::Ok,
         Err(stop) => Status::from(stop),
-    }
-}
-
-/// How the command ends where the first run stopped so, if that ends it. A first run that fills the journal fills that of
-/// the replay too, which tells it.
-fn start_status(stop: GetStop) -> Option<Status>
-    ensures { result ≡ spec.start_status stop }
-{
-    match stop {
-        GetStop::StartFailed(fail) => Some(Status::StartFailed(fail)),
-        GetStop::JournalFull { .. } => None,
-        GetStop::Memory => Some(Status::Memory),
-    }
-}
-
-/// Sees that the application begins, by its first run: how the command ends, where it does not.
-fn first_stop(alloc: Global, site: &Site, seed: [u8; 32]) -> Option<Status>
-    ensures { IfSome result (spec.IsFirstStop (rules_by (meaning_of site.now) seed)) }
-{
-    match begins(alloc, &PlainRunner { alloc }, site, seed) {
-        Ok(()) => None,
-        Err(stop) => start_status(stop),
     }
 }

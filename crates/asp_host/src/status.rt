@@ -97,6 +97,7 @@ impl From<FeedStop> for Status {
 
     fn from(stop: FeedStop) -> Status {
         match stop {
+            FeedStop::StartFailed(fail) => Status::StartFailed(fail),
             FeedStop::JournalFull { entries, weight } => Status::JournalFull { entries, weight },
             FeedStop::WriteFault => Status::WriteFault,
             FeedStop::Memory => Status::Memory,

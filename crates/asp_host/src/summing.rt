@@ -29,6 +29,17 @@ fn summary_string(alloc: Global, count: u32, entries: &[Entry]) -> Result<String
     summary_text(alloc, &summary)
 }
 
+/// Writes a text whole.
+fn write_text<K: Sink>(sink: &mut K, text: &[u8]) -> Result<(), FeedStop>
+    ensures wrote { WritesText text.now result (K.held sink.old) (K.held sink.new) }
+    ensures cause { HasCause FeedStop.WriteFault (K.faults sink.old) (K.faults sink.new) result }
+{
+    match write_all(sink, text) {
+        Ok(()) => Ok(()),
+        Err(Failed) => Err(FeedStop::WriteFault),
+    }
+}
+
 /// Writes the lines of the journal, where they are asked for, and its summary.
 fn write_summary<R: Runner, K: Sink>(
     alloc: Global,
@@ -44,10 +55,7 @@ fn write_summary<R: Runner, K: Sink>(
     let entries = core.journal();
     let text = summary_string(alloc, count, entries)?;
     write_journal(alloc, journal, entries, sink)?;
-    match write_all(sink, text.as_bytes()) {
-        Ok(()) => Ok(()),
-        Err(Failed) => Err(FeedStop::WriteFault),
-    }
+    write_text(sink, text.as_bytes())
 }
 
 /// Feeds a site with a recording of so many requests, lets the answers go, and writes what `gen` writes.
@@ -73,14 +81,9 @@ where
         recording.now.items count journal (record { before = K.held sink.old; after = K.held sink.new })) }
     ensures cause { HasCause FeedStop.WriteFault (K.faults sink.old) (K.faults sink.new) result }
 {
-    let core = match feed(alloc, runner, site, recording, &mut SureSink) {
-        Ok(core) => core,
-        Err(FeedStop::JournalFull { entries, weight }) => {
-            return Err(FeedStop::JournalFull { entries, weight });
-        }
-        // The sink of the answers takes all.
-        Err(FeedStop::WriteFault | FeedStop::Memory) => return Err(FeedStop::Memory),
-    };
+    // The sink of the answers takes all, so none of its faults is handed on.
+    let mut nowhere = SureSink;
+    let core = feed(alloc, runner, site, recording, &mut nowhere)?;
     // The journal is valid.
     let _ = core.journal();
     write_summary(alloc, &core, count, journal, sink)

@@ -19,14 +19,15 @@ use Rattle.asp_host.specs.declared.status.Status.TheVariants.{Ok, Memory, Usage,
 use Rattle.asp_host.specs.declared.status.Status.TheVariants.{ReadFault, WriteFault, RecordRefused, JournalFull}
 use Rattle.asp_host.specs.Around.{Around}
 use Rattle.asp_host.specs.Check.{CheckEnds}
-use Rattle.asp_host.specs.Gen.{FillsGenerated, GenEnds, count_files}
+use Rattle.asp_host.specs.Gen.{FailsGenerated, FillsGenerated, GenEnds, count_files}
 use Rattle.asp_host.specs.Get.{GetEnds, site_rules}
 use Rattle.asp_host.specs.Get as get
 use Rattle.asp_host.specs.Input.{IsSourceRefusedAt}
 use Rattle.asp_host.specs.Replay.{Fills, HasRefused, IsFor, ReplayEnds, rules_for}
 use Rattle.asp_host.specs.Replay as replay
-use Rattle.asp_host.specs.Replayed.{HasFilled}
+use Rattle.asp_host.specs.Replayed.{HasFilled, HasNotStarted}
 use Rattle.asp_host.specs.Request.{job_of}
+use Rattle.host_laws.proofs.NoJobs.{no_jobs}
 use Rattle.host_laws.specs.Laws.{IsFullFor, IsNoRefusal, NeverFails, NeverFills, OneSite, TellsFiles}
 use Rattle.host_laws.specs.Laws.{TellsRecording, TellsSite}
 
@@ -110,12 +111,22 @@ module _ (sites : OneSite) (faultless : SiteOrFault) where
 
   -- ---- `gen`
 
+  not_started : (rules : Rules) (fail : Fail) (before after : Option (List ℕ)) → NeverFails rules
+      → HasNotStarted rules fail before after → ⊥
+  not_started rules fail before after never fails = never fail (record {
+    past = fails.past;
+    valid = fails.account;
+    none_came = no_jobs fails.past fails.failed.none_came;
+    failed = fails.failed.failed;
+  })
+
   never_filled : (rules : Rules) (items : List Item) (entries weight : ℕ) (before after : Option (List ℕ))
       → NeverFills rules items → HasFilled rules items entries weight before after → ⊥
   never_filled rules items entries weight before after never filled = never entries weight (
     filled.0,
     record {
       account = filled.1.account;
+    answered = filled.1.answered;
       fed = filled.1.fed;
       cause = filled.1.cause;
       written = record {
@@ -146,6 +157,12 @@ module _ (sites : OneSite) (faultless : SiteOrFault) where
   count_refused : (site : Site) (fault : SiteFault) → IsAccepted count_files site → IsFolderFault count_files fault → ⊥
   count_refused site fault accepted faulty = faultless count_files site fault count_paths accepted faulty
 
+  count_started : (count : ℕ) (site : Site) (fail : Fail) → IsAccepted count_files site
+      → NeverFails (rules_for site (generated count)) → FailsGenerated count fail → ⊥
+  count_started count site fail accepted never fails = not_started (rules_for fails.site (generated count)) fail None None
+      (subst (λ site. NeverFails (rules_for site (generated count)))
+      (sites count_files site fails.site count_paths accepted fails.accepted) never) fails.failed
+
   count_filled : (count : ℕ) (site : Site) (entries weight : ℕ) → IsAccepted count_files site
       → NeverFills (rules_for site (generated count)) (generated count).items → FillsGenerated count entries weight → ⊥
   count_filled count site entries weight accepted never fills =
@@ -154,19 +171,21 @@ module _ (sites : OneSite) (faultless : SiteOrFault) where
       (subst (λ site. NeverFills (rules_for site (generated count)) (generated count).items) same never) fills.filled
 
   pub gen_refuses_none : (count : ℕ) (journal : Bool) (around : Around) (site : Site) (status : Status)
-      → IsAccepted count_files site → NeverFills (rules_for site (generated count)) (generated count).items
-      → GenEnds count journal around status → IsNoRefusal status
-  gen_refuses_none count journal around site Ok accepted never ends = tt
-  gen_refuses_none count journal around site Memory accepted never ends = tt
-  gen_refuses_none count journal around site ReadFault accepted never ends = tt
-  gen_refuses_none count journal around site WriteFault accepted never ends = tt
-  gen_refuses_none count journal around site (SiteRefused fault) accepted never ends =
+      → IsAccepted count_files site → NeverFails (rules_for site (generated count))
+      → NeverFills (rules_for site (generated count)) (generated count).items → GenEnds count journal around status
+      → IsNoRefusal status
+  gen_refuses_none count journal around site Ok accepted never little ends = tt
+  gen_refuses_none count journal around site Memory accepted never little ends = tt
+  gen_refuses_none count journal around site ReadFault accepted never little ends = tt
+  gen_refuses_none count journal around site WriteFault accepted never little ends = tt
+  gen_refuses_none count journal around site (SiteRefused fault) accepted never little ends =
       count_refused site fault accepted ends.1.0
-  gen_refuses_none count journal around site (JournalFull entries weight) accepted never ends =
-      count_filled count site entries weight accepted never ends.1.0
-  gen_refuses_none count journal around site (StartFailed fail) accepted never ends = ends.1
-  gen_refuses_none count journal around site (RecordRefused offset) accepted never ends = ends.1
-  gen_refuses_none count journal around site Usage accepted never ends = ends.1
+  gen_refuses_none count journal around site (JournalFull entries weight) accepted never little ends =
+      count_filled count site entries weight accepted little little ends.1.0
+  gen_refuses_none count journal around site (StartFailed fail) accepted never little ends =
+      count_started count site fail accepted never ends.1.0
+  gen_refuses_none count journal around site (RecordRefused offset) accepted never little ends = ends.1
+  gen_refuses_none count journal around site Usage accepted never little ends = ends.1
 
   -- ---- `replay`
 
@@ -204,10 +223,11 @@ module _ (sites : OneSite) (faultless : SiteOrFault) where
 
     no_start_failed : (around : Around) (site : Site) (recording : Recording) (fail : Fail) → TellsSite around site
         → TellsRecording around recording → NeverFails (rules_for site recording)
-        → replay.FailsToBegin around.files around.source fail → ⊥
-    no_start_failed around site recording fail tells also never fails = never fail (of_same around site fails.site
-        recording fails.recording (λ site recording. HasFailed (rules_for site recording) fail) tells also fails.is_for
-        fails.failed)
+        → replay.FailsToBegin around.files around.source around.sink fail → ⊥
+    no_start_failed around site recording fail tells also never fails =
+        not_started (rules_for site recording) fail around.sink.before around.sink.after never
+        (of_same around site fails.site recording fails.recording (λ site recording. HasNotStarted
+        (rules_for site recording) fail around.sink.before around.sink.after) tells also fails.is_for fails.failed)
 
     no_journal_full : (around : Around) (site : Site) (recording : Recording) (entries weight : ℕ)
         → TellsSite around site → TellsRecording around recording
@@ -232,7 +252,7 @@ module _ (sites : OneSite) (faultless : SiteOrFault) where
     replay_refuses_none journal around site recording (RecordRefused offset) tells also never little ends =
         no_record_refused around recording offset also ends.0
     replay_refuses_none journal around site recording (StartFailed fail) tells also never little ends =
-        no_start_failed around site recording fail tells also never ends.0
+        no_start_failed around site recording fail tells also never ends
     replay_refuses_none journal around site recording (JournalFull entries weight) tells also never little ends =
         no_journal_full around site recording entries weight tells also little ends
     replay_refuses_none journal around site recording Usage tells also never little ends = ends

@@ -93,11 +93,13 @@ ReplayRefusesNone = (journal : Bool) (around : Around) (site : Site) (recording 
     → TellsSite around site → TellsRecording around recording → NeverFails (rules_for site recording)
     → NeverFills (rules_for site recording) recording.items → ReplayEnds journal around status → IsNoRefusal status
 
--- `gen` refuses nothing, where its one page is a site and no journal that its requests feed comes to be full
+-- `gen` refuses nothing, where its one page is a site whose application never fails to begin, and no journal that its
+-- requests feed comes to be full
 abbrev pub GenRefusesNone : Type 0
 GenRefusesNone = (count : ℕ) (journal : Bool) (around : Around) (site : Site) (status : Status)
-    → IsAccepted count_files site → NeverFills (rules_for site (generated count)) (generated count).items
-    → GenEnds count journal around status → IsNoRefusal status
+    → IsAccepted count_files site → NeverFails (rules_for site (generated count))
+    → NeverFills (rules_for site (generated count)) (generated count).items → GenEnds count journal around status
+    → IsNoRefusal status
 
 -- ---- what is written
 

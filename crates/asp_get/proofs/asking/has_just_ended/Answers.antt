@@ -1,5 +1,5 @@
 use Rattle.std.proofs.Common.{◌∙◌, sym}
-use Rattle.asp_get.proofs.Started.{just_ended}
+use Rattle.asp_get.proofs.JustEnded.{just_ended}
 use Rattle.asp_get.proofs.asking.has_just_ended.Goals as goal
 
 pub returns-in-Some : goal.returns-in-Some

@@ -1,14 +1,11 @@
 -- How the first run ended stays so.
-use Rattle.std.proofs.Common.{◌≡◌, ℕ, ◌+◌, ◌==◌, Bool, true, false, if◌then◌else◌, List, [], ◌∷◌, Some, is_some}
-use Rattle.std.proofs.Common.{◌++◌, reverse, refl, ap, sym, ◌∙◌, subst, arith, inl, inr}
+use Rattle.std.proofs.Common.{◌≡◌, ℕ, ◌+◌, ◌==◌, Bool, true, false, if◌then◌else◌, List, [], ◌∷◌, is_some, refl}
+use Rattle.std.proofs.Common.{ap, sym, ◌∙◌, subst, arith, inl, inr}
 use Rattle.std.proofs.lemmas.Bool.{cases_Bool, eqb-true, eq-eqb}
 use Rattle.asp_core.proofs.Kept.{past_of_more}
 use Rattle.asp_core.proofs.Right.{begin_right, drawn_next, end_running, may_begin_waits, next_undrawn, unfinished_is}
-use Rattle.asp_core.specs.Kernel.{CoreView, past_of, rules_of}
+use Rattle.asp_core.specs.Kernel.{CoreView, grown, past_of, rules_of}
 use Rattle.asp_core.specs.Start.{fail_by, start_fail}
-use Rattle.asp_get.specs.Answered.{HasStarted}
-use Rattle.asp_get.specs.Underway.{Grows, is_end_of}
-use Rattle.asp_job.specs.declared.entry.EndKind.TheVariants as kind
 use Rattle.asp_job.specs.declared.entry.Entry.{Entry}
 use Rattle.asp_job.specs.declared.entry.Stage.TheVariants.{Ended, Undrawn, Unfinished, Waiting}
 use Rattle.asp_job.specs.declared.entry.What.{What}
@@ -20,8 +17,8 @@ use Rattle.asp_job.specs.Runs.{drawn, stage_of}
 use Rattle.asp_job.specs.Told.{Meaning}
 use Rattle.asp_job.specs.Turns.{owed}
 use Rattle.asp_journal.proofs.Others.{stage_other}
-use Rattle.asp_journal.proofs.Past.{past_push}
 use Rattle.asp_journal.specs.Telling.{end_kind}
+use Rattle.asp_lane.specs.Started.{HasStarted}
 
 -- ---- a run that has ended is at its last stage
 
@@ -112,7 +109,9 @@ started_stays m past (entry ∷ entries) right is =
     let before = right_before m (entry ∷ past) entries right in
     started_stays m (entry ∷ past) entries right (started_one m past entry.lane entry.what before.1 before.0 is)
 
-pub started_grown : {R Site : Type 0} → (meaning : R → Site → Meaning) (old new : CoreView R Site) → Grows old new
+-- the first run of a core whose journal has grown has started as before
+pub started_grown : {R Site : Type 0} → (meaning : R → Site → Meaning) (old new : CoreView R Site)
+    → ((entries : List Entry) × (new ≡ grown old entries))
     → IsValidJournal (rules_of meaning new) (past_of new) → HasStarted (rules_of meaning old) (past_of old)
     → HasStarted (rules_of meaning old) (past_of new)
 started_grown meaning old new grows valid is =
@@ -123,28 +122,3 @@ started_grown meaning old new grows valid is =
     ap (λ core. past_of core) grows.1 ∙ past_of_more old.journal grows.0 in
     subst (HasStarted m) (sym past)
     (started_stays m (past_of old) grows.0 (subst (AreRight m) past right) is)
-
--- ---- the newest entry
-
-end_newest : (past : List Entry) (lane run : ℕ) (what : What) → is_end_of run what ≡ true
-    → end_kind (with_lane lane what ∷ past) run ≡ Some kind.Done
-end_newest past lane r (End run kind.Done status size n1 n2) e = rw e refl
-end_newest past lane r (End run kind.Memory status size n1 n2) e = absurd cc
-end_newest past lane r (End run kind.JournalFull status size n1 n2) e = absurd cc
-end_newest past lane r (Queue run work key) e = absurd cc
-end_newest past lane r (Admit run key fresh job) e = absurd cc
-end_newest past lane r (Refuse run job) e = absurd cc
-end_newest past lane r (Tick moment) e = absurd cc
-end_newest past lane r (Begin run serial) e = absurd cc
-end_newest past lane r (App run call reply) e = absurd cc
-end_newest past lane r (Take run) e = absurd cc
-end_newest past lane r Stop e = absurd cc
-end_newest past lane r Halt e = absurd cc
-
--- a journal whose newest entry is the end of the run
-pub just_ended : (journal rest : List Entry) (newest : Entry) (run : ℕ) → journal ≡ rest ++ newest ∷ []
-    → is_end_of run newest.what ≡ true → end_kind (reverse journal) run ≡ Some kind.Done
-just_ended journal rest newest run e ends =
-    ap (λ (items : List Entry). end_kind (reverse items) run) e
-    ∙ ap (λ (past : List Entry). end_kind past run) (past_push rest newest)
-    ∙ end_newest (reverse rest) newest.lane run newest.what ends
