@@ -1,5 +1,5 @@
 -- What `gen` ran and wrote.
-use Rattle.std.proofs.Common.{◌≡◌, ◌⊎◌, ℕ, Bool, List, Option, Some, IfErr, Result, Ok, Err, arith, refl, subst, inl, inr}
+use Rattle.std.proofs.Common.{◌≡◌, ℕ, Bool, List, Option, Some, IfErr, Result, Ok, Err, arith, refl, subst, inl, inr}
 use Rattle.vb_value.specs.declared.site_file.SiteFile.{SiteFile}
 use Rattle.asp_io.specs.Faults.{HasCause}
 use Rattle.asp_io.specs.Sink.{with_bytes}

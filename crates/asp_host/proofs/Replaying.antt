@@ -1,5 +1,6 @@
 -- What a replay comes to.
-use Rattle.std.proofs.Common.{◌≡◌, ◌⊎◌, ℕ, ◌++◌, Bool, List, [], ◌∷◌, length, append_assoc, refl, ap, sym, ◌∙◌, subst, inl, inr, arith, Option}
+use Rattle.std.proofs.Common.{◌≡◌, ◌⊎◌, ℕ, ◌++◌, Bool, List, [], ◌∷◌, length, append_assoc, refl, ap, sym, ◌∙◌, subst}
+use Rattle.std.proofs.Common.{inl, inr, arith, Option}
 use Rattle.std.proofs.Common.{Result, Ok, Err, IfErr, OnOk}
 use Rattle.asp_core.specs.Kernel.{CoreView, past_of, rules_by, rules_of}
 use Rattle.asp_io.specs.Copying.{AddsPart}

@@ -1,4 +1,3 @@
-use Rattle.std.proofs.Common.{subst, sym}
 use Rattle.asp_core.specs.Kernel.{rules_by}
 use Rattle.asp_host.specs.Gen.{IsSumStop}
 use Rattle.asp_host.proofs.Causes.{handed_on}

@@ -7,7 +7,6 @@ use Rattle.asp_replay.specs.Shown.{lines_of}
 use Rattle.asp_replay.specs.Underway.{WritesText}
 use Rattle.asp_summary.specs.Counted.{summary_of}
 use Rattle.asp_summary.specs.Lines.{summary_lines}
-use Rattle.asp_replay.specs.declared.stop.FeedStop.{FeedStop}
 use Rattle.asp_host.proofs.Outputs.{text_begun, text_then}
 use Rattle.asp_host.proofs.summing.write_summary.Goals as goal
 
