@@ -126,7 +126,7 @@ module _ (sites : OneSite) (faultless : SiteOrFault) where
     filled.0,
     record {
       account = filled.1.account;
-    answered = filled.1.answered;
+      answered = filled.1.answered;
       fed = filled.1.fed;
       cause = filled.1.cause;
       written = record {
@@ -181,7 +181,7 @@ module _ (sites : OneSite) (faultless : SiteOrFault) where
   gen_refuses_none count journal around site (SiteRefused fault) accepted never little ends =
       count_refused site fault accepted ends.1.0
   gen_refuses_none count journal around site (JournalFull entries weight) accepted never little ends =
-      count_filled count site entries weight accepted little little ends.1.0
+      count_filled count site entries weight accepted little ends.1.0
   gen_refuses_none count journal around site (StartFailed fail) accepted never little ends =
       count_started count site fail accepted never ends.1.0
   gen_refuses_none count journal around site (RecordRefused offset) accepted never little ends = ends.1
