@@ -159,7 +159,8 @@ module _ (sites : OneSite) (faultless : SiteOrFault) where
 
   count_started : (count : ℕ) (site : Site) (fail : Fail) → IsAccepted count_files site
       → NeverFails (rules_for site (generated count)) → FailsGenerated count fail → ⊥
-  count_started count site fail accepted never fails = not_started (rules_for fails.site (generated count)) fail None None
+  count_started count site fail accepted never fails =
+      not_started (rules_for fails.site (generated count)) fail None None
       (subst (λ site. NeverFails (rules_for site (generated count)))
       (sites count_files site fails.site count_paths accepted fails.accepted) never) fails.failed
 
