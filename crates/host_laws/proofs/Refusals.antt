@@ -126,7 +126,7 @@ module _ (sites : OneSite) (faultless : SiteOrFault) where
     filled.0,
     record {
       account = filled.1.account;
-    answered = filled.1.answered;
+      answered = filled.1.answered;
       fed = filled.1.fed;
       cause = filled.1.cause;
       written = record {
@@ -159,7 +159,8 @@ module _ (sites : OneSite) (faultless : SiteOrFault) where
 
   count_started : (count : ℕ) (site : Site) (fail : Fail) → IsAccepted count_files site
       → NeverFails (rules_for site (generated count)) → FailsGenerated count fail → ⊥
-  count_started count site fail accepted never fails = not_started (rules_for fails.site (generated count)) fail None None
+  count_started count site fail accepted never fails =
+      not_started (rules_for fails.site (generated count)) fail None None
       (subst (λ site. NeverFails (rules_for site (generated count)))
       (sites count_files site fails.site count_paths accepted fails.accepted) never) fails.failed
 
@@ -181,7 +182,7 @@ module _ (sites : OneSite) (faultless : SiteOrFault) where
   gen_refuses_none count journal around site (SiteRefused fault) accepted never little ends =
       count_refused site fault accepted ends.1.0
   gen_refuses_none count journal around site (JournalFull entries weight) accepted never little ends =
-      count_filled count site entries weight accepted little little ends.1.0
+      count_filled count site entries weight accepted little ends.1.0
   gen_refuses_none count journal around site (StartFailed fail) accepted never little ends =
       count_started count site fail accepted never ends.1.0
   gen_refuses_none count journal around site (RecordRefused offset) accepted never little ends = ends.1
