@@ -6,8 +6,8 @@ use Rattle.std.proofs.lemmas.Fmt.{decimal_injective}
 use Rattle.std.proofs.lemmas.Option.{same_Some}
 use Rattle.http_front.specs.Target.{path_of, query_of}
 use Rattle.asp_command.specs.declared.words.Command.{Command}
-use Rattle.asp_command.specs.declared.words.Command.TheVariants.{Get, Check, Replay}
-use Rattle.asp_command.specs.Words.{AreOptions, IsCommand, IsTarget, SaysCheck, SaysGet, SaysReplay}
+use Rattle.asp_command.specs.declared.words.Command.TheVariants.{Get, Check, Replay, Gen}
+use Rattle.asp_command.specs.Words.{AreOptions, IsCommand, IsTarget, SaysCheck, SaysGen, SaysGet, SaysReplay}
 use Rattle.asp_command.specs.Words.{journal_words}
 use Rattle.asp_command.proofs.OptionWords.{one_options}
 
@@ -19,11 +19,13 @@ abbrev letter_of : Command → ℕ
 letter_of (Get site path query) = 116
 letter_of (Check site) = 101
 letter_of (Replay site workers journal) = 112
+letter_of (Gen count journal) = 110
 
 letter_is : (words : List (List ℕ)) (command : Command) → IsCommand words command → letter words ≡ letter_of command
 letter_is words (Get site path query) says = ap letter says.words_are
 letter_is words (Check site) says = ap letter says.words_are
 letter_is words (Replay site workers journal) says = ap letter says.words_are
+letter_is words (Gen count journal) says = ap letter says.words_are
 
 one_letter : (words : List (List ℕ)) (command other : Command) → IsCommand words command → IsCommand words other
     → letter_of command ≡ letter_of other
@@ -72,6 +74,23 @@ one_replay words site site' workers workers' journal journal' says also =
     cc (sites, one.0, one.1)
 
 -- whether there is the option for the journal
+one_option : (journal journal' : Bool) → journal_words journal ≡ journal_words journal' → journal ≡ journal'
+one_option true true same = refl
+one_option true false same = cc
+one_option false true same = cc
+one_option false false same = refl
+
+one_gen : (words : List (List ℕ)) (count count' : ℕ) (journal journal' : Bool) → SaysGen words count journal
+    → SaysGen words count' journal' → Gen count journal ≡ Gen count' journal'
+one_gen words count count' journal journal' says also =
+    let same : codes "gen" ∷ decimal count ∷ journal_words journal
+    ≡ codes "gen" ∷ decimal count' ∷ journal_words journal' = sym says.words_are ∙ also.words_are in
+    let texts : decimal count ≡ decimal count' = cc in
+    let counts = decimal_injective count count' (omega (arith, says.few)) (omega (arith, also.few)) texts in
+    let options : journal_words journal ≡ journal_words journal' = cc in
+    let journals = one_option journal journal' options in
+    cc (counts, journals)
+
 -- words say one command
 pub one_command : (words : List (List ℕ)) (command other : Command) → IsCommand words command → IsCommand words other
     → command ≡ other
@@ -80,4 +99,6 @@ one_command words (Get site path query) (Get site' path' query') says also =
 one_command words (Check site) (Check site') says also = one_check words site site' says also
 one_command words (Replay site workers journal) (Replay site' workers' journal') says also =
     one_replay words site site' workers workers' journal journal' says also
+one_command words (Gen count journal) (Gen count' journal') says also =
+    one_gen words count count' journal journal' says also
 one_command words command other says also = absurd (omega (arith, one_letter words command other says also))

@@ -5,7 +5,7 @@ use Rattle.std.specs.Fmt.{decimal}
 use Rattle.http_front.specs.Target.{query_of}
 use Rattle.asp_command.specs.declared.words.Command.{Command}
 use Rattle.asp_command.specs.declared.words.Command.TheVariants.{Get}
-use Rattle.asp_command.specs.Words.{AreOptions, IsNoTarget, IsTarget, SaysReplay, workers_words}
+use Rattle.asp_command.specs.Words.{AreOptions, IsNoTarget, IsTarget, SaysGen, SaysReplay, workers_words}
 
 -- ---- targets and numbers
 
@@ -67,7 +67,7 @@ AreGetWords words site target = words ≡ codes "get" ∷ site ∷ target ∷ []
 abbrev pub AreCheckWords : List (List ℕ) → List ℕ → Type 0
 AreCheckWords words site = words ≡ codes "check" ∷ site ∷ []
 
--- they are not; they are not those of `replay`
+-- they are not; they are not those of `replay`, nor of `gen`
 abbrev pub AreNoGet : List (List ℕ) → Type 0
 AreNoGet words = (site target : List ℕ) → ¬ (AreGetWords words site target)
 
@@ -76,3 +76,6 @@ AreNoCheck words = (site : List ℕ) → ¬ (AreCheckWords words site)
 
 abbrev pub AreNoReplay : List (List ℕ) → Type 0
 AreNoReplay words = (site : List ℕ) (workers : ℕ) (journal : Bool) → ¬ (SaysReplay words site workers journal)
+
+abbrev pub AreNoGen : List (List ℕ) → Type 0
+AreNoGen words = (count : ℕ) (journal : Bool) → ¬ (SaysGen words count journal)

@@ -5,7 +5,7 @@ use Rattle.std.specs.Fmt.{decimal}
 use Rattle.asp_text.specs.Path.{begins_with_slash}
 use Rattle.http_front.specs.Target.{path_of, query_of}
 use Rattle.asp_command.specs.declared.words.Command.{Command}
-use Rattle.asp_command.specs.declared.words.Command.TheVariants.{Get, Check, Replay}
+use Rattle.asp_command.specs.declared.words.Command.TheVariants.{Get, Check, Replay, Gen}
 
 -- ---- paths of requests
 
@@ -70,11 +70,18 @@ pub record SaysReplay (words : List (List ℕ)) (site : List ℕ) (workers : ℕ
   pub site_is : site ≡ chars site_word
   pub are_options : AreOptions options workers journal
 
+-- the words are `gen`, the number of requests, and perhaps the option for the journal
+pub record SaysGen (words : List (List ℕ)) (count : ℕ) (journal : Bool) : Type 0 where
+  pub words_are : words ≡ codes "gen" ∷ decimal count ∷ journal_words journal
+  pub some : 1 ≤ count
+  pub few : count ≤ 10000
+
 -- the words say this command
 abbrev pub IsCommand : List (List ℕ) → Command → Type 0
 IsCommand words (Get site path query) = SaysGet words site path query
 IsCommand words (Check site) = SaysCheck words site
 IsCommand words (Replay site workers journal) = SaysReplay words site workers journal
+IsCommand words (Gen count journal) = SaysGen words count journal
 
 -- the words say no command
 abbrev pub SaysNoCommand : List (List ℕ) → Type 0

@@ -4,15 +4,19 @@ ghost use Rattle.std.specs.String.{string_bytes};
 ghost use Rattle.asp_command.specs.declared.words.WordStop.TheVariants.{Usage};
 ghost use Rattle.asp_command.specs.Words as spec;
 ghost use Rattle.asp_command.specs.Saying.{AreCheckWords, AreGetWords, IsGetOf};
-ghost use Rattle.asp_command.specs.Saying.{AreNoCheck, AreNoGet, AreNoReplay};
+ghost use Rattle.asp_command.specs.Saying.{AreNoCheck, AreNoGen, AreNoGet, AreNoReplay};
 ghost use Rattle.vb_value.specs.Outcome.{Gives};
 
-use crate::options::{behind, replay_options};
+use crate::number::number_to;
+use crate::options::{behind, journal_at, replay_options};
 use crate::target::target_path;
 use http_front::query_of;
 use std::alloc::Global;
 use thiserror::Error;
 use vb_value::{Bytes, List, Memory, Text};
+
+/// How many requests a recording that is made may have.
+const MOST_REQUESTS: u32 = 10_000;
 
 /// A command.
 #[derive(Debug, Drop)]
@@ -37,6 +41,13 @@ pub enum Command {
         site: Text,
         /// How many workers there are, from 1 to 16; 4 if no option says so.
         workers: u32,
+        /// Whether the journal is asked for.
+        journal: bool,
+    },
+    /// Replays a recording that is made, and not read.
+    Gen {
+        /// How many requests it has, from 1 to 10,000.
+        count: u32,
         /// Whether the journal is asked for.
         journal: bool,
     },
@@ -75,8 +86,11 @@ pub fn read_words(alloc: Global, words: &[String]) -> Result<Command, WordStop>
     if let Some(site) = check_word(words) {
         return Ok(check_command(alloc, site)?);
     }
-    match replay_words(words) {
-        Some((site, workers, journal)) => Ok(replay_command(alloc, site, workers, journal)?),
+    if let Some((site, workers, journal)) = replay_words(words) {
+        return Ok(replay_command(alloc, site, workers, journal)?);
+    }
+    match gen_words(words) {
+        Some((count, journal)) => Ok(Command::Gen { count, journal }),
         None => Err(WordStop::Usage),
     }
 }
@@ -112,6 +126,22 @@ fn replay_words(words: &[String]) -> Option<(&str, u32, bool)>
     let (site, options) = rest.split_first()?;
     let (workers, journal) = replay_options(options)?;
     Some((site.as_str(), workers, journal))
+}
+
+/// How many requests, and whether a journal, where the words are those of `gen`.
+fn gen_words(words: &[String]) -> Option<(u32, bool)>
+    ensures { MatchOption result (AreNoGen (map string_bytes words.now))
+        (λ said. spec.SaysGen (map string_bytes words.now) said.0 said.1) }
+{
+    let rest = behind("gen", words)?;
+    let (number, options) = rest.split_first()?;
+    let count = number_to(MOST_REQUESTS, number.as_str())?;
+    let (journal, rest) = journal_at(options);
+    if rest.is_empty() {
+        Some((count, journal))
+    } else {
+        None
+    }
 }
 
 /// The command `check` for this word.

@@ -1,6 +1,6 @@
 -- Bytes that come from a source, one piece behind the other.
-use Rattle.std.proofs.Common.{◌≡◌, ℕ, ◌<◌, ◌≤◌, List, [], ◌++◌, length, Option, None, Some, IfSome, option_map, refl, ap, sym, ◌∙◌}
-use Rattle.std.proofs.Common.{append_assoc, arith, subst}
+use Rattle.std.proofs.Common.{◌≡◌, ℕ, ◌<◌, ◌≤◌, List, [], ◌++◌, length, Option, None, Some, IfSome, option_map}
+use Rattle.std.proofs.Common.{refl, ap, sym, ◌∙◌, append_assoc, arith, subst}
 use Rattle.asp_host.specs.Input.{AreRead, AreTaken, Comes}
 
 taken_none : (before : Option (List ℕ)) → AreTaken before before []

@@ -1,11 +1,11 @@
 mod Literals
 mod Causes
-mod Courses
+mod GenEnds
 mod GetEnds
 mod Inputs
-mod Leaving
 mod Marks
 mod Outputs
 mod ReplayEnds
-mod Underway
 pub mod Replaying
+mod Silent
+mod Summed

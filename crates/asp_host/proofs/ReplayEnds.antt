@@ -12,13 +12,10 @@ use Rattle.site_load.specs.Stopping.{Refuses}
 use Rattle.asp_host.specs.Around.{Change}
 use Rattle.asp_host.specs.declared.recording.RecordingStop.{RecordingStop}
 use Rattle.asp_host.specs.declared.recording.RecordingStop.TheVariants as recording
-use Rattle.asp_host.specs.declared.stop.StartStop.{StartStop}
-use Rattle.asp_host.specs.declared.stop.StartStop.TheVariants as start
 use Rattle.asp_host.specs.Input.{IsAllRecording, IsRecordingStop}
 use Rattle.asp_host.specs.Replay.{IsFor, ReplayWrites, rules_for}
 use Rattle.asp_host.specs.Replayed.{HasStopped}
-use Rattle.asp_host.specs.Status.{feed_status_of, recording_status_of, start_status_of, status_of}
-use Rattle.asp_host.specs.Stopping.{IsStartStop}
+use Rattle.asp_host.specs.Status.{feed_status_of, recording_status_of, status_of}
 
 -- where the folder is no site, nothing is read or written
 pub nothing_replayed : (journal : Bool) (files : Option (List SiteFile)) (left held : Option (List ℕ)) (stop : LoadStop)
@@ -38,21 +35,18 @@ no_recording journal files site source held (recording.Refused offset) accepted 
 no_recording journal files site source held recording.ReadFault accepted refused = refl
 no_recording journal files site source held recording.Memory accepted refused = inl refl
 
--- nor where the application does not begin
-pub no_replay : (journal : Bool) (files : Option (List SiteFile)) (site : Site) (source : Change) (recording : Recording)
-    (held : Option (List ℕ)) (stop : StartStop) → IfSome files (λ all. IsAccepted all site)
-    → IsAllRecording source.before source.after recording → IsStartStop site stop
-    → ReplayWrites journal files source (record { before = held; after = held }) (start_status_of stop)
-no_replay journal files site source recording held (start.Failed fail) accepted whole fails =
-    (record { site = site; accepted = accepted; fails = fails }, (recording, whole), refl)
-no_replay journal files site source recording held start.Memory accepted whole fails = inl refl
-
 -- where the replay stopped
 pub replay_stopped : (journal : Bool) (files : Option (List SiteFile)) (site : Site) (source sink : Change)
     (recording : Recording) (stop : FeedStop) → IfSome files (λ all. IsAccepted all site)
     → IsAllRecording source.before source.after recording
     → HasStopped (rules_for site recording) recording.items journal sink.before sink.after stop
     → ReplayWrites journal files source sink (feed_status_of stop)
+replay_stopped journal files site source sink recording (feed.StartFailed fail) accepted whole stopped = record {
+  site = site;
+  recording = recording;
+  is_for = record { accepted = accepted; whole = whole };
+  failed = stopped;
+}
 replay_stopped journal files site source sink recording (feed.JournalFull entries weight) accepted whole stopped = record {
   site = site;
   recording = recording;

@@ -1,8 +1,10 @@
 -- What a replay comes to.
-use Rattle.std.proofs.Common.{◌≡◌, ◌⊎◌, ℕ, ◌++◌, Bool, List, [], ◌∷◌, length, append_assoc, refl, ap, sym, ◌∙◌, subst, inl, inr, arith, Option}
+use Rattle.std.proofs.Common.{◌≡◌, ◌⊎◌, ℕ, ◌++◌, Bool, List, [], ◌∷◌, length, append_assoc, refl, ap, sym, ◌∙◌, subst}
+use Rattle.std.proofs.Common.{inl, inr, arith, Option}
 use Rattle.std.proofs.Common.{Result, Ok, Err, IfErr, OnOk}
 use Rattle.asp_core.specs.Kernel.{CoreView, past_of, rules_by, rules_of}
 use Rattle.asp_io.specs.Copying.{AddsPart}
+use Rattle.asp_job.specs.declared.answer.Fail.{Fail}
 use Rattle.asp_job.specs.declared.entry.Entry.{Entry}
 use Rattle.asp_job.specs.declared.entry.What.TheVariants.{Queue}
 use Rattle.asp_job.specs.declared.job.Work.TheVariants.{Start}
@@ -18,7 +20,8 @@ use Rattle.asp_replay.specs.Shown.{AreRecords, IsOutput, done_line, lines_of, sh
 use Rattle.asp_replay.specs.Underway.{HasNotBegun, IsCoreOf, WritesText}
 use Rattle.asp_replay.proofs.FedBack.{rules_here}
 use Rattle.asp_replay.proofs.Pieces.{part_more, with_none, wrote_more}
-use Rattle.asp_host.specs.Replayed.{HasReplayed, HasReplayedPart, HasStopped}
+use Rattle.asp_host.specs.Replayed.{HasNotStarted, HasReplayed, HasReplayedPart, HasStopped}
+use Rattle.asp_host.proofs.Silent.{none_shown, none_written}
 
 -- ---- a feed that stopped
 
@@ -51,11 +54,26 @@ part_of rules items journal past ended before after part =
       wrote = written.wrote;
     }
 
+-- the first run failed so
+pub not_started : (rules : Rules) (items : List Item) (past : List Entry) (fail : Fail) (before after : Option (List ℕ))
+    → HasFedPart rules items past (stop.StartFailed fail) before after → HasNotStarted rules fail before after
+not_started rules items past fail before after part =
+    let none = none_shown rules past part.account.entries part.answered part.cause.none_came in
+    record {
+      past = past;
+      account = part.account;
+      failed = part.cause;
+      none_wrote = none_written rules past before after none part.written;
+    }
+
 -- a feed stopped so
 pub feed_stopped : (rules : Rules) (items : List Item) (journal : Bool) (before after : Option (List ℕ)) (ended : FeedStop)
     → HasNotBegun ended before after
     ⊎ ((past : List Entry) × HasFedPart rules items past ended before after)
     → HasStopped rules items journal before after ended
+feed_stopped rules items journal before after (stop.StartFailed fail) (inl none) = absurd (let e = none.0 in cc)
+feed_stopped rules items journal before after (stop.StartFailed fail) (inr part) =
+    not_started rules items part.0 fail before after part.1
 feed_stopped rules items journal before after (stop.JournalFull entries weight) (inl none) = absurd (let e = none.0 in cc)
 feed_stopped rules items journal before after (stop.JournalFull entries weight) (inr part) = part
 feed_stopped rules items journal before after stop.WriteFault (inl none) = absurd (let e = none.0 in cc)
@@ -134,6 +152,8 @@ module _ {R Site : Type 0} (meaning : R → Site → Meaning) where
       ++ done_line (length (shown_of (rules_of meaning core) (past_of core)))) result held after
       → IfErr result (HasStopped (rules_by (meaning runner site) seed) items journal before after)
   replay_err core runner site seed items journal before held after (Ok given) of valid fed wrote = tt
+  replay_err core runner site seed items journal before held after (Err (stop.StartFailed fail)) of valid fed wrote =
+      absurd wrote
   replay_err core runner site seed items journal before held after (Err (stop.JournalFull entries weight)) of valid fed
       wrote = absurd wrote
   replay_err core runner site seed items journal before held after (Err stop.WriteFault) of valid fed wrote =

@@ -1,14 +1,11 @@
 pub mod Status
 pub mod Around
-pub mod Answer
-pub mod Journal
-pub mod OnTheWay
-pub mod Runs
+pub mod Request
 pub mod Input
 pub mod Answered
 pub mod Replayed
 pub mod Get
 pub mod Check
 pub mod Replay
+pub mod Gen
 pub mod Host
-pub mod Stopping

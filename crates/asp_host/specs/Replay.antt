@@ -2,6 +2,7 @@
 use Rattle.std.specs.Prelude.{◌≡◌, ◌⊎◌, ℕ, Bool, IfSome, List, Option}
 use Rattle.vb_value.specs.declared.site_file.SiteFile.{SiteFile}
 use Rattle.asp_core.specs.Kernel.{rules_by}
+use Rattle.asp_job.specs.declared.answer.Fail.{Fail}
 use Rattle.asp_job.specs.Rules.{Rules}
 use Rattle.asp_record.specs.declared.recording.Recording.{Recording}
 use Rattle.asp_run.specs.Running.{meaning_of}
@@ -11,9 +12,8 @@ use Rattle.asp_host.specs.declared.status.Status.{Status}
 use Rattle.asp_host.specs.declared.status.Status.TheVariants.{Ok, Memory, Usage, SiteRefused, StartFailed}
 use Rattle.asp_host.specs.declared.status.Status.TheVariants.{ReadFault, WriteFault, RecordRefused, JournalFull}
 use Rattle.asp_host.specs.Around.{Around, Change, IsLeft}
-use Rattle.asp_host.specs.Get.{HasFailed}
 use Rattle.asp_host.specs.Input.{IsAllRecording, IsSourceRefusedAt}
-use Rattle.asp_host.specs.Replayed.{HasFilled, HasReplayed, HasReplayedPart}
+use Rattle.asp_host.specs.Replayed.{HasFilled, HasNotStarted, HasReplayed, HasReplayedPart}
 
 -- what the journal of a replay is held against
 abbrev pub rules_for : Site → Recording → Rules
@@ -49,9 +49,12 @@ pub record HasRefused (files : Option (List SiteFile)) (source : Change) (offset
   pub accepted : IfSome files (λ all. IsAccepted all site)
   pub refused : IfSome source.before (λ all. IsSourceRefusedAt all offset)
 
--- the source has a recording, and nothing else
-abbrev pub HasRecording : Change → Type 0
-HasRecording source = (recording : Recording) × IsAllRecording source.before source.after recording
+-- the application fails to begin so, on a host with the recording's seed, and nothing is written
+pub record FailsToBegin (files : Option (List SiteFile)) (source sink : Change) (fail : Fail) : Type 0 where
+  pub site : Site
+  pub recording : Recording
+  pub is_for : IsFor files source site recording
+  pub failed : HasNotStarted (rules_for site recording) fail sink.before sink.after
 
 -- what `replay` ran and wrote, by its status
 abbrev pub ReplayWrites : Bool → Option (List SiteFile) → Change → Change → Status → Type 0
@@ -62,8 +65,7 @@ ReplayWrites journal files source sink Memory = IsLeft sink ⊎ ReplaysPart jour
 ReplayWrites journal files source sink (RecordRefused offset) = HasRefused files source offset × IsLeft sink
 ReplayWrites journal files source sink (SiteRefused fault) =
     IfSome files (λ all. IsFolderFault all fault) × IsLeft source × IsLeft sink
-ReplayWrites journal files source sink (StartFailed fail) =
-    HasFailed files fail × HasRecording source × IsLeft sink
+ReplayWrites journal files source sink (StartFailed fail) = FailsToBegin files source sink fail
 ReplayWrites journal files source sink ReadFault = IsLeft sink
 ReplayWrites journal files source sink Usage = ⊥
 

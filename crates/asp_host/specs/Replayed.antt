@@ -2,13 +2,14 @@
 use Rattle.std.specs.Prelude.{◌≡◌, ℕ, Bool, List, Option}
 use Rattle.asp_io.specs.Copying.{AddsPart}
 use Rattle.asp_io.specs.Sink.{with_bytes}
+use Rattle.asp_job.specs.declared.answer.Fail.{Fail}
 use Rattle.asp_job.specs.declared.entry.Entry.{Entry}
 use Rattle.asp_job.specs.Journal.{IsValidJournal}
 use Rattle.asp_job.specs.Rules.{Rules}
 use Rattle.asp_record.specs.declared.recording.Item.{Item}
 use Rattle.asp_replay.specs.declared.stop.FeedStop.{FeedStop}
 use Rattle.asp_replay.specs.declared.stop.FeedStop.TheVariants as stop
-use Rattle.asp_replay.specs.Feed.{HasFedPart, IsWhole}
+use Rattle.asp_replay.specs.Feed.{HasFailed, HasFedPart, IsWhole}
 use Rattle.asp_replay.specs.Feeding.{IsFedPart}
 use Rattle.asp_replay.specs.Shown.{IsOutput, IsOutputPart}
 
@@ -37,8 +38,16 @@ abbrev pub HasFilled : Rules → List Item → ℕ → ℕ → Option (List ℕ)
 HasFilled rules items entries weight before after =
     (past : List Entry) × HasFedPart rules items past (stop.JournalFull entries weight) before after
 
+-- the journal of a replay whose first run fails so; nothing came to it, and nothing was written
+pub record HasNotStarted (rules : Rules) (fail : Fail) (before after : Option (List ℕ)) : Type 0 where
+  pub past : List Entry
+  pub account : IsValidJournal rules past
+  pub failed : HasFailed rules past fail
+  pub none_wrote : after ≡ before
+
 -- how a replay stopped
 abbrev pub HasStopped : Rules → List Item → Bool → Option (List ℕ) → Option (List ℕ) → FeedStop → Type 0
+HasStopped rules items journal before after (stop.StartFailed fail) = HasNotStarted rules fail before after
 HasStopped rules items journal before after (stop.JournalFull entries weight) =
     HasFilled rules items entries weight before after
 HasStopped rules items journal before after stop.WriteFault = HasReplayedPart rules items journal before after

@@ -4,6 +4,8 @@ use Rattle.std.specs.Fmt.{decimal}
 use Rattle.vb_value.specs.declared.site_file.SiteFault.{SiteFault}
 use Rattle.vb_value.specs.declared.site_file.FaultKind.{FaultKind}
 use Rattle.vb_value.specs.declared.site_file.FaultKind.TheVariants as fault
+use Rattle.asp_get.specs.declared.stop.GetStop.{GetStop}
+use Rattle.asp_get.specs.declared.stop.GetStop.TheVariants as get
 use Rattle.asp_job.specs.declared.answer.Fail.{Fail}
 use Rattle.asp_job.specs.declared.answer.Fail.TheVariants as fail
 use Rattle.asp_replay.specs.declared.stop.FeedStop.{FeedStop}
@@ -16,8 +18,6 @@ use Rattle.asp_host.specs.declared.status.Status.TheVariants.{Ok, Memory, Usage,
 use Rattle.asp_host.specs.declared.status.Status.TheVariants.{ReadFault, WriteFault, RecordRefused, JournalFull}
 use Rattle.asp_host.specs.declared.recording.RecordingStop.{RecordingStop}
 use Rattle.asp_host.specs.declared.recording.RecordingStop.TheVariants as recording
-use Rattle.asp_host.specs.declared.stop.StartStop.{StartStop}
-use Rattle.asp_host.specs.declared.stop.StartStop.TheVariants as start
 
 -- how a command ends where the folder is no site
 abbrev pub status_of : LoadStop → Status
@@ -25,10 +25,11 @@ status_of (Refused refused) = SiteRefused refused
 status_of FolderFault = ReadFault
 status_of NoMemory = Memory
 
--- how a command ends where no request was run
-abbrev pub start_status_of : StartStop → Status
-start_status_of (start.Failed fail) = StartFailed fail
-start_status_of start.Memory = Memory
+-- how a command ends where a request was not answered
+abbrev pub get_status_of : GetStop → Status
+get_status_of (get.StartFailed fail) = StartFailed fail
+get_status_of (get.JournalFull entries weight) = JournalFull entries weight
+get_status_of get.Memory = Memory
 
 -- how a command ends where no recording was read
 abbrev pub recording_status_of : RecordingStop → Status
@@ -38,6 +39,7 @@ recording_status_of recording.Memory = Memory
 
 -- how a command ends where a recording was not replayed to its end
 abbrev pub feed_status_of : FeedStop → Status
+feed_status_of (feed.StartFailed fail) = StartFailed fail
 feed_status_of (feed.JournalFull entries weight) = JournalFull entries weight
 feed_status_of feed.WriteFault = WriteFault
 feed_status_of feed.Memory = Memory

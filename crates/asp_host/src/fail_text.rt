@@ -8,6 +8,7 @@ use asp_job::Fail;
 use std::alloc::Global;
 use vb_value::{LimitKind, Memory, Text};
 
+/// The text whose characters are these bytes, each below 128.
 pub fn ascii(alloc: Global, bytes: &[u8]) -> Result<Text, Memory>
     ensures { Gives result bytes.now }
 {

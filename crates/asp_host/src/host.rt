@@ -8,6 +8,7 @@ ghost use Rattle.asp_host.specs.Host.{Ends, ReadsNothing};
 ghost use Rattle.asp_host.specs.Status.{IsUnsaid};
 
 use crate::check::check;
+use crate::generated::replay_generated;
 use crate::get::get;
 use crate::replay::replay;
 use crate::status::Status;
@@ -77,6 +78,7 @@ where
                 journal,
             },
         ) => replay(alloc, journal, folder, source, sink),
+        Ok(Command::Gen { count, journal }) => replay_generated(alloc, count, journal, sink),
         Err(WordStop::Usage) => Status::Usage,
         Err(WordStop::Memory) => Status::Memory,
     }

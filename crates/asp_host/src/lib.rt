@@ -4,16 +4,17 @@
 mod answers;
 mod check;
 mod fail_text;
+mod generated;
 mod get;
 mod host;
 mod output;
 mod recording;
 mod replay;
 mod replay_text;
-mod running;
+mod request;
 mod source;
 mod status;
-mod stop;
+mod summing;
 
 pub use asp_command::{Command, WordStop, one_command, read_words};
 pub use host::run_host;

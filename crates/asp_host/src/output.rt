@@ -16,7 +16,7 @@ use asp_replay::{FeedStop, feed, write_done, write_lines};
 use std::alloc::Global;
 
 /// Writes the lines of the entries, where they are asked for.
-fn write_journal<K: Sink>(
+pub fn write_journal<K: Sink>(
     alloc: Global,
     journal: bool,
     entries: &[Entry],

@@ -1,18 +1,13 @@
 //! The command `replay`.
-ghost use Rattle.std.specs.Prelude.{◌≡◌, ◌⊎◌, IfErr};
+ghost use Rattle.std.specs.Prelude.{◌≡◌, ◌⊎◌};
 ghost use Rattle.asp_io.specs.Faults.{HasRisen};
 ghost use Rattle.asp_host.specs.Replay.{ReplayWrites};
-ghost use Rattle.asp_host.specs.Stopping.{IsStartStop};
 
 use crate::output::write_replay;
 use crate::recording::source_recording;
-use crate::running::start;
 use crate::status::Status;
-use crate::stop::StartStop;
-use asp_app::Application;
 use asp_io::{Folder, Sink, Source};
 use asp_run::PlainRunner;
-use asp_site::Site;
 use site_load::load;
 use std::alloc::Global;
 
@@ -39,9 +34,6 @@ pub fn replay<F: Folder, S: Source, K: Sink>(
         Ok(recording) => recording,
         Err(stop) => return Status::from(stop),
     };
-    if let Err(stop) = begin(alloc, &site) {
-        return Status::from(stop);
-    }
     match write_replay(
         alloc,
         &PlainRunner { alloc },
@@ -52,17 +44,5 @@ pub fn replay<F: Folder, S: Source, K: Sink>(
     ) {
         Ok(()) => Status::Ok,
         Err(stop) => Status::from(stop),
-    }
-}
-
-/// Sees that the application begins, by its first run.
-fn begin(alloc: Global, site: &Site) -> Result<(), StartStop>
-    ensures { IfErr result (IsStartStop site.now) }
-{
-    let mut application = Application::new(alloc);
-    let beginning = start(alloc, site, &mut application)?;
-    match beginning.fail {
-        Some(fail) => Err(StartStop::Failed(fail)),
-        None => Ok(()),
     }
 }

@@ -7,14 +7,14 @@ ghost use Rattle.asp_host.specs.Status.{code_of, fault_text_of, kind_text_of, pl
 use crate::fail_text::fail_text;
 use crate::recording::RecordingStop;
 use crate::replay_text::{full_text, refused_text};
-use crate::stop::StartStop;
+use asp_get::GetStop;
 use asp_job::Fail;
 use asp_replay::FeedStop;
 use site_load::LoadStop;
 use std::alloc::Global;
 use vb_value::{Copied, FaultKind, Memory, SiteFault, Text};
 
-/// The commands. Those but `get`, `check` and `replay` are not run yet.
+/// The commands. `serve` is not run yet.
 const USAGE: &str = "usage: get SITE PATH, check SITE, replay SITE, serve SITE --requests N, gen N";
 
 /// How a command ended.
@@ -62,15 +62,16 @@ impl From<LoadStop> for Status {
     }
 }
 
-impl From<StartStop> for Status {
-    ghost use Rattle.asp_host.specs.Status.{start_status_of};
+impl From<GetStop> for Status {
+    ghost use Rattle.asp_host.specs.Status.{get_status_of};
 
-    ghost from_gives = { λ stop status. status ≡ start_status_of stop };
+    ghost from_gives = { λ stop status. status ≡ get_status_of stop };
 
-    fn from(stop: StartStop) -> Status {
+    fn from(stop: GetStop) -> Status {
         match stop {
-            StartStop::Failed(fail) => Status::StartFailed(fail),
-            StartStop::Memory => Status::Memory,
+            GetStop::StartFailed(fail) => Status::StartFailed(fail),
+            GetStop::JournalFull { entries, weight } => Status::JournalFull { entries, weight },
+            GetStop::Memory => Status::Memory,
         }
     }
 }
@@ -96,6 +97,7 @@ impl From<FeedStop> for Status {
 
     fn from(stop: FeedStop) -> Status {
         match stop {
+            FeedStop::StartFailed(fail) => Status::StartFailed(fail),
             FeedStop::JournalFull { entries, weight } => Status::JournalFull { entries, weight },
             FeedStop::WriteFault => Status::WriteFault,
             FeedStop::Memory => Status::Memory,

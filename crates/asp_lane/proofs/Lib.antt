@@ -2,3 +2,4 @@ pub mod Unfinished
 pub mod Turns
 pub mod Idle
 pub mod Many
+pub mod Started

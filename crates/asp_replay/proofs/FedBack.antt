@@ -1,6 +1,7 @@
 -- What is handed back of a feed.
 use Rattle.std.proofs.Common.{◌≡◌, ◌⊎◌, ℕ, List, ap, sym, ◌∙◌, subst, inr, Option, Result, Ok, Err, IfErr, IfOk}
 use Rattle.asp_core.specs.Kernel.{CoreView, IsHostOf, grown, rules_by, rules_of}
+use Rattle.asp_core.specs.Ready.{IsAnswered}
 use Rattle.asp_job.specs.declared.entry.Entry.{Entry}
 use Rattle.asp_job.specs.Journal.{IsValidJournal}
 use Rattle.asp_job.specs.Rules.{Rules}
@@ -43,15 +44,17 @@ fed_handed m other items past_at before after (Err ended) core back same is hold
 
 pub stop_handed : {T Core : Type 0} → (m other : Rules) (items : List Item) (past : List Entry)
     (before after : Option (List ℕ)) (fed : Result T FeedStop) (core : Core) (back : Result Core FeedStop)
-    → m ≡ other → IsValidJournal m past → IsHandedBack core fed back → AfterAll fed m items past before after
+    → m ≡ other → IsValidJournal m past → IsAnswered m past → IsHandedBack core fed back
+    → AfterAll fed m items past before after
     → IfErr back (λ ended. HasNotBegun ended before after
     ⊎ ((some : List Entry) × HasFedPart other items some ended before after))
-stop_handed m other items past before after (Ok given) core back same valid is holds = rw is tt
-stop_handed m other items past before after (Err ended) core back same valid is holds =
+stop_handed m other items past before after (Ok given) core back same valid answered is holds = rw is tt
+stop_handed m other items past before after (Err ended) core back same valid answered is holds =
     rw is (inr (
       past,
       subst (λ some. HasFedPart some items past ended before after) same (record {
         account = valid;
+        answered = answered;
         fed = holds.fed;
         cause = holds.cause;
         written = holds.written;

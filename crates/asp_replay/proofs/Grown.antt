@@ -88,6 +88,7 @@ fed_part items past clients left (inr fed) = inl fed.fed
 
 writing_cause : (m : Rules) (past : List Entry) (ended : FeedStop) → IsOfWriting {T = Unit {0}} (Err ended)
     → HasCause m past ended
+writing_cause m past (stop.StartFailed fail) of = absurd of
 writing_cause m past (stop.JournalFull entries weight) of = absurd of
 writing_cause m past stop.WriteFault of = tt
 writing_cause m past stop.Memory of = tt
@@ -350,7 +351,7 @@ hand_shows m past mid run done right answered (inr begun) shows =
     subst (λ some. Shows m some done) (sym begun.2) (shown_grows m past entry done right_then answered_then refl shows)
 
 -- what work adds comes from no item, and is no Tick
-work_quiet : (m : Rules) (past entries : List Entry) → WorkAdds m past entries
+pub work_quiet : (m : Rules) (past entries : List Entry) → WorkAdds m past entries
     → IsAsBefore past (past_after past entries)
 work_quiet m past entries adds =
     rw adds.entries_are (as_before_both past adds.mid (adds.entry ∷ adds.mid)

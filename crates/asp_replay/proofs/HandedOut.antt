@@ -71,6 +71,7 @@ part_records meaning old new before now after first shown stop.Memory one shown_
     }
 part_records meaning old new before now after first shown (stop.JournalFull entries weight) one shown_is none =
     absurd none
+part_records meaning old new before now after first shown (stop.StartFailed fail) one shown_is none = absurd none
 
 pub handed_part : {R Site : Type 0} → (meaning : R → Site → Meaning) (old new : CoreView R Site)
     (before now after : Option (List ℕ)) (first : ℕ × Answer) (shown : Shown) (ended : FeedStop)

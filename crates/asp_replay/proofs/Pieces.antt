@@ -91,6 +91,7 @@ stopped_part stop.WriteFault old new piece wrote = wrote
 stopped_part stop.Memory old new piece same =
     record { count = 0; within = omega arith; added = same ∙ sym (with_none old) }
 stopped_part (stop.JournalFull entries weight) old new piece none = absurd none
+stopped_part (stop.StartFailed fail) old new piece none = absurd none
 
 pub stopped_text : (ended : FeedStop) (before old new : Option (List ℕ)) (piece text : List ℕ)
     → HasWritten {T = Unit {0}} (Err ended) old new piece → AddsPart before new text
@@ -98,3 +99,4 @@ pub stopped_text : (ended : FeedStop) (before old new : Option (List ℕ)) (piec
 stopped_text stop.WriteFault before old new piece text wrote part = part
 stopped_text stop.Memory before old new piece text same part = part
 stopped_text (stop.JournalFull entries weight) before old new piece text none part = none
+stopped_text (stop.StartFailed fail) before old new piece text none part = none

@@ -1,7 +1,7 @@
 -- How the first run is taken to its end.
 use Rattle.std.proofs.Common.{◌≡◌, ℕ, ◌++◌, ◌&&◌, Bool, true, false, not, is_some, List, [], ◌∷◌, refl, ap, sym, ◌∙◌}
 use Rattle.std.proofs.Common.{subst, append-nil}
-use Rattle.std.proofs.Common.{Option, Result, Ok, Err, IfErr, IfOk, OnOk, ◌<◌, ◌≤◌, ◌^◌}
+use Rattle.std.proofs.Common.{Option, Result, Ok, Err, IfErr, OnOk, ◌<◌, ◌≤◌, ◌^◌}
 use Rattle.asp_core.specs.Kernel.{CoreView, IsHostOf, grown, rules_of}
 use Rattle.asp_journal.specs.Telling.{end_kind}
 use Rattle.asp_io.specs.Faults.{HasCause}
@@ -11,9 +11,10 @@ use Rattle.asp_job.specs.Told.{Meaning}
 use Rattle.asp_record.specs.declared.recording.Item.{Item}
 use Rattle.asp_replay.specs.declared.stop.FeedStop.{FeedStop}
 use Rattle.asp_replay.specs.declared.stop.FeedStop.TheVariants as stop
-use Rattle.asp_replay.specs.Feeding.{Clients, is_calm}
+use Rattle.asp_replay.specs.Feed as feed
+use Rattle.asp_replay.specs.Feeding.{Clients, events_of, is_calm}
 use Rattle.asp_replay.specs.Sequential.{IsBusy}
-use Rattle.asp_replay.specs.Underway.{After, IsUnderWay, is_starting}
+use Rattle.asp_replay.specs.Underway.{After, IsHandedBack, IsStartStop, IsUnderWay, is_starting}
 use Rattle.asp_replay.proofs.Grown.{ends_here}
 use Rattle.asp_replay.proofs.Turning.{grown_both}
 
@@ -50,14 +51,22 @@ pub starting_busy : (past : List Entry) (left : List Item) → is_starting past 
 starting_busy past [] e = (starting_parts past e).1
 starting_busy past (next ∷ left) e = let none = (starting_parts past e).0 in rw none refl
 
--- it is handed back that memory ran out
-pub memory_ends : {T : Type 0} → (m : Rules) (items : List Item) (past : List Entry) (clients : Clients)
-    (left : List Item) (before held : Option (List ℕ)) (result : Result T FeedStop)
-    → IfErr result (λ ended. ended ≡ stop.Memory) → IsUnderWay m items past clients left before held
-    → After result m items past clients left before held
-memory_ends m items past clients left before held (Ok given) ended is = is
-memory_ends m items past clients left before held (Err other) ended is =
-    rw ended (ends_here m items past clients left before held stop.Memory is tt)
+start_cause : (m : Rules) (past : List Entry) (ended : FeedStop) → events_of past ≡ [] → IsStartStop m past ended
+    → feed.HasCause m past ended
+start_cause m past (stop.StartFailed fail) none is = record { none_came = none; failed = is }
+start_cause m past (stop.JournalFull entries weight) none is = absurd is
+start_cause m past stop.WriteFault none is = absurd is
+start_cause m past stop.Memory none is = tt
+
+-- it is handed back why nothing comes
+pub start_ends : {T U : Type 0} → (m here : Rules) (items : List Item) (past : List Entry) (clients : Clients)
+    (left : List Item) (before held : Option (List ℕ)) (told : Result T FeedStop) (hand : U) (back : Result U FeedStop)
+    → here ≡ m → IsHandedBack hand told back → IfErr told (IsStartStop here past) → events_of past ≡ []
+    → IsUnderWay m items past clients left before held → After back m items past clients left before held
+start_ends m here items past clients left before held (Ok given) hand back same is why none under = rw is under
+start_ends m here items past clients left before held (Err ended) hand back same is why none under =
+    rw is (ends_here m items past clients left before held ended under
+    (start_cause m past ended none (subst (λ some. IsStartStop some past ended) same why)))
 
 pub after_rules : {T : Type 0} → (m other : Rules) (items left : List Item) (past : List Entry) (clients : Clients)
     (before after : Option (List ℕ)) (result : Result T FeedStop) → m ≡ other
@@ -73,28 +82,29 @@ under_rules m other items left past clients before after same is =
 
 -- ---- answers
 
-pub ok_each : {T E : Type 0} → (result : Result T E) (P Q : T → Type 0) → IfOk result P → ((x : T) → P x → Q x)
-    → IfOk result Q
-ok_each (Ok given) P Q holds to = to given holds
-ok_each (Err e) P Q holds to = tt
+pub none_still : (old new : List Entry) → events_of new ≡ events_of old → events_of old ≡ [] → events_of new ≡ []
+none_still old new same none = same ∙ none
 
-pub ok_all : {T E : Type 0} → (result : Result T E) (P : T → Type 0) (Q : Type 0) → IfOk result P → ((x : T) → P x → Q)
-    → OnOk result Q
-ok_all (Ok given) P Q holds to = to given holds
-ok_all (Err e) P Q holds to = tt
+pub started_back : {T U : Type 0} → (told : Result T FeedStop) (hand : U) (back : Result U FeedStop) (P : Type 0)
+    → IsHandedBack hand told back → OnOk told P → OnOk back P
+started_back (Ok given) hand back P is holds = rw is holds
+started_back (Err ended) hand back P is holds = rw is tt
 
-memory_is_none : stop.Memory ≡ stop.WriteFault → ⊥
-memory_is_none e = absurd cc
+no_fault : (m : Rules) (past : List Entry) (ended : FeedStop) → IsStartStop m past ended → ended ≡ stop.WriteFault → ⊥
+no_fault m past (stop.StartFailed fail) is e = absurd cc
+no_fault m past (stop.JournalFull entries weight) is e = absurd is
+no_fault m past stop.WriteFault is e = absurd is
+no_fault m past stop.Memory is e = absurd cc
 
--- memory alone is no fault of the sink
-pub memory_cause : {T : Type 0} → (old new : ℕ) (result : Result T FeedStop) → old ≤ new
-    → (old < 2 ^ 64 → new < 2 ^ 64) → IfErr result (λ ended. ended ≡ stop.Memory)
-    → HasCause stop.WriteFault old new result
-memory_cause old new (Ok given) later within only =
-    record { later = later; within = within; failed = λ e. absurd cc }
-memory_cause old new (Err ended) later within only =
-    record {
+-- why nothing comes is no fault of the sink
+pub start_no_fault : {T U : Type 0} → (m : Rules) (past : List Entry) (old new : ℕ) (told : Result T FeedStop) (hand : U)
+    (back : Result U FeedStop) → old ≤ new → (old < 2 ^ 64 → new < 2 ^ 64) → IsHandedBack hand told back
+    → IfErr told (IsStartStop m past) → HasCause stop.WriteFault old new back
+start_no_fault m past old new (Ok given) hand back later within is why =
+    rw is (record { later = later; within = within; failed = λ e. absurd cc })
+start_no_fault m past old new (Err ended) hand back later within is why =
+    rw is (record {
       later = later;
       within = within;
-      failed = λ e. absurd (let same : ended ≡ stop.WriteFault = cc in memory_is_none (sym only ∙ same));
-    }
+      failed = λ e. absurd (let same : ended ≡ stop.WriteFault = cc in no_fault m past ended why same);
+    })

@@ -1,7 +1,10 @@
 -- How a feed ends where work comes to a stop.
-use Rattle.std.proofs.Common.{◌≡◌, ℕ, List, [], ◌∷◌, refl, ap, sym, ◌∙◌, subst, inl, inr, Option, Some}
+use Rattle.std.proofs.Common.{◌≡◌, ℕ, List, [], ◌∷◌, refl, ap, sym, ◌∙◌, subst, inl, inr, Option, Some, Result, Ok}
+use Rattle.std.proofs.Common.{Err}
 use Rattle.asp_core.specs.Kernel.{CoreView, grown, past_of, rules_of}
+use Rattle.asp_core.specs.Ready.{ready}
 use Rattle.asp_core.proofs.Kept.{past_of_more}
+use Rattle.asp_job.specs.declared.answer.Answer.{Answer}
 use Rattle.asp_job.specs.declared.entry.EndKind.TheVariants as kind
 use Rattle.asp_job.specs.declared.entry.Entry.{Entry}
 use Rattle.asp_job.specs.Journal.{end_entry, past_after}
@@ -14,10 +17,11 @@ use Rattle.asp_replay.specs.declared.stop.FeedStop.{FeedStop}
 use Rattle.asp_replay.specs.declared.stop.FeedStop.TheVariants as stop
 use Rattle.asp_replay.specs.Feed.{HasCause}
 use Rattle.asp_replay.specs.Feed.IsTooMuchNext.{OfBegin, OfCall}
-use Rattle.asp_replay.specs.Feeding.{Clients}
-use Rattle.asp_replay.specs.Underway.{EndsSo, IsUnderWay, Works, turn_stop}
-use Rattle.asp_replay.proofs.Events.{IsAsBefore, quiet_one}
-use Rattle.asp_replay.proofs.Grown.{as_before_both, fed_part, hand_quiet, stands_same}
+use Rattle.asp_replay.specs.Feeding.{Clients, events_of}
+use Rattle.asp_replay.specs.Sequential.{hand_outs}
+use Rattle.asp_replay.specs.Underway.{EndsSo, HandsOut, IsUnderWay, WorkAdds, Works, turn_stop}
+use Rattle.asp_replay.proofs.Events.{IsAsBefore, hand_outs_quiet, quiet_all, quiet_one}
+use Rattle.asp_replay.proofs.Grown.{as_before_both, fed_part, hand_quiet, stands_same, work_quiet}
 use Rattle.asp_replay.proofs.Written.{shown_first, written_first}
 
 as_before : (past : List Entry) → IsAsBefore past past
@@ -67,3 +71,36 @@ work_ends meaning old new entries t items left clients before held ended new_is 
       cause = both.1;
       written = written_first m past mid more.0 before held is.written more.1;
     })
+
+-- ---- nothing comes from outside
+
+-- where work came to a stop
+pub stop_events : {R Site : Type 0} → (meaning : R → Site → Meaning) (old new : CoreView R Site) (entries : List Entry)
+    (t : Turn) (ended : FeedStop) → new ≡ grown old entries → turn_stop t ≡ Some ended
+    → Works (rules_of meaning old) (past_of old) entries t → events_of (past_of new) ≡ events_of (past_of old)
+stop_events meaning old new entries t ended new_is e works =
+    ap (λ core. events_of (past_of core)) new_is ∙ ap events_of (past_of_more old.journal entries)
+    ∙ (stop_quiet (rules_of meaning old) (past_of old) entries t ended e works).0.events
+
+handed_events : {R Site : Type 0} → (mid new : CoreView R Site) (answers : List (ℕ × Answer))
+    → new ≡ grown mid (hand_outs answers) → events_of (past_of new) ≡ events_of (past_of mid)
+handed_events mid new answers new_is =
+    ap (λ core. events_of (past_of core)) new_is ∙ ap events_of (past_of_more mid.journal (hand_outs answers))
+    ∙ (quiet_all (past_of mid) (hand_outs answers) (hand_outs_quiet answers)).events
+
+out_events : {T R Site : Type 0} → (meaning : R → Site → Meaning) (result : Result T FeedStop)
+    (mid new : CoreView R Site) (held after : Option (List ℕ)) → HandsOut meaning result mid new held after
+    → events_of (past_of new) ≡ events_of (past_of mid)
+out_events meaning (Ok given) mid new held after out =
+    handed_events mid new (ready (rules_of meaning mid) (past_of mid)) out.1
+out_events meaning (Err ended) mid new held after out = handed_events mid new out.0.taken out.0.new_is
+
+-- where it came to none, and the answers that wait were handed out
+pub work_events : {T R Site : Type 0} → (meaning : R → Site → Meaning) (result : Result T FeedStop)
+    (old mid new : CoreView R Site) (entries : List Entry) (held after : Option (List ℕ)) → mid ≡ grown old entries
+    → WorkAdds (rules_of meaning old) (past_of old) entries → HandsOut meaning result mid new held after
+    → events_of (past_of new) ≡ events_of (past_of old)
+work_events meaning result old mid new entries held after mid_is adds out =
+    out_events meaning result mid new held after out ∙ ap (λ core. events_of (past_of core)) mid_is
+    ∙ ap events_of (past_of_more old.journal entries)
+    ∙ (work_quiet (rules_of meaning old) (past_of old) entries adds).events

@@ -4,6 +4,7 @@ use Rattle.std.proofs.Common.{Option, Some, Result, Ok, Err, IfOk}
 use Rattle.asp_core.specs.Kernel.{CoreView, IsTooMuch, RunView, grown, past_of, rules_of}
 use Rattle.asp_core.specs.Ready.{IsAnswered, ready}
 use Rattle.asp_core.proofs.Kept.{past_of_more}
+use Rattle.asp_job.specs.declared.answer.Fail.{Fail}
 use Rattle.asp_job.specs.declared.entry.Entry.{Entry}
 use Rattle.asp_job.specs.Journal.{AreRight, past_after, stop_entries}
 use Rattle.asp_job.specs.Runs.{is_stopping}
@@ -146,24 +147,27 @@ module _ {R Site : Type 0} (meaning : R → Site → Meaning) where
 
   item_cause : (m : Rules) (past : List Entry) (clients : Clients) (next : Item) (ended : FeedStop)
       → ((entries weight : ℕ) → ended ≡ stop.JournalFull entries weight
-      → IsItemTooMuch m past clients next entries weight) → HasCause m past ended
-  item_cause m past clients next (stop.JournalFull entries weight) full =
+      → IsItemTooMuch m past clients next entries weight) → ((fail : Fail) → ended ≡ stop.StartFailed fail → ⊥)
+      → HasCause m past ended
+  item_cause m past clients next (stop.StartFailed fail) full not = absurd (not fail refl)
+  item_cause m past clients next (stop.JournalFull entries weight) full not =
       let much = full entries weight refl in
       (past, [], refl, OfItem clients much.1 next much.0 much.2 much.3)
-  item_cause m past clients next stop.WriteFault full = tt
-  item_cause m past clients next stop.Memory full = tt
+  item_cause m past clients next stop.WriteFault full not = tt
+  item_cause m past clients next stop.Memory full not = tt
 
   -- an item did not come
   pub come_ends : (old mid : CoreView R Site) (items left : List Item) (clients : Clients) (next : Item)
       (before held : Option (List ℕ)) (ended : FeedStop) → mid ≡ old
       → ((entries weight : ℕ) → ended ≡ stop.JournalFull entries weight
       → IsItemTooMuch (rules_of meaning old) (past_of old) clients next entries weight)
+      → ((fail : Fail) → ended ≡ stop.StartFailed fail → ⊥)
       → IsUnderWay (rules_of meaning old) items (past_of old) clients (next ∷ left) before held
       → EndsSo (rules_of meaning old) items (past_of mid) ended before held
-  come_ends old mid items left clients next before held ended same full is =
+  come_ends old mid items left clients next before held ended same full not is =
       subst (λ core. EndsSo (rules_of meaning old) items (past_of core) ended before held) (sym same)
       (ends_here (rules_of meaning old) items (past_of old) clients (next ∷ left) before held ended is
-      (item_cause (rules_of meaning old) (past_of old) clients next ended full))
+      (item_cause (rules_of meaning old) (past_of old) clients next ended full not))
 
   -- ---- the host stops
 
@@ -192,23 +196,26 @@ module _ {R Site : Type 0} (meaning : R → Site → Meaning) where
 
   stop_cause : (m : Rules) (past : List Entry) (ended : FeedStop)
       → ((entries weight : ℕ) → ended ≡ stop.JournalFull entries weight
-      → IsTooMuch (past_after past (stop_entries m past 0)) entries weight) → HasCause m past ended
-  stop_cause m past (stop.JournalFull entries weight) full =
+      → IsTooMuch (past_after past (stop_entries m past 0)) entries weight)
+      → ((fail : Fail) → ended ≡ stop.StartFailed fail → ⊥) → HasCause m past ended
+  stop_cause m past (stop.StartFailed fail) full not = absurd (not fail refl)
+  stop_cause m past (stop.JournalFull entries weight) full not =
       (past, [], refl, OfStop (full entries weight refl))
-  stop_cause m past stop.WriteFault full = tt
-  stop_cause m past stop.Memory full = tt
+  stop_cause m past stop.WriteFault full not = tt
+  stop_cause m past stop.Memory full not = tt
 
   -- the host did not stop
   pub stop_ends : (old mid : CoreView R Site) (items : List Item) (clients : Clients) (before held : Option (List ℕ))
       (ended : FeedStop) → mid ≡ old
       → ((entries weight : ℕ) → ended ≡ stop.JournalFull entries weight
       → IsTooMuch (past_after (past_of old) (stop_entries (rules_of meaning old) (past_of old) 0)) entries weight)
+      → ((fail : Fail) → ended ≡ stop.StartFailed fail → ⊥)
       → IsUnderWay (rules_of meaning old) items (past_of old) clients [] before held
       → EndsSo (rules_of meaning old) items (past_of mid) ended before held
-  stop_ends old mid items clients before held ended same full is =
+  stop_ends old mid items clients before held ended same full not is =
       subst (λ core. EndsSo (rules_of meaning old) items (past_of core) ended before held) (sym same)
       (ends_here (rules_of meaning old) items (past_of old) clients [] before held ended is
-      (stop_cause (rules_of meaning old) (past_of old) ended full))
+      (stop_cause (rules_of meaning old) (past_of old) ended full not))
 
   -- ---- work
 

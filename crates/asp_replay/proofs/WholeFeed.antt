@@ -10,6 +10,7 @@ use Rattle.asp_job.specs.declared.entry.Entry.{Entry}
 use Rattle.asp_job.specs.Journal.{past_after}
 use Rattle.asp_job.specs.Rules.{Rules}
 use Rattle.asp_job.specs.Runs.{is_stopping}
+use Rattle.asp_lane.specs.Started.{HasStarted}
 use Rattle.asp_record.specs.declared.recording.Item.{Item}
 use Rattle.asp_replay.specs.Feed.{HasFed}
 use Rattle.asp_replay.specs.Feeding.{Clients, IsFed, is_calm}
@@ -47,13 +48,14 @@ fed_of items past clients left stopped (inl feeding) =
 fed_of items past clients left stopped (inr fed) = fed.fed
 
 pub over_fed : (m : Rules) (items : List Item) (past : List Entry) (clients : Clients) (left : List Item)
-    (before after : Option (List ℕ)) → is_over past left ≡ true
+    (before after : Option (List ℕ)) → is_over past left ≡ true → HasStarted m past
     → IsUnderWay m items past clients left before after → HasFed m items past before after
-over_fed m items past clients [] before after over is =
+over_fed m items past clients [] before after over started is =
     let both = and_parts (is_stopping past) (is_calm past) over in
     record {
       whole = record {
         fed = fed_of items past clients [] both.0 is.stands;
+        started = started;
         ended = both.1;
         none_full = is.lane.none_full;
         sequential = λ none. (let turns = is.turns none in record {
@@ -66,4 +68,4 @@ over_fed m items past clients [] before after over is =
       };
       written = is.written;
     }
-over_fed m items past clients (next ∷ left) before after over is = absurd cc
+over_fed m items past clients (next ∷ left) before after over started is = absurd cc

@@ -1,20 +1,24 @@
 -- What a recording leaves that was fed to a host, and what one leaves that was not fed to its end.
-use Rattle.std.specs.Prelude.{◌≡◌, ℕ, Bool, true, false, ⊤, List, ◌++◌, Option}
+use Rattle.std.specs.Prelude.{◌≡◌, ℕ, Bool, true, false, ⊤, List, [], ◌++◌, Option, Some}
 use Rattle.asp_core.specs.Kernel.{IsBeginTooMuch, IsTooMuch}
 use Rattle.asp_core.specs.Laws.{NoneIs}
+use Rattle.asp_core.specs.Ready.{IsAnswered}
+use Rattle.asp_core.specs.Start.{start_fail}
 use Rattle.asp_io.specs.Copying.{AddsPart}
 use Rattle.asp_io.specs.Sink.{with_bytes}
+use Rattle.asp_job.specs.declared.answer.Fail.{Fail}
 use Rattle.asp_job.specs.declared.entry.EndKind.TheVariants as kind
 use Rattle.asp_job.specs.declared.entry.Entry.{Entry}
 use Rattle.asp_job.specs.declared.entry.What.{What}
 use Rattle.asp_job.specs.declared.entry.What.TheVariants as what
 use Rattle.asp_job.specs.Journal.{IsValidJournal, past_after, stop_entries}
 use Rattle.asp_job.specs.Rules.{Rules}
+use Rattle.asp_lane.specs.Started.{HasStarted}
 use Rattle.asp_lane.specs.Turns.{IsCallTooMuch}
 use Rattle.asp_record.specs.declared.recording.Item.{Item}
 use Rattle.asp_replay.specs.declared.stop.FeedStop.{FeedStop}
 use Rattle.asp_replay.specs.declared.stop.FeedStop.TheVariants as stop
-use Rattle.asp_replay.specs.Feeding.{Clients, IsFed, IsFedPart, is_calm}
+use Rattle.asp_replay.specs.Feeding.{Clients, IsFed, IsFedPart, events_of, is_calm}
 use Rattle.asp_replay.specs.Sequential.{Adds, IsSequential, is_memory_end}
 use Rattle.asp_replay.specs.Shown.{AreRecords, Shown, shown_of}
 
@@ -42,11 +46,11 @@ abbrev pub is_full_end : What → Bool
 is_full_end (what.End run kind.JournalFull status size made finished) = true
 is_full_end _ = false
 
--- All items were fed to a host with this journal: each run has ended, and none because the journal was full. Unless
--- memory
--- ran out for a run, the journal is the history of one lane.
+-- All items were fed to a host with this journal: the first run has ended by itself and did not fail, each run has
+-- ended, and none because the journal was full. Unless memory ran out for a run, the journal is the history of one lane.
 pub record IsWhole (rules : Rules) (items : List Item) (past : List Entry) : Type 0 where
   pub fed : IsFed items past
+  pub started : HasStarted rules past
   pub ended : is_calm past ≡ true
   pub none_full : NoneIs is_full_end past
   pub sequential : NoneIs is_memory_end past → IsSequential rules items past
@@ -60,8 +64,7 @@ pub record HasFed (rules : Rules) (items : List Item) (past : List Entry) (befor
 -- ---- not to the end
 
 -- with what comes next, an item, the Stop, a Begin or a call, there would be so many entries of that weight, too many
--- or too
--- heavy
+-- or too heavy
 pub data IsTooMuchNext (rules : Rules) (past : List Entry) (entries weight : ℕ) : Type 0 where
   OfItem : (clients then_clients : Clients) (next : Item) (added : List Entry)
       → Adds rules past clients next added then_clients
@@ -76,16 +79,24 @@ abbrev pub WasTooMuch : Rules → List Entry → ℕ → ℕ → Type 0
 WasTooMuch rules past entries weight = (earlier later : List Entry) × (past ≡ later ++ earlier)
     × IsTooMuchNext rules earlier entries weight
 
+-- the first run has failed so, and nothing came from outside
+pub record HasFailed (rules : Rules) (past : List Entry) (fail : Fail) : Type 0 where
+  pub none_came : events_of past ≡ []
+  pub failed : start_fail rules past ≡ Some fail
+
 -- the journal of a feed that came to this stop
 abbrev pub HasCause : Rules → List Entry → FeedStop → Type 0
+HasCause rules past (stop.StartFailed fail) = HasFailed rules past fail
 HasCause rules past (stop.JournalFull entries weight) = WasTooMuch rules past entries weight
 HasCause rules past stop.WriteFault = ⊤
 HasCause rules past stop.Memory = ⊤
 
--- the items were fed in part, to a host with this valid journal, and the first answers were written
+-- The items were fed in part, to a host with this valid journal, each page that ended has an answer, and the first
+-- answers were written.
 pub record HasFedPart (rules : Rules) (items : List Item) (past : List Entry) (ended : FeedStop)
     (before after : Option (List ℕ)) : Type 0 where
   pub account : IsValidJournal rules past
+  pub answered : IsAnswered rules past
   pub fed : IsFedPart items past
   pub cause : HasCause rules past ended
   pub written : ArePartWritten rules past before after

@@ -35,8 +35,7 @@ pub record Place : Type 0 where
 -- ---- what an item adds
 
 -- Whether an item of this moment may come: the first run has ended, time need not go on or nothing is under way, and
--- not
--- too many pages wait.
+-- not too many pages wait.
 abbrev pub may_come : List Entry → ℕ → Bool
 may_come past moment = is_some (end_kind past 1) && (nat_le moment (moment_of past) || is_calm past)
     && nat_lt (length (waiting_pages past)) MOST_WAITING

@@ -62,8 +62,7 @@ abbrev pub done_line : ℕ → List ℕ
 done_line count = codes "done " ++ decimal count ++ 10 ∷ []
 
 -- what a replay writes in all: the records of the answers, the lines of the journal where they are asked for, and how
--- many
--- answers there were
+-- many answers there were
 pub record IsOutput (rules : Rules) (past : List Entry) (journal : Bool) (bytes : List ℕ) : Type 0 where
   pub records : List ℕ
   pub are_records : AreRecords (shown_of rules past) records

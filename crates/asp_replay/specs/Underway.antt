@@ -9,6 +9,7 @@ use Rattle.asp_core.specs.declared.stop.EventStop.TheVariants as event
 use Rattle.asp_core.specs.Kernel.{CoreView, RunView, IsBeginTooMuch, IsTooMuch, grown, past_of, rules_of}
 use Rattle.asp_core.specs.Laws.{NoneIs}
 use Rattle.asp_core.specs.Ready.{ready}
+use Rattle.asp_core.specs.Start.{start_fail}
 use Rattle.asp_journal.specs.Telling.{end_kind}
 use Rattle.asp_io.specs.Copying.{AddsPart}
 use Rattle.asp_io.specs.Sink.{with_bytes}
@@ -43,6 +44,13 @@ abbrev pub admit_stop : AdmitStop → FeedStop
 admit_stop (admit.JournalFull entries weight) = stop.JournalFull entries weight
 admit_stop _ = stop.Memory
 
+-- why nothing comes after a first run that failed or has not ended by itself
+abbrev pub IsStartStop : Rules → List Entry → FeedStop → Type 0
+IsStartStop rules past (stop.StartFailed fail) = start_fail rules past ≡ Some fail
+IsStartStop rules past (stop.JournalFull entries weight) = ⊥
+IsStartStop rules past stop.WriteFault = ⊥
+IsStartStop rules past stop.Memory = ⊤
+
 -- why nothing goes on after work that came to this
 abbrev pub turn_stop : Turn → Option FeedStop
 turn_stop (turn.JournalFull entries weight) = Some (stop.JournalFull entries weight)
@@ -74,8 +82,7 @@ is_done turn.Done = true
 is_done _ = false
 
 -- the entries of a step of the run in hand that came to this: its next call or its End, its End because its call does
--- not
--- fit, or nothing
+-- not fit, or nothing
 abbrev pub Steps : Rules → List Entry → ℕ → List Entry → Turn → Type 0
 Steps rules past run entries turn.Done =
     (entry : Entry) × IsStep rules past 0 run entry × (entries ≡ entry ∷ [])
@@ -147,16 +154,19 @@ HasWritten (Ok given) old new piece = new ≡ with_bytes old piece
 HasWritten (Err stop.WriteFault) old new piece = AddsPart old new piece
 HasWritten (Err stop.Memory) old new piece = new ≡ old
 HasWritten (Err (stop.JournalFull entries weight)) old new piece = ⊥
+HasWritten (Err (stop.StartFailed fail)) old new piece = ⊥
 
 -- a write stops by a fault of the sink or for want of memory
 abbrev pub IsOfWriting : {T : Type 0} → Result T FeedStop → Type 0
 IsOfWriting (Err (stop.JournalFull entries weight)) = ⊥
+IsOfWriting (Err (stop.StartFailed fail)) = ⊥
 IsOfWriting _ = ⊤
 
 -- a text was written whole, or a first part of it
 abbrev pub WritesText : {T : Type 0} → List ℕ → Result T FeedStop → Option (List ℕ) → Option (List ℕ) → Type 0
 WritesText text (Ok given) old new = new ≡ with_bytes old text
 WritesText text (Err (stop.JournalFull entries weight)) old new = ⊥
+WritesText text (Err (stop.StartFailed fail)) old new = ⊥
 WritesText text (Err _) old new = AddsPart old new text
 
 -- a record was written, or a first part of it, or nothing
@@ -165,6 +175,7 @@ WritesRecord shown (Ok given) old new = (bytes : List ℕ) × IsRecord shown byt
 WritesRecord shown (Err stop.WriteFault) old new = (bytes : List ℕ) × IsRecord shown bytes × AddsPart old new bytes
 WritesRecord shown (Err stop.Memory) old new = new ≡ old
 WritesRecord shown (Err (stop.JournalFull entries weight)) old new = ⊥
+WritesRecord shown (Err (stop.StartFailed fail)) old new = ⊥
 
 -- the answers that wait, whose jobs came at the journal's moment
 abbrev pub stamped : Rules → List Entry → List Shown

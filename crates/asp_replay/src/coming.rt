@@ -3,6 +3,7 @@
 
 ghost use Rattle.std.specs.Prelude.{◌≡◌, is_some, ◌<◌, ℕ, Err, true, false, OnOk, OnErr};
 ghost use Rattle.indexmap.specs.IndexMap.{spare};
+ghost use Rattle.asp_job.specs.declared.answer.Fail.{Fail};
 ghost use Rattle.asp_job.specs.declared.entry.What.{What};
 ghost use Rattle.asp_job.specs.Journal.{stop_entries, past_after};
 ghost use Rattle.asp_job.specs.Runs.{is_stopping};
@@ -99,6 +100,7 @@ fn come_request<R: Runner>(
         (Item.Request client moment bytes.now) entries weight }
     ensures err { OnErr result (core.new ≡ core.old) }
     ensures no_fault { result ≡ Err FeedStop.WriteFault → ⊥ }
+    ensures no_start { (fail : Fail) → result ≡ Err (FeedStop.StartFailed fail) → ⊥ }
 {
     let job = job_of(alloc, clients, client, moment, bytes)?;
     reserve_one(clients)?;
@@ -130,6 +132,7 @@ pub fn come<R: Runner>(
         way.IsItemTooMuch (rules_of R.meaning core.old) (past_of core.old) clients.old.entries item.now entries weight }
     ensures err { OnErr result (core.new ≡ core.old) }
     ensures no_fault { result ≡ Err FeedStop.WriteFault → ⊥ }
+    ensures no_start { (fail : Fail) → result ≡ Err (FeedStop.StartFailed fail) → ⊥ }
 {
     match item {
         Item::Request {
@@ -163,6 +166,7 @@ pub fn stop<R: Runner>(core: &mut Core<R>) -> Result<(), FeedStop>
         entries weight }
     ensures err { OnErr result (core.new ≡ core.old) }
     ensures no_fault { result ≡ Err FeedStop.WriteFault → ⊥ }
+    ensures no_start { (fail : Fail) → result ≡ Err (FeedStop.StartFailed fail) → ⊥ }
 {
     match core.stop(0) {
         Ok(()) => Ok(()),

@@ -9,17 +9,18 @@ ghost use Rattle.asp_job.specs.declared.entry.Entry.{Entry};
 ghost use Rattle.asp_job.specs.declared.entry.What.TheVariants as What;
 ghost use Rattle.asp_job.specs.declared.job.Work.TheVariants as Work;
 ghost use Rattle.asp_job.specs.History.{with_lane};
+ghost use Rattle.asp_lane.specs.Started.{HasStarted};
 ghost use Rattle.asp_lane.specs.Turns.{Fits, run_in};
 ghost use Rattle.asp_record.specs.declared.recording.Item.{Item as ItemView};
 ghost use Rattle.asp_record.specs.Recorded.{IsSound};
 ghost use Rattle.asp_replay.specs.Feed as spec;
-ghost use Rattle.asp_replay.specs.Feeding.{Clients as ClientsView};
+ghost use Rattle.asp_replay.specs.Feeding.{Clients as ClientsView, events_of};
 ghost use Rattle.asp_replay.specs.Underway as way;
 
 use crate::clients::Clients;
 use crate::coming::{is_calm, may_come, moment_of};
 use crate::stop::FeedStop;
-use crate::turns::{come_turn, let_go, stop_turn, work_turn};
+use crate::turns::{come_turn, hand_back, let_go, stop_turn, work_turn};
 use asp_core::Core;
 use asp_io::Sink;
 use asp_job::{EndKind, Runner};
@@ -34,25 +35,21 @@ fn is_starting<R: Runner>(core: &Core<R>) -> bool
     core.start_kind().is_none() && !is_calm(core)
 }
 
-/// What is in hand, where the first run has ended by itself.
-fn started<R>(core: &Core<R>, hand: Hand<R>) -> Result<Hand<R>, FeedStop>
-where
-    R: Runner,
-    R::State: Drop,
-    R::Store: Drop,
-    ensures ok { IfOk result (λ back. (back ≡ hand) × (is_some (end_kind (past_of core.now) 1) ≡ true)) }
-    ensures err { IfErr result (λ stop. stop ≡ FeedStop.Memory) }
+/// Why nothing comes, where the first run failed or has not ended by itself.
+fn started<R: Runner>(core: &Core<R>) -> Result<(), FeedStop>
+    ensures ok { OnOk result (HasStarted (rules_of R.meaning core.now) (past_of core.now)) }
+    ensures err { IfErr result (way.IsStartStop (rules_of R.meaning core.now) (past_of core.now)) }
 {
-    match core.start_kind() {
-        Some(EndKind::Done) => Ok(hand),
-        _ => {
-            let_go(hand);
-            Err(FeedStop::Memory)
-        }
+    match core.start_fail() {
+        Some(fail) => Err(FeedStop::StartFailed(fail)),
+        None => match core.start_kind() {
+            Some(EndKind::Done) => Ok(()),
+            _ => Err(FeedStop::Memory),
+        },
     }
 }
 
-/// Runs the first run to its end. Where memory ran out for it, nothing else is done.
+/// Runs the first run to its end. Where it failed, or memory ran out for it, nothing else is done.
 fn start<R, K>(
     alloc: Global,
     core: &mut Core<R>,
@@ -69,9 +66,10 @@ where
     requires host { IsHostOf core.old runner.now site.now }
     requires hand { Fits R.meaning R.stands core.old 0 (run_in hand) }
     requires between { way.IsBetween (rules_of R.meaning core.old) (past_of core.old) (K.held sink.old) }
+    requires none_came { events_of (past_of core.old) ≡ [] }
     ensures grows { (entries : List Entry) × (core.new ≡ grown core.old entries) }
     ensures fits { IfOk result (λ hand. Fits R.meaning R.stands core.new 0 (run_in hand)) }
-    ensures started { OnOk result (is_some (end_kind (past_of core.new) 1) ≡ true) }
+    ensures started { OnOk result (HasStarted (rules_of R.meaning core.old) (past_of core.new)) }
     ensures after { (items left : List ItemView) (clients : ClientsView) (before : Option (List ℕ))
         → way.IsUnderWay (rules_of R.meaning core.old) items (past_of core.old) clients left before (K.held sink.old)
         → way.After result (rules_of R.meaning core.old) items (past_of core.new) clients left before
@@ -80,7 +78,7 @@ where
 {
     for _ in 0..u32::MAX {
         if !is_starting(core) {
-            return started(core, hand);
+            return hand_back(hand, started(core));
         }
         hand = work_turn(alloc, core, runner, site, hand, sink)?;
     }
@@ -183,7 +181,7 @@ where
     K: Sink,
     requires host { IsHostOf core.old runner.now site.now }
     requires hand { Fits R.meaning R.stands core.old 0 (run_in hand) }
-    requires started { is_some (end_kind (past_of core.old) 1) ≡ true }
+    requires started { HasStarted (rules_of R.meaning core.old) (past_of core.old) }
     requires under { (before : Option (List ℕ)) × way.IsUnderWay (rules_of R.meaning core.old) recording.now.items
         (past_of core.old) clients.old.entries recording.now.items before (K.held sink.old) }
     ensures grows { (entries : List Entry) × (core.new ≡ grown core.old entries) }
@@ -197,6 +195,8 @@ where
     let mut items = recording.items.as_slice();
     for _ in 0..u32::MAX {
         if is_over(core, items) {
+            // The journal is valid.
+            let _ = core.journal();
             let_go(hand);
             return Ok(());
         }

@@ -1,11 +1,14 @@
 //! Why a recording was not fed to its end.
 ghost use Rattle.std.specs.Prelude.{◌≡◌};
 
+use asp_job::Fail;
 use vb_value::Memory;
 
 /// Why a recording was not fed to its end.
 #[derive(Clone, Copy, Debug, PartialEq, Eq)]
 pub enum FeedStop {
+    /// The first run failed, that of `Application_OnStart`. Nothing came.
+    StartFailed(Fail),
     /// The journal would be too long or too heavy.
     JournalFull {
         /// How many entries it would have, with one end for each unfinished run.

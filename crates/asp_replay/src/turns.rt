@@ -9,7 +9,7 @@ ghost use Rattle.asp_job.specs.Runs.{is_stopping};
 ghost use Rattle.asp_lane.specs.Turns.{Fits, run_in};
 ghost use Rattle.asp_record.specs.declared.recording.Item.{Item as ItemView};
 ghost use Rattle.asp_record.specs.Recorded as recorded;
-ghost use Rattle.asp_replay.specs.Feeding.{Clients as ClientsView, is_calm};
+ghost use Rattle.asp_replay.specs.Feeding.{Clients as ClientsView, events_of, is_calm};
 ghost use Rattle.asp_replay.specs.Sequential.{IsBusy, may_come};
 ghost use Rattle.asp_replay.specs.Underway as spec;
 
@@ -104,7 +104,7 @@ where
 {}
 
 /// What is in hand, where nothing failed.
-fn hand_back<R>(hand: Hand<R>, handed: Result<(), FeedStop>) -> Result<Hand<R>, FeedStop>
+pub fn hand_back<R>(hand: Hand<R>, handed: Result<(), FeedStop>) -> Result<Hand<R>, FeedStop>
 where
     R: Runner,
     R::State: Drop,
@@ -145,6 +145,7 @@ where
         → IsBusy (past_of core.old) left
         → spec.After result (rules_of R.meaning core.old) items (past_of core.new) clients left before
         (K.held sink.new) }
+    ensures quiet { events_of (past_of core.new) ≡ events_of (past_of core.old) }
     ensures cause { HasCause FeedStop.WriteFault (K.faults sink.old) (K.faults sink.new) result }
 {
     let (hand, turn) = work(core, runner, site, hand);

@@ -11,10 +11,12 @@ usage:
   classic_asp get SITE PATH   runs a request for PATH, and writes the body of its answer
   classic_asp replay SITE     runs the requests of the recording on standard input, and writes their answers;
                               --journal adds what happened, line by line
+  classic_asp gen N           makes a recording of N requests, runs them, and writes how many requests, answers and
+                              sessions there were and the total that was counted; --journal adds what happened
   classic_asp --help          writes this text
   classic_asp --version       writes the program's name and version
 
-SITE is a folder. PATH is the target of a request, as /p.asp, /about/ or /find.asp?name=cup.
+SITE is a folder. PATH is the target of a request, as /p.asp, /about/ or /find.asp?name=cup. N is 1 to 10000.
 
 exit status: 0 done, 1 out of memory, 2 usage, 3 the site is refused, 4 read fault, 5 write fault,
 6 the recording is refused, 7 the journal is full, 8 the application did not begin";

@@ -1,31 +1,33 @@
-//! Tries the cases of data/: calls of a core over runs of words.
+//! Tries the cases of data/: calls of a core over runs of words, the lines of journals, and recordings.
 #![tactic(auto)]
 
 mod calls;
 mod desk;
+mod entries;
 mod jobs;
+mod lines;
+mod recordings;
 mod run;
 mod runner;
 mod said;
+mod shared_values;
 mod shown;
+mod table;
 mod words;
 
 use calls::Calls;
 use case_files::try_file;
+use lines::Lines;
+use recordings::Recordings;
 use std::io;
 use std::io::ErrorKind;
 
-/// The files of cases.
-const FILES: [&str; 2] = ["calls.txt", "many.txt"];
-
 fn main(rt: HostRuntime) -> io::Result<()> {
-    let mut all_passed = true;
-    for name in FILES {
-        if !try_file(&rt, name, &Calls)? {
-            all_passed = false;
-        }
-    }
-    if all_passed {
+    let calls = try_file(&rt, "calls.txt", &Calls)?;
+    let many = try_file(&rt, "many.txt", &Calls)?;
+    let lines = try_file(&rt, "lines.txt", &Lines)?;
+    let recordings = try_file(&rt, "recordings.txt", &Recordings)?;
+    if calls && many && lines && recordings {
         Ok(())
     } else {
         Err(ErrorKind::InvalidData.into())

@@ -1,5 +1,6 @@
 //! What calls give, as cases write it.
 
+use asp_record::RecordStop;
 use case_files::CaseStop;
 use std::alloc::Global;
 
@@ -13,7 +14,18 @@ pub fn number(written: Option<&str>) -> Result<u32, CaseStop> {
 
 /// The moment that is written so, in seconds.
 pub fn moment(written: Option<&str>) -> Result<u64, CaseStop> {
-    Ok(u64::from(number(written)?))
+    match written.unwrap_or("").parse() {
+        Ok(moment) => Ok(moment),
+        Err(_) => Err(CaseStop::Unreadable),
+    }
+}
+
+/// Where bytes were refused.
+pub fn record_stop(alloc: Global, stop: RecordStop) -> Result<String, CaseStop> {
+    match stop {
+        RecordStop::Refused { offset } => Ok(format!(in alloc; "refused at {offset}")?),
+        RecordStop::Memory => Err(CaseStop::Memory),
+    }
 }
 
 /// What the calls of a case gave, in their order.

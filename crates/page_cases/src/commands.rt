@@ -38,13 +38,22 @@ impl Subject for CommandWords {
                 },
             ) => {
                 let site = site.to_string(alloc)?;
-                let lines = if journal { " and its journal" } else { "" };
+                let lines = lines_asked(journal);
                 Ok(format!(in alloc; "replay {site} with {workers} workers{lines}")?)
+            }
+            Ok(Command::Gen { count, journal }) => {
+                let lines = lines_asked(journal);
+                Ok(format!(in alloc; "gen of {count} requests{lines}")?)
             }
             Err(WordStop::Usage) => Ok(String::from_str(alloc, "usage")?),
             Err(WordStop::Memory) => Err(CaseStop::Memory),
         }
     }
+}
+
+/// Whether the journal is asked for.
+fn lines_asked(journal: bool) -> &'static str {
+    if journal { " and its journal" } else { "" }
 }
 
 /// Tries the cases of a file, each the words of a command line and the files of a site, with the exit status, what is

@@ -1,5 +1,6 @@
 use Rattle.std.proofs.Common.{sym, subst, ◌∙◌}
 use Rattle.asp_core.specs.Kernel.{past_of, rules_by, rules_of}
+use Rattle.asp_core.specs.Ready.{IsAnswered}
 use Rattle.asp_job.specs.Journal.{IsValidJournal}
 use Rattle.asp_replay.specs.Underway.{IsCoreOf}
 use Rattle.asp_replay.proofs.FedBack.{core_handed, core_still, fed_handed, rules_here, stop_handed}
@@ -41,4 +42,5 @@ returns-clause-err g c =
     (g.K.Sink.held c.feed_core-fed.new.sink) c.feed_core-fed.result c.feed_core-fed.new.core c.core_back.result
     (sym same ∙ rules_here meaning c.feed_core-fed.new.core c.args.runner.now c.args.site.now seed still)
     (subst (λ m. IsValidJournal m (past_of c.feed_core-fed.new.core)) same c.journal.ensures.valid)
+    (subst (λ m. IsAnswered m (past_of c.feed_core-fed.new.core)) same c.journal.ensures.answered)
     c.core_back.ensures c.feed_core-fed.ensures.after

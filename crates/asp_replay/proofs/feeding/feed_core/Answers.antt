@@ -1,6 +1,8 @@
 use Rattle.std.proofs.Common.{ap, reverse, subst, sym}
 use Rattle.asp_core.specs.Kernel.{past_of, rules_of}
 use Rattle.asp_job.specs.Runs.{unfinished}
+use Rattle.asp_lane.specs.Started.{HasStarted}
+use Rattle.asp_replay.specs.Feeding.{events_of}
 use Rattle.asp_replay.specs.Underway.{AfterAll}
 use Rattle.asp_replay.proofs.FirstPlace.{core_under}
 use Rattle.asp_replay.proofs.Starting.{grown_more, host_grown, rules_grown, under_rules}
@@ -20,10 +22,19 @@ start-requires-clause-between g c = (
       c.requires.sound.items,
 )
 
+pub start-requires-clause-none_came : goal.start-requires-clause-none_came
+start-requires-clause-none_came g c = ap (λ journal. events_of (reverse journal)) c.requires.first
+
 pub feed_items-requires-clause-host : goal.feed_items-requires-clause-host
 feed_items-requires-clause-host g c =
     host_grown c.args.core.now c.start.new.core c.in-Ok.ensures.grows.0 c.args.runner.now c.args.site.now
     c.in-Ok.ensures.grows.1 c.requires.host
+
+pub feed_items-requires-clause-started : goal.feed_items-requires-clause-started
+feed_items-requires-clause-started g c =
+    let same = rules_grown g.R.Runner.meaning c.args.core.now c.start.new.core c.in-Ok.ensures.grows.0
+    c.in-Ok.ensures.grows.1 in
+    subst (λ m. HasStarted m (past_of c.start.new.core)) (sym same) c.in-Ok.ensures.started
 
 pub feed_items-requires-clause-under : goal.feed_items-requires-clause-under
 feed_items-requires-clause-under g c =

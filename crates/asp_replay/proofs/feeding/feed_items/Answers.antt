@@ -1,5 +1,6 @@
-use Rattle.std.proofs.Common.{◌≡◌, [], arith, subst, sym, true}
+use Rattle.std.proofs.Common.{◌≡◌, [], ap, arith, is_some, subst, sym, true}
 use Rattle.asp_core.specs.Kernel.{past_of, rules_of}
+use Rattle.asp_lane.proofs.Started.{started_grown}
 use Rattle.asp_replay.specs.declared.stop.FeedStop.TheVariants as stop
 use Rattle.asp_replay.specs.Underway.{EndsSo, IsUnderWay, is_over}
 use Rattle.asp_replay.proofs.Grown.{ends_here}
@@ -11,7 +12,7 @@ pub loop-init : goal.loop-init
 loop-init g c = record {
   grows = ([], grown_none c.args.core.now);
   fits = c.requires.hand;
-  started = c.requires.started;
+  started = ap is_some c.requires.started.ended;
   under = λ before is. subst (λ left. IsUnderWay (rules_of g.R.Runner.meaning c.args.core.now)
       c.args.recording.now.items (past_of c.args.core.now) c.args.clients.now.entries left before
       (g.K.Sink.held c.args.sink.now)) (sym c.as_slice-items.ensures) is;
@@ -26,8 +27,11 @@ pub returns-then-is_over-clause-after : goal.returns-then-is_over-clause-after
 returns-then-is_over-clause-after g c = λ before is.
     let over : is_over (past_of c.loop.core) c.loop.items.now ≡ true = (let told = c.is_over.ensures in
     let test = c.if-is_over.true in let one = c.if-is_over.ensures in cc) in
+    let started = started_grown g.R.Runner.meaning c.args.core.now c.loop.core c.loop.invariant.grows
+    c.journal.ensures.valid c.requires.started in
     over_fed (rules_of g.R.Runner.meaning c.args.core.now) c.args.recording.now.items (past_of c.loop.core)
-    c.loop.clients.entries c.loop.items.now before (g.K.Sink.held c.loop.sink) over (c.loop.invariant.under before is)
+    c.loop.clients.entries c.loop.items.now before (g.K.Sink.held c.loop.sink) over started
+    (c.loop.invariant.under before is)
 
 pub turn-requires-clause-host : goal.turn-requires-clause-host
 turn-requires-clause-host g c =

@@ -1,19 +1,21 @@
-use Rattle.std.proofs.Common.{◌≡◌, [], arith, is_some, subst, sym, true}
+use Rattle.std.proofs.Common.{◌≡◌, [], OnOk, arith, subst, sym, true}
 use Rattle.std.proofs.lemmas.Result.{err_from_is_err_and}
 use Rattle.asp_core.specs.Kernel.{past_of, rules_of}
-use Rattle.asp_journal.specs.Telling.{end_kind}
+use Rattle.asp_lane.specs.Started.{HasStarted}
 use Rattle.asp_lane.specs.Turns.{Fits, run_in}
 use Rattle.asp_replay.specs.declared.stop.FeedStop.TheVariants as stop
 use Rattle.asp_replay.specs.Underway.{EndsSo, IsOfOneLane, is_starting}
 use Rattle.asp_replay.proofs.Grown.{ends_here}
-use Rattle.asp_replay.proofs.Starting.{grown_more, grown_none, host_grown, memory_cause, memory_ends, ok_all, ok_each}
-use Rattle.asp_replay.proofs.Starting.{rules_grown, starting_busy, starting_parts, under_rules}
+use Rattle.asp_replay.proofs.Starting.{grown_more, grown_none, host_grown, none_still, rules_grown, start_ends}
+use Rattle.asp_replay.proofs.Starting.{start_no_fault, started_back, starting_busy, starting_parts, under_rules}
+use Rattle.asp_replay.proofs.Turning.{fits_back}
 use Rattle.asp_replay.proofs.feeding.start.Goals as goal
 
 pub loop-init : goal.loop-init
 loop-init g c = record {
   grows = ([], grown_none c.args.core.now);
   fits = c.requires.hand;
+  none_came = c.requires.none_came;
   under = λ items left clients before is. is;
   later = omega arith;
   within = λ below. below;
@@ -24,28 +26,32 @@ returns-then-not-is_starting-clause-grows g c = c.loop.invariant.grows
 
 pub returns-then-not-is_starting-clause-fits : goal.returns-then-not-is_starting-clause-fits
 returns-then-not-is_starting-clause-fits g c =
-    ok_each c.started.result
-    (λ back. (back ≡ c.loop.hand) × (is_some (end_kind (past_of c.loop.core) 1) ≡ true))
-    (λ hand. Fits g.R.Runner.meaning g.R.Runner.stands c.loop.core 0 (run_in hand)) c.started.ensures.ok
-    (λ hand same. subst (λ some. Fits g.R.Runner.meaning g.R.Runner.stands c.loop.core 0 (run_in some)) (sym same.0)
-    c.loop.invariant.fits)
+    fits_back c.started.result c.loop.hand c.hand_back.result
+    (λ hand. Fits g.R.Runner.meaning g.R.Runner.stands c.loop.core 0 (run_in hand)) c.hand_back.ensures
+    c.loop.invariant.fits
 
 pub returns-then-not-is_starting-clause-started : goal.returns-then-not-is_starting-clause-started
 returns-then-not-is_starting-clause-started g c =
-    ok_all c.started.result
-    (λ back. (back ≡ c.loop.hand) × (is_some (end_kind (past_of c.loop.core) 1) ≡ true))
-    (is_some (end_kind (past_of c.loop.core) 1) ≡ true) c.started.ensures.ok (λ hand same. same.1)
+    let same = rules_grown g.R.Runner.meaning c.args.core.now c.loop.core c.loop.invariant.grows.0
+    c.loop.invariant.grows.1 in
+    subst (λ m. OnOk c.hand_back.result (HasStarted m (past_of c.loop.core))) same
+    (started_back c.started.result c.loop.hand c.hand_back.result
+    (HasStarted (rules_of g.R.Runner.meaning c.loop.core) (past_of c.loop.core)) c.hand_back.ensures
+    c.started.ensures.ok)
 
 pub returns-then-not-is_starting-clause-after : goal.returns-then-not-is_starting-clause-after
 returns-then-not-is_starting-clause-after g c = λ items left clients before is.
-    memory_ends (rules_of g.R.Runner.meaning c.args.core.now) items (past_of c.loop.core) clients left before
-    (g.K.Sink.held c.loop.sink) c.started.result c.started.ensures.err
-    (c.loop.invariant.under items left clients before is)
+    let meaning = g.R.Runner.meaning in
+    let same = rules_grown meaning c.args.core.now c.loop.core c.loop.invariant.grows.0 c.loop.invariant.grows.1 in
+    start_ends (rules_of meaning c.args.core.now) (rules_of meaning c.loop.core) items (past_of c.loop.core) clients left
+    before (g.K.Sink.held c.loop.sink) c.started.result c.loop.hand c.hand_back.result same c.hand_back.ensures
+    c.started.ensures.err c.loop.invariant.none_came (c.loop.invariant.under items left clients before is)
 
 pub returns-then-not-is_starting-clause-cause : goal.returns-then-not-is_starting-clause-cause
 returns-then-not-is_starting-clause-cause g c =
-    memory_cause (g.K.Sink.faults c.args.sink.now) (g.K.Sink.faults c.loop.sink) c.started.result
-    c.loop.invariant.later c.loop.invariant.within c.started.ensures.err
+    start_no_fault (rules_of g.R.Runner.meaning c.loop.core) (past_of c.loop.core) (g.K.Sink.faults c.args.sink.now)
+    (g.K.Sink.faults c.loop.sink) c.started.result c.loop.hand c.hand_back.result c.loop.invariant.later
+    c.loop.invariant.within c.hand_back.ensures c.started.ensures.err
 
 pub work_turn-requires-clause-host : goal.work_turn-requires-clause-host
 work_turn-requires-clause-host g c =
@@ -101,6 +107,8 @@ loop-preserved g c =
       grows = grown_more c.args.core.now c.loop.core c.work_turn.new.core c.loop.invariant.grows
           c.in_ok-hand.ensures.grows;
       fits = c.in_ok-hand.ensures.fits;
+      none_came = none_still (past_of c.loop.core) (past_of c.work_turn.new.core) c.in_ok-hand.ensures.quiet
+          c.loop.invariant.none_came;
       under = λ items left clients before is.
           let now = under_rules (rules_of meaning c.args.core.now) (rules_of meaning c.loop.core) items left
           (past_of c.loop.core) clients before (g.K.Sink.held c.loop.sink) (sym same)

@@ -22,7 +22,7 @@ returns-in_err-write_record-clause-out g c =
     let meaning = g.R.Runner.meaning in
     let old = c.args.core.now in
     let now = c.loop-run.core in
-    let new = c.collect_first.new.self in
+    let new = c.first_out.new.core in
     let before = g.K.Sink.held c.args.sink.now in
     let held = g.K.Sink.held c.loop-run.sink in
     let after = g.K.Sink.held c.write_record.new.sink in
@@ -39,7 +39,7 @@ returns-in_err-write_record-clause-out g c =
 
 pub loop-run-smaller : goal.loop-run-smaller
 loop-run-smaller g c =
-    handing_smaller g.R.Runner.meaning c.args.core.now c.loop-run.core c.collect_first.new.self
+    handing_smaller g.R.Runner.meaning c.args.core.now c.loop-run.core c.first_out.new.core
     (g.K.Sink.held c.args.sink.now) (g.K.Sink.held c.loop-run.sink) (c.in-Some.run', c.in-Some.answer)
     c.loop-run.invariant.0 c.in-Some.ensures.first c.in-Some.ensures.some
 
@@ -48,7 +48,7 @@ loop-run-preserved g c =
     let meaning = g.R.Runner.meaning in
     let old = c.args.core.now in
     let now = c.loop-run.core in
-    let new = c.collect_first.new.self in
+    let new = c.first_out.new.core in
     let before = g.K.Sink.held c.args.sink.now in
     let held = g.K.Sink.held c.loop-run.sink in
     let after = g.K.Sink.held c.write_record.new.sink in

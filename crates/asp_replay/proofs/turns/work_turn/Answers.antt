@@ -2,7 +2,7 @@ use Rattle.std.proofs.Common.{◌≡◌, Some, sym, ◌∙◌}
 use Rattle.asp_core.specs.Kernel.{past_of, rules_of}
 use Rattle.asp_lane.specs.Turns.{Fits, run_in}
 use Rattle.asp_replay.specs.Underway.{turn_stop}
-use Rattle.asp_replay.proofs.Stopped.{work_ends}
+use Rattle.asp_replay.proofs.Stopped.{stop_events, work_ends, work_events}
 use Rattle.asp_replay.proofs.Turning.{after_back, fits_back, handed_fits, work_adds, work_after, work_lanes}
 use Rattle.asp_replay.proofs.turns.work_turn.Goals as goal
 
@@ -12,6 +12,12 @@ returns-in-Some-clause-after g c = λ items left clients before is busy.
     let stops : turn_stop c.work-hand.result.1 ≡ Some c.in-Some.stop = sym c.turn_stop.ensures ∙ c.in-Some.is in
     work_ends g.R.Runner.meaning c.args.core.now c.work-hand.new.core worked.entries c.work-hand.result.1 items left
     clients before (g.K.Sink.held c.args.sink.now) c.in-Some.stop worked.new_is stops worked.works is
+
+pub returns-in-Some-clause-quiet : goal.returns-in-Some-clause-quiet
+returns-in-Some-clause-quiet g c =
+    let worked = c.work-hand.ensures in
+    stop_events g.R.Runner.meaning c.args.core.now c.work-hand.new.core worked.entries c.work-hand.result.1 c.in-Some.stop
+    worked.new_is (sym c.turn_stop.ensures ∙ c.in-Some.is) worked.works
 
 pub hand_out-handed-requires : goal.hand_out-handed-requires
 hand_out-handed-requires g c =
@@ -46,3 +52,13 @@ returns-clause-after g c = λ items left clients before is busy.
     c.hand_out-handed.new.core worked.entries items left clients before (g.K.Sink.held c.args.sink.now)
     (g.K.Sink.held c.hand_out-handed.new.sink) worked.new_is adds c.journal.ensures.valid.entries
     c.journal.ensures.answered c.hand_out-handed.ensures.only c.hand_out-handed.ensures.out is busy)
+
+pub returns-clause-quiet : goal.returns-clause-quiet
+returns-clause-quiet g c =
+    let worked = c.work-hand.ensures in
+    let m = rules_of g.R.Runner.meaning c.args.core.now in
+    let adds = work_adds g.R.Runner.meaning m (past_of c.args.core.now) worked.entries c.work-hand.result.1
+    (λ ended e. c.in_default.not-Some ended (c.turn_stop.ensures ∙ e)) worked.works in
+    work_events g.R.Runner.meaning c.hand_out-handed.result c.args.core.now c.work-hand.new.core
+    c.hand_out-handed.new.core worked.entries (g.K.Sink.held c.args.sink.now) (g.K.Sink.held c.hand_out-handed.new.sink)
+    worked.new_is adds c.hand_out-handed.ensures.out

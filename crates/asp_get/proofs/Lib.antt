@@ -1,0 +1,4 @@
+pub mod Turns
+pub mod JustEnded
+pub mod Coming
+pub mod Stopped

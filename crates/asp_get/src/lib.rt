@@ -1,0 +1,11 @@
+//! One request that is answered over a core of its own.
+#![tactic(auto)]
+
+mod answer;
+mod asking;
+mod going;
+mod starting;
+mod stop;
+
+pub use answer::answer_one;
+pub use stop::GetStop;

@@ -1,0 +1,90 @@
+//! What `gen` writes: the lines of a journal, and its summary.
+ghost use Rattle.std.specs.Prelude.{◌≡◌, ◌++◌, ℕ, IfErr, IfOk, List, OnOk, reverse};
+ghost use Rattle.std.specs.String.{string_bytes};
+ghost use Rattle.asp_core.specs.Kernel.{past_of, rules_by};
+ghost use Rattle.asp_io.specs.Faults.{HasCause};
+ghost use Rattle.asp_io.specs.Sink.{with_bytes};
+ghost use Rattle.asp_record.specs.Recorded.{IsSound};
+ghost use Rattle.asp_replay.specs.Shown.{lines_of};
+ghost use Rattle.asp_replay.specs.Underway.{WritesText};
+ghost use Rattle.asp_summary.specs.Counted.{summary_of as summary};
+ghost use Rattle.asp_summary.specs.Lines.{summary_lines};
+ghost use Rattle.asp_host.specs.Gen as spec;
+
+use crate::output::write_journal;
+use asp_core::Core;
+use asp_io::{Failed, Sink, SureSink, write_all};
+use asp_job::{Entry, Runner};
+use asp_record::Recording;
+use asp_replay::{FeedStop, feed};
+use asp_summary::{summary_of, summary_text};
+use std::alloc::Global;
+use vb_value::Memory;
+
+/// The lines of the summary.
+fn summary_string(alloc: Global, count: u32, entries: &[Entry]) -> Result<String, Memory>
+    ensures { IfOk result (λ text. string_bytes text ≡ summary_lines (summary count (reverse entries.now))) }
+{
+    let summary = summary_of(alloc, count, entries)?;
+    summary_text(alloc, &summary)
+}
+
+/// Writes a text whole.
+fn write_text<K: Sink>(sink: &mut K, text: &[u8]) -> Result<(), FeedStop>
+    ensures wrote { WritesText text.now result (K.held sink.old) (K.held sink.new) }
+    ensures cause { HasCause FeedStop.WriteFault (K.faults sink.old) (K.faults sink.new) result }
+{
+    match write_all(sink, text) {
+        Ok(()) => Ok(()),
+        Err(Failed) => Err(FeedStop::WriteFault),
+    }
+}
+
+/// Writes the lines of the journal, where they are asked for, and its summary.
+fn write_summary<R: Runner, K: Sink>(
+    alloc: Global,
+    core: &Core<R>,
+    count: u32,
+    journal: bool,
+    sink: &mut K,
+) -> Result<(), FeedStop>
+    ensures wrote { WritesText (lines_of journal (past_of core.now)
+        ++ summary_lines (summary count (past_of core.now))) result (K.held sink.old) (K.held sink.new) }
+    ensures cause { HasCause FeedStop.WriteFault (K.faults sink.old) (K.faults sink.new) result }
+{
+    let entries = core.journal();
+    let text = summary_string(alloc, count, entries)?;
+    write_journal(alloc, journal, entries, sink)?;
+    write_text(sink, text.as_bytes())
+}
+
+/// Feeds a site with a recording of so many requests, lets the answers go, and writes what `gen` writes.
+pub fn write_generated<R, K>(
+    alloc: Global,
+    runner: &R,
+    site: &R::Site,
+    recording: &Recording,
+    count: u32,
+    journal: bool,
+    sink: &mut K,
+) -> Result<(), FeedStop>
+where
+    R: Runner,
+    R::State: Drop,
+    R::Store: Drop,
+    K: Sink,
+    requires sound { IsSound recording.now }
+    ensures ok { OnOk result ((output : List ℕ)
+        × spec.HasSummed (rules_by (R.meaning runner.now site.now) recording.now.seed) recording.now.items count journal
+        output × (K.held sink.new ≡ with_bytes (K.held sink.old) output)) }
+    ensures err { IfErr result (spec.IsSumStop (rules_by (R.meaning runner.now site.now) recording.now.seed)
+        recording.now.items count journal (record { before = K.held sink.old; after = K.held sink.new })) }
+    ensures cause { HasCause FeedStop.WriteFault (K.faults sink.old) (K.faults sink.new) result }
+{
+    // The sink of the answers takes all, so none of its faults is handed on.
+    let mut nowhere = SureSink;
+    let core = feed(alloc, runner, site, recording, &mut nowhere)?;
+    // The journal is valid.
+    let _ = core.journal();
+    write_summary(alloc, &core, count, journal, sink)
+}

@@ -1,0 +1,57 @@
+-- What a replay writes is a function of what it reads.
+use Rattle.std.proofs.Common.{◌≡◌, ◌∙◌, ℕ, Bool, List, Some, length, ap, subst}
+use Rattle.vb_value.specs.declared.site_file.SiteFile.{SiteFile}
+use Rattle.asp_io.specs.Sink.{with_bytes}
+use Rattle.asp_record.specs.declared.recording.Recording.{Recording}
+use Rattle.asp_record.specs.Recorded.{Stands}
+use Rattle.site_load.specs.Accepted.{IsAccepted}
+use Rattle.replay_laws.specs.Laws.{IsReplay, OneReplay}
+use Rattle.asp_host.specs.Around.{Around}
+use Rattle.asp_host.specs.Replay.{rules_for}
+use Rattle.host_laws.specs.Laws.{AreAddedAlike, OneSite, ReplaysWell, TellsFiles}
+use Rattle.host_laws.proofs.Refusals.{OneRecording, of_told}
+
+-- a replay in whose journal no run ended for want of memory is the output of the history of one lane
+is_replay : (journal : Bool) (around : Around) (well : ReplaysWell journal around)
+    → IsReplay (rules_for well.all.site well.all.recording) well.all.recording.items journal well.all.replayed.output
+is_replay journal around well = record {
+  past = well.all.replayed.past;
+  sequential = well.all.replayed.whole.sequential well.enough;
+  is_output = well.all.replayed.is_output;
+}
+
+module _ (sites : OneSite) (recordings : OneRecording) (replays : OneReplay) where
+  same_site : (files : List SiteFile) (journal : Bool) (around other : Around) (one : ReplaysWell journal around)
+      (also : ReplaysWell journal other) → TellsFiles around files → TellsFiles other files
+      → one.all.site ≡ also.all.site
+  same_site files journal around other one also tells more = sites files one.all.site also.all.site tells.paths
+      (of_told around.files files (λ all. IsAccepted all one.all.site) tells.told one.all.is_for.accepted)
+      (of_told other.files files (λ all. IsAccepted all also.all.site) more.told also.all.is_for.accepted)
+
+  same_recording : (bytes : List ℕ) (journal : Bool) (around other : Around) (one : ReplaysWell journal around)
+      (also : ReplaysWell journal other) → around.source.before ≡ Some bytes → other.source.before ≡ Some bytes
+      → one.all.recording ≡ also.all.recording
+  same_recording bytes journal around other one also told more =
+      (recordings bytes one.all.recording also.all.recording (length bytes) (length bytes)
+      (of_told around.source.before bytes (λ all. Stands all one.all.recording (length all)) told
+      one.all.is_for.whole.stands)
+      (of_told other.source.before bytes (λ all. Stands all also.all.recording (length all)) more
+      also.all.is_for.whole.stands)).0
+
+  pub one_replay_output : (journal : Bool) (files : List SiteFile) (bytes : List ℕ) (around other : Around)
+      → TellsFiles around files → TellsFiles other files → around.source.before ≡ Some bytes
+      → other.source.before ≡ Some bytes → ReplaysWell journal around → ReplaysWell journal other
+      → AreAddedAlike around.sink other.sink
+  one_replay_output journal files bytes around other tells more told again one also =
+      let site = same_site files journal around other one also tells more in
+      let recording = same_recording bytes journal around other one also told again in
+      let output = one.all.replayed.output in
+      let turned = subst (λ (last : Recording). IsReplay (rules_for also.all.site last) last.items journal output)
+      recording (subst (λ site. IsReplay (rules_for site one.all.recording) one.all.recording.items journal output) site
+      (is_replay journal around one)) in
+      let same = replays (rules_for also.all.site also.all.recording) also.all.recording.items journal output
+      also.all.replayed.output turned (is_replay journal other also) in (
+        also.all.replayed.output,
+        one.all.replayed.wrote ∙ ap (with_bytes around.sink.before) same,
+        also.all.replayed.wrote,
+      )

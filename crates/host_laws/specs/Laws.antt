@@ -1,0 +1,121 @@
+-- Laws of the host's commands, over the statements by which they end.
+use Rattle.std.specs.Prelude.{◌≡◌, ◌⊎◌, ℕ, Bool, List, Some, None, length, map}
+use Rattle.vb_value.specs.declared.site_file.SiteFile.{SiteFile}
+use Rattle.asp_core.specs.Laws.{NoneIs}
+use Rattle.asp_get.specs.Answered.{HasFailed, WasTooMuch}
+use Rattle.asp_io.specs.Folder.{AreSitePaths, path_of}
+use Rattle.asp_io.specs.Sink.{with_bytes}
+use Rattle.asp_job.specs.declared.answer.Fail.{Fail}
+use Rattle.asp_job.specs.declared.job.Job.{Job}
+use Rattle.asp_job.specs.Rules.{Rules}
+use Rattle.asp_record.specs.declared.recording.Item.{Item}
+use Rattle.asp_record.specs.declared.recording.Recording.{Recording}
+use Rattle.asp_record.specs.Generated.{generated}
+use Rattle.asp_record.specs.Recorded.{Stands}
+use Rattle.asp_replay.specs.Sequential.{is_memory_end}
+use Rattle.asp_site.specs.declared.site.Site.{Site}
+use Rattle.site_load.specs.Accepted.{IsAccepted}
+use Rattle.asp_host.specs.declared.status.Status.{Status}
+use Rattle.asp_host.specs.declared.status.Status.TheVariants.{Ok, Memory, ReadFault, WriteFault, JournalFull}
+use Rattle.asp_host.specs.Around.{Around, Change}
+use Rattle.asp_host.specs.Check.{CheckEnds}
+use Rattle.asp_host.specs.Gen.{GenEnds, count_files}
+use Rattle.asp_host.specs.Get.{GetEnds, site_rules}
+use Rattle.asp_host.specs.Replay.{ReplayEnds, ReplaysAll, rules_for}
+use Rattle.asp_host.specs.Replayed.{HasFilled}
+use Rattle.asp_host.specs.Request.{job_of}
+
+-- ---- what is told
+
+-- the folder tells these files, each under a path of its own
+pub record TellsFiles (around : Around) (files : List SiteFile) : Type 0 where
+  pub told : around.files ≡ Some files
+  pub paths : AreSitePaths (map path_of files)
+
+-- the folder tells its files, and they are this site
+pub record TellsSite (around : Around) (site : Site) : Type 0 where
+  pub files : List SiteFile
+  pub tells : TellsFiles around files
+  pub accepted : IsAccepted files site
+
+-- the source tells its bytes, and they are this recording to their end
+pub record TellsRecording (around : Around) (recording : Recording) : Type 0 where
+  pub bytes : List ℕ
+  pub told : around.source.before ≡ Some bytes
+  pub stands : Stands bytes recording (length bytes)
+
+-- ---- a site
+
+-- a folder is one site
+abbrev pub OneSite : Type 0
+OneSite = (files : List SiteFile) (site other : Site) → AreSitePaths (map path_of files) → IsAccepted files site
+    → IsAccepted files other → site ≡ other
+
+-- ---- what is refused
+
+-- The command did all of its work, memory ran out, or the folder, the source or the sink failed: nothing was refused.
+abbrev pub IsNoRefusal : Status → Type 0
+IsNoRefusal Ok = Unit {0}
+IsNoRefusal Memory = Unit {0}
+IsNoRefusal ReadFault = Unit {0}
+IsNoRefusal WriteFault = Unit {0}
+IsNoRefusal _ = ⊥
+
+-- no valid journal shows a first run that failed
+abbrev pub NeverFails : Rules → Type 0
+NeverFails rules = (fail : Fail) → ¬ (HasFailed rules fail)
+
+-- the journal was full, with the numbers of a valid journal in which the job, or what came of it, was too much
+abbrev pub IsFullFor : Rules → Job → Status → Type 0
+IsFullFor rules job (JournalFull entries weight) = WasTooMuch rules job entries weight
+IsFullFor rules job _ = ⊥
+
+-- in no valid journal that is fed with the items, or with the first of them, was what could come next too much
+abbrev pub NeverFills : Rules → List Item → Type 0
+NeverFills rules items = (entries weight : ℕ) → ¬ (HasFilled rules items entries weight None None)
+
+-- `check` refuses no folder that is a site
+abbrev pub CheckRefusesNone : Type 0
+CheckRefusesNone = (around : Around) (site : Site) (status : Status) → TellsSite around site
+    → CheckEnds around status → IsNoRefusal status
+
+-- `get` refuses no request to a site whose application never fails to begin; but the journal may be full, by the rules
+-- of that site and with that job
+abbrev pub GetRefusesNone : Type 0
+GetRefusesNone = (path query : List ℕ) (around : Around) (site : Site) (status : Status) → TellsSite around site
+    → NeverFails (site_rules site) → GetEnds path query around status
+    → IsNoRefusal status ⊎ IsFullFor (site_rules site) (job_of path query) status
+
+-- `replay` refuses no recording for a site whose application never fails to begin with its seed, where no journal that
+-- its items feed comes to be full
+abbrev pub ReplayRefusesNone : Type 0
+ReplayRefusesNone = (journal : Bool) (around : Around) (site : Site) (recording : Recording) (status : Status)
+    → TellsSite around site → TellsRecording around recording → NeverFails (rules_for site recording)
+    → NeverFills (rules_for site recording) recording.items → ReplayEnds journal around status → IsNoRefusal status
+
+-- `gen` refuses nothing, where its one page is a site whose application never fails to begin, and no journal that its
+-- requests feed comes to be full
+abbrev pub GenRefusesNone : Type 0
+GenRefusesNone = (count : ℕ) (journal : Bool) (around : Around) (site : Site) (status : Status)
+    → IsAccepted count_files site → NeverFails (rules_for site (generated count))
+    → NeverFills (rules_for site (generated count)) (generated count).items → GenEnds count journal around status
+    → IsNoRefusal status
+
+-- ---- what is written
+
+-- a replay to the end, in whose journal no run ended because memory ran out
+pub record ReplaysWell (journal : Bool) (around : Around) : Type 0 where
+  pub all : ReplaysAll journal around.files around.source around.sink
+  pub enough : NoneIs is_memory_end all.replayed.past
+
+-- both leave the same bytes behind what their sinks held
+abbrev pub AreAddedAlike : Change → Change → Type 0
+AreAddedAlike sink other = (output : List ℕ) × (sink.after ≡ with_bytes sink.before output)
+    × (other.after ≡ with_bytes other.before output)
+
+-- two such replays of the same files and the same bytes of a source leave the same
+abbrev pub OneReplayOutput : Type 0
+OneReplayOutput = (journal : Bool) (files : List SiteFile) (bytes : List ℕ) (around other : Around)
+    → TellsFiles around files → TellsFiles other files → around.source.before ≡ Some bytes
+    → other.source.before ≡ Some bytes → ReplaysWell journal around → ReplaysWell journal other
+    → AreAddedAlike around.sink other.sink

@@ -1,0 +1,45 @@
+//! Laws of the host's commands. The functions do nothing but call up the laws that theirs stand on: their contracts are
+//! the laws.
+ghost use Rattle.host_laws.specs.Laws.{CheckRefusesNone, GenRefusesNone, GetRefusesNone};
+ghost use Rattle.host_laws.specs.Laws.{OneReplayOutput, OneSite, ReplayRefusesNone};
+
+use asp_record::{one_recording, recording_not_refused};
+use page_read::one_outcome;
+use replay_laws::one_replay;
+use site_load::site_or_fault;
+use vb_lex::one_token_list;
+use vb_parse::laws::one_unit;
+use vb_scope::one_program;
+
+/// A folder is one site.
+pub fn one_site()
+    ensures { OneSite }
+{
+    one_outcome();
+    one_token_list();
+    one_unit();
+    one_program();
+}
+
+/// A command refuses nothing without a cause: where its folder is a site and what it is given is fit, it does all of
+/// its work, unless memory runs out or the outside fails.
+pub fn nothing_refused_without_cause()
+    ensures check { CheckRefusesNone }
+    ensures get { GetRefusesNone }
+    ensures replay { ReplayRefusesNone }
+    ensures generated { GenRefusesNone }
+{
+    one_site();
+    site_or_fault();
+    one_recording();
+    recording_not_refused();
+}
+
+/// What a replay writes is a function of the files and the bytes that it reads, where memory runs out for no run.
+pub fn one_replay_output()
+    ensures { OneReplayOutput }
+{
+    one_site();
+    one_recording();
+    one_replay();
+}
