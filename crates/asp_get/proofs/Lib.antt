@@ -1,4 +1,6 @@
-pub mod Turns
-pub mod JustEnded
+pub mod Growing
+pub mod Called
+pub mod Looping
+pub mod Through
+pub mod FirstRun
 pub mod Coming
-pub mod Stopped

@@ -1,3 +1,3 @@
-pub mod Jobs
+pub mod Course
 pub mod Answered
 pub mod Underway

@@ -1,17 +1,14 @@
 //! One request is answered.
 #![tactic(auto)]
 
-ghost use Rattle.std.specs.Prelude.{◌≡◌, ◌∷◌, [], true, IfErr, IfOk};
+ghost use Rattle.std.specs.Prelude.{◌≡◌, true, IfErr, IfOk};
 ghost use Rattle.asp_core.specs.Kernel.{IsHostOf, rules_by, rules_of};
-ghost use Rattle.asp_get.specs.Answered.{HasAnswered, IsGetStop};
-ghost use Rattle.asp_job.specs.History.{with_lane};
+ghost use Rattle.asp_get.specs.Answered.{HasAnswered, IsGetStop, first_past};
 ghost use Rattle.asp_job.specs.Running.{is_page};
 ghost use Rattle.asp_job.specs.Size.{IsSmall};
-ghost use Rattle.asp_job.specs.declared.entry.What.TheVariants as What;
-ghost use Rattle.asp_job.specs.declared.job.Work.TheVariants as Work;
 
 use crate::asking::answer_job;
-use crate::going::let_go;
+use crate::running::let_go;
 use crate::starting::start;
 use crate::stop::GetStop;
 use asp_core::Core;
@@ -32,7 +29,7 @@ where
     R::State: Drop,
     R::Store: Drop,
     requires host { IsHostOf core.old runner.now site.now }
-    requires first { core.old.journal ≡ with_lane 0 (What.Queue 1 Work.Start 0) ∷ [] }
+    requires first { core.old.journal ≡ first_past }
     requires page { is_page job.now.work ≡ true }
     requires small { IsSmall job.now }
     ensures ok { IfOk result (HasAnswered (rules_of R.meaning core.old) job.now) }

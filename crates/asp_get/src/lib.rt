@@ -3,7 +3,7 @@
 
 mod answer;
 mod asking;
-mod going;
+mod running;
 mod starting;
 mod stop;
 

@@ -1,34 +1,26 @@
 //! The first run, which comes before the request.
 #![tactic(auto)]
 
-ghost use Rattle.std.specs.Prelude.{◌≡◌, ◌∷◌, [], IfErr, OnOk};
+ghost use Rattle.std.specs.Prelude.{◌≡◌, IfErr, OnOk};
 ghost use Rattle.asp_core.specs.Kernel.{IsHostOf, past_of, rules_of};
 ghost use Rattle.asp_core.specs.Start.{start_fail};
 ghost use Rattle.asp_get.specs.Answered as answered;
 ghost use Rattle.asp_get.specs.Underway as spec;
-ghost use Rattle.asp_job.specs.History.{with_lane};
-ghost use Rattle.asp_job.specs.declared.entry.What.TheVariants as What;
 ghost use Rattle.asp_job.specs.declared.job.Job.{Job as JobView};
-ghost use Rattle.asp_job.specs.declared.job.Work.TheVariants as Work;
-ghost use Rattle.asp_journal.specs.Telling.{end_kind};
 
-use crate::going::{go_on, let_go};
+use crate::running::{go_through, let_go};
 use crate::stop::GetStop;
 use asp_core::Core;
-use asp_job::{EndKind, Runner};
+use asp_job::Runner;
 use asp_lane::Hand;
 
-/// Why no job may come, once the lane is idle: the first run failed, or has not ended by itself.
+/// Why no job may come, once the first run has gone through: it failed.
 fn start_stop<R: Runner>(core: &Core<R>) -> Option<GetStop>
-    ensures { result ≡ spec.start_stop (start_fail (rules_of R.meaning core.now) (past_of core.now))
-        (end_kind (past_of core.now) 1) }
+    ensures { result ≡ spec.start_stop (start_fail (rules_of R.meaning core.now) (past_of core.now)) }
 {
     match core.start_fail() {
         Some(fail) => Some(GetStop::StartFailed(fail)),
-        None => match core.start_kind() {
-            Some(EndKind::Done) => None,
-            _ => Some(GetStop::Memory),
-        },
+        None => None,
     }
 }
 
@@ -61,12 +53,12 @@ where
     R::State: Drop,
     R::Store: Drop,
     requires host { IsHostOf core.old runner.now site.now }
-    requires first { core.old.journal ≡ with_lane 0 (What.Queue 1 Work.Start 0) ∷ [] }
-    ensures gone { spec.HasGoneOn core.old core.new }
+    requires first { core.old.journal ≡ answered.first_past }
+    ensures grows { spec.Grows core.old core.new }
     ensures ok { OnOk result (spec.IsReady (rules_of R.meaning core.old) (past_of core.new)) }
     ensures err { (job : JobView) → IfErr result (answered.IsGetStop (rules_of R.meaning core.old) job) }
 {
-    match go_on(core, runner, site, store) {
+    match go_through(core, runner, site, store, 1) {
         Ok(store) => {
             // The journal is valid.
             let _ = core.journal();

@@ -24,14 +24,14 @@ pub enum GetStop {
     Memory,
 }
 
-/// Why nothing goes on after turns of which the last came to this.
+/// Why a run does not go on after a turn that came to this. A run that waits alone is not idle.
 pub(crate) fn turn_stop(turn: Turn) -> Option<GetStop>
     ensures { result ≡ spec.turn_stop turn }
 {
     match turn {
-        Turn::Idle => None,
+        Turn::Done | Turn::More => None,
         Turn::JournalFull { entries, weight } => Some(GetStop::JournalFull { entries, weight }),
-        Turn::Memory | Turn::Done | Turn::More => Some(GetStop::Memory),
+        Turn::Idle | Turn::Memory => Some(GetStop::Memory),
     }
 }
 

@@ -1,6 +1,5 @@
 -- How `gen` ends, by its status, and what it then leaves in the sink.
-use Rattle.std.specs.Prelude.{◌≡◌, ◌⊎◌, ℕ, Bool, List, [], ◌∷◌, ◌++◌, None, codes}
-use Rattle.vb_value.specs.declared.site_file.SiteFile.{SiteFile}
+use Rattle.std.specs.Prelude.{◌≡◌, ◌⊎◌, ℕ, Bool, List, ◌++◌, None}
 use Rattle.asp_io.specs.Copying.{AddsPart}
 use Rattle.asp_io.specs.Sink.{with_bytes}
 use Rattle.asp_job.specs.declared.answer.Fail.{Fail}
@@ -8,7 +7,7 @@ use Rattle.asp_job.specs.declared.entry.Entry.{Entry}
 use Rattle.asp_job.specs.Journal.{IsValidJournal}
 use Rattle.asp_job.specs.Rules.{Rules}
 use Rattle.asp_record.specs.declared.recording.Item.{Item}
-use Rattle.asp_record.specs.Generated.{generated}
+use Rattle.asp_record.specs.Generated.{count_files, generated}
 use Rattle.asp_replay.specs.declared.stop.FeedStop.{FeedStop}
 use Rattle.asp_replay.specs.declared.stop.FeedStop.TheVariants as feed
 use Rattle.asp_replay.specs.Feed.{IsWhole}
@@ -16,9 +15,7 @@ use Rattle.asp_replay.specs.Shown.{lines_of}
 use Rattle.asp_site.specs.declared.site.Site.{Site}
 use Rattle.asp_summary.specs.Counted.{summary_of}
 use Rattle.asp_summary.specs.Lines.{summary_lines}
-use Rattle.site_load.specs.declared.stop.LoadStop.{LoadStop}
-use Rattle.site_load.specs.declared.stop.LoadStop.TheVariants as load
-use Rattle.site_load.specs.Accepted.{IsAccepted, IsFolderFault}
+use Rattle.site_load.specs.Accepted.{IsAccepted}
 use Rattle.asp_host.specs.declared.status.Status.{Status}
 use Rattle.asp_host.specs.declared.status.Status.TheVariants.{Ok, Memory, Usage, SiteRefused, StartFailed}
 use Rattle.asp_host.specs.declared.status.Status.TheVariants.{ReadFault, WriteFault, RecordRefused, JournalFull}
@@ -26,22 +23,10 @@ use Rattle.asp_host.specs.Around.{Around, Change, IsLeft}
 use Rattle.asp_host.specs.Replay.{rules_for}
 use Rattle.asp_host.specs.Replayed.{HasFilled, HasNotStarted}
 
--- the one page of the site: it counts for the application, and for the session (the profile's)
-abbrev pub count_page : SiteFile
-count_page = record {
-  path = codes "/count.asp";
-  bytes = codes
-      "<% Application.Lock : Application(\"n\") = Application(\"n\") + 1 : Session(\"c\") = Session(\"c\") + 1 : "
-      ++ codes "Application.Unlock %><%= Session(\"c\") %>";
-}
-
-abbrev pub count_files : List SiteFile
-count_files = count_page ∷ []
-
 -- ---- feeding
 
--- The items were fed to their end with this journal, which is a right account of all runs; and these are its lines, where
--- they are asked for, and its summary.
+-- The items were fed to their end with this journal, which is a right account of all runs; and these are its lines,
+-- where they are asked for, and its summary.
 pub record HasSummed (rules : Rules) (items : List Item) (count : ℕ) (journal : Bool) (output : List ℕ) : Type 0 where
   pub past : List Entry
   pub account : IsValidJournal rules past
@@ -60,12 +45,6 @@ IsSumStop rules items count journal sink (feed.JournalFull entries weight) =
     HasFilled rules items entries weight None None × IsLeft sink
 IsSumStop rules items count journal sink feed.WriteFault = HasSummedPart rules items count journal sink
 IsSumStop rules items count journal sink feed.Memory = IsLeft sink ⊎ HasSummedPart rules items count journal sink
-
--- why the one page is no site. A folder in memory does not fail.
-abbrev pub IsCountStop : LoadStop → Type 0
-IsCountStop (load.Refused fault) = IsFolderFault count_files fault
-IsCountStop load.ReadFault = ⊥
-IsCountStop load.Memory = Unit {0}
 
 -- ---- by the status
 
@@ -92,15 +71,15 @@ abbrev pub GeneratesPart : ℕ → Bool → Change → Type 0
 GeneratesPart count journal sink =
     (output : List ℕ) × HasGenerated count journal output × AddsPart sink.before sink.after output
 
--- what `gen` ran and wrote, by its status
+-- What `gen` ran and wrote, by its status. It never answers that its own page is refused.
 abbrev pub GenWrites : ℕ → Bool → Change → Status → Type 0
 GenWrites count journal sink Ok =
     (output : List ℕ) × HasGenerated count journal output × (sink.after ≡ with_bytes sink.before output)
 GenWrites count journal sink WriteFault = GeneratesPart count journal sink
 GenWrites count journal sink Memory = IsLeft sink ⊎ GeneratesPart count journal sink
 GenWrites count journal sink (JournalFull entries weight) = FillsGenerated count entries weight × IsLeft sink
-GenWrites count journal sink (SiteRefused fault) = IsFolderFault count_files fault × IsLeft sink
 GenWrites count journal sink (StartFailed fail) = FailsGenerated count fail × IsLeft sink
+GenWrites count journal sink (SiteRefused fault) = ⊥
 GenWrites count journal sink ReadFault = ⊥
 GenWrites count journal sink (RecordRefused offset) = ⊥
 GenWrites count journal sink Usage = ⊥

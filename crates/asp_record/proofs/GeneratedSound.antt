@@ -1,5 +1,5 @@
 -- What is generated is sound.
-use Rattle.std.proofs.Common.{◌≡◌, ℕ, zero, suc, ◌+◌, ◌/◌, ◌%◌, ◌^◌, ◌<◌, ◌≤◌, [], ◌∷◌, ◌++◌, length, map, slice_index}
+use Rattle.std.proofs.Common.{◌≡◌, ℕ, zero, suc, ◌+◌, ◌/◌, ◌%◌, ◌^◌, ◌<◌, ◌≤◌, [], ◌∷◌, length, map, slice_index}
 use Rattle.std.proofs.Common.{refl}
 use Rattle.std.proofs.Common.{arith, codes, replicate, IsUtf8}
 use Rattle.std.specs.Char.{encode_utf8}

@@ -1,6 +1,7 @@
 mod CallLaws
 mod CallsRead
 mod Commas
+mod CountPage
 mod Counting
 mod FieldLaws
 mod GeneratedSound

@@ -1,9 +1,23 @@
--- The recording of so many requests that `gen` replays. It is the profile's.
-use Rattle.std.specs.Prelude.{ℕ, ◌+◌, ◌/◌, ◌%◌, List, map, codes, replicate}
+-- What `gen` replays: the one page, and the recording of so many requests for it. Both are the profile's.
+use Rattle.std.specs.Prelude.{ℕ, ◌+◌, ◌/◌, ◌%◌, List, [], ◌∷◌, ◌++◌, map, codes, replicate}
 use Rattle.std.specs.List.{range_with_len}
+use Rattle.vb_value.specs.declared.site_file.SiteFile.{SiteFile}
 use Rattle.asp_record.specs.declared.recording.Item.{Item}
 use Rattle.asp_record.specs.declared.recording.Item.TheVariants.{Request}
 use Rattle.asp_record.specs.declared.recording.Recording.{Recording}
+
+-- the one page: it counts for the application, and for the session
+abbrev pub count_page : SiteFile
+count_page = record {
+  path = codes "/count.asp";
+  bytes = codes
+      "<% Application.Lock : Application(\"n\") = Application(\"n\") + 1 : Session(\"c\") = Session(\"c\") + 1 : "
+      ++ codes "Application.Unlock %><%= Session(\"c\") %>";
+}
+
+-- the files of the site
+abbrev pub count_files : List SiteFile
+count_files = count_page ∷ []
 
 -- the bytes of each request
 abbrev pub count_bytes : List ℕ

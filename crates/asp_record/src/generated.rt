@@ -1,4 +1,4 @@
-//! Recordings of so many requests, all of one page.
+//! Sites of one page, and recordings of so many requests for it.
 ghost use Rattle.std.specs.Prelude.{◌≡◌, IfOk, map};
 ghost use Rattle.std.specs.List.{range_with_len};
 ghost use Rattle.vb_value.specs.Outcome.{Gives};
@@ -6,10 +6,34 @@ ghost use Rattle.asp_record.specs.Generated as spec;
 
 use crate::recording::{Item, Recording};
 use std::alloc::Global;
-use vb_value::{Bytes, List, Memory};
+use vb_value::{Bytes, List, Memory, SiteFile, Text};
+
+/// The page that is asked for.
+const COUNT_PAGE: &[u8] = b"<% Application.Lock : Application(\"n\") = Application(\"n\") + 1 : \
+Session(\"c\") = Session(\"c\") + 1 : Application.Unlock %><%= Session(\"c\") %>";
 
 /// What each client sends.
 const COUNT: &[u8] = b"GET /count.asp HTTP/1.1\r\nHost: x\r\n\r\n";
+
+/// The one page, as a file.
+#[tactic(auto, using(crate::proofs::CountPage::path_characters))]
+fn count_page(alloc: Global) -> Result<SiteFile, Memory>
+    ensures { Gives result spec.count_page }
+{
+    Ok(SiteFile {
+        path: Text::from_str(alloc, "/count.asp")?,
+        bytes: Bytes::from_slice(alloc, COUNT_PAGE)?,
+    })
+}
+
+/// The files of the site: that one alone.
+fn count_files(alloc: Global) -> Result<List<SiteFile>, Memory>
+    ensures { Gives result spec.count_files }
+{
+    let mut files = List::new(alloc);
+    files.push(count_page(alloc)?)?;
+    Ok(files)
+}
 
 /// Request `i`, counted from 0.
 fn generated_item(alloc: Global, i: u32) -> Result<Item, Memory>
@@ -33,13 +57,22 @@ fn generated_items(alloc: Global, count: u32) -> Result<List<Item>, Memory>
     Ok(items)
 }
 
-/// The recording of `count` requests for `/count.asp`, from seven clients in turn, a hundred in each second.
+/// The recording of them.
 #[tactic(auto, unfolding(crate::specs::Generated::generated))]
-pub fn generate(alloc: Global, count: u32) -> Result<Recording, Memory>
+fn generated_recording(alloc: Global, count: u32) -> Result<Recording, Memory>
     ensures { Gives result (spec.generated count) }
 {
     Ok(Recording {
         seed: [0; 32],
         items: generated_items(alloc, count)?,
     })
+}
+
+/// The files of a site with the page `/count.asp` alone, and the recording of `count` requests for it, from seven
+/// clients in turn, a hundred in each second.
+pub fn generate(alloc: Global, count: u32) -> Result<(List<SiteFile>, Recording), Memory>
+    ensures { Gives result (spec.count_files, spec.generated count) }
+{
+    let files = count_files(alloc)?;
+    Ok((files, generated_recording(alloc, count)?))
 }

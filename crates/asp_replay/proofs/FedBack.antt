@@ -8,7 +8,7 @@ use Rattle.asp_job.specs.Rules.{Rules}
 use Rattle.asp_job.specs.Told.{Meaning}
 use Rattle.asp_record.specs.declared.recording.Item.{Item}
 use Rattle.asp_replay.specs.declared.stop.FeedStop.{FeedStop}
-use Rattle.asp_replay.specs.Feed.{HasFed, HasFedPart}
+use Rattle.asp_replay.specs.Feed.{HasFed, HasFedPart, IsWoundUp}
 use Rattle.asp_replay.specs.Underway.{AfterAll, HasNotBegun, IsCoreOf, IsHandedBack}
 
 -- the core is still that of the runner, the site and the seed
@@ -45,11 +45,11 @@ fed_handed m other items past_at before after (Err ended) core back same is hold
 pub stop_handed : {T Core : Type 0} → (m other : Rules) (items : List Item) (past : List Entry)
     (before after : Option (List ℕ)) (fed : Result T FeedStop) (core : Core) (back : Result Core FeedStop)
     → m ≡ other → IsValidJournal m past → IsAnswered m past → IsHandedBack core fed back
-    → AfterAll fed m items past before after
+    → AfterAll fed m items past before after → IfErr fed (IsWoundUp past)
     → IfErr back (λ ended. HasNotBegun ended before after
     ⊎ ((some : List Entry) × HasFedPart other items some ended before after))
-stop_handed m other items past before after (Ok given) core back same valid answered is holds = rw is tt
-stop_handed m other items past before after (Err ended) core back same valid answered is holds =
+stop_handed m other items past before after (Ok given) core back same valid answered is holds wound = rw is tt
+stop_handed m other items past before after (Err ended) core back same valid answered is holds wound =
     rw is (inr (
       past,
       subst (λ some. HasFedPart some items past ended before after) same (record {
@@ -58,5 +58,6 @@ stop_handed m other items past before after (Err ended) core back same valid ans
         fed = holds.fed;
         cause = holds.cause;
         written = holds.written;
+        wound_up = wound;
       }),
     ))

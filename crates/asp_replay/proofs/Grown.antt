@@ -86,12 +86,12 @@ pub fed_part : (items : List Item) (past : List Entry) (clients : Clients) (left
 fed_part items past clients left (inl feeding) = inr (feeding.done, left, clients, feeding.split, feeding.came)
 fed_part items past clients left (inr fed) = inl fed.fed
 
-writing_cause : (m : Rules) (past : List Entry) (ended : FeedStop) → IsOfWriting {T = Unit {0}} (Err ended)
-    → HasCause m past ended
-writing_cause m past (stop.StartFailed fail) of = absurd of
-writing_cause m past (stop.JournalFull entries weight) of = absurd of
-writing_cause m past stop.WriteFault of = tt
-writing_cause m past stop.Memory of = tt
+writing_cause : (m : Rules) (items : List Item) (past : List Entry) (ended : FeedStop)
+    → IsOfWriting {T = Unit {0}} (Err ended) → HasCause m items past ended
+writing_cause m items past (stop.StartFailed fail) of = absurd of
+writing_cause m items past (stop.JournalFull entries weight) of = absurd of
+writing_cause m items past stop.WriteFault of = tt
+writing_cause m items past stop.Memory of = tt
 
 -- all that waits was handed out and written, or a first part
 pub handed_after : {T R Site : Type 0} → (meaning : R → Site → Meaning) (result : Result T FeedStop)
@@ -137,7 +137,7 @@ handed_after meaning (Err ended) mid new items left clients before held after is
     let ends : EndsSo m items (past_after past (hand_outs taken)) ended before after = record {
       fed = fed_part items (past_after past (hand_outs taken)) clients left
           (stands_handed items past clients left taken is.stands);
-      cause = writing_cause m (past_after past (hand_outs taken)) ended of;
+      cause = writing_cause m items (past_after past (hand_outs taken)) ended of;
       written = record {
         first = is.done ++ part.first;
         later = part.later;
@@ -166,7 +166,7 @@ stays_of m past lane = record { lanes = lane.lanes; going = lane.going; none_ful
 -- a feed ends where it stands
 pub ends_here : (m : Rules) (items : List Item) (past : List Entry) (clients : Clients) (left : List Item)
     (before held : Option (List ℕ)) (ended : FeedStop) → IsUnderWay m items past clients left before held
-    → HasCause m past ended → EndsSo m items past ended before held
+    → HasCause m items past ended → EndsSo m items past ended before held
 ends_here m items past clients left before held ended is cause = record {
   fed = fed_part items past clients left is.stands;
   cause = cause;
@@ -285,17 +285,20 @@ come_grown m items past entries clients then_clients next left before held is ri
 no_more : {A : Type 0} → (xs ys : List A) → ys ≡ [] → xs ++ ys ≡ xs
 no_more xs ys none = ap (λ some. xs ++ some) none ∙ append-nil xs
 
+-- where none is left all items came
+pub all_come : (items : List Item) (past : List Entry) (clients : Clients) → is_stopping past ≡ false
+    → StandsAt items past clients [] → HasCome (reverse items) past clients
+all_come items past clients once (inl feeding) =
+    let whole : feeding.done ≡ items = sym (feeding.split ∙ append-nil feeding.done) in
+    subst (λ some. HasCome (reverse some) past clients) whole feeding.came
+all_come items past clients once (inr fed) = absurd (let both : true ≡ false = sym fed.stopped ∙ once in cc)
+
 stop_stands : (m : Rules) (items : List Item) (past : List Entry) (clients : Clients) → is_calm past ≡ true
     → is_stopping past ≡ false → StandsAt items past clients []
     → StandsAt items (past_after past (stop_entries m past 0)) clients []
-stop_stands m items past clients calm once (inl feeding) =
-    let whole : feeding.done ≡ items = sym (feeding.split ∙ append-nil feeding.done) in
-    let came : HasCome (reverse items) past clients =
-    subst (λ some. HasCome (reverse some) past clients) whole feeding.came in
-    let has = stop_came m items past clients came calm in
+stop_stands m items past clients calm once stands =
+    let has = stop_came m items past clients (all_come items past clients once stands) calm in
     inr (record { stopped = has.stopping; none_left = refl; fed = has.fed })
-stop_stands m items past clients calm once (inr fed) =
-    absurd (let both : true ≡ false = sym fed.stopped ∙ once in cc)
 
 pub stop_grown : (m : Rules) (items : List Item) (past : List Entry) (clients : Clients) (before held : Option (List ℕ))
     → IsUnderWay m items past clients [] before held

@@ -53,12 +53,12 @@ kept_out_busy past moment started kept = elim (cases_Bool (is_calm past)) [
 ]
 
 -- what a turn of the items came to is handed back with the items that are left
-pub turn_back : {T Hand : Type 0} → (m : Rules) (all : List Item) (past : List Entry) (clients : Clients)
-    (left : Bor (List Item)) (before after : Option (List ℕ)) (came : Result T FeedStop) (hand : Hand)
-    (back : Result (Hand × Bor (List Item)) FeedStop) → IsHandedBack (hand, left) came back
+pub turn_back : {T : Type 0} → (m : Rules) (all : List Item) (past : List Entry) (clients : Clients)
+    (left : Bor (List Item)) (before after : Option (List ℕ)) (came : Result T FeedStop)
+    (back : Result (Bor (List Item)) FeedStop) → IsHandedBack left came back
     → After came m all past clients left.now before after → AfterTurn back m all past clients before after
-turn_back m all past clients left before after (Ok given) hand back is holds = rw is holds
-turn_back m all past clients left before after (Err ended) hand back is holds = rw is holds
+turn_back m all past clients left before after (Ok given) back is holds = rw is holds
+turn_back m all past clients left before after (Err ended) back is holds = rw is holds
 
 pub nothing_is : {A : Type 0} → (xs : List A) → length xs ≡ 0 → xs ≡ []
 nothing_is [] e = refl

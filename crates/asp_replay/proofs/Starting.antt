@@ -1,7 +1,7 @@
 -- How the first run is taken to its end.
 use Rattle.std.proofs.Common.{◌≡◌, ℕ, ◌++◌, ◌&&◌, Bool, true, false, not, is_some, List, [], ◌∷◌, refl, ap, sym, ◌∙◌}
 use Rattle.std.proofs.Common.{subst, append-nil}
-use Rattle.std.proofs.Common.{Option, Result, Ok, Err, IfErr, OnOk, ◌<◌, ◌≤◌, ◌^◌}
+use Rattle.std.proofs.Common.{Option, Result, Ok, Err, IfErr, ◌<◌, ◌≤◌, ◌^◌}
 use Rattle.asp_core.specs.Kernel.{CoreView, IsHostOf, grown, rules_of}
 use Rattle.asp_journal.specs.Telling.{end_kind}
 use Rattle.asp_io.specs.Faults.{HasCause}
@@ -14,7 +14,7 @@ use Rattle.asp_replay.specs.declared.stop.FeedStop.TheVariants as stop
 use Rattle.asp_replay.specs.Feed as feed
 use Rattle.asp_replay.specs.Feeding.{Clients, events_of, is_calm}
 use Rattle.asp_replay.specs.Sequential.{IsBusy}
-use Rattle.asp_replay.specs.Underway.{After, IsHandedBack, IsStartStop, IsUnderWay, is_starting}
+use Rattle.asp_replay.specs.Underway.{After, IsStartStop, IsUnderWay, is_starting}
 use Rattle.asp_replay.proofs.Grown.{ends_here}
 use Rattle.asp_replay.proofs.Turning.{grown_both}
 
@@ -51,22 +51,22 @@ pub starting_busy : (past : List Entry) (left : List Item) → is_starting past 
 starting_busy past [] e = (starting_parts past e).1
 starting_busy past (next ∷ left) e = let none = (starting_parts past e).0 in rw none refl
 
-start_cause : (m : Rules) (past : List Entry) (ended : FeedStop) → events_of past ≡ [] → IsStartStop m past ended
-    → feed.HasCause m past ended
-start_cause m past (stop.StartFailed fail) none is = record { none_came = none; failed = is }
-start_cause m past (stop.JournalFull entries weight) none is = absurd is
-start_cause m past stop.WriteFault none is = absurd is
-start_cause m past stop.Memory none is = tt
+start_cause : (m : Rules) (items : List Item) (past : List Entry) (ended : FeedStop) → events_of past ≡ []
+    → IsStartStop m past ended → feed.HasCause m items past ended
+start_cause m items past (stop.StartFailed fail) none is = record { none_came = none; failed = is }
+start_cause m items past (stop.JournalFull entries weight) none is = absurd is
+start_cause m items past stop.WriteFault none is = absurd is
+start_cause m items past stop.Memory none is = tt
 
--- it is handed back why nothing comes
-pub start_ends : {T U : Type 0} → (m here : Rules) (items : List Item) (past : List Entry) (clients : Clients)
-    (left : List Item) (before held : Option (List ℕ)) (told : Result T FeedStop) (hand : U) (back : Result U FeedStop)
-    → here ≡ m → IsHandedBack hand told back → IfErr told (IsStartStop here past) → events_of past ≡ []
-    → IsUnderWay m items past clients left before held → After back m items past clients left before held
-start_ends m here items past clients left before held (Ok given) hand back same is why none under = rw is under
-start_ends m here items past clients left before held (Err ended) hand back same is why none under =
-    rw is (ends_here m items past clients left before held ended under
-    (start_cause m past ended none (subst (λ some. IsStartStop some past ended) same why)))
+-- it is told why nothing comes
+pub start_ends : {T : Type 0} → (m here : Rules) (items : List Item) (past : List Entry) (clients : Clients)
+    (left : List Item) (before held : Option (List ℕ)) (told : Result T FeedStop)
+    → here ≡ m → IfErr told (IsStartStop here past) → events_of past ≡ []
+    → IsUnderWay m items past clients left before held → After told m items past clients left before held
+start_ends m here items past clients left before held (Ok given) same why none under = under
+start_ends m here items past clients left before held (Err ended) same why none under =
+    ends_here m items past clients left before held ended under
+    (start_cause m items past ended none (subst (λ some. IsStartStop some past ended) same why))
 
 pub after_rules : {T : Type 0} → (m other : Rules) (items left : List Item) (past : List Entry) (clients : Clients)
     (before after : Option (List ℕ)) (result : Result T FeedStop) → m ≡ other
@@ -85,11 +85,6 @@ under_rules m other items left past clients before after same is =
 pub none_still : (old new : List Entry) → events_of new ≡ events_of old → events_of old ≡ [] → events_of new ≡ []
 none_still old new same none = same ∙ none
 
-pub started_back : {T U : Type 0} → (told : Result T FeedStop) (hand : U) (back : Result U FeedStop) (P : Type 0)
-    → IsHandedBack hand told back → OnOk told P → OnOk back P
-started_back (Ok given) hand back P is holds = rw is holds
-started_back (Err ended) hand back P is holds = rw is tt
-
 no_fault : (m : Rules) (past : List Entry) (ended : FeedStop) → IsStartStop m past ended → ended ≡ stop.WriteFault → ⊥
 no_fault m past (stop.StartFailed fail) is e = absurd cc
 no_fault m past (stop.JournalFull entries weight) is e = absurd is
@@ -97,14 +92,13 @@ no_fault m past stop.WriteFault is e = absurd is
 no_fault m past stop.Memory is e = absurd cc
 
 -- why nothing comes is no fault of the sink
-pub start_no_fault : {T U : Type 0} → (m : Rules) (past : List Entry) (old new : ℕ) (told : Result T FeedStop) (hand : U)
-    (back : Result U FeedStop) → old ≤ new → (old < 2 ^ 64 → new < 2 ^ 64) → IsHandedBack hand told back
-    → IfErr told (IsStartStop m past) → HasCause stop.WriteFault old new back
-start_no_fault m past old new (Ok given) hand back later within is why =
-    rw is (record { later = later; within = within; failed = λ e. absurd cc })
-start_no_fault m past old new (Err ended) hand back later within is why =
-    rw is (record {
-      later = later;
-      within = within;
-      failed = λ e. absurd (let same : ended ≡ stop.WriteFault = cc in no_fault m past ended why same);
-    })
+pub start_no_fault : {T : Type 0} → (m : Rules) (past : List Entry) (old new : ℕ) (told : Result T FeedStop)
+    → old ≤ new → (old < 2 ^ 64 → new < 2 ^ 64) → IfErr told (IsStartStop m past)
+    → HasCause stop.WriteFault old new told
+start_no_fault m past old new (Ok given) later within why =
+    record { later = later; within = within; failed = λ e. absurd cc }
+start_no_fault m past old new (Err ended) later within why = record {
+  later = later;
+  within = within;
+  failed = λ e. absurd (let same : ended ≡ stop.WriteFault = cc in no_fault m past ended why same);
+}

@@ -19,7 +19,7 @@ use Rattle.asp_replay.specs.Feed.{HasCause}
 use Rattle.asp_replay.specs.Feed.IsTooMuchNext.{OfBegin, OfCall}
 use Rattle.asp_replay.specs.Feeding.{Clients, events_of}
 use Rattle.asp_replay.specs.Sequential.{hand_outs}
-use Rattle.asp_replay.specs.Underway.{EndsSo, HandsOut, IsUnderWay, WorkAdds, Works, turn_stop}
+use Rattle.asp_replay.specs.Underway.{EndsSo, HandsOut, IsUnderWay, StandsAt, WorkAdds, Works, turn_stop}
 use Rattle.asp_replay.proofs.Events.{IsAsBefore, hand_outs_quiet, quiet_all, quiet_one}
 use Rattle.asp_replay.proofs.Grown.{as_before_both, fed_part, hand_quiet, stands_same, work_quiet}
 use Rattle.asp_replay.proofs.Written.{shown_first, written_first}
@@ -30,28 +30,41 @@ as_before past = record { events = refl; calm = λ calm. calm; stopping = refl; 
 stop_is : (one other : FeedStop) → Some one ≡ Some other → one ≡ other
 stop_is one other e = cc
 
--- work that comes to a stop adds nothing that comes from an item, and has a cause
+-- work that comes to a stop adds nothing that comes from an item
 stop_quiet : (m : Rules) (past entries : List Entry) (t : Turn) (ended : FeedStop) → turn_stop t ≡ Some ended
-    → Works m past entries t → IsAsBefore past (past_after past entries) × HasCause m (past_after past entries) ended
+    → Works m past entries t → IsAsBefore past (past_after past entries)
 stop_quiet m past entries turn.Done ended e works = absurd cc
 stop_quiet m past entries turn.More ended e works = absurd works
 stop_quiet m past entries turn.Idle ended e works = absurd works
-stop_quiet m past entries (turn.JournalFull count weight) ended e (inl begin) =
-    let is = stop_is (stop.JournalFull count weight) ended e in
-    rw begin.1 (as_before past, subst (HasCause m past) is (past, [], refl, OfBegin begin.0))
+stop_quiet m past entries (turn.JournalFull count weight) ended e (inl begin) = rw begin.1 (as_before past)
 stop_quiet m past entries (turn.JournalFull count weight) ended e (inr full) =
+    rw full.entries_are (as_before_both past full.mid (end_entry m full.mid 0 full.run kind.JournalFull ∷ full.mid)
+    (hand_quiet m past full.mid full.run full.in_hand)
+    (quiet_one full.mid (end_entry m full.mid 0 full.run kind.JournalFull) refl))
+stop_quiet m past entries turn.Memory ended e (inl none) = rw none (as_before past)
+stop_quiet m past entries turn.Memory ended e (inr begun) =
+    rw begun.3 (hand_quiet m past begun.0 begun.1 begun.2)
+
+-- and has a cause
+stop_cause : (m : Rules) (items : List Item) (past entries : List Entry) (clients : Clients) (left : List Item)
+    (t : Turn) (ended : FeedStop) → turn_stop t ≡ Some ended → StandsAt items past clients left
+    → Works m past entries t → HasCause m items (past_after past entries) ended
+stop_cause m items past entries clients left turn.Done ended e stands works = absurd cc
+stop_cause m items past entries clients left turn.More ended e stands works = absurd works
+stop_cause m items past entries clients left turn.Idle ended e stands works = absurd works
+stop_cause m items past entries clients left (turn.JournalFull count weight) ended e stands (inl begin) =
+    let is = stop_is (stop.JournalFull count weight) ended e in
+    let fed = fed_part items past clients left stands in
+    rw begin.1 (subst (HasCause m items past) is (past, [], refl, OfBegin fed begin.0))
+stop_cause m items past entries clients left (turn.JournalFull count weight) ended e stands (inr full) =
     let is = stop_is (stop.JournalFull count weight) ended e in
     let last = end_entry m full.mid 0 full.run kind.JournalFull in
-    rw full.entries_are (
-      as_before_both past full.mid (last ∷ full.mid) (hand_quiet m past full.mid full.run full.in_hand)
-          (quiet_one full.mid last refl),
-      subst (HasCause m (last ∷ full.mid)) is (full.mid, last ∷ [], refl, OfCall full.run full.much),
-    )
-stop_quiet m past entries turn.Memory ended e (inl none) =
-    let is = stop_is stop.Memory ended e in rw none (as_before past, subst (HasCause m past) is tt)
-stop_quiet m past entries turn.Memory ended e (inr begun) =
-    let is = stop_is stop.Memory ended e in
-    rw begun.3 (hand_quiet m past begun.0 begun.1 begun.2, subst (HasCause m begun.0) is tt)
+    let fed = fed_part items full.mid clients left (stands_same items past full.mid clients left
+    (hand_quiet m past full.mid full.run full.in_hand) stands) in
+    rw full.entries_are (subst (HasCause m items (last ∷ full.mid)) is
+    (full.mid, last ∷ [], refl, OfCall fed full.run full.much))
+stop_cause m items past entries clients left turn.Memory ended e stands works =
+    subst (HasCause m items (past_after past entries)) (stop_is stop.Memory ended e) tt
 
 -- a feed ends so where work came to a stop
 pub work_ends : {R Site : Type 0} → (meaning : R → Site → Meaning) (old new : CoreView R Site) (entries : List Entry)
@@ -63,12 +76,12 @@ work_ends meaning old new entries t items left clients before held ended new_is 
     let m = rules_of meaning old in
     let past = past_of old in
     let mid = past_after past entries in
-    let both = stop_quiet m past entries t ended e works in
+    let quiet = stop_quiet m past entries t ended e works in
     let more = shown_first m past entries in
     let of : past_of new ≡ mid = ap past_of new_is ∙ past_of_more old.journal entries in
     subst (λ some. EndsSo m items some ended before held) (sym of) (record {
-      fed = fed_part items mid clients left (stands_same items past mid clients left both.0 is.stands);
-      cause = both.1;
+      fed = fed_part items mid clients left (stands_same items past mid clients left quiet is.stands);
+      cause = stop_cause m items past entries clients left t ended e is.stands works;
       written = written_first m past mid more.0 before held is.written more.1;
     })
 
@@ -80,7 +93,7 @@ pub stop_events : {R Site : Type 0} → (meaning : R → Site → Meaning) (old 
     → Works (rules_of meaning old) (past_of old) entries t → events_of (past_of new) ≡ events_of (past_of old)
 stop_events meaning old new entries t ended new_is e works =
     ap (λ core. events_of (past_of core)) new_is ∙ ap events_of (past_of_more old.journal entries)
-    ∙ (stop_quiet (rules_of meaning old) (past_of old) entries t ended e works).0.events
+    ∙ (stop_quiet (rules_of meaning old) (past_of old) entries t ended e works).events
 
 handed_events : {R Site : Type 0} → (mid new : CoreView R Site) (answers : List (ℕ × Answer))
     → new ≡ grown mid (hand_outs answers) → events_of (past_of new) ≡ events_of (past_of mid)

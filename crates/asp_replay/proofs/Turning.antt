@@ -1,6 +1,6 @@
 -- What turns leave of a core: its journal grows, and then the answers that wait are handed out.
 use Rattle.std.proofs.Common.{◌≡◌, ℕ, true, false, List, [], ◌∷◌, ◌++◌, append_assoc, refl, ap, sym, ◌∙◌, subst}
-use Rattle.std.proofs.Common.{Option, Some, Result, Ok, Err, IfOk}
+use Rattle.std.proofs.Common.{inl, inr, Option, Some, Result, Ok, Err}
 use Rattle.asp_core.specs.Kernel.{CoreView, IsTooMuch, RunView, grown, past_of, rules_of}
 use Rattle.asp_core.specs.Ready.{IsAnswered, ready}
 use Rattle.asp_core.proofs.Kept.{past_of_more}
@@ -17,15 +17,14 @@ use Rattle.asp_record.specs.Recorded as recorded
 use Rattle.asp_job.specs.Rules.{Rules}
 use Rattle.asp_replay.specs.declared.stop.FeedStop.{FeedStop}
 use Rattle.asp_replay.specs.declared.stop.FeedStop.TheVariants as stop
-use Rattle.asp_replay.specs.Feed.{HasCause}
+use Rattle.asp_replay.specs.Feed.{HasAllCome, HasCause, IsNext}
 use Rattle.asp_replay.specs.Feed.IsTooMuchNext.{OfItem, OfStop}
 use Rattle.asp_replay.specs.Feeding.{Clients, is_calm}
 use Rattle.asp_replay.specs.Sequential.{Adds, IsBusy, hand_outs, may_come}
 use Rattle.asp_replay.specs.Underway.{After, AreOfLane, EndsSo, HandsOut, IsItemTooMuch, IsOfOneLane, IsOfWriting}
-use Rattle.asp_replay.specs.Underway.{IsUnderWay}
-use Rattle.asp_replay.specs.Underway.{IsHandedBack, WorkAdds, Works, turn_stop}
+use Rattle.asp_replay.specs.Underway.{IsUnderWay, StandsAt, WorkAdds, Works, turn_stop}
 use Rattle.asp_replay.proofs.Aside.{AreAside, aside_handed, fits_still}
-use Rattle.asp_replay.proofs.Grown.{IsGrown, come_grown, ends_here, handed_after, item_stays, stays_of, stop_grown}
+use Rattle.asp_replay.proofs.Grown.{IsGrown, all_come, come_grown, ends_here, handed_after, item_stays, stays_of, stop_grown}
 use Rattle.asp_replay.proofs.Grown.{work_grown}
 use Rattle.asp_replay.proofs.Plain.{plain_stopped, stays_plain, stays_worked}
 
@@ -145,29 +144,44 @@ module _ {R Site : Type 0} (meaning : R → Site → Meaning) where
       (come_grown (rules_of meaning old) items (past_of old) entries clients then_clients next left before held is
       (right_grown old mid entries mid_is right) (answered_grown old mid entries mid_is answered) may adds) of out
 
-  item_cause : (m : Rules) (past : List Entry) (clients : Clients) (next : Item) (ended : FeedStop)
-      → ((entries weight : ℕ) → ended ≡ stop.JournalFull entries weight
+  -- the next item is the first of those that are left
+  next_is : (items : List Item) (past : List Entry) (clients : Clients) (next : Item) (left : List Item)
+      → may_come past (recorded.moment_of next) ≡ true → StandsAt items past clients (next ∷ left)
+      → IsNext items past clients next
+  next_is items past clients next left may (inl feeding) = record {
+    first = feeding.done;
+    later = left;
+    items_are = feeding.split;
+    came = feeding.came;
+    may = may;
+  }
+  next_is items past clients next left may (inr fed) = absurd (let none = fed.none_left in cc)
+
+  item_cause : (m : Rules) (items : List Item) (past : List Entry) (clients : Clients) (next : Item)
+      (ended : FeedStop) → IsNext items past clients next → ((entries weight : ℕ) → ended ≡ stop.JournalFull entries weight
       → IsItemTooMuch m past clients next entries weight) → ((fail : Fail) → ended ≡ stop.StartFailed fail → ⊥)
-      → HasCause m past ended
-  item_cause m past clients next (stop.StartFailed fail) full not = absurd (not fail refl)
-  item_cause m past clients next (stop.JournalFull entries weight) full not =
+      → HasCause m items past ended
+  item_cause m items past clients next (stop.StartFailed fail) is full not = absurd (not fail refl)
+  item_cause m items past clients next (stop.JournalFull entries weight) is full not =
       let much = full entries weight refl in
-      (past, [], refl, OfItem clients much.1 next much.0 much.2 much.3)
-  item_cause m past clients next stop.WriteFault full not = tt
-  item_cause m past clients next stop.Memory full not = tt
+      (past, [], refl, OfItem clients much.1 next much.0 is much.2 much.3)
+  item_cause m items past clients next stop.WriteFault is full not = tt
+  item_cause m items past clients next stop.Memory is full not = tt
 
   -- an item did not come
   pub come_ends : (old mid : CoreView R Site) (items left : List Item) (clients : Clients) (next : Item)
       (before held : Option (List ℕ)) (ended : FeedStop) → mid ≡ old
+      → may_come (past_of old) (recorded.moment_of next) ≡ true
       → ((entries weight : ℕ) → ended ≡ stop.JournalFull entries weight
       → IsItemTooMuch (rules_of meaning old) (past_of old) clients next entries weight)
       → ((fail : Fail) → ended ≡ stop.StartFailed fail → ⊥)
       → IsUnderWay (rules_of meaning old) items (past_of old) clients (next ∷ left) before held
       → EndsSo (rules_of meaning old) items (past_of mid) ended before held
-  come_ends old mid items left clients next before held ended same full not is =
+  come_ends old mid items left clients next before held ended same may full not is =
       subst (λ core. EndsSo (rules_of meaning old) items (past_of core) ended before held) (sym same)
       (ends_here (rules_of meaning old) items (past_of old) clients (next ∷ left) before held ended is
-      (item_cause (rules_of meaning old) (past_of old) clients next ended full not))
+      (item_cause (rules_of meaning old) items (past_of old) clients next ended
+      (next_is items (past_of old) clients next left may is.stands) full not))
 
   -- ---- the host stops
 
@@ -194,28 +208,32 @@ module _ {R Site : Type 0} (meaning : R → Site → Meaning) where
       (stop_grown (rules_of meaning old) items (past_of old) clients before held is
       (right_grown old mid entries mid_is right) (answered_grown old mid entries mid_is answered) calm once) of out
 
-  stop_cause : (m : Rules) (past : List Entry) (ended : FeedStop)
+  stop_cause : (m : Rules) (items : List Item) (past : List Entry) (ended : FeedStop) → HasAllCome items past
       → ((entries weight : ℕ) → ended ≡ stop.JournalFull entries weight
       → IsTooMuch (past_after past (stop_entries m past 0)) entries weight)
-      → ((fail : Fail) → ended ≡ stop.StartFailed fail → ⊥) → HasCause m past ended
-  stop_cause m past (stop.StartFailed fail) full not = absurd (not fail refl)
-  stop_cause m past (stop.JournalFull entries weight) full not =
-      (past, [], refl, OfStop (full entries weight refl))
-  stop_cause m past stop.WriteFault full not = tt
-  stop_cause m past stop.Memory full not = tt
+      → ((fail : Fail) → ended ≡ stop.StartFailed fail → ⊥) → HasCause m items past ended
+  stop_cause m items past (stop.StartFailed fail) is full not = absurd (not fail refl)
+  stop_cause m items past (stop.JournalFull entries weight) is full not =
+      (past, [], refl, OfStop is (full entries weight refl))
+  stop_cause m items past stop.WriteFault is full not = tt
+  stop_cause m items past stop.Memory is full not = tt
 
   -- the host did not stop
   pub stop_ends : (old mid : CoreView R Site) (items : List Item) (clients : Clients) (before held : Option (List ℕ))
-      (ended : FeedStop) → mid ≡ old
+      (ended : FeedStop) → mid ≡ old → is_calm (past_of old) ≡ true → is_stopping (past_of old) ≡ false
       → ((entries weight : ℕ) → ended ≡ stop.JournalFull entries weight
       → IsTooMuch (past_after (past_of old) (stop_entries (rules_of meaning old) (past_of old) 0)) entries weight)
       → ((fail : Fail) → ended ≡ stop.StartFailed fail → ⊥)
       → IsUnderWay (rules_of meaning old) items (past_of old) clients [] before held
       → EndsSo (rules_of meaning old) items (past_of mid) ended before held
-  stop_ends old mid items clients before held ended same full not is =
+  stop_ends old mid items clients before held ended same calm once full not is =
       subst (λ core. EndsSo (rules_of meaning old) items (past_of core) ended before held) (sym same)
       (ends_here (rules_of meaning old) items (past_of old) clients [] before held ended is
-      (stop_cause (rules_of meaning old) (past_of old) ended full not))
+      (stop_cause (rules_of meaning old) items (past_of old) ended (record {
+        clients = clients;
+        came = all_come items (past_of old) clients once is.stands;
+        calm = calm;
+      }) full not))
 
   -- ---- work
 
@@ -248,17 +266,3 @@ module _ {R Site : Type 0} (meaning : R → Site → Meaning) where
       after_core result old mid new entries items left clients before held after mid_is
       (work_grown (rules_of meaning old) items (past_of old) entries clients left before held is
       (right_grown old mid entries mid_is right) (answered_grown old mid entries mid_is answered) busy adds) of out
-
--- ---- what is handed back
-
-pub fits_back : {T U : Type 0} → (handed : Result T FeedStop) (hand : U) (back : Result U FeedStop) (P : U → Type 0)
-    → IsHandedBack hand handed back → P hand → IfOk back P
-fits_back (Ok given) hand back P is holds = rw is holds
-fits_back (Err ended) hand back P is holds = rw is tt
-
-pub after_back : {T U : Type 0} → (m : Rules) (items left : List Item) (past : List Entry) (clients : Clients)
-    (before after : Option (List ℕ)) (handed : Result T FeedStop) (hand : U) (back : Result U FeedStop)
-    → IsHandedBack hand handed back → After handed m items past clients left before after
-    → After back m items past clients left before after
-after_back m items left past clients before after (Ok given) hand back is holds = rw is holds
-after_back m items left past clients before after (Err ended) hand back is holds = rw is holds

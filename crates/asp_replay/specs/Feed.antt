@@ -1,5 +1,5 @@
 -- What a recording leaves that was fed to a host, and what one leaves that was not fed to its end.
-use Rattle.std.specs.Prelude.{◌≡◌, ℕ, Bool, true, false, ⊤, List, [], ◌++◌, Option, Some}
+use Rattle.std.specs.Prelude.{◌≡◌, ℕ, Bool, true, false, ⊤, List, [], ◌∷◌, ◌++◌, reverse, Option, Some}
 use Rattle.asp_core.specs.Kernel.{IsBeginTooMuch, IsTooMuch}
 use Rattle.asp_core.specs.Laws.{NoneIs}
 use Rattle.asp_core.specs.Ready.{IsAnswered}
@@ -13,13 +13,15 @@ use Rattle.asp_job.specs.declared.entry.What.{What}
 use Rattle.asp_job.specs.declared.entry.What.TheVariants as what
 use Rattle.asp_job.specs.Journal.{IsValidJournal, past_after, stop_entries}
 use Rattle.asp_job.specs.Rules.{Rules}
+use Rattle.asp_job.specs.Runs.{is_halted, unfinished}
 use Rattle.asp_lane.specs.Started.{HasStarted}
 use Rattle.asp_lane.specs.Turns.{IsCallTooMuch}
 use Rattle.asp_record.specs.declared.recording.Item.{Item}
+use Rattle.asp_record.specs.Recorded.{moment_of}
 use Rattle.asp_replay.specs.declared.stop.FeedStop.{FeedStop}
 use Rattle.asp_replay.specs.declared.stop.FeedStop.TheVariants as stop
-use Rattle.asp_replay.specs.Feeding.{Clients, IsFed, IsFedPart, events_of, is_calm}
-use Rattle.asp_replay.specs.Sequential.{Adds, IsSequential, is_memory_end}
+use Rattle.asp_replay.specs.Feeding.{Clients, HasCome, IsFed, IsFedPart, events_of, is_calm}
+use Rattle.asp_replay.specs.Sequential.{Adds, IsSequential, is_memory_end, may_come}
 use Rattle.asp_replay.specs.Shown.{AreRecords, Shown, shown_of}
 
 -- ---- records
@@ -63,21 +65,37 @@ pub record HasFed (rules : Rules) (items : List Item) (past : List Entry) (befor
 
 -- ---- not to the end
 
--- with what comes next, an item, the Stop, a Begin or a call, there would be so many entries of that weight, too many
--- or too heavy
-pub data IsTooMuchNext (rules : Rules) (past : List Entry) (entries weight : ℕ) : Type 0 where
-  OfItem : (clients then_clients : Clients) (next : Item) (added : List Entry)
+-- this item is the next one, the items before it came and leave the clients so, and it may come
+pub record IsNext (items : List Item) (past : List Entry) (clients : Clients) (next : Item) : Type 0 where
+  pub first : List Item
+  pub later : List Item
+  pub items_are : items ≡ first ++ next ∷ later
+  pub came : HasCome (reverse first) past clients
+  pub may : may_come past (moment_of next) ≡ true
+
+-- all items came, and nothing is under way
+pub record HasAllCome (items : List Item) (past : List Entry) : Type 0 where
+  pub clients : Clients
+  pub came : HasCome (reverse items) past clients
+  pub calm : is_calm past ≡ true
+
+-- with what comes next, the next item, the Stop, a Begin or a call, there would be so many entries of that weight, too
+-- many or too heavy
+pub data IsTooMuchNext (rules : Rules) (items : List Item) (past : List Entry) (entries weight : ℕ) : Type 0 where
+  OfItem : (clients then_clients : Clients) (next : Item) (added : List Entry) → IsNext items past clients next
       → Adds rules past clients next added then_clients
-      → IsTooMuch (past_after past added) entries weight → IsTooMuchNext rules past entries weight
-  OfStop : IsTooMuch (past_after past (stop_entries rules past 0)) entries weight
-      → IsTooMuchNext rules past entries weight
-  OfBegin : IsBeginTooMuch rules past 0 entries weight → IsTooMuchNext rules past entries weight
-  OfCall : (run : ℕ) → IsCallTooMuch rules past 0 run entries weight → IsTooMuchNext rules past entries weight
+      → IsTooMuch (past_after past added) entries weight → IsTooMuchNext rules items past entries weight
+  OfStop : HasAllCome items past → IsTooMuch (past_after past (stop_entries rules past 0)) entries weight
+      → IsTooMuchNext rules items past entries weight
+  OfBegin : IsFedPart items past → IsBeginTooMuch rules past 0 entries weight
+      → IsTooMuchNext rules items past entries weight
+  OfCall : IsFedPart items past → (run : ℕ) → IsCallTooMuch rules past 0 run entries weight
+      → IsTooMuchNext rules items past entries weight
 
 -- at some point of the journal it was so
-abbrev pub WasTooMuch : Rules → List Entry → ℕ → ℕ → Type 0
-WasTooMuch rules past entries weight = (earlier later : List Entry) × (past ≡ later ++ earlier)
-    × IsTooMuchNext rules earlier entries weight
+abbrev pub WasTooMuch : Rules → List Item → List Entry → ℕ → ℕ → Type 0
+WasTooMuch rules items past entries weight = (earlier later : List Entry) × (past ≡ later ++ earlier)
+    × IsTooMuchNext rules items earlier entries weight
 
 -- the first run has failed so, and nothing came from outside
 pub record HasFailed (rules : Rules) (past : List Entry) (fail : Fail) : Type 0 where
@@ -85,18 +103,31 @@ pub record HasFailed (rules : Rules) (past : List Entry) (fail : Fail) : Type 0 
   pub failed : start_fail rules past ≡ Some fail
 
 -- the journal of a feed that came to this stop
-abbrev pub HasCause : Rules → List Entry → FeedStop → Type 0
-HasCause rules past (stop.StartFailed fail) = HasFailed rules past fail
-HasCause rules past (stop.JournalFull entries weight) = WasTooMuch rules past entries weight
-HasCause rules past stop.WriteFault = ⊤
-HasCause rules past stop.Memory = ⊤
+abbrev pub HasCause : Rules → List Item → List Entry → FeedStop → Type 0
+HasCause rules items past (stop.StartFailed fail) = HasFailed rules past fail
+HasCause rules items past (stop.JournalFull entries weight) = WasTooMuch rules items past entries weight
+HasCause rules items past stop.WriteFault = ⊤
+HasCause rules items past stop.Memory = ⊤
 
--- The items were fed in part, to a host with this valid journal, each page that ended has an answer, and the first
--- answers were written.
+-- the host was halted, and no run is unfinished
+pub record HasWoundUp (past : List Entry) : Type 0 where
+  pub halted : is_halted past ≡ true
+  pub none_left : unfinished past ≡ []
+
+-- the journal of a feed that came to this stop was wound up
+abbrev pub IsWoundUp : List Entry → FeedStop → Type 0
+IsWoundUp past (stop.StartFailed fail) = ⊤
+IsWoundUp past (stop.JournalFull entries weight) = HasWoundUp past
+IsWoundUp past stop.WriteFault = HasWoundUp past
+IsWoundUp past stop.Memory = ⊤
+
+-- The items were fed in part, to a host with this valid journal, each page that ended has an answer, the first answers
+-- were written, and then the journal was wound up.
 pub record HasFedPart (rules : Rules) (items : List Item) (past : List Entry) (ended : FeedStop)
     (before after : Option (List ℕ)) : Type 0 where
   pub account : IsValidJournal rules past
   pub answered : IsAnswered rules past
   pub fed : IsFedPart items past
-  pub cause : HasCause rules past ended
+  pub cause : HasCause rules items past ended
   pub written : ArePartWritten rules past before after
+  pub wound_up : IsWoundUp past ended

@@ -29,7 +29,7 @@ use Rattle.asp_record.specs.Recorded.{AreItems}
 use Rattle.asp_replay.specs.declared.stop.FeedStop.{FeedStop}
 use Rattle.asp_replay.specs.declared.stop.FeedStop.TheVariants as stop
 use Rattle.asp_replay.specs.Feed.{ArePartWritten, AreWritten, HasCause, HasFed, is_full_end}
-use Rattle.asp_replay.specs.Feeding.{Clients, HasCome, IsFed, IsFedPart, is_calm, moment_by}
+use Rattle.asp_replay.specs.Feeding.{Clients, HasCome, IsFed, IsFedPart, comes, is_calm, moment_by}
 use Rattle.asp_replay.specs.Sequential.{Adds, AreTurns, HasInHand, first_place, hand_outs, is_memory_end}
 use Rattle.asp_replay.specs.Shown.{AreRecords, IsRecord, Shown}
 
@@ -277,7 +277,7 @@ IsHandedBack hand (Err ended) back = back ≡ Err ended
 pub record EndsSo (rules : Rules) (items : List Item) (past : List Entry) (ended : FeedStop)
     (before after : Option (List ℕ)) : Type 0 where
   pub fed : IsFedPart items past
-  pub cause : HasCause rules past ended
+  pub cause : HasCause rules items past ended
   pub written : ArePartWritten rules past before after
 
 -- where a feed stands after a turn, or how it ends
@@ -287,16 +287,22 @@ After (Ok given) rules items past clients left before after = IsUnderWay rules i
 After (Err ended) rules items past clients left before after = EndsSo rules items past ended before after
 
 -- where a feed stands after a turn that left these items, or how it ends
-abbrev pub AfterTurn : {Hand : Type 0} → Result (Hand × Bor (List Item)) FeedStop → Rules → List Item → List Entry →
-    Clients → Option (List ℕ) → Option (List ℕ) → Type 0
-AfterTurn (Ok kept) rules items past clients before after =
-    IsUnderWay rules items past clients kept.1.now before after
+abbrev pub AfterTurn : Result (Bor (List Item)) FeedStop → Rules → List Item → List Entry → Clients →
+    Option (List ℕ) → Option (List ℕ) → Type 0
+AfterTurn (Ok left) rules items past clients before after =
+    IsUnderWay rules items past clients left.now before after
 AfterTurn (Err ended) rules items past clients before after = EndsSo rules items past ended before after
 
 -- all items came, the host has stopped, and nothing is under way
 abbrev pub is_over : List Entry → List Item → Bool
 is_over past [] = is_stopping past && is_calm past
 is_over past (next ∷ left) = false
+
+-- the core has grown by entries that come from no item
+pub record GrowsQuietly {R Site : Type 0} (old new : CoreView R Site) : Type 0 where
+  pub entries : List Entry
+  pub new_is : new ≡ grown old entries
+  pub quiet : NoneIs comes entries
 
 -- memory ran out before there was a journal
 abbrev pub HasNotBegun : FeedStop → Option (List ℕ) → Option (List ℕ) → Type 0

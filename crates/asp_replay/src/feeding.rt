@@ -20,7 +20,8 @@ ghost use Rattle.asp_replay.specs.Underway as way;
 use crate::clients::Clients;
 use crate::coming::{is_calm, may_come, moment_of};
 use crate::stop::FeedStop;
-use crate::turns::{come_turn, hand_back, let_go, stop_turn, work_turn};
+use crate::turns::{come_turn, stop_turn, work_turn};
+use crate::winding_up::{let_go, wind_up};
 use asp_core::Core;
 use asp_io::Sink;
 use asp_job::{EndKind, Runner};
@@ -57,7 +58,7 @@ fn start<R, K>(
     site: &R::Site,
     mut hand: Hand<R>,
     sink: &mut K,
-) -> Result<Hand<R>, FeedStop>
+) -> (Hand<R>, Result<(), FeedStop>)
 where
     R: Runner,
     R::State: Drop,
@@ -68,42 +69,35 @@ where
     requires between { way.IsBetween (rules_of R.meaning core.old) (past_of core.old) (K.held sink.old) }
     requires none_came { events_of (past_of core.old) ≡ [] }
     ensures grows { (entries : List Entry) × (core.new ≡ grown core.old entries) }
-    ensures fits { IfOk result (λ hand. Fits R.meaning R.stands core.new 0 (run_in hand)) }
-    ensures started { OnOk result (HasStarted (rules_of R.meaning core.old) (past_of core.new)) }
+    ensures fits { Fits R.meaning R.stands core.new 0 (run_in result.0) }
+    ensures started { OnOk result.1 (HasStarted (rules_of R.meaning core.old) (past_of core.new)) }
     ensures after { (items left : List ItemView) (clients : ClientsView) (before : Option (List ℕ))
         → way.IsUnderWay (rules_of R.meaning core.old) items (past_of core.old) clients left before (K.held sink.old)
-        → way.After result (rules_of R.meaning core.old) items (past_of core.new) clients left before
+        → way.After result.1 (rules_of R.meaning core.old) items (past_of core.new) clients left before
         (K.held sink.new) }
-    ensures cause { HasCause FeedStop.WriteFault (K.faults sink.old) (K.faults sink.new) result }
+    ensures cause { HasCause FeedStop.WriteFault (K.faults sink.old) (K.faults sink.new) result.1 }
 {
     for _ in 0..u32::MAX {
         if !is_starting(core) {
-            return hand_back(hand, started(core));
+            return (hand, started(core));
         }
-        hand = work_turn(alloc, core, runner, site, hand, sink)?;
+        let (next, worked) = work_turn(alloc, core, runner, site, hand, sink);
+        hand = next;
+        match worked {
+            Ok(()) => {}
+            Err(stop) => return (hand, Err(stop)),
+        }
     }
-    let_go(hand);
-    Err(FeedStop::Memory)
+    (hand, Err(FeedStop::Memory))
 }
 
-/// What is in hand and the items that are left, where nothing failed.
-fn keep<'a, R>(
-    hand: Hand<R>,
-    items: &'a [Item],
-    came: Result<(), FeedStop>,
-) -> Result<(Hand<R>, &'a [Item]), FeedStop>
-where
-    R: Runner,
-    R::State: Drop,
-    R::Store: Drop,
-    ensures { way.IsHandedBack (hand, items.entry) came result }
+/// The items that are left, where nothing failed.
+fn left_where<'a>(items: &'a [Item], came: Result<(), FeedStop>) -> Result<&'a [Item], FeedStop>
+    ensures { way.IsHandedBack items.entry came result }
 {
     match came {
-        Ok(()) => Ok((hand, items)),
-        Err(stop) => {
-            let_go(hand);
-            Err(stop)
-        }
+        Ok(()) => Ok(items),
+        Err(stop) => Err(stop),
     }
 }
 
@@ -118,7 +112,7 @@ fn turn<'a, R, K>(
     hand: Hand<R>,
     items: &'a [Item],
     sink: &mut K,
-) -> Result<(Hand<R>, &'a [Item]), FeedStop>
+) -> (Hand<R>, Result<&'a [Item], FeedStop>)
 where
     R: Runner,
     R::State: Drop,
@@ -132,27 +126,27 @@ where
         × way.IsUnderWay (rules_of R.meaning core.old) all (past_of core.old) clients.old.entries items.now before
         (K.held sink.old) }
     ensures grows { (entries : List Entry) × (core.new ≡ grown core.old entries) }
-    ensures fits { IfOk result (λ kept. Fits R.meaning R.stands core.new 0 (run_in kept.0)) }
+    ensures fits { Fits R.meaning R.stands core.new 0 (run_in result.0) }
     ensures after { (all : List ItemView) (before : Option (List ℕ))
         → way.IsUnderWay (rules_of R.meaning core.old) all (past_of core.old) clients.old.entries items.now before
         (K.held sink.old)
-        → way.AfterTurn result (rules_of R.meaning core.old) all (past_of core.new) clients.new.entries before
+        → way.AfterTurn result.1 (rules_of R.meaning core.old) all (past_of core.new) clients.new.entries before
         (K.held sink.new) }
-    ensures cause { HasCause FeedStop.WriteFault (K.faults sink.old) (K.faults sink.new) result }
+    ensures cause { HasCause FeedStop.WriteFault (K.faults sink.old) (K.faults sink.new) result.1 }
 {
     match items.split_first() {
         Some((next, rest)) if may_come(core, moment_of(next)) => {
             let came = come_turn(alloc, core, runner, site, clients, next, sink);
-            keep(hand, rest, came)
+            (hand, left_where(rest, came))
         }
         None if is_calm(core) => {
             let stopped = stop_turn(alloc, core, sink);
-            keep(hand, items, stopped)
+            (hand, left_where(items, stopped))
         }
-        _ => match work_turn(alloc, core, runner, site, hand, sink) {
-            Ok(hand) => Ok((hand, items)),
-            Err(stop) => Err(stop),
-        },
+        _ => {
+            let (hand, worked) = work_turn(alloc, core, runner, site, hand, sink);
+            (hand, left_where(items, worked))
+        }
     }
 }
 
@@ -173,7 +167,7 @@ fn feed_items<R, K>(
     mut hand: Hand<R>,
     recording: &Recording,
     sink: &mut K,
-) -> Result<(), FeedStop>
+) -> (Hand<R>, Result<(), FeedStop>)
 where
     R: Runner,
     R::State: Drop,
@@ -185,34 +179,65 @@ where
     requires under { (before : Option (List ℕ)) × way.IsUnderWay (rules_of R.meaning core.old) recording.now.items
         (past_of core.old) clients.old.entries recording.now.items before (K.held sink.old) }
     ensures grows { (entries : List Entry) × (core.new ≡ grown core.old entries) }
+    ensures fits { Fits R.meaning R.stands core.new 0 (run_in result.0) }
     ensures after { (before : Option (List ℕ))
         → way.IsUnderWay (rules_of R.meaning core.old) recording.now.items (past_of core.old) clients.old.entries
         recording.now.items before (K.held sink.old)
-        → way.AfterAll result (rules_of R.meaning core.old) recording.now.items (past_of core.new) before
+        → way.AfterAll result.1 (rules_of R.meaning core.old) recording.now.items (past_of core.new) before
         (K.held sink.new) }
-    ensures cause { HasCause FeedStop.WriteFault (K.faults sink.old) (K.faults sink.new) result }
+    ensures cause { HasCause FeedStop.WriteFault (K.faults sink.old) (K.faults sink.new) result.1 }
 {
     let mut items = recording.items.as_slice();
     for _ in 0..u32::MAX {
         if is_over(core, items) {
             // The journal is valid.
             let _ = core.journal();
-            let_go(hand);
-            return Ok(());
+            return (hand, Ok(()));
         }
-        match turn(alloc, core, runner, site, clients, hand, items, sink) {
-            Ok((next, left)) => {
-                hand = next;
-                items = left;
-            }
-            Err(stop) => return Err(stop),
+        let (next, came) = turn(alloc, core, runner, site, clients, hand, items, sink);
+        hand = next;
+        match came {
+            Ok(left) => items = left,
+            Err(stop) => return (hand, Err(stop)),
         }
     }
-    let_go(hand);
-    Err(FeedStop::Memory)
+    (hand, Err(FeedStop::Memory))
 }
 
 /// Runs the first run of a host to its end, and feeds it.
+fn feed_host<R, K>(
+    alloc: Global,
+    core: &mut Core<R>,
+    runner: &R,
+    site: &R::Site,
+    clients: &mut Clients,
+    store: R::Store,
+    recording: &Recording,
+    sink: &mut K,
+) -> (Hand<R>, Result<(), FeedStop>)
+where
+    R: Runner,
+    R::State: Drop,
+    R::Store: Drop,
+    K: Sink,
+    requires host { IsHostOf core.old runner.now site.now }
+    requires first { core.old.journal ≡ with_lane 0 (What.Queue 1 Work.Start 0) ∷ [] }
+    requires none { clients.old.entries ≡ [] }
+    requires sound { IsSound recording.now }
+    ensures grows { (entries : List Entry) × (core.new ≡ grown core.old entries) }
+    ensures fits { Fits R.meaning R.stands core.new 0 (run_in result.0) }
+    ensures after { way.AfterAll result.1 (rules_of R.meaning core.old) recording.now.items (past_of core.new)
+        (K.held sink.old) (K.held sink.new) }
+    ensures cause { HasCause FeedStop.WriteFault (K.faults sink.old) (K.faults sink.new) result.1 }
+{
+    let (hand, begun) = start(alloc, core, runner, site, Hand::Free(store), sink);
+    match begun {
+        Ok(()) => feed_items(alloc, core, runner, site, clients, hand, recording, sink),
+        Err(stop) => (hand, Err(stop)),
+    }
+}
+
+/// Feeds a host that was just made. Where the feed stops early it is wound up.
 fn feed_core<R, K>(
     alloc: Global,
     core: &mut Core<R>,
@@ -235,11 +260,16 @@ where
     ensures grows { (entries : List Entry) × (core.new ≡ grown core.old entries) }
     ensures after { way.AfterAll result (rules_of R.meaning core.old) recording.now.items (past_of core.new)
         (K.held sink.old) (K.held sink.new) }
+    ensures wound_up { IfErr result (spec.IsWoundUp (past_of core.new)) }
     ensures cause { HasCause FeedStop.WriteFault (K.faults sink.old) (K.faults sink.new) result }
 {
-    match start(alloc, core, runner, site, Hand::Free(store), sink) {
-        Ok(hand) => feed_items(alloc, core, runner, site, clients, hand, recording, sink),
-        Err(stop) => Err(stop),
+    let (hand, fed) = feed_host(alloc, core, runner, site, clients, store, recording, sink);
+    match fed {
+        Ok(()) => {
+            let_go(hand);
+            Ok(())
+        }
+        Err(stop) => Err(wind_up(core, runner, site, hand, stop)),
     }
 }
 

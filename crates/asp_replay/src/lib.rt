@@ -8,6 +8,7 @@ mod handing;
 mod job;
 mod stop;
 mod turns;
+mod winding_up;
 mod working;
 mod writing;
 

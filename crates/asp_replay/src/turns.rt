@@ -1,7 +1,7 @@
 //! The turns of a lane that is fed by a recording. Each ends with the answers that wait, which are handed out.
 #![tactic(auto)]
 
-ghost use Rattle.std.specs.Prelude.{◌≡◌, ◌∷◌, [], ℕ, true, false, IfOk, List, Option};
+ghost use Rattle.std.specs.Prelude.{◌≡◌, ◌∷◌, [], ℕ, true, false, List, Option};
 ghost use Rattle.asp_core.specs.Kernel.{IsHostOf, RunView, grown, past_of, rules_of};
 ghost use Rattle.asp_io.specs.Faults.{HasCause};
 ghost use Rattle.asp_job.specs.declared.entry.Entry.{Entry};
@@ -95,31 +95,6 @@ pub fn stop_turn<R: Runner, K: Sink>(
     handed
 }
 
-/// Lets go of what is in hand. A run stays unfinished.
-pub fn let_go<R>(_hand: Hand<R>)
-where
-    R: Runner,
-    R::State: Drop,
-    R::Store: Drop,
-{}
-
-/// What is in hand, where nothing failed.
-pub fn hand_back<R>(hand: Hand<R>, handed: Result<(), FeedStop>) -> Result<Hand<R>, FeedStop>
-where
-    R: Runner,
-    R::State: Drop,
-    R::Store: Drop,
-    ensures { spec.IsHandedBack hand handed result }
-{
-    match handed {
-        Ok(()) => Ok(hand),
-        Err(stop) => {
-            let_go(hand);
-            Err(stop)
-        }
-    }
-}
-
 /// The run in hand goes on, or the next one begins.
 pub fn work_turn<R, K>(
     alloc: Global,
@@ -128,7 +103,7 @@ pub fn work_turn<R, K>(
     site: &R::Site,
     hand: Hand<R>,
     sink: &mut K,
-) -> Result<Hand<R>, FeedStop>
+) -> (Hand<R>, Result<(), FeedStop>)
 where
     R: Runner,
     R::State: Drop,
@@ -139,23 +114,22 @@ where
     requires busy { is_calm (past_of core.old) ≡ false }
     requires lane { spec.IsOfOneLane (rules_of R.meaning core.old) (past_of core.old) }
     ensures grows { (entries : List Entry) × (core.new ≡ grown core.old entries) }
-    ensures fits { IfOk result (λ hand. Fits R.meaning R.stands core.new 0 (run_in hand)) }
+    ensures fits { Fits R.meaning R.stands core.new 0 (run_in result.0) }
     ensures after { (items left : List ItemView) (clients : ClientsView) (before : Option (List ℕ))
         → spec.IsUnderWay (rules_of R.meaning core.old) items (past_of core.old) clients left before (K.held sink.old)
         → IsBusy (past_of core.old) left
-        → spec.After result (rules_of R.meaning core.old) items (past_of core.new) clients left before
+        → spec.After result.1 (rules_of R.meaning core.old) items (past_of core.new) clients left before
         (K.held sink.new) }
     ensures quiet { events_of (past_of core.new) ≡ events_of (past_of core.old) }
-    ensures cause { HasCause FeedStop.WriteFault (K.faults sink.old) (K.faults sink.new) result }
+    ensures cause { HasCause FeedStop.WriteFault (K.faults sink.old) (K.faults sink.new) result.1 }
 {
     let (hand, turn) = work(core, runner, site, hand);
     if let Some(stop) = turn_stop(turn) {
-        let_go(hand);
-        return Err(stop);
+        return (hand, Err(stop));
     }
     // The journal is valid, now and later.
     let _ = core.journal();
     let handed = hand_out(alloc, core, sink);
     let _ = core.journal();
-    hand_back(hand, handed)
+    (hand, handed)
 }

@@ -18,6 +18,17 @@ struct Ending {
     close: bool,
 }
 
+impl Ending {
+    fn new() -> Ending {
+        Ending {
+            letters: None,
+            failure: None,
+            head_only: false,
+            close: false,
+        }
+    }
+}
+
 fn cookie(alloc: Global, draft: &mut Draft, rest: &str) -> Result<Result<(), DraftStop>, CaseStop> {
     let (name, rest) = rest.split_once(',').unwrap_or((rest, ""));
     let (key, value) = rest.split_once(',').unwrap_or((rest, ""));
@@ -106,38 +117,58 @@ fn push_bytes(answer: &mut String, alloc: Global, bytes: &[u8]) -> Result<(), Ca
     Ok(())
 }
 
+/// Makes one call of a page, and adds the refusal that it gets.
+fn push_call(
+    answer: &mut String,
+    alloc: Global,
+    draft: &mut Draft,
+    ending: &mut Ending,
+    said: &str,
+) -> Result<(), CaseStop> {
+    let (word, rest) = said.split_once(' ').unwrap_or((said, ""));
+    if end(alloc, ending, word, rest)? {
+        return Ok(());
+    }
+    match call(alloc, draft, word, rest)? {
+        Ok(()) => Ok(()),
+        Err(stop) => push_stop(answer, alloc, stop),
+    }
+}
+
+/// Adds the bytes of the answer that is made so.
+fn push_answer(
+    answer: &mut String,
+    alloc: Global,
+    draft: Draft,
+    ending: &Ending,
+) -> Result<(), CaseStop> {
+    let made = draft.finish(
+        ending.letters.as_ref(),
+        ending.failure.as_ref(),
+        ending.head_only,
+        ending.close,
+    )?;
+    push_bytes(
+        answer,
+        alloc,
+        answer_bytes(alloc, &made, 784_111_777)?.as_slice(),
+    )
+}
+
+/// What the calls of a page give.
+fn run(alloc: Global, calls: &str) -> Result<String, CaseStop> {
+    let mut draft = Draft::new(alloc);
+    let mut ending = Ending::new();
+    let mut answer = String::new(alloc);
+    for said in calls.split("; ") {
+        push_call(&mut answer, alloc, &mut draft, &mut ending, said)?;
+    }
+    push_answer(&mut answer, alloc, draft, &ending)?;
+    Ok(answer)
+}
+
 impl Subject for Drafts {
     fn answer(&self, alloc: Global, case: &str) -> Result<String, CaseStop> {
-        let text = read_text(alloc, case)?;
-        let mut draft = Draft::new(alloc);
-        let mut ending = Ending {
-            letters: None,
-            failure: None,
-            head_only: false,
-            close: false,
-        };
-        let mut answer = String::new(alloc);
-        for said in text.as_str().split("; ") {
-            let (word, rest) = said.split_once(' ').unwrap_or((said, ""));
-            if end(alloc, &mut ending, word, rest)? {
-                continue;
-            }
-            match call(alloc, &mut draft, word, rest)? {
-                Ok(()) => {}
-                Err(stop) => push_stop(&mut answer, alloc, stop)?,
-            }
-        }
-        let made = draft.finish(
-            ending.letters.as_ref(),
-            ending.failure.as_ref(),
-            ending.head_only,
-            ending.close,
-        )?;
-        push_bytes(
-            &mut answer,
-            alloc,
-            answer_bytes(alloc, &made, 784_111_777)?.as_slice(),
-        )?;
-        Ok(answer)
+        run(alloc, read_text(alloc, case)?.as_str())
     }
 }

@@ -5,7 +5,8 @@
 use std::alloc::Global;
 use std::io;
 use std::io::ErrorKind;
-use std::time::Instant;
+use std::rt::Clock;
+use std::time::{Duration, Instant};
 use vb_heap::{CellNo, Heap, HeapStop, Place};
 use vb_value::{List, Value, VbFault};
 
@@ -54,24 +55,29 @@ fn told<T: Drop>(made: Result<T, HeapStop>) -> io::Result<T> {
     }
 }
 
+/// How long the stores and reads take on a page with so many cells.
+fn stores_time<R: AllocGlobal + Clock>(rt: &R, cells: u64) -> io::Result<Duration> {
+    let mut heap = told(page_of_cells(rt.alloc(), cells))?;
+    let start = Instant::now(rt)?;
+    told(store_and_read(rt.alloc(), &mut heap, cells))?;
+    start.elapsed(rt)
+}
+
+/// Whether a release point of a page with live objects named one, and how long it took.
+fn release_time<R: AllocGlobal + Clock>(rt: &R) -> io::Result<(bool, Duration)> {
+    let mut heap = told(page_of_objects(rt.alloc(), OBJECTS))?;
+    let start = Instant::now(rt)?;
+    let is_named = heap.release_point().is_some();
+    Ok((is_named, start.elapsed(rt)?))
+}
+
 fn main(rt: HostRuntime) -> io::Result<()> {
-    let alloc = rt.alloc();
     for cells in [1, 1_000, 100_000] {
-        let mut heap = told(page_of_cells(alloc, cells))?;
-        let start = Instant::now(&rt)?;
-        told(store_and_read(alloc, &mut heap, cells))?;
-        let time = start.elapsed(&rt)?;
+        let time = stores_time(&rt, cells)?;
         println!(rt; "cells: {cells}; stores and reads: {ROUNDS}")?;
         eprintln!(rt; "{} microseconds", time.as_micros())?;
     }
-    let mut heap = told(page_of_objects(alloc, OBJECTS))?;
-    let start = Instant::now(&rt)?;
-    let named = heap.release_point();
-    let time = start.elapsed(&rt)?;
-    println!(rt;
-        "live objects, each in a cell: {OBJECTS}; named at a release point: {}",
-        named.is_some()
-    )?;
-    eprintln!(rt; "{} microseconds", time.as_micros())?;
-    Ok(())
+    let (is_named, time) = release_time(&rt)?;
+    println!(rt; "live objects, each in a cell: {OBJECTS}; named at a release point: {is_named}")?;
+    eprintln!(rt; "{} microseconds", time.as_micros())
 }

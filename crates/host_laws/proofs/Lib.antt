@@ -1,5 +1,7 @@
 mod OneFolder
 pub mod OneSite
-pub mod NoJobs
+pub mod OneCourse
+pub mod OneGet
 pub mod Refusals
 pub mod OneReplayOutput
+pub mod OneGetOutput

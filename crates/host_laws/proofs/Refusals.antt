@@ -1,16 +1,17 @@
 -- A command refuses nothing without a cause.
-use Rattle.std.proofs.Common.{◌≡◌, ◌⊎◌, inl, inr, ℕ, zero, suc, ◌≤◌, Bool, List, Option, Some, None, IfSome, length}
-use Rattle.std.proofs.Common.{map, arith, refl, subst}
-use Rattle.std.specs.List.{All}
+use Rattle.std.proofs.Common.{◌≡◌, inl, inr, ℕ, ◌≤◌, Bool, List, Option, Some, None, IfSome, Err, length}
+use Rattle.std.proofs.Common.{Ok as Given, map, arith, refl, subst}
 use Rattle.vb_value.specs.declared.site_file.SiteFault.{SiteFault}
 use Rattle.vb_value.specs.declared.site_file.SiteFile.{SiteFile}
-use Rattle.asp_get.specs.Answered.{HasFailed, WasTooMuch}
-use Rattle.asp_io.specs.Folder.{AreSitePaths, IsRooted, path_of}
+use Rattle.asp_get.specs.Answered.{HasAnswered, HasFailed, WasTooMuch}
+use Rattle.asp_get.specs.declared.stop.GetStop.TheVariants as stop
+use Rattle.asp_io.specs.Folder.{AreSitePaths, path_of}
+use Rattle.asp_job.specs.declared.answer.Answer.{Answer}
 use Rattle.asp_job.specs.declared.answer.Fail.{Fail}
 use Rattle.asp_job.specs.Rules.{Rules}
 use Rattle.asp_record.specs.declared.recording.Item.{Item}
 use Rattle.asp_record.specs.declared.recording.Recording.{Recording}
-use Rattle.asp_record.specs.Generated.{generated}
+use Rattle.asp_record.specs.Generated.{count_files, generated}
 use Rattle.asp_record.specs.Recorded.{IsRefusedAt, Stands}
 use Rattle.asp_site.specs.declared.site.Site.{Site}
 use Rattle.site_load.specs.Accepted.{IsAccepted, IsFolderFault}
@@ -19,7 +20,7 @@ use Rattle.asp_host.specs.declared.status.Status.TheVariants.{Ok, Memory, Usage,
 use Rattle.asp_host.specs.declared.status.Status.TheVariants.{ReadFault, WriteFault, RecordRefused, JournalFull}
 use Rattle.asp_host.specs.Around.{Around}
 use Rattle.asp_host.specs.Check.{CheckEnds}
-use Rattle.asp_host.specs.Gen.{FailsGenerated, FillsGenerated, GenEnds, count_files}
+use Rattle.asp_host.specs.Gen.{GenEnds}
 use Rattle.asp_host.specs.Get.{GetEnds, site_rules}
 use Rattle.asp_host.specs.Get as get
 use Rattle.asp_host.specs.Input.{IsSourceRefusedAt}
@@ -27,8 +28,7 @@ use Rattle.asp_host.specs.Replay.{Fills, HasRefused, IsFor, ReplayEnds, rules_fo
 use Rattle.asp_host.specs.Replay as replay
 use Rattle.asp_host.specs.Replayed.{HasFilled, HasNotStarted}
 use Rattle.asp_host.specs.Request.{job_of}
-use Rattle.host_laws.proofs.NoJobs.{no_jobs}
-use Rattle.host_laws.specs.Laws.{IsFullFor, IsNoRefusal, NeverFails, NeverFills, OneSite, TellsFiles}
+use Rattle.host_laws.specs.Laws.{IsNoRefusal, NeverFails, NeverFills, OneOutcome, OneSite, TellsFiles}
 use Rattle.host_laws.specs.Laws.{TellsRecording, TellsSite}
 
 -- ---- the laws that these stand on
@@ -81,44 +81,53 @@ module _ (sites : OneSite) (faultless : SiteOrFault) where
 
   -- ---- `get`
 
-  no_failure : (around : Around) (site : Site) (fail : Fail) → TellsSite around site → NeverFails (site_rules site)
-      → get.FailsToBegin around.files fail → ⊥
-  no_failure around site fail tells never fails = never fail (subst (λ site. HasFailed (site_rules site) fail)
-      (same_site around tells.files site fails.site tells.tells tells.accepted fails.accepted) fails.failed)
+  module _ (outcomes : OneOutcome) where
+    of_site : (around : Around) (site other : Site) (P : Site → Type 0) → TellsSite around site
+        → IfSome around.files (λ all. IsAccepted all other) → P other → P site
+    of_site around site other P tells accepted holds =
+        subst P (same_site around tells.files site other tells.tells tells.accepted accepted) holds
 
-  is_full : (path query : List ℕ) (around : Around) (site : Site) (entries weight : ℕ) → TellsSite around site
-      → get.IsFull path query around.files entries weight
-      → WasTooMuch (site_rules site) (job_of path query) entries weight
-  is_full path query around site entries weight tells full =
-      subst (λ site. WasTooMuch (site_rules site) (job_of path query) entries weight)
-      (same_site around tells.files site full.site tells.tells tells.accepted full.accepted) full.much
+    no_failure : (path query : List ℕ) (around : Around) (site : Site) (answer : Answer) (fail : Fail)
+        → TellsSite around site → HasAnswered (site_rules site) (job_of path query) answer
+        → get.FailsToBegin around.files fail → ⊥
+    no_failure path query around site answer fail tells answered fails =
+        let failed = of_site around site fails.site (λ site. HasFailed (site_rules site) fail) tells fails.accepted
+        fails.failed in
+        let both : Given answer ≡ Err (stop.StartFailed fail) = outcomes (site_rules site) (job_of path query)
+        (Given answer) (Err (stop.StartFailed fail)) answered failed in
+        cc
 
-  pub get_refuses_none : (path query : List ℕ) (around : Around) (site : Site) (status : Status)
-      → TellsSite around site → NeverFails (site_rules site) → GetEnds path query around status
-      → IsNoRefusal status ⊎ IsFullFor (site_rules site) (job_of path query) status
-  get_refuses_none path query around site Ok tells never ends = inl tt
-  get_refuses_none path query around site Memory tells never ends = inl tt
-  get_refuses_none path query around site ReadFault tells never ends = inl tt
-  get_refuses_none path query around site WriteFault tells never ends = inl tt
-  get_refuses_none path query around site (SiteRefused fault) tells never ends =
-      absurd (no_folder_fault around site fault tells ends.1.0)
-  get_refuses_none path query around site (StartFailed fail) tells never ends =
-      absurd (no_failure around site fail tells never ends.1.0)
-  get_refuses_none path query around site (JournalFull entries weight) tells never ends =
-      inr (is_full path query around site entries weight tells ends.1.0)
-  get_refuses_none path query around site Usage tells never ends = absurd ends.1
-  get_refuses_none path query around site (RecordRefused offset) tells never ends = absurd ends.1
+    not_full : (path query : List ℕ) (around : Around) (site : Site) (answer : Answer) (entries weight : ℕ)
+        → TellsSite around site → HasAnswered (site_rules site) (job_of path query) answer
+        → get.IsFull path query around.files entries weight → ⊥
+    not_full path query around site answer entries weight tells answered full =
+        let much = of_site around site full.site
+        (λ site. WasTooMuch (site_rules site) (job_of path query) entries weight) tells full.accepted full.much in
+        let both : Given answer ≡ Err (stop.JournalFull entries weight) = outcomes (site_rules site)
+        (job_of path query) (Given answer) (Err (stop.JournalFull entries weight)) answered much in
+        cc
+
+    pub get_refuses_none : (path query : List ℕ) (around : Around) (site : Site) (answer : Answer) (status : Status)
+        → TellsSite around site → HasAnswered (site_rules site) (job_of path query) answer
+        → GetEnds path query around status → IsNoRefusal status
+    get_refuses_none path query around site answer Ok tells answered ends = tt
+    get_refuses_none path query around site answer Memory tells answered ends = tt
+    get_refuses_none path query around site answer ReadFault tells answered ends = tt
+    get_refuses_none path query around site answer WriteFault tells answered ends = tt
+    get_refuses_none path query around site answer (SiteRefused fault) tells answered ends =
+        no_folder_fault around site fault tells ends.1.0
+    get_refuses_none path query around site answer (StartFailed fail) tells answered ends =
+        no_failure path query around site answer fail tells answered ends.1.0
+    get_refuses_none path query around site answer (JournalFull entries weight) tells answered ends =
+        not_full path query around site answer entries weight tells answered ends.1.0
+    get_refuses_none path query around site answer Usage tells answered ends = ends.1
+    get_refuses_none path query around site answer (RecordRefused offset) tells answered ends = ends.1
 
   -- ---- `gen`
 
   not_started : (rules : Rules) (fail : Fail) (before after : Option (List ℕ)) → NeverFails rules
       → HasNotStarted rules fail before after → ⊥
-  not_started rules fail before after never fails = never fail (record {
-    past = fails.past;
-    valid = fails.account;
-    none_came = no_jobs fails.past fails.failed.none_came;
-    failed = fails.failed.failed;
-  })
+  not_started rules fail before after never fails = never fails.past fail fails.account fails.failed
 
   never_filled : (rules : Rules) (items : List Item) (entries weight : ℕ) (before after : Option (List ℕ))
       → NeverFills rules items → HasFilled rules items entries weight before after → ⊥
@@ -128,6 +137,7 @@ module _ (sites : OneSite) (faultless : SiteOrFault) where
       account = filled.1.account;
       answered = filled.1.answered;
       fed = filled.1.fed;
+      wound_up = filled.1.wound_up;
       cause = filled.1.cause;
       written = record {
         first = filled.1.written.first;
@@ -144,49 +154,26 @@ module _ (sites : OneSite) (faultless : SiteOrFault) where
     },
   )
 
-  count_rooted : All IsRooted (map path_of count_files)
-  count_rooted zero path within = refl
-  count_rooted (suc i) path within = absurd (omega (arith, within))
-
-  count_paths : AreSitePaths (map path_of count_files)
-  count_paths = record {
-    rooted = count_rooted;
-    distinct = λ i j path less within. absurd (omega (arith, less, within));
-  }
-
-  count_refused : (site : Site) (fault : SiteFault) → IsAccepted count_files site → IsFolderFault count_files fault → ⊥
-  count_refused site fault accepted faulty = faultless count_files site fault count_paths accepted faulty
-
-  count_started : (count : ℕ) (site : Site) (fail : Fail) → IsAccepted count_files site
-      → NeverFails (rules_for site (generated count)) → FailsGenerated count fail → ⊥
-  count_started count site fail accepted never fails =
-      not_started (rules_for fails.site (generated count)) fail None None
-      (subst (λ site. NeverFails (rules_for site (generated count)))
-      (sites count_files site fails.site count_paths accepted fails.accepted) never) fails.failed
-
-  count_filled : (count : ℕ) (site : Site) (entries weight : ℕ) → IsAccepted count_files site
-      → NeverFills (rules_for site (generated count)) (generated count).items → FillsGenerated count entries weight → ⊥
-  count_filled count site entries weight accepted never fills =
-      let same = sites count_files site fills.site count_paths accepted fills.accepted in
+  pub gen_refuses_none : (count : ℕ) (journal : Bool) (around : Around) (status : Status)
+      → ((site : Site) → IsAccepted count_files site → NeverFails (rules_for site (generated count)))
+      → ((site : Site) → IsAccepted count_files site
+      → NeverFills (rules_for site (generated count)) (generated count).items)
+      → GenEnds count journal around status → IsNoRefusal status
+  gen_refuses_none count journal around Ok never little ends = tt
+  gen_refuses_none count journal around Memory never little ends = tt
+  gen_refuses_none count journal around ReadFault never little ends = tt
+  gen_refuses_none count journal around WriteFault never little ends = tt
+  gen_refuses_none count journal around (SiteRefused fault) never little ends = ends.1
+  gen_refuses_none count journal around (JournalFull entries weight) never little ends =
+      let fills = ends.1.0 in
       never_filled (rules_for fills.site (generated count)) (generated count).items entries weight None None
-      (subst (λ site. NeverFills (rules_for site (generated count)) (generated count).items) same never) fills.filled
-
-  pub gen_refuses_none : (count : ℕ) (journal : Bool) (around : Around) (site : Site) (status : Status)
-      → IsAccepted count_files site → NeverFails (rules_for site (generated count))
-      → NeverFills (rules_for site (generated count)) (generated count).items → GenEnds count journal around status
-      → IsNoRefusal status
-  gen_refuses_none count journal around site Ok accepted never little ends = tt
-  gen_refuses_none count journal around site Memory accepted never little ends = tt
-  gen_refuses_none count journal around site ReadFault accepted never little ends = tt
-  gen_refuses_none count journal around site WriteFault accepted never little ends = tt
-  gen_refuses_none count journal around site (SiteRefused fault) accepted never little ends =
-      count_refused site fault accepted ends.1.0
-  gen_refuses_none count journal around site (JournalFull entries weight) accepted never little ends =
-      count_filled count site entries weight accepted little ends.1.0
-  gen_refuses_none count journal around site (StartFailed fail) accepted never little ends =
-      count_started count site fail accepted never ends.1.0
-  gen_refuses_none count journal around site (RecordRefused offset) accepted never little ends = ends.1
-  gen_refuses_none count journal around site Usage accepted never little ends = ends.1
+      (little fills.site fills.accepted) fills.filled
+  gen_refuses_none count journal around (StartFailed fail) never little ends =
+      let fails = ends.1.0 in
+      not_started (rules_for fails.site (generated count)) fail None None (never fails.site fails.accepted)
+      fails.failed
+  gen_refuses_none count journal around (RecordRefused offset) never little ends = ends.1
+  gen_refuses_none count journal around Usage never little ends = ends.1
 
   -- ---- `replay`
 

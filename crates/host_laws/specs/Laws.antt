@@ -1,25 +1,32 @@
 -- Laws of the host's commands, over the statements by which they end.
-use Rattle.std.specs.Prelude.{◌≡◌, ◌⊎◌, ℕ, Bool, List, Some, None, length, map}
+use Rattle.std.specs.Prelude.{◌≡◌, ℕ, Bool, List, Some, None, length, map, Result, Err}
+use Rattle.std.specs.Prelude.{Ok as Given}
 use Rattle.vb_value.specs.declared.site_file.SiteFile.{SiteFile}
 use Rattle.asp_core.specs.Laws.{NoneIs}
-use Rattle.asp_get.specs.Answered.{HasFailed, WasTooMuch}
+use Rattle.asp_get.specs.Answered.{HasAnswered, IsGetStop}
+use Rattle.asp_get.specs.declared.stop.GetStop.{GetStop}
+use Rattle.asp_get.specs.declared.stop.GetStop.TheVariants as stop
 use Rattle.asp_io.specs.Folder.{AreSitePaths, path_of}
 use Rattle.asp_io.specs.Sink.{with_bytes}
+use Rattle.asp_job.specs.declared.answer.Answer.{Answer}
 use Rattle.asp_job.specs.declared.answer.Fail.{Fail}
+use Rattle.asp_job.specs.declared.entry.Entry.{Entry}
 use Rattle.asp_job.specs.declared.job.Job.{Job}
+use Rattle.asp_job.specs.Journal.{IsValidJournal}
 use Rattle.asp_job.specs.Rules.{Rules}
 use Rattle.asp_record.specs.declared.recording.Item.{Item}
 use Rattle.asp_record.specs.declared.recording.Recording.{Recording}
-use Rattle.asp_record.specs.Generated.{generated}
+use Rattle.asp_record.specs.Generated.{count_files, generated}
 use Rattle.asp_record.specs.Recorded.{Stands}
+use Rattle.asp_replay.specs.Feed.{HasFailed}
 use Rattle.asp_replay.specs.Sequential.{is_memory_end}
 use Rattle.asp_site.specs.declared.site.Site.{Site}
 use Rattle.site_load.specs.Accepted.{IsAccepted}
 use Rattle.asp_host.specs.declared.status.Status.{Status}
-use Rattle.asp_host.specs.declared.status.Status.TheVariants.{Ok, Memory, ReadFault, WriteFault, JournalFull}
+use Rattle.asp_host.specs.declared.status.Status.TheVariants.{Ok, Memory, ReadFault, WriteFault}
 use Rattle.asp_host.specs.Around.{Around, Change}
 use Rattle.asp_host.specs.Check.{CheckEnds}
-use Rattle.asp_host.specs.Gen.{GenEnds, count_files}
+use Rattle.asp_host.specs.Gen.{GenEnds}
 use Rattle.asp_host.specs.Get.{GetEnds, site_rules}
 use Rattle.asp_host.specs.Replay.{ReplayEnds, ReplaysAll, rules_for}
 use Rattle.asp_host.specs.Replayed.{HasFilled}
@@ -51,6 +58,19 @@ abbrev pub OneSite : Type 0
 OneSite = (files : List SiteFile) (site other : Site) → AreSitePaths (map path_of files) → IsAccepted files site
     → IsAccepted files other → site ≡ other
 
+-- ---- a request
+
+-- What a request to a host of its own comes to: an answer, or a stop that is not for want of memory.
+abbrev pub IsOutcome : Rules → Job → Result Answer GetStop → Type 0
+IsOutcome rules job (Given answer) = HasAnswered rules job answer
+IsOutcome rules job (Err stop.Memory) = ⊥
+IsOutcome rules job (Err ended) = IsGetStop rules job ended
+
+-- it comes to one
+abbrev pub OneOutcome : Type 0
+OneOutcome = (rules : Rules) (job : Job) (one other : Result Answer GetStop) → IsOutcome rules job one
+    → IsOutcome rules job other → one ≡ other
+
 -- ---- what is refused
 
 -- The command did all of its work, memory ran out, or the folder, the source or the sink failed: nothing was refused.
@@ -61,14 +81,9 @@ IsNoRefusal ReadFault = Unit {0}
 IsNoRefusal WriteFault = Unit {0}
 IsNoRefusal _ = ⊥
 
--- no valid journal shows a first run that failed
+-- no valid journal to which nothing came shows a first run that failed
 abbrev pub NeverFails : Rules → Type 0
-NeverFails rules = (fail : Fail) → ¬ (HasFailed rules fail)
-
--- the journal was full, with the numbers of a valid journal in which the job, or what came of it, was too much
-abbrev pub IsFullFor : Rules → Job → Status → Type 0
-IsFullFor rules job (JournalFull entries weight) = WasTooMuch rules job entries weight
-IsFullFor rules job _ = ⊥
+NeverFails rules = (past : List Entry) (fail : Fail) → IsValidJournal rules past → ¬ (HasFailed rules past fail)
 
 -- in no valid journal that is fed with the items, or with the first of them, was what could come next too much
 abbrev pub NeverFills : Rules → List Item → Type 0
@@ -79,12 +94,11 @@ abbrev pub CheckRefusesNone : Type 0
 CheckRefusesNone = (around : Around) (site : Site) (status : Status) → TellsSite around site
     → CheckEnds around status → IsNoRefusal status
 
--- `get` refuses no request to a site whose application never fails to begin; but the journal may be full, by the rules
--- of that site and with that job
+-- `get` refuses no request that the history of one lane answers
 abbrev pub GetRefusesNone : Type 0
-GetRefusesNone = (path query : List ℕ) (around : Around) (site : Site) (status : Status) → TellsSite around site
-    → NeverFails (site_rules site) → GetEnds path query around status
-    → IsNoRefusal status ⊎ IsFullFor (site_rules site) (job_of path query) status
+GetRefusesNone = (path query : List ℕ) (around : Around) (site : Site) (answer : Answer) (status : Status)
+    → TellsSite around site → HasAnswered (site_rules site) (job_of path query) answer
+    → GetEnds path query around status → IsNoRefusal status
 
 -- `replay` refuses no recording for a site whose application never fails to begin with its seed, where no journal that
 -- its items feed comes to be full
@@ -96,10 +110,11 @@ ReplayRefusesNone = (journal : Bool) (around : Around) (site : Site) (recording 
 -- `gen` refuses nothing, where its one page is a site whose application never fails to begin, and no journal that its
 -- requests feed comes to be full
 abbrev pub GenRefusesNone : Type 0
-GenRefusesNone = (count : ℕ) (journal : Bool) (around : Around) (site : Site) (status : Status)
-    → IsAccepted count_files site → NeverFails (rules_for site (generated count))
-    → NeverFills (rules_for site (generated count)) (generated count).items → GenEnds count journal around status
-    → IsNoRefusal status
+GenRefusesNone = (count : ℕ) (journal : Bool) (around : Around) (status : Status)
+    → ((site : Site) → IsAccepted count_files site → NeverFails (rules_for site (generated count)))
+    → ((site : Site) → IsAccepted count_files site
+    → NeverFills (rules_for site (generated count)) (generated count).items)
+    → GenEnds count journal around status → IsNoRefusal status
 
 -- ---- what is written
 
@@ -118,4 +133,10 @@ abbrev pub OneReplayOutput : Type 0
 OneReplayOutput = (journal : Bool) (files : List SiteFile) (bytes : List ℕ) (around other : Around)
     → TellsFiles around files → TellsFiles other files → around.source.before ≡ Some bytes
     → other.source.before ≡ Some bytes → ReplaysWell journal around → ReplaysWell journal other
+    → AreAddedAlike around.sink other.sink
+
+-- two answers of `get` to one request for the same files leave the same
+abbrev pub OneGetOutput : Type 0
+OneGetOutput = (path query : List ℕ) (files : List SiteFile) (around other : Around) → TellsFiles around files
+    → TellsFiles other files → GetEnds path query around Ok → GetEnds path query other Ok
     → AreAddedAlike around.sink other.sink

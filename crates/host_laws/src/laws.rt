@@ -1,7 +1,7 @@
 //! Laws of the host's commands. The functions do nothing but call up the laws that theirs stand on: their contracts are
 //! the laws.
 ghost use Rattle.host_laws.specs.Laws.{CheckRefusesNone, GenRefusesNone, GetRefusesNone};
-ghost use Rattle.host_laws.specs.Laws.{OneReplayOutput, OneSite, ReplayRefusesNone};
+ghost use Rattle.host_laws.specs.Laws.{OneGetOutput, OneOutcome, OneReplayOutput, OneSite, ReplayRefusesNone};
 
 use asp_record::{one_recording, recording_not_refused};
 use page_read::one_outcome;
@@ -21,6 +21,11 @@ pub fn one_site()
     one_program();
 }
 
+/// A request to a host of its own comes to one outcome: its answer, or why it has none.
+pub fn one_request_outcome()
+    ensures { OneOutcome }
+{}
+
 /// A command refuses nothing without a cause: where its folder is a site and what it is given is fit, it does all of
 /// its work, unless memory runs out or the outside fails.
 pub fn nothing_refused_without_cause()
@@ -30,6 +35,7 @@ pub fn nothing_refused_without_cause()
     ensures generated { GenRefusesNone }
 {
     one_site();
+    one_request_outcome();
     site_or_fault();
     one_recording();
     recording_not_refused();
@@ -42,4 +48,12 @@ pub fn one_replay_output()
     one_site();
     one_recording();
     one_replay();
+}
+
+/// What `get` writes is a function of the files that it reads, of its path and of its query.
+pub fn one_get_output()
+    ensures { OneGetOutput }
+{
+    one_site();
+    one_request_outcome();
 }

@@ -1,6 +1,8 @@
-//! Laws of the host's commands: what is refused has a cause, and what a replay writes is a function of what it reads.
+//! Laws of the host's commands: what is refused has a cause, and what is written is a function of what is read.
 #![tactic(auto)]
 
 mod laws;
 
-pub use laws::{nothing_refused_without_cause, one_replay_output, one_site};
+pub use laws::{
+    nothing_refused_without_cause, one_get_output, one_replay_output, one_request_outcome, one_site,
+};

@@ -4,3 +4,11 @@ pub mod OneTurn
 pub mod OneHistory
 pub mod OneOutput
 pub mod OneReplay
+pub mod LineTexts
+pub mod SameLines
+pub mod Records
+pub mod Numbered
+pub mod SameOutput
+pub mod Rebuilt
+pub mod SameJobs
+pub mod OneJournal

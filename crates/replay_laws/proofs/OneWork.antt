@@ -12,7 +12,7 @@ use Rattle.asp_job.specs.Turns.{IsNextRun}
 use Rattle.asp_replay.specs.Sequential.{HasInHand, IsNextStep, Works}
 
 -- the least run that may begin is one
-one_next_run : (past : List Entry) (run other : ℕ) → IsNextRun past run → IsNextRun past other → run ≡ other
+pub one_next_run : (past : List Entry) (run other : ℕ) → IsNextRun past run → IsNextRun past other → run ≡ other
 one_next_run past run other is also = elim (cases_lt run other) [
   | inl below ↦ absurd (let both : true ≡ false = sym is.begins ∙ also.least run below in cc)
   | inr above ↦ elim (cases_lt other run) [

@@ -1,12 +1,16 @@
 -- Laws of replays by one lane.
-use Rattle.std.specs.Prelude.{◌≡◌, ℕ, Bool, List}
+use Rattle.std.specs.Prelude.{◌≡◌, ℕ, ◌^◌, ◌<◌, Bool, true, List, ◌∷◌, ◌++◌, length}
 use Rattle.asp_job.specs.declared.entry.Entry.{Entry}
+use Rattle.asp_job.specs.Journal.{IsValidJournal}
 use Rattle.asp_job.specs.Rules.{Rules}
 use Rattle.asp_record.specs.declared.recording.Item.{Item}
 use Rattle.asp_record.specs.declared.recording.Recording.{Recording}
+use Rattle.asp_record.specs.Journal.{AreLines, HasNoLine}
 use Rattle.asp_record.specs.Recorded.{Stands}
+use Rattle.asp_replay.specs.Feeding.{IsFed}
 use Rattle.asp_replay.specs.Sequential.{IsSequential}
-use Rattle.asp_replay.specs.Shown.{IsOutput}
+use Rattle.asp_replay.specs.Shown.{IsOutput, lines_of}
+use Rattle.replay_laws.specs.Written.{lines_in, printed}
 
 -- two journals that are the history of one lane for the same items are the same
 abbrev pub OneHistory : Type 0
@@ -41,3 +45,35 @@ pub record IsReplayOfBytes (rules : List ℕ → Rules) (from : List ℕ) (journ
 abbrev pub OneReplayOfBytes : Type 0
 OneReplayOfBytes = (rules : List ℕ → Rules) (from : List ℕ) (journal : Bool) (bytes other : List ℕ)
     → IsReplayOfBytes rules from journal bytes → IsReplayOfBytes rules from journal other → bytes ≡ other
+
+-- ---- journals by what is written of them
+
+-- no line begins with a byte behind those of the upper-case letters
+abbrev pub NoLineBegins : Type 0
+NoLineBegins = (first : ℕ) (rest : List ℕ) → 90 < first → HasNoLine (first ∷ rest)
+
+-- Of two journals the same bytes were written line by line, and behind the lines what begins no line. All lines are
+-- such as may stand in a journal. Then the lines are the same, and so is what stands behind them.
+abbrev pub OneLines : Type 0
+OneLines = (past other : List Entry) (rest last : List ℕ) → AreLines (lines_in past) → AreLines (lines_in other)
+    → HasNoLine rest → HasNoLine last → lines_of true past ++ rest ≡ lines_of true other ++ last
+    → (lines_in past ≡ lines_in other) × (rest ≡ last)
+
+-- a valid journal to which these items came, and then the Stop
+pub record IsJournalOf (rules : Rules) (items : List Item) (past : List Entry) : Type 0 where
+  pub valid : IsValidJournal rules past
+  pub fed : IsFed items past
+
+-- two journals to which the same items came, by whatever rules, and which have the same lines, are the same but for the
+-- entries that have none
+abbrev pub OneJournalOfLines : Type 0
+OneJournalOfLines = (rules other_rules : Rules) (items : List Item) (past other : List Entry)
+    → IsJournalOf rules items past → IsJournalOf other_rules items other → lines_in past ≡ lines_in other
+    → printed past ≡ printed other
+
+-- so are two to which the same items came, and of which a replay wrote the same bytes with their lines
+abbrev pub OneJournal : Type 0
+OneJournal = (rules other_rules : Rules) (items : List Item) (past other : List Entry) (bytes : List ℕ)
+    → IsJournalOf rules items past → IsJournalOf other_rules items other
+    → AreLines (lines_in past) → AreLines (lines_in other) → length bytes < 2 ^ 64
+    → IsOutput rules past true bytes → IsOutput other_rules other true bytes → printed past ≡ printed other

@@ -1,5 +1,6 @@
 //! Laws of replays. The functions do nothing but call up the laws that theirs stand on: their contracts are the laws.
-ghost use Rattle.replay_laws.specs.Laws.{OneHistory, OneOutput, OneReplay, OneReplayOfBytes};
+ghost use Rattle.replay_laws.specs.Laws.{NoLineBegins, OneHistory, OneJournal, OneJournalOfLines, OneLines, OneOutput};
+ghost use Rattle.replay_laws.specs.Laws.{OneReplay, OneReplayOfBytes};
 
 use asp_record::one_recording;
 use http_front::one_front;
@@ -24,4 +25,17 @@ pub fn one_replay()
 {
     one_front();
     one_recording();
+}
+
+/// The items and the lines of a journal determine it, but for the entries that have no line. So do the items and the
+/// bytes that a replay wrote with the lines.
+pub fn one_journal()
+    ensures begins { NoLineBegins }
+    ensures lines { OneLines }
+    ensures journal { OneJournalOfLines }
+    ensures replayed { OneJournal }
+{
+    one_front();
+    asp_record::one_journal();
+    asp_record::journal_not_refused();
 }

@@ -1,6 +1,6 @@
-//! Laws of replays: a recording has one history of one lane, and one output.
+//! Laws of replays: a recording has one history of one lane, and one output, which tells the journal.
 #![tactic(auto)]
 
 mod laws;
 
-pub use laws::{one_history, one_output, one_replay};
+pub use laws::{one_history, one_journal, one_output, one_replay};

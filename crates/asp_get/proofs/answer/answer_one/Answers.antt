@@ -1,5 +1,5 @@
 use Rattle.std.proofs.Common.{IfErr, IfOk, subst}
-use Rattle.asp_get.proofs.Stopped.{rules_here}
+use Rattle.asp_get.proofs.Growing.{rules_here}
 use Rattle.asp_get.proofs.answer.answer_one.Goals as goal
 use Rattle.asp_get.specs.Answered.{HasAnswered, IsGetStop}
 

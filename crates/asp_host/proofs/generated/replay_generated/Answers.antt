@@ -2,29 +2,23 @@ use Rattle.std.proofs.Common.{sym, subst}
 use Rattle.asp_host.specs.declared.status.Status.{Status}
 use Rattle.asp_host.specs.Around.{Change}
 use Rattle.asp_host.specs.Gen.{GenWrites}
-use Rattle.asp_host.proofs.GenEnds.{gen_done, gen_stopped, nothing_generated}
+use Rattle.asp_host.proofs.GenEnds.{gen_done, gen_stopped}
 use Rattle.asp_host.proofs.generated.replay_generated.Goals as goal
-
-pub returns-in-Err-clause-writes : goal.returns-in-Err-clause-writes
-returns-in-Err-clause-writes g c =
-    let held = g.K.Sink.held c.args.sink.now in
-    subst (λ (status : Status). GenWrites c.args.count c.args.journal (record { before = held; after = held }) status)
-    (sym c.from.ensures)
-    (nothing_generated c.args.count c.args.journal held c.in-Err.stop c.in-Err.ensures.err)
 
 pub write_generated-requires : goal.write_generated-requires
 write_generated-requires g c =
-    record { sound = rw c.in-Ok-generate.ensures (c.generated_sound.ensures c.args.count c.requires) }
+    record { sound = rw c.in-Ok.ensures (c.generated_sound.ensures c.args.count c.requires) }
 
 pub returns-in-Ok-write_generated-clause-writes : goal.returns-in-Ok-write_generated-clause-writes
 returns-in-Ok-write_generated-clause-writes g c =
-    gen_done c.args.count c.args.journal c.in-Ok.site c.in-Ok-generate.recording
+    gen_done c.args.count c.args.journal c.in-Ok-count_site.site c.in-Ok.made
     (record { before = g.K.Sink.held c.args.sink.now; after = g.K.Sink.held c.write_generated.new.sink })
-    c.in-Ok.ensures.ok c.in-Ok-generate.ensures c.in-Ok-write_generated.ensures.ok
+    c.in-Ok.ensures c.in-Ok-count_site.ensures c.in-Ok-write_generated.ensures.ok
 
 pub returns-clause-writes : goal.returns-clause-writes
 returns-clause-writes g c =
-    let sink : Change = record { before = g.K.Sink.held c.args.sink.now; after = g.K.Sink.held c.write_generated.new.sink } in
-    subst (λ (status : Status). GenWrites c.args.count c.args.journal sink status) (sym c.from-in-Err-write_generated.ensures)
-    (gen_stopped c.args.count c.args.journal c.in-Ok.site c.in-Ok-generate.recording sink c.in-Err-write_generated.stop
-    c.in-Ok.ensures.ok c.in-Ok-generate.ensures c.in-Err-write_generated.ensures.err)
+    let held = g.K.Sink.held in
+    let sink : Change = record { before = held c.args.sink.now; after = held c.write_generated.new.sink } in
+    subst (λ (status : Status). GenWrites c.args.count c.args.journal sink status) (sym c.from.ensures)
+    (gen_stopped c.args.count c.args.journal c.in-Ok-count_site.site c.in-Ok.made sink c.in-Err-write_generated.stop
+    c.in-Ok.ensures c.in-Ok-count_site.ensures c.in-Err-write_generated.ensures.err)

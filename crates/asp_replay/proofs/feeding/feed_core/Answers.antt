@@ -1,77 +1,47 @@
-use Rattle.std.proofs.Common.{ap, reverse, subst, sym}
+use Rattle.std.proofs.Common.{subst}
 use Rattle.asp_core.specs.Kernel.{past_of, rules_of}
-use Rattle.asp_job.specs.Runs.{unfinished}
-use Rattle.asp_lane.specs.Started.{HasStarted}
-use Rattle.asp_replay.specs.Feeding.{events_of}
+use Rattle.asp_io.specs.Faults.{HasCause}
+use Rattle.asp_replay.specs.declared.stop.FeedStop.TheVariants as stop
 use Rattle.asp_replay.specs.Underway.{AfterAll}
-use Rattle.asp_replay.proofs.FirstPlace.{core_under}
-use Rattle.asp_replay.proofs.Starting.{grown_more, host_grown, rules_grown, under_rules}
+use Rattle.asp_replay.proofs.Starting.{grown_more, host_grown}
+use Rattle.asp_replay.proofs.WindingUp.{ends_then, fault_then}
 use Rattle.asp_replay.proofs.feeding.feed_core.Goals as goal
-
-pub start-requires-clause-hand : goal.start-requires-clause-hand
-start-requires-clause-hand g c = ap (λ journal. unfinished (reverse journal)) c.requires.first
-
-pub start-requires-clause-between : goal.start-requires-clause-between
-start-requires-clause-between g c = (
-  c.args.recording.now.items,
-  c.args.recording.now.items,
-  c.args.clients.now.entries,
-  g.K.Sink.held c.args.sink.now,
-  core_under (rules_of g.R.Runner.meaning c.args.core.now) c.args.core.now c.args.clients.now.entries
-      c.args.recording.now.items (g.K.Sink.held c.args.sink.now) c.requires.first c.requires.none
-      c.requires.sound.items,
-)
-
-pub start-requires-clause-none_came : goal.start-requires-clause-none_came
-start-requires-clause-none_came g c = ap (λ journal. events_of (reverse journal)) c.requires.first
-
-pub feed_items-requires-clause-host : goal.feed_items-requires-clause-host
-feed_items-requires-clause-host g c =
-    host_grown c.args.core.now c.start.new.core c.in-Ok.ensures.grows.0 c.args.runner.now c.args.site.now
-    c.in-Ok.ensures.grows.1 c.requires.host
-
-pub feed_items-requires-clause-started : goal.feed_items-requires-clause-started
-feed_items-requires-clause-started g c =
-    let same = rules_grown g.R.Runner.meaning c.args.core.now c.start.new.core c.in-Ok.ensures.grows.0
-    c.in-Ok.ensures.grows.1 in
-    subst (λ m. HasStarted m (past_of c.start.new.core)) (sym same) c.in-Ok.ensures.started
-
-pub feed_items-requires-clause-under : goal.feed_items-requires-clause-under
-feed_items-requires-clause-under g c =
-    let meaning = g.R.Runner.meaning in
-    let items = c.args.recording.now.items in
-    let held = g.K.Sink.held c.args.sink.now in
-    let same = rules_grown meaning c.args.core.now c.start.new.core c.in-Ok.ensures.grows.0 c.in-Ok.ensures.grows.1 in
-    let first = core_under (rules_of meaning c.args.core.now) c.args.core.now c.args.clients.now.entries items held
-    c.requires.first c.requires.none c.requires.sound.items in (
-      held,
-      under_rules (rules_of meaning c.args.core.now) (rules_of meaning c.start.new.core) items items
-          (past_of c.start.new.core) c.args.clients.now.entries held (g.K.Sink.held c.start.new.sink) (sym same)
-          (c.in-Ok.ensures.after items items c.args.clients.now.entries held first),
-    )
-
-pub returns-in-Ok-clause-grows : goal.returns-in-Ok-clause-grows
-returns-in-Ok-clause-grows g c =
-    grown_more c.args.core.now c.start.new.core c.feed_items.new.core c.in-Ok.ensures.grows c.feed_items.ensures.grows
 
 pub returns-in-Ok-clause-after : goal.returns-in-Ok-clause-after
 returns-in-Ok-clause-after g c =
-    let meaning = g.R.Runner.meaning in
-    let items = c.args.recording.now.items in
-    let held = g.K.Sink.held c.args.sink.now in
-    let same = rules_grown meaning c.args.core.now c.start.new.core c.in-Ok.ensures.grows.0 c.in-Ok.ensures.grows.1 in
-    let first = core_under (rules_of meaning c.args.core.now) c.args.core.now c.args.clients.now.entries items held
-    c.requires.first c.requires.none c.requires.sound.items in
-    let now = under_rules (rules_of meaning c.args.core.now) (rules_of meaning c.start.new.core) items items
-    (past_of c.start.new.core) c.args.clients.now.entries held (g.K.Sink.held c.start.new.sink) (sym same)
-    (c.in-Ok.ensures.after items items c.args.clients.now.entries held first) in
-    subst (λ m. AfterAll c.feed_items.result m items (past_of c.feed_items.new.core) held
-    (g.K.Sink.held c.feed_items.new.sink)) same (c.feed_items.ensures.after held now)
+    subst (λ fed. AfterAll fed (rules_of g.R.Runner.meaning c.args.core.now) c.args.recording.now.items
+    (past_of c.feed_host-hand.new.core) (g.K.Sink.held c.args.sink.now) (g.K.Sink.held c.feed_host-hand.new.sink))
+    c.in-Ok.is c.feed_host-hand.ensures.after
+
+pub returns-in-Ok-clause-cause : goal.returns-in-Ok-clause-cause
+returns-in-Ok-clause-cause g c =
+    subst (λ fed. HasCause stop.WriteFault (g.K.Sink.faults c.args.sink.now)
+    (g.K.Sink.faults c.feed_host-hand.new.sink) fed) c.in-Ok.is c.feed_host-hand.ensures.cause
+
+pub wind_up-requires-clause-host : goal.wind_up-requires-clause-host
+wind_up-requires-clause-host g c =
+    host_grown c.args.core.now c.feed_host-hand.new.core c.feed_host-hand.ensures.grows.0 c.args.runner.now
+    c.args.site.now c.feed_host-hand.ensures.grows.1 c.requires.host
+
+pub returns-in-Err-clause-grows : goal.returns-in-Err-clause-grows
+returns-in-Err-clause-grows g c =
+    grown_more c.args.core.now c.feed_host-hand.new.core c.wind_up.new.core c.feed_host-hand.ensures.grows
+    (c.wind_up.ensures.grows.entries, c.wind_up.ensures.grows.new_is)
 
 pub returns-in-Err-clause-after : goal.returns-in-Err-clause-after
 returns-in-Err-clause-after g c =
+    let m = rules_of g.R.Runner.meaning c.args.core.now in
     let items = c.args.recording.now.items in
-    let held = g.K.Sink.held c.args.sink.now in
-    c.in-Err.ensures.after items items c.args.clients.now.entries held
-    (core_under (rules_of g.R.Runner.meaning c.args.core.now) c.args.core.now c.args.clients.now.entries items held
-    c.requires.first c.requires.none c.requires.sound.items)
+    let before = g.K.Sink.held c.args.sink.now in
+    let after = g.K.Sink.held c.feed_host-hand.new.sink in
+    let ends = subst (λ fed. AfterAll fed m items (past_of c.feed_host-hand.new.core) before after) c.in-Err.is
+    c.feed_host-hand.ensures.after in
+    ends_then m items c.feed_host-hand.new.core c.wind_up.new.core c.in-Err.stop c.wind_up.result before after
+    c.wind_up.ensures.grows c.wind_up.ensures.stop c.wind_up.ensures.failed ends
+
+pub returns-in-Err-clause-cause : goal.returns-in-Err-clause-cause
+returns-in-Err-clause-cause g c =
+    let old = g.K.Sink.faults c.args.sink.now in
+    let new = g.K.Sink.faults c.feed_host-hand.new.sink in
+    fault_then old new c.in-Err.stop c.wind_up.result c.wind_up.ensures.stop
+    (subst (λ fed. HasCause stop.WriteFault old new fed) c.in-Err.is c.feed_host-hand.ensures.cause)

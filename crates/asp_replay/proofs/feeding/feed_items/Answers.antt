@@ -2,7 +2,7 @@ use Rattle.std.proofs.Common.{◌≡◌, [], ap, arith, is_some, subst, sym, tru
 use Rattle.asp_core.specs.Kernel.{past_of, rules_of}
 use Rattle.asp_lane.proofs.Started.{started_grown}
 use Rattle.asp_replay.specs.declared.stop.FeedStop.TheVariants as stop
-use Rattle.asp_replay.specs.Underway.{EndsSo, IsUnderWay, is_over}
+use Rattle.asp_replay.specs.Underway.{AfterTurn, EndsSo, IsUnderWay, is_over}
 use Rattle.asp_replay.proofs.Grown.{ends_here}
 use Rattle.asp_replay.proofs.Starting.{grown_more, grown_none, host_grown, rules_grown, under_rules}
 use Rattle.asp_replay.proofs.WholeFeed.{kind_grown, over_fed}
@@ -33,23 +33,23 @@ returns-then-is_over-clause-after g c = λ before is.
     c.loop.clients.entries c.loop.items.now before (g.K.Sink.held c.loop.sink) over started
     (c.loop.invariant.under before is)
 
-pub turn-requires-clause-host : goal.turn-requires-clause-host
-turn-requires-clause-host g c =
+pub turn-next-requires-clause-host : goal.turn-next-requires-clause-host
+turn-next-requires-clause-host g c =
     host_grown c.args.core.now c.loop.core c.loop.invariant.grows.0 c.args.runner.now c.args.site.now
     c.loop.invariant.grows.1 c.requires.host
 
-pub turn-requires-clause-hand : goal.turn-requires-clause-hand
-turn-requires-clause-hand g c = c.loop.invariant.fits
+pub turn-next-requires-clause-hand : goal.turn-next-requires-clause-hand
+turn-next-requires-clause-hand g c = c.loop.invariant.fits
 
-pub turn-requires-clause-started : goal.turn-requires-clause-started
-turn-requires-clause-started g c = c.loop.invariant.started
+pub turn-next-requires-clause-started : goal.turn-next-requires-clause-started
+turn-next-requires-clause-started g c = c.loop.invariant.started
 
-pub turn-requires-clause-going : goal.turn-requires-clause-going
-turn-requires-clause-going g c =
+pub turn-next-requires-clause-going : goal.turn-next-requires-clause-going
+turn-next-requires-clause-going g c =
     let told = c.is_over.ensures in let test = c.if-is_over.false in cc
 
-pub turn-requires-clause-under : goal.turn-requires-clause-under
-turn-requires-clause-under g c =
+pub turn-next-requires-clause-under : goal.turn-next-requires-clause-under
+turn-next-requires-clause-under g c =
     let meaning = g.R.Runner.meaning in
     let same = rules_grown meaning c.args.core.now c.loop.core c.loop.invariant.grows.0 c.loop.invariant.grows.1 in
     let is = c.loop.invariant.under c.requires.under.0 c.requires.under.1 in (
@@ -62,7 +62,7 @@ turn-requires-clause-under g c =
 
 pub returns-in-Err-clause-grows : goal.returns-in-Err-clause-grows
 returns-in-Err-clause-grows g c =
-    grown_more c.args.core.now c.loop.core c.turn.new.core c.loop.invariant.grows c.in-Err.ensures.grows
+    grown_more c.args.core.now c.loop.core c.turn-next.new.core c.loop.invariant.grows c.turn-next.ensures.grows
 
 pub returns-in-Err-clause-after : goal.returns-in-Err-clause-after
 returns-in-Err-clause-after g c = λ before is.
@@ -71,26 +71,31 @@ returns-in-Err-clause-after g c = λ before is.
     let now = under_rules (rules_of meaning c.args.core.now) (rules_of meaning c.loop.core)
     c.args.recording.now.items c.loop.items.now (past_of c.loop.core) c.loop.clients.entries before
     (g.K.Sink.held c.loop.sink) (sym same) (c.loop.invariant.under before is) in
-    subst (λ m. EndsSo m c.args.recording.now.items (past_of c.turn.new.core) c.in-Err.stop before
-    (g.K.Sink.held c.turn.new.sink)) same (c.in-Err.ensures.after c.args.recording.now.items before now)
+    let ends = subst (λ came. AfterTurn came (rules_of meaning c.loop.core) c.args.recording.now.items
+    (past_of c.turn-next.new.core) c.turn-next.new.clients.entries before (g.K.Sink.held c.turn-next.new.sink))
+    c.in-Err.is (c.turn-next.ensures.after c.args.recording.now.items before now) in
+    subst (λ m. EndsSo m c.args.recording.now.items (past_of c.turn-next.new.core) c.in-Err.stop before
+    (g.K.Sink.held c.turn-next.new.sink)) same ends
 
 pub loop-preserved : goal.loop-preserved
 loop-preserved g c =
     let meaning = g.R.Runner.meaning in
     let same = rules_grown meaning c.args.core.now c.loop.core c.loop.invariant.grows.0 c.loop.invariant.grows.1 in
-    let cause = c.in-Ok.ensures.cause in
+    let cause = c.turn-next.ensures.cause in
     let later = c.loop.invariant.later in
     record {
-      grows = grown_more c.args.core.now c.loop.core c.turn.new.core c.loop.invariant.grows c.in-Ok.ensures.grows;
-      fits = c.in-Ok.ensures.fits;
-      started = kind_grown c.loop.core c.turn.new.core c.in-Ok.ensures.grows c.loop.invariant.started;
+      grows = grown_more c.args.core.now c.loop.core c.turn-next.new.core c.loop.invariant.grows c.turn-next.ensures.grows;
+      fits = c.turn-next.ensures.fits;
+      started = kind_grown c.loop.core c.turn-next.new.core c.turn-next.ensures.grows c.loop.invariant.started;
       under = λ before is.
           let now = under_rules (rules_of meaning c.args.core.now) (rules_of meaning c.loop.core)
           c.args.recording.now.items c.loop.items.now (past_of c.loop.core) c.loop.clients.entries before
           (g.K.Sink.held c.loop.sink) (sym same) (c.loop.invariant.under before is) in
           under_rules (rules_of meaning c.loop.core) (rules_of meaning c.args.core.now) c.args.recording.now.items
-          c.in-Ok.left.now (past_of c.turn.new.core) c.turn.new.clients.entries before (g.K.Sink.held c.turn.new.sink)
-          same (c.in-Ok.ensures.after c.args.recording.now.items before now);
+          c.in-Ok.left.now (past_of c.turn-next.new.core) c.turn-next.new.clients.entries before
+          (g.K.Sink.held c.turn-next.new.sink) same (subst (λ came. AfterTurn came (rules_of meaning c.loop.core) c.args.recording.now.items
+          (past_of c.turn-next.new.core) c.turn-next.new.clients.entries before (g.K.Sink.held c.turn-next.new.sink))
+          c.in-Ok.is (c.turn-next.ensures.after c.args.recording.now.items before now));
       later = omega (arith, later, cause.later);
       within = λ below. cause.within (c.loop.invariant.within below);
     }

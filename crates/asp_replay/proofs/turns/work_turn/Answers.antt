@@ -1,9 +1,9 @@
 use Rattle.std.proofs.Common.{◌≡◌, Some, sym, ◌∙◌}
 use Rattle.asp_core.specs.Kernel.{past_of, rules_of}
-use Rattle.asp_lane.specs.Turns.{Fits, run_in}
+use Rattle.asp_lane.specs.Turns.{run_in}
 use Rattle.asp_replay.specs.Underway.{turn_stop}
 use Rattle.asp_replay.proofs.Stopped.{stop_events, work_ends, work_events}
-use Rattle.asp_replay.proofs.Turning.{after_back, fits_back, handed_fits, work_adds, work_after, work_lanes}
+use Rattle.asp_replay.proofs.Turning.{handed_fits, work_adds, work_after, work_lanes}
 use Rattle.asp_replay.proofs.turns.work_turn.Goals as goal
 
 pub returns-in-Some-clause-after : goal.returns-in-Some-clause-after
@@ -32,13 +32,10 @@ hand_out-handed-requires g c =
 
 pub returns-clause-fits : goal.returns-clause-fits
 returns-clause-fits g c =
-    let fits = handed_fits g.R.Runner.meaning g.R.Runner.stands c.hand_out-handed.result c.work-hand.new.core
+    handed_fits g.R.Runner.meaning g.R.Runner.stands c.hand_out-handed.result c.work-hand.new.core
     c.hand_out-handed.new.core (g.K.Sink.held c.args.sink.now) (g.K.Sink.held c.hand_out-handed.new.sink)
     (run_in c.work-hand.result.0) c.journal-2.ensures.valid.entries c.hand_out-handed.ensures.out
-    c.work-hand.ensures.fits in
-    fits_back c.hand_out-handed.result c.work-hand.result.0 c.hand_back.result
-    (λ hand. Fits g.R.Runner.meaning g.R.Runner.stands c.hand_out-handed.new.core 0 (run_in hand)) c.hand_back.ensures
-    fits
+    c.work-hand.ensures.fits
 
 pub returns-clause-after : goal.returns-clause-after
 returns-clause-after g c = λ items left clients before is busy.
@@ -46,12 +43,10 @@ returns-clause-after g c = λ items left clients before is busy.
     let m = rules_of g.R.Runner.meaning c.args.core.now in
     let adds = work_adds g.R.Runner.meaning m (past_of c.args.core.now) worked.entries c.work-hand.result.1
     (λ ended e. c.in_default.not-Some ended (c.turn_stop.ensures ∙ e)) worked.works in
-    after_back m items left (past_of c.hand_out-handed.new.core) clients before
-    (g.K.Sink.held c.hand_out-handed.new.sink) c.hand_out-handed.result c.work-hand.result.0 c.hand_back.result
-    c.hand_back.ensures (work_after g.R.Runner.meaning c.hand_out-handed.result c.args.core.now c.work-hand.new.core
+    work_after g.R.Runner.meaning c.hand_out-handed.result c.args.core.now c.work-hand.new.core
     c.hand_out-handed.new.core worked.entries items left clients before (g.K.Sink.held c.args.sink.now)
     (g.K.Sink.held c.hand_out-handed.new.sink) worked.new_is adds c.journal.ensures.valid.entries
-    c.journal.ensures.answered c.hand_out-handed.ensures.only c.hand_out-handed.ensures.out is busy)
+    c.journal.ensures.answered c.hand_out-handed.ensures.only c.hand_out-handed.ensures.out is busy
 
 pub returns-clause-quiet : goal.returns-clause-quiet
 returns-clause-quiet g c =

@@ -5,7 +5,7 @@ pub returns-clause-check : goal.returns-clause-check
 returns-clause-check c = refusals.check_refuses_none c.one_site.ensures c.site_or_fault.ensures
 
 pub returns-clause-get : goal.returns-clause-get
-returns-clause-get c = refusals.get_refuses_none c.one_site.ensures c.site_or_fault.ensures
+returns-clause-get c = refusals.get_refuses_none c.one_site.ensures c.site_or_fault.ensures c.one_request_outcome.ensures
 
 pub returns-clause-replay : goal.returns-clause-replay
 returns-clause-replay c = refusals.replay_refuses_none c.one_site.ensures c.site_or_fault.ensures
