@@ -15,6 +15,7 @@ mod NextItem
 mod Numbers
 mod OneRecording
 mod OneRequest
+mod Ranges
 mod Refusals
 mod SeedLaws
 mod SignedLaws

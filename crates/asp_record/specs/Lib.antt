@@ -4,6 +4,7 @@ pub mod Fields
 pub mod Generated
 pub mod Journal
 pub mod Lines
+pub mod Ranged
 pub mod Reading
 pub mod ReadingLines
 pub mod ReadingValues

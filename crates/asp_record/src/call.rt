@@ -1,7 +1,11 @@
 //! Calls of the Application object and their replies, as a journal writes them.
-ghost use Rattle.std.specs.Prelude.{◌++◌};
+ghost use Rattle.std.specs.Prelude.{◌++◌, IsTrue};
 ghost use Rattle.std.specs.Fmt.{signed_decimal};
+ghost use Rattle.std.specs.List.{list_all};
+ghost use Rattle.std.specs.Result.{OnOk};
+ghost use lib.Utf8.{scalars};
 ghost use Rattle.vb_value.specs.Outcome.{Adds};
+ghost use Rattle.asp_record.specs.Journal as journal;
 ghost use Rattle.asp_record.specs.Lines as lines;
 ghost use Rattle.asp_record.specs.Values as spec;
 
@@ -11,7 +15,8 @@ use vb_value::{AppCall, AppReply, Bytes, Memory, Text};
 
 /// Adds a word, a space and a name.
 fn push_named(bytes: &mut Bytes, word: &[u8], name: &Text) -> Result<(), Memory>
-    ensures { Adds result bytes.old bytes.new (word.now ++ lines.field (spec.text_form name.now)) }
+    ensures text { Adds result bytes.old bytes.new (word.now ++ lines.field (spec.text_form name.now)) }
+    ensures ranged { OnOk result (IsTrue (scalars name.now)) }
 {
     bytes.append_slice(word)?;
     bytes.append_slice(b" ")?;
@@ -20,7 +25,8 @@ fn push_named(bytes: &mut Bytes, word: &[u8], name: &Text) -> Result<(), Memory>
 
 /// Adds a word, a space and a number.
 fn push_numbered(bytes: &mut Bytes, word: &[u8], number: i32) -> Result<(), Memory>
-    ensures { Adds result bytes.old bytes.new (word.now ++ lines.field (signed_decimal number)) }
+    ensures text { Adds result bytes.old bytes.new (word.now ++ lines.field (signed_decimal number)) }
+    ensures ranged { OnOk result (IsTrue (journal.is_long number)) }
 {
     bytes.append_slice(word)?;
     bytes.append_slice(b" ")?;
@@ -29,7 +35,8 @@ fn push_numbered(bytes: &mut Bytes, word: &[u8], number: i32) -> Result<(), Memo
 
 /// Adds the text of a call.
 pub fn push_call(bytes: &mut Bytes, call: &AppCall) -> Result<(), Memory>
-    ensures { Adds result bytes.old bytes.new (spec.call_text call.now) }
+    ensures text { Adds result bytes.old bytes.new (spec.call_text call.now) }
+    ensures ranged { OnOk result (IsTrue (journal.call_ranged call.now)) }
 {
     match call {
         AppCall::Get(name) => push_named(bytes, b"get", name),
@@ -50,7 +57,8 @@ pub fn push_call(bytes: &mut Bytes, call: &AppCall) -> Result<(), Memory>
 
 /// Adds a space and names, where there are any.
 fn push_names_field(bytes: &mut Bytes, names: &[Text]) -> Result<(), Memory>
-    ensures { Adds result bytes.old bytes.new (spec.names_field names.now) }
+    ensures text { Adds result bytes.old bytes.new (spec.names_field names.now) }
+    ensures ranged { OnOk result (IsTrue (list_all scalars names.now)) }
 {
     if names.is_empty() {
         return Ok(());
@@ -61,7 +69,8 @@ fn push_names_field(bytes: &mut Bytes, names: &[Text]) -> Result<(), Memory>
 
 /// Adds the text of a reply.
 pub fn push_reply(bytes: &mut Bytes, reply: &AppReply) -> Result<(), Memory>
-    ensures { Adds result bytes.old bytes.new (spec.reply_text reply.now) }
+    ensures text { Adds result bytes.old bytes.new (spec.reply_text reply.now) }
+    ensures ranged { OnOk result (IsTrue (journal.reply_ranged reply.now)) }
 {
     match reply {
         AppReply::Value(value) => push_value(bytes, value),

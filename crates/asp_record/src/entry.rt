@@ -1,8 +1,11 @@
 //! The entries of a journal, line by line.
-ghost use Rattle.std.specs.Prelude.{◌≡◌, ◌++◌};
+ghost use Rattle.std.specs.Prelude.{◌≡◌, ◌++◌, IsTrue};
+ghost use Rattle.std.specs.Result.{OnOk};
 ghost use Rattle.vb_value.specs.Outcome.{Adds, Gives};
 ghost use Rattle.asp_record.specs.Entries as spec;
+ghost use Rattle.asp_record.specs.Journal as journal;
 ghost use Rattle.asp_record.specs.Lines as lines;
+ghost use Rattle.asp_record.specs.Ranged.{IsRanged, IsRangedWhat};
 
 use crate::call::{push_call, push_reply};
 use crate::fields::{push_field, push_number};
@@ -59,7 +62,8 @@ fn push_app(
     call: &AppCall,
     reply: &AppReply,
 ) -> Result<(), Memory>
-    ensures { Adds result bytes.old bytes.new (spec.app_text lane run call.now reply.now) }
+    ensures text { Adds result bytes.old bytes.new (spec.app_text lane run call.now reply.now) }
+    ensures ranged { OnOk result (IsTrue (journal.call_ranged call.now) × IsTrue (journal.reply_ranged reply.now)) }
 {
     push_numbered(bytes, b"P", lane, u64::from(run))?;
     bytes.append_slice(b" ")?;
@@ -78,7 +82,8 @@ fn push_two(bytes: &mut Bytes, first: u64, second: u64) -> Result<(), Memory>
 
 /// Adds what a lane did, without the end of its line.
 fn push_what(bytes: &mut Bytes, lane: u32, what: &What) -> Result<(), Memory>
-    ensures { Adds result bytes.old bytes.new (spec.what_text lane what.now) }
+    ensures text { Adds result bytes.old bytes.new (spec.what_text lane what.now) }
+    ensures ranged { OnOk result (IsRangedWhat what.now) }
 {
     match what {
         What::Queue { run, work, key } => push_queue(bytes, lane, *run, work, *key),
@@ -125,11 +130,13 @@ fn has_line(what: &What) -> bool
 
 /// The line of an entry of a journal, with its line feed. An answer that was handed out, and a halt, have none.
 pub fn entry_line(alloc: Global, entry: &Entry) -> Result<Bytes, Memory>
-    ensures { Gives result (spec.entry_text entry.now) }
+    ensures text { Gives result (spec.entry_text entry.now) }
+    ensures ranged { OnOk result (IsRanged entry.now) }
 {
+    let lane = entry.lane;
     let mut bytes = Bytes::new(alloc);
     if has_line(&entry.what) {
-        push_what(&mut bytes, entry.lane, &entry.what)?;
+        push_what(&mut bytes, lane, &entry.what)?;
         bytes.append_slice(b"\n")?;
     }
     Ok(bytes)

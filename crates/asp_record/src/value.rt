@@ -1,20 +1,37 @@
 //! Values as a journal writes them.
-ghost use Rattle.std.specs.Prelude.{◌++◌, map};
+ghost use Rattle.std.specs.Prelude.{◌++◌, IsTrue, map};
+ghost use Rattle.std.specs.Char.{encode_utf8};
 ghost use Rattle.std.specs.Fmt.{signed_decimal};
+ghost use Rattle.std.specs.List.{list_all};
+ghost use Rattle.std.specs.Result.{OnOk};
+ghost use lib.Utf8.{scalar, scalars};
 ghost use Rattle.vb_value.specs.Outcome.{Adds};
+ghost use Rattle.asp_record.specs.Journal as journal;
 ghost use Rattle.asp_record.specs.Lines as lines;
 ghost use Rattle.asp_record.specs.Values as spec;
 
 use crate::fields::{push_hex, push_signed};
 use vb_value::{Bytes, Memory, Text, Value};
 
+/// Adds the UTF-8 of a character.
+fn push_character(bytes: &mut Bytes, character: char) -> Result<(), Memory>
+    ensures text { Adds result bytes.old bytes.new (lines.hex (encode_utf8 character)) }
+    ensures ranged { IsTrue (scalar character) }
+{
+    let mut utf8 = [0; 4];
+    push_hex(bytes, character.encode_utf8(&mut utf8).as_bytes())
+}
+
 /// Adds `s` and the UTF-8 of a text.
 pub fn push_text(bytes: &mut Bytes, text: &Text) -> Result<(), Memory>
-    ensures { Adds result bytes.old bytes.new (spec.text_form text.now) }
+    ensures text { Adds result bytes.old bytes.new (spec.text_form text.now) }
+    ensures ranged { OnOk result (IsTrue (scalars text.now)) }
 {
-    let utf8 = text.to_utf8(*bytes.allocator())?;
     bytes.append_slice(b"s")?;
-    push_hex(bytes, utf8.as_slice())
+    for character in text.as_slice() {
+        push_character(bytes, *character)?;
+    }
+    Ok(())
 }
 
 /// Adds the letter of a number's subtype and the number.
@@ -36,13 +53,15 @@ fn push_mark(bytes: &mut Bytes, has_more: bool) -> Result<(), Memory>
 }
 
 fn push_bound(bytes: &mut Bytes, bound: &i32) -> Result<(), Memory>
-    ensures { Adds result bytes.old bytes.new (signed_decimal bound.now) }
+    ensures text { Adds result bytes.old bytes.new (signed_decimal bound.now) }
+    ensures ranged { OnOk result (IsTrue (journal.is_long bound.now)) }
 {
     push_signed(bytes, i64::from(*bound))
 }
 
 fn push_bounds(bytes: &mut Bytes, bounds: &[i32]) -> Result<(), Memory>
-    ensures { Adds result bytes.old bytes.new (lines.with_commas (map signed_decimal bounds.now)) }
+    ensures text { Adds result bytes.old bytes.new (lines.with_commas (map signed_decimal bounds.now)) }
+    ensures ranged { OnOk result (IsTrue (list_all journal.is_long bounds.now)) }
 {
     let mut more = false;
     for bound in bounds {
@@ -55,7 +74,8 @@ fn push_bounds(bytes: &mut Bytes, bounds: &[i32]) -> Result<(), Memory>
 
 /// Adds names with `,` between them.
 pub fn push_names(bytes: &mut Bytes, names: &[Text]) -> Result<(), Memory>
-    ensures { Adds result bytes.old bytes.new (lines.with_commas (map spec.text_form names.now)) }
+    ensures text { Adds result bytes.old bytes.new (lines.with_commas (map spec.text_form names.now)) }
+    ensures ranged { OnOk result (IsTrue (list_all scalars names.now)) }
 {
     let mut more = false;
     for name in names {
@@ -88,7 +108,8 @@ fn push_bool(bytes: &mut Bytes, truth: bool) -> Result<(), Memory>
 
 /// Adds the text of a value. It recurses once for each array inside another.
 pub fn push_value(bytes: &mut Bytes, value: &Value) -> Result<(), Memory>
-    ensures { Adds result bytes.old bytes.new (spec.value_text value.now) }
+    ensures text { Adds result bytes.old bytes.new (spec.value_text value.now) }
+    ensures ranged { OnOk result (IsTrue (journal.is_ranged value.now)) }
 {
     match value {
         Value::Empty => bytes.append_slice(b"e"),

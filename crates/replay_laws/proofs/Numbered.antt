@@ -8,9 +8,9 @@ use Rattle.asp_job.specs.History.{with_lane}
 use Rattle.asp_job.specs.Output.{answer_by, unavailable_in}
 use Rattle.asp_job.specs.Rules.{Rules, TooManySessions}
 use Rattle.asp_job.specs.Runs.{job_of}
+use Rattle.asp_record.specs.EntryLines.{lines_in}
 use Rattle.asp_record.specs.Journal.{AreLines}
 use Rattle.asp_replay.specs.Shown.{Shown, shown_of, with_shown}
-use Rattle.replay_laws.specs.Written.{lines_in}
 use Rattle.replay_laws.proofs.Records.{AreNumbered}
 
 one_more : (shown : List Shown) (last : Shown) → AreNumbered shown → last.run < 2 ^ 64

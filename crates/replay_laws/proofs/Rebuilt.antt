@@ -19,7 +19,7 @@ use Rattle.asp_job.specs.Turns.{IsAdmit, IsNext, MayFollow, key_asked_by, key_fo
 use Rattle.asp_record.specs.declared.journal.Line.{Line}
 use Rattle.asp_record.specs.declared.journal.LineWhat.{LineWhat}
 use Rattle.asp_record.specs.declared.journal.LineWhat.TheVariants as what
-use Rattle.replay_laws.specs.Written.{lines_in, printed}
+use Rattle.asp_record.specs.EntryLines.{lines_in, printed}
 
 -- ---- entries without their jobs
 

@@ -13,8 +13,8 @@ use Rattle.asp_record.specs.declared.journal.Line.{Line}
 use Rattle.asp_record.specs.declared.journal.LineWhat.{LineWhat}
 use Rattle.asp_record.specs.declared.journal.LineWhat.TheVariants as what
 use Rattle.asp_record.specs.Entries.{entry_text}
+use Rattle.asp_record.specs.EntryLines.{line_in, lines_in}
 use Rattle.asp_record.specs.Journal.{AreLines, HasNoLine, line_text}
-use Rattle.replay_laws.specs.Written.{line_in, lines_in}
 use Rattle.replay_laws.proofs.LineTexts.{LinesAreOne, NoneRefused, lines_more, same_lines}
 
 -- ---- the lines of entries

@@ -5,12 +5,12 @@ use Rattle.asp_job.specs.Journal.{IsValidJournal}
 use Rattle.asp_job.specs.Rules.{Rules}
 use Rattle.asp_record.specs.declared.recording.Item.{Item}
 use Rattle.asp_record.specs.declared.recording.Recording.{Recording}
+use Rattle.asp_record.specs.EntryLines.{lines_in, printed}
 use Rattle.asp_record.specs.Journal.{AreLines, HasNoLine}
 use Rattle.asp_record.specs.Recorded.{Stands}
 use Rattle.asp_replay.specs.Feeding.{IsFed}
 use Rattle.asp_replay.specs.Sequential.{IsSequential}
 use Rattle.asp_replay.specs.Shown.{IsOutput, lines_of}
-use Rattle.replay_laws.specs.Written.{lines_in, printed}
 
 -- two journals that are the history of one lane for the same items are the same
 abbrev pub OneHistory : Type 0
