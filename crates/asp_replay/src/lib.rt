@@ -6,6 +6,7 @@ mod coming;
 mod feeding;
 mod handing;
 mod job;
+mod laws;
 mod stop;
 mod turns;
 mod winding_up;
@@ -13,5 +14,6 @@ mod working;
 mod writing;
 
 pub use feeding::feed;
+pub use laws::journals_have_lines;
 pub use stop::FeedStop;
 pub use writing::{write_done, write_lines};

@@ -3,9 +3,11 @@
 
 ghost use Rattle.std.specs.Prelude.{◌≡◌, IfOk};
 ghost use Rattle.std.specs.List.{flat_map};
+ghost use Rattle.std.specs.Result.{OnOk};
 ghost use Rattle.std.specs.String.{string_bytes};
 ghost use Rattle.asp_io.specs.Faults.{HasCause};
 ghost use Rattle.asp_record.specs.Entries.{entry_text};
+ghost use Rattle.asp_record.specs.Ranged.{AreRanged};
 ghost use Rattle.asp_replay.specs.Shown as spec;
 ghost use Rattle.asp_replay.specs.Underway as way;
 
@@ -67,6 +69,7 @@ pub fn write_record<K: Sink>(
 pub fn write_lines<K: Sink>(alloc: Global, sink: &mut K, journal: &[Entry]) -> Result<(), FeedStop>
     ensures wrote { way.WritesText (flat_map entry_text journal.now) result (K.held sink.old) (K.held sink.new) }
     ensures cause { HasCause FeedStop.WriteFault (K.faults sink.old) (K.faults sink.new) result }
+    ensures ranged { OnOk result (AreRanged journal.now) }
 {
     for entry in journal {
         let line = entry_line(alloc, entry)?;

@@ -6,6 +6,7 @@ use Rattle.asp_io.specs.Sink.{with_bytes}
 use Rattle.asp_record.specs.Entries.{entry_text}
 use Rattle.asp_replay.proofs.Pieces.{part_all, part_longer, part_more, stopped_part, stopped_text, texts_more}
 use Rattle.asp_replay.proofs.Pieces.{texts_split, wrote_more}
+use Rattle.asp_replay.proofs.Ranged.{ranged_more}
 use Rattle.asp_replay.proofs.writing.write_lines.Goals as goal
 
 pub returns-in_err-line-clause-wrote : goal.returns-in_err-line-clause-wrote
@@ -34,7 +35,7 @@ returns-in_err-write_piece-clause-wrote g c =
     let more = flat_map entry_text (drop (at + 1) journal) in
     let longer = part_longer before new (flat_map entry_text (take at journal) ++ line) more part in
     let is : line ≡ entry_text (get_or journal at c.entry-item.result) =
-    c.as_slice.ensures ∙ c.in_ok-line.ensures ∙ ap entry_text c.entry-item.is in
+    c.as_slice.ensures ∙ c.in_ok-line.ensures.text ∙ ap entry_text c.entry-item.is in
     let text = ap (λ text. (flat_map entry_text (take at journal) ++ text) ++ more) is
     ∙ ap (λ text. text ++ more) (sym (texts_more entry_text journal at c.entry-item.result c.loop-entry-test.true))
     ∙ texts_split entry_text journal (at + 1) in
@@ -53,7 +54,7 @@ loop-entry-preserved g c =
     let new = g.K.Sink.held c.write_piece.new.sink in
     let line = c.as_slice.result.now in
     let is : line ≡ entry_text (get_or journal at c.entry-item.result) =
-    c.as_slice.ensures ∙ c.in_ok-line.ensures ∙ ap entry_text c.entry-item.is in
+    c.as_slice.ensures ∙ c.in_ok-line.ensures.text ∙ ap entry_text c.entry-item.is in
     let wrote = wrote_more before old new (flat_map entry_text (take at journal)) line c.loop-entry.invariant.0
     c.in_ok-write_piece.ensures.wrote in
     let text = ap (λ text. flat_map entry_text (take at journal) ++ text) is
@@ -61,4 +62,6 @@ loop-entry-preserved g c =
       wrote ∙ ap (with_bytes before) text,
       omega (arith, cause.later),
       λ below. cause.within (c.loop-entry.invariant.2 below),
+      ranged_more journal at c.entry-item.result c.entry-item.is c.loop-entry-test.true c.loop-entry.invariant.3
+          c.in_ok-line.ensures.ranged,
     )
