@@ -111,7 +111,7 @@ kept_refused m seed past table count held answers lane job kept asked small need
           kept.answers_are
           ∙ ap (with_answer _ (drawn past + 1)) (refused_answer m seed job.work);
       answered = (tt, kept.answered);
-      small = (small, kept.small);
+      formed = (small, kept.formed);
       valid = kept.valid;
     }
 
@@ -141,7 +141,7 @@ kept_admitted m seed past table count held answers lane job kept asked small liv
       held_is = kept.held_is;
       answers_are = kept.answers_are;
       answered = (tt, kept.answered);
-      small = (small, kept.small);
+      formed = (small, kept.formed);
       valid = place_valid table fresh kept.valid;
     }
 

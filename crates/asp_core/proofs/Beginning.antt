@@ -107,7 +107,7 @@ can_open m past table count answers capacity run number can is =
     (valid_at table (key_of past run) can.kept.valid) (can_count m past table count answers capacity can) in
     record {
       fresh = fresh_key m past can.kept.account.entries run;
-      small = small_job m past can.kept.account.entries can.kept.small run;
+      small = small_job m past can.kept.account.entries can.kept.formed run;
       valid = rw (is.new_is, serial_is) valid;
     }
 
@@ -169,7 +169,7 @@ kept_begin m past table count held answers lane run kept next few going =
       held_is = kept.held_is;
       answers_are = kept.answers_are;
       answered = (tt, kept.answered);
-      small = (tt, kept.small);
+      formed = (tt, kept.formed);
       valid = kept.valid;
     }
 

@@ -12,8 +12,8 @@ use Rattle.asp_core.specs.declared.stop.EventStop.{EventStop}
 use Rattle.asp_core.specs.declared.stop.EventStop.TheVariants as event
 use Rattle.asp_core.specs.declared.run.Progress.TheVariants as progress
 use Rattle.asp_job.specs.Application.{AppState, apply, blocker_of}
-use Rattle.asp_job.specs.History.{call_entry, held_by}
-use Rattle.asp_job.specs.History.{with_lane}
+use Rattle.asp_job.specs.Calls.{IsAppCall, IsReply}
+use Rattle.asp_job.specs.History.{call_entry, held_by, with_lane}
 use Rattle.asp_job.specs.Rules.{Rules}
 use Rattle.asp_job.specs.Told.{Meaning, Told, heard}
 use Rattle.asp_job.specs.declared.answer.Answer.{Answer}
@@ -146,7 +146,7 @@ room_one journal next entry answers capacity room same =
 pub has_called : {Site State : Type 0} → (stands : Site → State → Told → ℕ → Type 0) (lane : ℕ)
     (journal mid next : List Entry) (held then_held : AppState) (answers : ℕ) (run then_run : RunView State)
     (number : ℕ) (c taken : AppCall) (replies : AppReply × AppReply) (capacity then_capacity : ℕ) →
-    wanted_by run.progress ≡ Some c → Some taken ≡ wanted_by run.progress → number ≡ run.number →
+    wanted_by run.progress ≡ Some c → Some taken ≡ wanted_by run.progress → number ≡ run.number → IsAppCall c →
     IsReplied (reverse journal) lane number c held then_held answers capacity replies → mid ≡ journal →
     next ≡ mid ++ with_lane lane (App number taken replies.0) ∷ [] → then_capacity ≡ capacity →
     then_run.number ≡ run.number → then_run.stand_ins ≡ run.stand_ins → then_run.progress ≡ progress.Going →
@@ -154,7 +154,7 @@ pub has_called : {Site State : Type 0} → (stands : Site → State → Told →
     stands site then_run.state (heard t replies.1) spent) →
     HasCalled stands lane journal held answers run next then_held then_capacity then_run
 has_called stands lane journal mid next held then_held answers run then_run number c taken replies capacity
-    then_capacity wants took same is mid_is next_is capacity_is number_is ins going heard_so =
+    then_capacity wants took same asks is mid_is next_is capacity_is number_is ins going heard_so =
     let taken_is : taken ≡ c = cc in
     let entry = with_lane lane (App number c replies.0) in
     let made : next ≡ journal ++ entry ∷ [] =
@@ -165,6 +165,8 @@ has_called stands lane journal mid next held then_held answers run then_run numb
     record {
       call = c;
       wanted = wants;
+      asks = asks;
+      replied = subst (λ n. IsReply (apply held n c).1) same (subst IsReply is.reply_is is.may);
       free = subst (λ n. blocker_of held n c ≡ None) same free;
       journal_is = made ∙ ap (λ r. journal ++ with_lane lane (App number c r) ∷ []) is.reply_is
           ∙ ap (λ n. journal ++ with_lane lane (App n c (apply held n c).1) ∷ []) same;

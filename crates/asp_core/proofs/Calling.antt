@@ -8,6 +8,7 @@ use Rattle.asp_core.specs.Kernel.{StandsAt, past_of, rules_of, wanted_by}
 use Rattle.asp_core.specs.declared.run.Progress.{Progress}
 use Rattle.asp_core.specs.declared.run.Progress.TheVariants as progress
 use Rattle.asp_job.specs.Application.{AppState, apply, blocker_of, has_lock, is_full, with_value}
+use Rattle.asp_job.specs.Calls.{IsAppCall, IsReply}
 use Rattle.asp_job.specs.History.{HasNoRoom, HasNotFit, call_entry, held_by, load, reply_weight, weight_load}
 use Rattle.asp_job.specs.History.{with_lane}
 use Rattle.asp_job.specs.Keys.{told}
@@ -119,8 +120,9 @@ pub ruleset of_writes = (write_short, short_within, short_much)
 kept_call : (m : Rules) (past : List Entry) (table : List (Option SessionState)) (count : ℕ) (held : AppState)
     (answers : List (ℕ × Answer)) (lane run : ℕ) (c : AppCall) → IsKept m past table count held answers →
     IsRunning past lane run → m.meaning.does (told m past run) ≡ Wants c → blocker_of held run c ≡ None →
+    IsAppCall c → IsReply (apply held run c).1 →
     IsKept m (call_entry past lane run c ∷ past) table count (apply held run c).0 answers
-kept_call m past table count held answers lane run c kept running wants free =
+kept_call m past table count held answers lane run c kept running wants free asks replied =
     let entry = call_entry past lane run c in
     let turn = may_follow m past entry kept.account.settled running in
     let free_now : blocker_of (held_by past) run c ≡ None = ap (λ h. blocker_of h run c) (sym kept.held_is) ∙ free in
@@ -135,7 +137,7 @@ kept_call m past table count held answers lane run c kept running wants free =
       held_is = ap (λ h. (apply h run c).0) kept.held_is;
       answers_are = kept.answers_are;
       answered = (tt, kept.answered);
-      small = (tt, kept.small);
+      formed = ((asks, subst (λ h. IsReply (apply h run c).1) kept.held_is replied), kept.formed);
       valid = kept.valid;
     }
 
@@ -182,7 +184,7 @@ kept_either_called (Ok done) m stands lane journal next table count held then_he
     let of : reverse next ≡ entry ∷ past = ap reverse made ∙ past_push journal entry in
     let all : IsKept m (entry ∷ past) table count (apply held run.number has.call).0 answers =
     kept_call m past table count held answers lane run.number has.call kept running
-    (means has.call has.wanted) has.free in
+    (means has.call has.wanted) has.free has.asks has.replied in
     let then_kept : IsKept m (reverse next) table count then_held answers = rw (of, has.held_is) all in
     let has_of : HasAnswerRoom (reverse next) (length answers) capacity_of = rw of room_of in
     (then_kept, has.within, has.room, has_of)

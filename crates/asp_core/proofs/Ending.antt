@@ -289,7 +289,7 @@ kept_end m past table count held answers lane run kind left kept running is =
       answers_are = ap (λ list. with_answer list run left.answer) kept.answers_are ∙ ap (with_answer (ready m past) run)
           is.answer_is;
       answered = (is.answered, kept.answered);
-      small = (tt, kept.small);
+      formed = (tt, kept.formed);
       valid = table_valid table kind (key_of past run) left.session kept.valid is.valid;
     }
 

@@ -28,7 +28,7 @@ kept_halt m past table count held answers lane kept going =
       answers_are = refl;
       answered =
           λ a. (tt, a);
-      small = λ s. (tt, s);
+      formed = λ s. (tt, s);
     })
     (record { entries = (record { turn = turn; legal = tt; follows = tt }, kept.account.entries); settled = refl })
 

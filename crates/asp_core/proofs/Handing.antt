@@ -236,7 +236,7 @@ kept_take m past table count held answers lane run kept is =
       held_is = kept.held_is;
       answers_are = ap (remove_entry (nat_eq run)) kept.answers_are;
       answered = (tt, kept.answered);
-      small = (tt, kept.small);
+      formed = (tt, kept.formed);
       valid = kept.valid;
     }
 

@@ -3,7 +3,7 @@ use Rattle.std.proofs.Common.{◌≡◌, ℕ, ◌+◌, ◌<◌, ◌==◌, Bool, 
 use Rattle.std.proofs.Common.{List, [], ◌∷◌, ◌++◌, drop, Some, IsSome, is_some, refl}
 use Rattle.std.proofs.Common.{ap, sym, ◌∙◌, subst, arith, inl, inr}
 use Rattle.std.proofs.lemmas.Bool.{cases_Bool, eqb-true, eq-eqb}
-use Rattle.asp_core.specs.Kernel.{AreSmall, HasSmallJob}
+use Rattle.asp_core.specs.Kernel.{AreWellFormed, IsWellFormed}
 use Rattle.asp_job.specs.History.{run_in, with_lane}
 use Rattle.asp_job.specs.Journal.{AreRight, IsRight}
 use Rattle.asp_job.specs.Keys.{due_at, live, made, session_of}
@@ -77,33 +77,33 @@ event_small work.SessionEnd e = omega arith
 event_small work.Stop e = omega arith
 
 small_own : (m : Rules) (past : List Entry) (lane : ℕ) (what : What) (r : ℕ) → IsRight m past (with_lane lane what)
-    → HasSmallJob what → IsSmall (job_of past r) → run_in what ≡ r → IsSmall (job_of (with_lane lane what ∷ past) r)
-small_own m past lane (Queue run work key) r right small ih e =
+    → IsWellFormed what → IsSmall (job_of past r) → run_in what ≡ r → IsSmall (job_of (with_lane lane what ∷ past) r)
+small_own m past lane (Queue run work key) r right formed ih e =
     let own : (run == r) ≡ true = eq-eqb run r e in
     let is : job_of (with_lane lane (Queue run work key) ∷ past) r ≡ queued_job work = rw own refl in
     subst IsSmall (sym is) (event_small work (queued_right m past lane run work key right))
-small_own m past lane (Admit run key fresh job) r right small ih e =
+small_own m past lane (Admit run key fresh job) r right formed ih e =
     let own : (run == r) ≡ true = eq-eqb run r e in
     let is : job_of (with_lane lane (Admit run key fresh job) ∷ past) r ≡ job = rw own refl in
-    subst IsSmall (sym is) small
-small_own m past lane (Refuse run job) r right small ih e =
+    subst IsSmall (sym is) formed
+small_own m past lane (Refuse run job) r right formed ih e =
     let own : (run == r) ≡ true = eq-eqb run r e in
     let is : job_of (with_lane lane (Refuse run job) ∷ past) r ≡ job = rw own refl in
-    subst IsSmall (sym is) small
-small_own m past lane (Tick moment) r right small ih e = ih
-small_own m past lane (Begin run serial) r right small ih e = ih
-small_own m past lane (App run call reply) r right small ih e = ih
-small_own m past lane (End run kind status size n1 n2) r right small ih e = ih
-small_own m past lane (Take run) r right small ih e = ih
-small_own m past lane Stop r right small ih e = ih
-small_own m past lane Halt r right small ih e = ih
+    subst IsSmall (sym is) formed
+small_own m past lane (Tick moment) r right formed ih e = ih
+small_own m past lane (Begin run serial) r right formed ih e = ih
+small_own m past lane (App run call reply) r right formed ih e = ih
+small_own m past lane (End run kind status size n1 n2) r right formed ih e = ih
+small_own m past lane (Take run) r right formed ih e = ih
+small_own m past lane Stop r right formed ih e = ih
+small_own m past lane Halt r right formed ih e = ih
 
-pub small_job : (m : Rules) (past : List Entry) → AreRight m past → AreSmall past → (r : ℕ) → IsSmall (job_of past r)
-small_job m [] right small r = omega arith
-small_job m (entry ∷ past) right small r = elim (cases_Bool (run_in entry.what == r)) [
-  | inl own ↦ small_own m past entry.lane entry.what r right.0 small.0 (small_job m past right.1 small.1 r)
+pub small_job : (m : Rules) (past : List Entry) → AreRight m past → AreWellFormed past → (r : ℕ) → IsSmall (job_of past r)
+small_job m [] right formed r = omega arith
+small_job m (entry ∷ past) right formed r = elim (cases_Bool (run_in entry.what == r)) [
+  | inl own ↦ small_own m past entry.lane entry.what r right.0 formed.0 (small_job m past right.1 formed.1 r)
       (eqb-true (run_in entry.what) r own)
-  | inr other ↦ subst IsSmall (sym (job_other past entry.lane r entry.what other)) (small_job m past right.1 small.1 r)
+  | inr other ↦ subst IsSmall (sym (job_other past entry.lane r entry.what other)) (small_job m past right.1 formed.1 r)
 ]
 
 -- ---- a lane asked for each page

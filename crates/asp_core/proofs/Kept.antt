@@ -3,7 +3,7 @@ use Rattle.std.proofs.Common.{◌≡◌, ℕ, ◌+◌, ◌<◌, ◌≤◌, false
 use Rattle.std.proofs.Common.{subst, arith, append_assoc, nat_lt, drop, inl, inr}
 use Rattle.std.proofs.lemmas.List.{reverse-append}
 use Rattle.std.proofs.lemmas.Bool.{lt-ltb, cases_lt}
-use Rattle.asp_core.specs.Kernel.{AreSmall, IsKept, session_at, stopped_by, ticked}
+use Rattle.asp_core.specs.Kernel.{AreWellFormed, IsKept, session_at, stopped_by, ticked}
 use Rattle.asp_core.specs.Ready.{ready, IsAnswered}
 use Rattle.asp_job.specs.Application.{AppState}
 use Rattle.asp_job.specs.History.{held_by, with_lane}
@@ -37,7 +37,7 @@ pub record IsQuiet (m : Rules) (old new : List Entry) : Type 0 where
   pub held_is : held_by new ≡ held_by old
   pub answers_are : ready m new ≡ ready m old
   pub answered : IsAnswered m old → IsAnswered m new
-  pub small : AreSmall old → AreSmall new
+  pub formed : AreWellFormed old → AreWellFormed new
 
 pub quiet_queue : (m : Rules) (past : List Entry) (lane run : ℕ) (list : List (Work × ℕ))
     → IsQuiet m past (past_after past (queue_entries lane run list))
@@ -49,7 +49,7 @@ quiet_queue m past lane run [] = record {
   answers_are =
       refl;
   answered = λ a. a;
-  small = λ s. s;
+  formed = λ s. s;
 }
 quiet_queue m past lane run (first ∷ rest) =
     let after = quiet_queue m (with_lane lane (Queue run first.0 first.1) ∷ past) lane (run + 1) rest in
@@ -60,7 +60,7 @@ quiet_queue m past lane run (first ∷ rest) =
       held_is = after.held_is;
       answers_are = after.answers_are;
       answered = λ a. after.answered (tt, a);
-      small = λ s. after.small (tt, s);
+      formed = λ s. after.formed (tt, s);
     }
 
 -- a run that is owed may come
@@ -97,7 +97,7 @@ kept_quiet m old new table count held answers kept quiet account =
       held_is = kept.held_is ∙ sym quiet.held_is;
       answers_are = kept.answers_are ∙ sym quiet.answers_are;
       answered = quiet.answered kept.answered;
-      small = quiet.small kept.small;
+      formed = quiet.formed kept.formed;
       valid = kept.valid;
     }
 
@@ -112,7 +112,7 @@ quiet_more m old entry new one more =
       held_is = more.held_is ∙ one.held_is;
       answers_are = more.answers_are ∙ one.answers_are;
       answered = λ a. more.answered (one.answered a);
-      small = λ s. more.small (one.small s);
+      formed = λ s. more.formed (one.formed s);
     }
 
 -- an entry that changes nothing of the tables, and the runs that are then owed
@@ -161,7 +161,7 @@ kept_tick m past table count held answers lane moment kept = elim (cases_lt (mom
         answers_are = refl;
         answered =
             λ a. (tt, a);
-        small = λ s. (tt, s);
+        formed = λ s. (tt, s);
       }))
   | inr early ↦ rw (no_tick_is m past lane moment early) kept
 ]
@@ -210,7 +210,7 @@ kept_stop m past table count held answers lane kept going = kept_owed m past tab
       answers_are = refl;
       answered =
           λ a. (tt, a);
-      small = λ s. (tt, s);
+      formed = λ s. (tt, s);
     })
 
 -- what the code makes of a Stop is what the journal owes

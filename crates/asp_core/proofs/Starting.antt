@@ -29,7 +29,7 @@ kept_start m journal table lane e f =
       held_is = refl;
       answers_are = refl;
       answered = (tt, tt);
-      small = (tt, tt);
+      formed = (tt, tt);
       valid = All-nil IsSessionIn;
     } in
     rw (e, f) whole

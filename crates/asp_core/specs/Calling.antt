@@ -7,7 +7,7 @@ use Rattle.vb_value.specs.declared.application.AppReply.TheVariants as reply
 use Rattle.asp_job.specs.declared.entry.Entry.{Entry}
 use Rattle.asp_job.specs.declared.entry.What.TheVariants.{App}
 use Rattle.asp_job.specs.Application.{AppState, apply, blocker_of}
-use Rattle.asp_job.specs.Calls.{IsReply}
+use Rattle.asp_job.specs.Calls.{IsAppCall, IsReply}
 use Rattle.asp_job.specs.History.{with_lane}
 use Rattle.asp_job.specs.Told.{Told, heard}
 use Rattle.asp_core.specs.declared.run.Progress.TheVariants as progress
@@ -51,6 +51,8 @@ pub record HasCalled {Site State : Type 0} (stands : Site → State → Told →
     (then_run : RunView State) : Type 0 where
   pub call : AppCall
   pub wanted : wanted_by run.progress ≡ Some call
+  pub asks : IsAppCall call
+  pub replied : IsReply (apply held run.number call).1
   pub free : blocker_of held run.number call ≡ None
   pub journal_is : next ≡ journal ++ with_lane lane (App run.number call (apply held run.number call).1) ∷ []
   pub held_is : then_held ≡ (apply held run.number call).0

@@ -12,13 +12,14 @@ use Rattle.asp_job.specs.declared.entry.EndKind.TheVariants as kind
 use Rattle.asp_job.specs.declared.entry.Entry.{Entry}
 use Rattle.asp_job.specs.declared.entry.TheConstants.{MOST_ENTRIES, MOST_WEIGHT, MOST_UNFINISHED}
 use Rattle.asp_job.specs.declared.entry.What.{What}
-use Rattle.asp_job.specs.declared.entry.What.TheVariants.{Admit, Refuse, Tick, Stop}
+use Rattle.asp_job.specs.declared.entry.What.TheVariants.{Admit, App, Refuse, Tick, Stop}
 use Rattle.asp_job.specs.declared.job.Work.TheVariants as work
 use Rattle.asp_job.specs.declared.request.Request.{Request}
 use Rattle.asp_job.specs.declared.runner.Step.{Step}
 use Rattle.asp_job.specs.declared.runner.Step.TheVariants as step
 use Rattle.asp_job.specs.declared.session.SessionState.{SessionState}
 use Rattle.asp_job.specs.Application.{AppState, blocker_of}
+use Rattle.asp_job.specs.Calls.{IsAppCall, IsReply}
 use Rattle.asp_job.specs.History.{held_by, load, weight_load, call_entry, with_lane, HasNotFit}
 use Rattle.asp_job.specs.Journal.{IsValidJournal, queue_entries, begin_entry}
 use Rattle.asp_job.specs.Keys.{session_of, told, made, opened, live, due_at}
@@ -96,21 +97,22 @@ halts_to_come past = if is_halted past then 0 else 1
 abbrev pub to_come : List Entry → ℕ → ℕ
 to_come past answers = 2 * length (unfinished past) + answers + halts_to_come past
 
--- the job of an entry is small
-abbrev pub HasSmallJob : What → Type 0
-HasSmallJob (Admit run key fresh job) = IsSmall job
-HasSmallJob (Refuse run job) = IsSmall job
-HasSmallJob _ = Unit {0}
+-- what an entry tells is well formed: a job is small, and a call and its reply are such as a run may have
+abbrev pub IsWellFormed : What → Type 0
+IsWellFormed (Admit run key fresh job) = IsSmall job
+IsWellFormed (Refuse run job) = IsSmall job
+IsWellFormed (App run call reply) = IsAppCall call × IsReply reply
+IsWellFormed _ = Unit {0}
 
-abbrev pub AreSmall : List Entry → Type 0
-AreSmall [] = Unit {0}
-AreSmall (entry ∷ past) = HasSmallJob entry.what × AreSmall past
+abbrev pub AreWellFormed : List Entry → Type 0
+AreWellFormed [] = Unit {0}
+AreWellFormed (entry ∷ past) = IsWellFormed entry.what × AreWellFormed past
 
 -- a session, if it is one, that may be
 abbrev pub IsSessionIn : Option SessionState → Type 0
 IsSessionIn session = IfSome session IsSession
 
--- The journal is valid, and its jobs are small. The table of sessions, the count of those that were opened, the
+-- The journal is valid, and its entries are well formed. The table of sessions, the count of those that were opened, the
 -- Application object and the answers that wait are what it says, and the sessions are such as may be.
 pub record IsKept (rules : Rules) (past : List Entry) (table : List (Option SessionState)) (count : ℕ)
     (held : AppState) (answers : List (ℕ × Answer)) : Type 0 where
@@ -121,7 +123,7 @@ pub record IsKept (rules : Rules) (past : List Entry) (table : List (Option Sess
   pub held_is : held ≡ held_by past
   pub answers_are : answers ≡ ready rules past
   pub answered : IsAnswered rules past
-  pub small : AreSmall past
+  pub formed : AreWellFormed past
   pub valid : All IsSessionIn table
 
 -- it has at most so many entries, and weighs so much at most, with one End for each unfinished run

@@ -7,7 +7,8 @@ ghost use Rattle.std.specs.Prelude.{Some, None, Err, true, false, ◌↔◌, ◌
 ghost use Rattle.asp_job.specs.History as history;
 ghost use Rattle.asp_job.specs.Journal as journals;
 ghost use Rattle.asp_job.specs.Runs as runs;
-ghost use Rattle.asp_core.specs.Kernel.{CoreView, RunView, past_of, rules_of, grown, IsHostOf, IsTooMuch, IsWithin};
+ghost use Rattle.asp_core.specs.Kernel.{CoreView, RunView, past_of, rules_of, grown};
+ghost use Rattle.asp_core.specs.Kernel.{AreWellFormed, IsHostOf, IsTooMuch, IsWithin};
 ghost use Rattle.asp_core.specs.Kernel.{IsRunOf, HasRoom, HasAnswerRoom, expired};
 ghost use Rattle.asp_core.specs.Ready.{IsAnswered};
 
@@ -114,12 +115,13 @@ impl<R: Runner> Core<R> {
         })
     }
 
-    /// The journal, which is valid. A run that ended left an answer exactly where it was that of a page.
+    /// The journal, which is valid and well formed. A run that ended left an answer exactly where it was that of a page.
     pub fn journal(&self) -> &[Entry]
         ensures journal { result.now ≡ self.now.journal }
         ensures valid { journals.IsValidJournal (rules_of R.meaning self.now) (past_of self.now) }
         ensures answered { IsAnswered (rules_of R.meaning self.now) (past_of self.now) }
         ensures within { IsWithin (past_of self.now) }
+        ensures formed { AreWellFormed (past_of self.now) }
     {
         self.journal.entries()
     }

@@ -8,12 +8,11 @@ ghost use Rattle.asp_job.specs.Running.{is_page};
 ghost use Rattle.asp_job.specs.Size.{IsSmall};
 
 use crate::asking::answer_job;
-use crate::running::let_go;
 use crate::starting::start;
 use crate::stop::GetStop;
 use asp_core::Core;
 use asp_job::{Answer, Job, Runner};
-use asp_lane::Hand;
+use asp_lane::{Hand, let_go};
 use std::alloc::Global;
 
 /// Answers the job on a host that was just made.

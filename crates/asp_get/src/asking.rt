@@ -9,11 +9,11 @@ ghost use Rattle.asp_job.specs.Output.{answer_of_run};
 ghost use Rattle.asp_job.specs.Running.{is_page};
 ghost use Rattle.asp_job.specs.Size.{IsSmall};
 
-use crate::running::{go_through, let_go};
+use crate::running::go_through;
 use crate::stop::{GetStop, admit_stop};
 use asp_core::Core;
 use asp_job::{Answer, Job, Runner};
-use asp_lane::Hand;
+use asp_lane::{Hand, let_go};
 
 /// Hands the answer of a run out.
 fn hand_out<R: Runner>(core: &mut Core<R>, run: u32) -> Result<Answer, GetStop>

@@ -11,15 +11,7 @@ ghost use Rattle.asp_lane.specs.Turns.{Fits, run_in};
 use crate::stop::{GetStop, turn_stop};
 use asp_core::Core;
 use asp_job::{EndKind, Runner, What};
-use asp_lane::{Hand, take_turn};
-
-/// Lets go of what is in hand. A run stays unfinished.
-pub fn let_go<R>(_hand: Hand<R>)
-where
-    R: Runner,
-    R::State: Drop,
-    R::Store: Drop,
-{}
+use asp_lane::{Hand, let_go, take_turn};
 
 /// Whether the entry is the end of the run, by itself.
 fn is_end_of(run: u32, what: &What) -> bool

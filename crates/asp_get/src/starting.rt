@@ -8,11 +8,11 @@ ghost use Rattle.asp_get.specs.Answered as answered;
 ghost use Rattle.asp_get.specs.Underway as spec;
 ghost use Rattle.asp_job.specs.declared.job.Job.{Job as JobView};
 
-use crate::running::{go_through, let_go};
+use crate::running::go_through;
 use crate::stop::GetStop;
 use asp_core::Core;
 use asp_job::Runner;
-use asp_lane::Hand;
+use asp_lane::{Hand, let_go};
 
 /// Why no job may come, once the first run has gone through: it failed.
 fn start_stop<R: Runner>(core: &Core<R>) -> Option<GetStop>

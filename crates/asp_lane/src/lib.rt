@@ -5,4 +5,4 @@ mod rest;
 mod turn;
 
 pub use rest::take_turns;
-pub use turn::{Hand, QUANTUM, Turn, take_turn};
+pub use turn::{Hand, QUANTUM, Turn, let_go, take_turn};

@@ -23,6 +23,14 @@ pub enum Hand<R: Runner> {
     Runs(Run<R>),
 }
 
+/// Lets go of what is in hand. A run stays unfinished.
+pub fn let_go<R>(_hand: Hand<R>)
+where
+    R: Runner,
+    R::State: Drop,
+    R::Store: Drop,
+{}
+
 /// What a turn came to.
 #[derive(Clone, Copy, Debug, PartialEq, Eq)]
 pub enum Turn {

@@ -21,11 +21,11 @@ use crate::clients::Clients;
 use crate::coming::{is_calm, may_come, moment_of};
 use crate::stop::FeedStop;
 use crate::turns::{come_turn, stop_turn, work_turn};
-use crate::winding_up::{let_go, wind_up};
+use crate::winding_up::wind_up;
 use asp_core::Core;
 use asp_io::Sink;
 use asp_job::{EndKind, Runner};
-use asp_lane::Hand;
+use asp_lane::{Hand, let_go};
 use asp_record::{Item, Recording};
 use std::alloc::Global;
 

@@ -12,15 +12,7 @@ ghost use Rattle.asp_replay.specs.Underway as way;
 use crate::stop::FeedStop;
 use asp_core::Core;
 use asp_job::Runner;
-use asp_lane::{Hand, take_turns};
-
-/// Lets go of what is in hand. A run stays unfinished.
-pub fn let_go<R>(_hand: Hand<R>)
-where
-    R: Runner,
-    R::State: Drop,
-    R::Store: Drop,
-{}
+use asp_lane::{Hand, let_go, take_turns};
 
 /// No run begins from now on. The run in hand may go on.
 fn halt<R: Runner>(core: &mut Core<R>)
