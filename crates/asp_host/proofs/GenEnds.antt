@@ -1,6 +1,5 @@
 -- What `gen` ran and wrote.
 use Rattle.std.proofs.Common.{◌≡◌, ℕ, Bool, List, subst, inl, inr}
-use Rattle.vb_value.specs.declared.site_file.SiteFile.{SiteFile}
 use Rattle.asp_io.specs.Sink.{with_bytes}
 use Rattle.asp_record.specs.declared.recording.Recording.{Recording}
 use Rattle.asp_record.specs.Generated.{count_files, generated}
@@ -26,12 +25,11 @@ made_done count journal site sink accepted done =
     (done.0, record { site = site; accepted = accepted; summed = done.1 }, done.2)
 
 -- what was made was replayed to its end
-pub gen_done : (count : ℕ) (journal : Bool) (site : Site) (made : List SiteFile × Recording) (sink : Change)
-    → made ≡ (count_files, generated count) → IsAccepted made.0 site → Done count journal site sink made.1
+pub gen_done : (count : ℕ) (journal : Bool) (site : Site) (recording : Recording) (sink : Change)
+    → recording ≡ generated count → IsAccepted count_files site → Done count journal site sink recording
     → GenWrites count journal sink status.Ok
-gen_done count journal site made sink same accepted done = made_done count journal site sink
-    (subst (λ (made : List SiteFile × Recording). IsAccepted made.0 site) same accepted)
-    (subst (λ (made : List SiteFile × Recording). Done count journal site sink made.1) same done)
+gen_done count journal site recording sink same accepted done =
+    made_done count journal site sink accepted (subst (Done count journal site sink) same done)
 
 made_stopped : (count : ℕ) (journal : Bool) (site : Site) (sink : Change) (stop : FeedStop)
     → IsAccepted count_files site
@@ -48,11 +46,11 @@ made_stopped count journal site sink feed.Memory accepted (inr part) =
     inr (part.0, record { site = site; accepted = accepted; summed = part.1 }, part.2)
 
 -- or it stopped so
-pub gen_stopped : (count : ℕ) (journal : Bool) (site : Site) (made : List SiteFile × Recording) (sink : Change)
-    (stop : FeedStop) → made ≡ (count_files, generated count) → IsAccepted made.0 site
-    → IsSumStop (rules_for site made.1) made.1.items count journal sink stop
+pub gen_stopped : (count : ℕ) (journal : Bool) (site : Site) (recording : Recording) (sink : Change) (stop : FeedStop)
+    → recording ≡ generated count → IsAccepted count_files site
+    → IsSumStop (rules_for site recording) recording.items count journal sink stop
     → GenWrites count journal sink (feed_status_of stop)
-gen_stopped count journal site made sink stop same accepted stopped = made_stopped count journal site sink stop
-    (subst (λ (made : List SiteFile × Recording). IsAccepted made.0 site) same accepted)
-    (subst (λ (made : List SiteFile × Recording).
-    IsSumStop (rules_for site made.1) made.1.items count journal sink stop) same stopped)
+gen_stopped count journal site recording sink stop same accepted stopped =
+    made_stopped count journal site sink stop accepted
+    (subst (λ (recording : Recording). IsSumStop (rules_for site recording) recording.items count journal sink stop)
+    same stopped)

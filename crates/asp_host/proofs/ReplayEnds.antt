@@ -12,10 +12,11 @@ use Rattle.site_load.specs.Stopping.{Refuses}
 use Rattle.asp_host.specs.Around.{Change}
 use Rattle.asp_host.specs.declared.recording.RecordingStop.{RecordingStop}
 use Rattle.asp_host.specs.declared.recording.RecordingStop.TheVariants as recording
-use Rattle.asp_host.specs.Input.{IsAllRecording, IsRecordingStop}
+use Rattle.asp_host.specs.Input.{IsRecordingStop}
 use Rattle.asp_host.specs.Replay.{IsFor, ReplayWrites, rules_for}
-use Rattle.asp_host.specs.Replayed.{HasStopped}
+use Rattle.asp_host.specs.Replayed.{HasReplayed, HasStopped}
 use Rattle.asp_host.specs.Status.{feed_status_of, recording_status_of, status_of}
+use Rattle.asp_host.specs.declared.status.Status.TheVariants as status
 
 -- where the folder is no site, nothing is read or written
 pub nothing_replayed : (journal : Bool) (files : Option (List SiteFile)) (left held : Option (List ℕ)) (stop : LoadStop)
@@ -35,33 +36,24 @@ no_recording journal files site source held (recording.Refused offset) accepted 
 no_recording journal files site source held recording.ReadFault accepted refused = refl
 no_recording journal files site source held recording.Memory accepted refused = inl refl
 
--- where the replay stopped
+-- the recording was replayed to its end
+pub replay_done : (journal : Bool) (files : Option (List SiteFile)) (site : Site) (source sink : Change)
+    (recording : Recording) → IsFor files source site recording
+    → HasReplayed (rules_for site recording) recording.items journal sink.before sink.after
+    → ReplayWrites journal files source sink status.Ok
+replay_done journal files site source sink recording is_for done =
+    record { site = site; recording = recording; is_for = is_for; replayed = done }
+
+-- or it stopped so
 pub replay_stopped : (journal : Bool) (files : Option (List SiteFile)) (site : Site) (source sink : Change)
-    (recording : Recording) (stop : FeedStop) → IfSome files (λ all. IsAccepted all site)
-    → IsAllRecording source.before source.after recording
+    (recording : Recording) (stop : FeedStop) → IsFor files source site recording
     → HasStopped (rules_for site recording) recording.items journal sink.before sink.after stop
     → ReplayWrites journal files source sink (feed_status_of stop)
-replay_stopped journal files site source sink recording (feed.StartFailed fail) accepted whole stopped = record {
-  site = site;
-  recording = recording;
-  is_for = record { accepted = accepted; whole = whole };
-  failed = stopped;
-}
-replay_stopped journal files site source sink recording (feed.JournalFull entries weight) accepted whole stopped = record {
-  site = site;
-  recording = recording;
-  is_for = record { accepted = accepted; whole = whole };
-  filled = stopped;
-}
-replay_stopped journal files site source sink recording feed.WriteFault accepted whole stopped = record {
-  site = site;
-  recording = recording;
-  is_for = record { accepted = accepted; whole = whole };
-  replayed = stopped;
-}
-replay_stopped journal files site source sink recording feed.Memory accepted whole stopped = inr (record {
-  site = site;
-  recording = recording;
-  is_for = record { accepted = accepted; whole = whole };
-  replayed = stopped;
-})
+replay_stopped journal files site source sink recording (feed.StartFailed fail) is_for stopped =
+    record { site = site; recording = recording; is_for = is_for; failed = stopped }
+replay_stopped journal files site source sink recording (feed.JournalFull entries weight) is_for stopped =
+    record { site = site; recording = recording; is_for = is_for; filled = stopped }
+replay_stopped journal files site source sink recording feed.WriteFault is_for stopped =
+    record { site = site; recording = recording; is_for = is_for; replayed = stopped }
+replay_stopped journal files site source sink recording feed.Memory is_for stopped =
+    inr (record { site = site; recording = recording; is_for = is_for; replayed = stopped })

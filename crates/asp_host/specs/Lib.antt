@@ -8,4 +8,5 @@ pub mod Get
 pub mod Check
 pub mod Replay
 pub mod Gen
+pub mod Loaded
 pub mod Host

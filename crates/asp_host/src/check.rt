@@ -3,6 +3,7 @@ ghost use Rattle.std.specs.Prelude.{◌≡◌, IfOk};
 ghost use Rattle.std.specs.String.{string_bytes};
 ghost use Rattle.asp_io.specs.Faults.{HasRisen};
 ghost use Rattle.asp_host.specs.Check.{CheckWrites, count_line};
+ghost use Rattle.asp_host.specs.Loaded.{CheckWritesOf};
 
 use crate::status::Status;
 use asp_io::{Failed, Folder, Sink, write_all};
@@ -18,11 +19,19 @@ pub fn check<F: Folder, K: Sink>(alloc: Global, folder: &mut F, sink: &mut K) ->
     ensures read_fault { result ≡ Status.ReadFault → HasRisen (F.faults folder.old) (F.faults folder.new) }
     ensures write_fault { result ≡ Status.WriteFault → HasRisen (K.faults sink.old) (K.faults sink.new) }
 {
-    let site = match load(alloc, folder) {
-        Ok(site) => site,
-        Err(stop) => return Status::from(stop),
-    };
-    let line = match count_string(alloc, &site) {
+    match load(alloc, folder) {
+        Ok(site) => write_count(alloc, &site, sink),
+        Err(stop) => Status::from(stop),
+    }
+}
+
+/// Writes how many pages and static files the site has.
+fn write_count<K: Sink>(alloc: Global, site: &Site, sink: &mut K) -> Status
+    ensures writes { CheckWritesOf site.now (record { before = K.held sink.old; after = K.held sink.new }) result }
+    ensures no_read { result ≡ Status.ReadFault → ⊥ }
+    ensures write_fault { result ≡ Status.WriteFault → HasRisen (K.faults sink.old) (K.faults sink.new) }
+{
+    let line = match count_string(alloc, site) {
         Ok(line) => line,
         Err(Memory) => return Status::Memory,
     };

@@ -1,13 +1,14 @@
 //! The command `gen`.
 ghost use Rattle.std.specs.Prelude.{◌≡◌, ◌≤◌, IfOk};
 ghost use Rattle.asp_io.specs.Faults.{HasRisen};
+ghost use Rattle.asp_record.specs.Generated.{count_files, generated};
 ghost use Rattle.asp_host.specs.Gen as spec;
 ghost use Rattle.site_load.specs.Accepted.{IsAccepted};
 
 use crate::status::Status;
 use crate::summing::write_generated;
 use asp_io::{Sink, SureFolder};
-use asp_record::{generate, generated_sound};
+use asp_record::{Recording, generate, generated_sound};
 use asp_run::PlainRunner;
 use asp_site::Site;
 use site_load::load;
@@ -22,21 +23,57 @@ pub fn replay_generated<K: Sink>(alloc: Global, count: u32, journal: bool, sink:
         (record { before = K.held sink.old; after = K.held sink.new }) result }
     ensures write_fault { result ≡ Status.WriteFault → HasRisen (K.faults sink.old) (K.faults sink.new) }
 {
-    let (files, recording) = match generate(alloc, count) {
-        Ok(made) => made,
-        Err(Memory) => return Status::Memory,
-    };
-    let site = match count_site(alloc, files) {
-        Ok(site) => site,
-        Err(Memory) => return Status::Memory,
-    };
+    match generate(alloc, count) {
+        Ok((files, recording)) => replay_made(alloc, files, &recording, count, journal, sink),
+        Err(Memory) => Status::Memory,
+    }
+}
+
+/// Replays the recording that was made, over the site of the one page.
+fn replay_made<K: Sink>(
+    alloc: Global,
+    files: List<SiteFile>,
+    recording: &Recording,
+    count: u32,
+    journal: bool,
+    sink: &mut K,
+) -> Status
+    requires few { count ≤ 10000 }
+    requires page { files ≡ count_files }
+    requires requests { recording.now ≡ generated count }
+    ensures writes { spec.GenWrites count journal
+        (record { before = K.held sink.old; after = K.held sink.new }) result }
+    ensures write_fault { result ≡ Status.WriteFault → HasRisen (K.faults sink.old) (K.faults sink.new) }
+{
+    match count_site(alloc, files) {
+        Ok(site) => write_made(alloc, &site, recording, count, journal, sink),
+        Err(Memory) => Status::Memory,
+    }
+}
+
+/// Replays it over the site, and writes what `gen` writes.
+fn write_made<K: Sink>(
+    alloc: Global,
+    site: &Site,
+    recording: &Recording,
+    count: u32,
+    journal: bool,
+    sink: &mut K,
+) -> Status
+    requires few { count ≤ 10000 }
+    requires accepted { IsAccepted count_files site.now }
+    requires requests { recording.now ≡ generated count }
+    ensures writes { spec.GenWrites count journal
+        (record { before = K.held sink.old; after = K.held sink.new }) result }
+    ensures write_fault { result ≡ Status.WriteFault → HasRisen (K.faults sink.old) (K.faults sink.new) }
+{
     // What is generated is sound.
     generated_sound();
     match write_generated(
         alloc,
         &PlainRunner { alloc },
-        &site,
-        &recording,
+        site,
+        recording,
         count,
         journal,
         sink,

@@ -3,6 +3,7 @@ ghost use Rattle.std.specs.Prelude.{◌≡◌, ◌+◌, ◌^◌, ◌<◌, IfErr,
 ghost use Rattle.asp_get.specs.Answered.{HasAnswered, IsGetStop};
 ghost use Rattle.asp_io.specs.Faults.{HasRisen};
 ghost use Rattle.asp_host.specs.Get.{GetWrites, site_rules};
+ghost use Rattle.asp_host.specs.Loaded.{GetWritesOf};
 ghost use Rattle.asp_host.specs.Request.{job_of};
 
 use crate::request::get_job;
@@ -30,11 +31,27 @@ pub fn get<F: Folder, K: Sink>(
     ensures read_fault { result ≡ Status.ReadFault → HasRisen (F.faults folder.old) (F.faults folder.new) }
     ensures write_fault { result ≡ Status.WriteFault → HasRisen (K.faults sink.old) (K.faults sink.new) }
 {
-    let site = match load(alloc, folder) {
-        Ok(site) => site,
-        Err(stop) => return Status::from(stop),
-    };
-    let answer = match answer(alloc, &site, path, query) {
+    match load(alloc, folder) {
+        Ok(site) => write_answer(alloc, &site, path, query, sink),
+        Err(stop) => Status::from(stop),
+    }
+}
+
+/// Writes the body of the site's answer to the request.
+fn write_answer<K: Sink>(
+    alloc: Global,
+    site: &Site,
+    path: &Text,
+    query: &Bytes,
+    sink: &mut K,
+) -> Status
+    requires { length path.now + length query.now < 2 ^ 24 }
+    ensures writes { GetWritesOf path.now query.now site.now
+        (record { before = K.held sink.old; after = K.held sink.new }) result }
+    ensures no_read { result ≡ Status.ReadFault → ⊥ }
+    ensures write_fault { result ≡ Status.WriteFault → HasRisen (K.faults sink.old) (K.faults sink.new) }
+{
+    let answer = match answer(alloc, site, path, query) {
         Ok(answer) => answer,
         Err(stop) => return Status::from(stop),
     };

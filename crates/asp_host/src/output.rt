@@ -2,6 +2,7 @@
 ghost use Rattle.std.specs.Prelude.{◌≡◌, ◌++◌, IfErr, OnOk, length, reverse};
 ghost use Rattle.asp_core.specs.Kernel.{past_of, rules_by, rules_of};
 ghost use Rattle.asp_io.specs.Faults.{HasCause};
+ghost use Rattle.asp_job.specs.Journal.{IsValidJournal};
 ghost use Rattle.asp_record.specs.Recorded.{IsSound};
 ghost use Rattle.asp_replay.specs.Shown.{done_line, lines_of, shown_of};
 ghost use Rattle.asp_replay.specs.Underway.{WritesText};
@@ -32,7 +33,7 @@ pub fn write_journal<K: Sink>(
     }
 }
 
-/// Writes the lines of the journal, where they are asked for, and how many answers there were.
+/// Writes the lines of the journal, which is valid, where they are asked for, and how many answers there were.
 fn write_end<R: Runner, K: Sink>(
     alloc: Global,
     core: &Core<R>,
@@ -42,6 +43,7 @@ fn write_end<R: Runner, K: Sink>(
     ensures wrote { WritesText (lines_of journal (past_of core.now)
         ++ done_line (length (shown_of (rules_of R.meaning core.now) (past_of core.now))))
         result (K.held sink.old) (K.held sink.new) }
+    ensures valid { IsValidJournal (rules_of R.meaning core.now) (past_of core.now) }
     ensures cause { HasCause FeedStop.WriteFault (K.faults sink.old) (K.faults sink.new) result }
 {
     let entries = core.journal();
@@ -72,7 +74,5 @@ where
     ensures cause { HasCause FeedStop.WriteFault (K.faults sink.old) (K.faults sink.new) result }
 {
     let core = feed(alloc, runner, site, recording, sink)?;
-    // The journal is valid.
-    let _ = core.journal();
     write_end(alloc, &core, journal, sink)
 }

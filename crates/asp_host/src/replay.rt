@@ -1,13 +1,17 @@
 //! The command `replay`.
 ghost use Rattle.std.specs.Prelude.{◌≡◌, ◌⊎◌};
 ghost use Rattle.asp_io.specs.Faults.{HasRisen};
+ghost use Rattle.asp_record.specs.Recorded.{IsSound};
+ghost use Rattle.asp_host.specs.Loaded.{RecordingWritesOf, ReplayWritesOf};
 ghost use Rattle.asp_host.specs.Replay.{ReplayWrites};
 
 use crate::output::write_replay;
 use crate::recording::source_recording;
 use crate::status::Status;
 use asp_io::{Folder, Sink, Source};
+use asp_record::Recording;
 use asp_run::PlainRunner;
+use asp_site::Site;
 use site_load::load;
 use std::alloc::Global;
 
@@ -26,19 +30,51 @@ pub fn replay<F: Folder, S: Source, K: Sink>(
         ⊎ HasRisen (S.faults source.old) (S.faults source.new) }
     ensures write_fault { result ≡ Status.WriteFault → HasRisen (K.faults sink.old) (K.faults sink.new) }
 {
-    let site = match load(alloc, folder) {
-        Ok(site) => site,
-        Err(stop) => return Status::from(stop),
-    };
-    let recording = match source_recording(alloc, source) {
-        Ok(recording) => recording,
-        Err(stop) => return Status::from(stop),
-    };
+    match load(alloc, folder) {
+        Ok(site) => replay_source(alloc, &site, journal, source, sink),
+        Err(stop) => Status::from(stop),
+    }
+}
+
+/// Replays the recording that the source has over the site.
+fn replay_source<S: Source, K: Sink>(
+    alloc: Global,
+    site: &Site,
+    journal: bool,
+    source: &mut S,
+    sink: &mut K,
+) -> Status
+    ensures writes { ReplayWritesOf journal site.now
+        (record { before = S.left source.old; after = S.left source.new })
+        (record { before = K.held sink.old; after = K.held sink.new }) result }
+    ensures read_fault { result ≡ Status.ReadFault → HasRisen (S.faults source.old) (S.faults source.new) }
+    ensures write_fault { result ≡ Status.WriteFault → HasRisen (K.faults sink.old) (K.faults sink.new) }
+{
+    match source_recording(alloc, source) {
+        Ok(recording) => replay_recording(alloc, site, &recording, journal, sink),
+        Err(stop) => Status::from(stop),
+    }
+}
+
+/// Replays the recording over the site.
+fn replay_recording<K: Sink>(
+    alloc: Global,
+    site: &Site,
+    recording: &Recording,
+    journal: bool,
+    sink: &mut K,
+) -> Status
+    requires sound { IsSound recording.now }
+    ensures writes { RecordingWritesOf journal site.now recording.now
+        (record { before = K.held sink.old; after = K.held sink.new }) result }
+    ensures no_read { result ≡ Status.ReadFault → ⊥ }
+    ensures write_fault { result ≡ Status.WriteFault → HasRisen (K.faults sink.old) (K.faults sink.new) }
+{
     match write_replay(
         alloc,
         &PlainRunner { alloc },
-        &site,
-        &recording,
+        site,
+        recording,
         journal,
         sink,
     ) {

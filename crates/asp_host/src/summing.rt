@@ -1,9 +1,10 @@
 //! What `gen` writes: the lines of a journal, and its summary.
 ghost use Rattle.std.specs.Prelude.{◌≡◌, ◌++◌, ℕ, IfErr, IfOk, List, OnOk, reverse};
 ghost use Rattle.std.specs.String.{string_bytes};
-ghost use Rattle.asp_core.specs.Kernel.{past_of, rules_by};
+ghost use Rattle.asp_core.specs.Kernel.{past_of, rules_by, rules_of};
 ghost use Rattle.asp_io.specs.Faults.{HasCause};
 ghost use Rattle.asp_io.specs.Sink.{with_bytes};
+ghost use Rattle.asp_job.specs.Journal.{IsValidJournal};
 ghost use Rattle.asp_record.specs.Recorded.{IsSound};
 ghost use Rattle.asp_replay.specs.Shown.{lines_of};
 ghost use Rattle.asp_replay.specs.Underway.{WritesText};
@@ -40,7 +41,7 @@ fn write_text<K: Sink>(sink: &mut K, text: &[u8]) -> Result<(), FeedStop>
     }
 }
 
-/// Writes the lines of the journal, where they are asked for, and its summary.
+/// Writes the lines of the journal, which is valid, where they are asked for, and its summary.
 fn write_summary<R: Runner, K: Sink>(
     alloc: Global,
     core: &Core<R>,
@@ -50,6 +51,7 @@ fn write_summary<R: Runner, K: Sink>(
 ) -> Result<(), FeedStop>
     ensures wrote { WritesText (lines_of journal (past_of core.now)
         ++ summary_lines (summary count (past_of core.now))) result (K.held sink.old) (K.held sink.new) }
+    ensures valid { IsValidJournal (rules_of R.meaning core.now) (past_of core.now) }
     ensures cause { HasCause FeedStop.WriteFault (K.faults sink.old) (K.faults sink.new) result }
 {
     let entries = core.journal();
@@ -84,7 +86,5 @@ where
     // The sink of the answers takes all, so none of its faults is handed on.
     let mut nowhere = SureSink;
     let core = feed(alloc, runner, site, recording, &mut nowhere)?;
-    // The journal is valid.
-    let _ = core.journal();
     write_summary(alloc, &core, count, journal, sink)
 }

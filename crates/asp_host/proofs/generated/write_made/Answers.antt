@@ -3,22 +3,22 @@ use Rattle.asp_host.specs.declared.status.Status.{Status}
 use Rattle.asp_host.specs.Around.{Change}
 use Rattle.asp_host.specs.Gen.{GenWrites}
 use Rattle.asp_host.proofs.GenEnds.{gen_done, gen_stopped}
-use Rattle.asp_host.proofs.generated.replay_generated.Goals as goal
+use Rattle.asp_host.proofs.generated.write_made.Goals as goal
 
 pub write_generated-requires : goal.write_generated-requires
 write_generated-requires g c =
-    record { sound = rw c.in-Ok.ensures (c.generated_sound.ensures c.args.count c.requires) }
+    record { sound = rw c.requires.requests (c.generated_sound.ensures c.args.count c.requires.few) }
 
-pub returns-in-Ok-write_generated-clause-writes : goal.returns-in-Ok-write_generated-clause-writes
-returns-in-Ok-write_generated-clause-writes g c =
-    gen_done c.args.count c.args.journal c.in-Ok-count_site.site c.in-Ok.made
+pub returns-in-Ok-clause-writes : goal.returns-in-Ok-clause-writes
+returns-in-Ok-clause-writes g c =
+    gen_done c.args.count c.args.journal c.args.site.now c.args.recording.now
     (record { before = g.K.Sink.held c.args.sink.now; after = g.K.Sink.held c.write_generated.new.sink })
-    c.in-Ok.ensures c.in-Ok-count_site.ensures c.in-Ok-write_generated.ensures.ok
+    c.requires.requests c.requires.accepted c.in-Ok.ensures.ok
 
 pub returns-clause-writes : goal.returns-clause-writes
 returns-clause-writes g c =
     let held = g.K.Sink.held in
     let sink : Change = record { before = held c.args.sink.now; after = held c.write_generated.new.sink } in
     subst (λ (status : Status). GenWrites c.args.count c.args.journal sink status) (sym c.from.ensures)
-    (gen_stopped c.args.count c.args.journal c.in-Ok-count_site.site c.in-Ok.made sink c.in-Err-write_generated.stop
-    c.in-Ok.ensures c.in-Ok-count_site.ensures c.in-Err-write_generated.ensures.err)
+    (gen_stopped c.args.count c.args.journal c.args.site.now c.args.recording.now sink c.in-Err.stop
+    c.requires.requests c.requires.accepted c.in-Err.ensures.err)

@@ -1,0 +1,31 @@
+-- This crate's own: how a command ends once its folder was read, whichever files were this site.
+use Rattle.std.specs.Prelude.{ℕ, Bool, IfSome, List, Option}
+use Rattle.vb_value.specs.declared.site_file.SiteFile.{SiteFile}
+use Rattle.asp_record.specs.declared.recording.Recording.{Recording}
+use Rattle.asp_site.specs.declared.site.Site.{Site}
+use Rattle.site_load.specs.Accepted.{IsAccepted}
+use Rattle.asp_host.specs.declared.status.Status.{Status}
+use Rattle.asp_host.specs.Around.{Change}
+use Rattle.asp_host.specs.Check.{CheckWrites}
+use Rattle.asp_host.specs.Get.{GetWrites}
+use Rattle.asp_host.specs.Replay.{IsFor, ReplayWrites}
+
+-- what `check` wrote, by its status
+abbrev pub CheckWritesOf : Site → Change → Status → Type 0
+CheckWritesOf site sink status = (files : Option (List SiteFile)) → IfSome files (λ all. IsAccepted all site)
+    → CheckWrites files sink status
+
+-- what `get` ran and wrote
+abbrev pub GetWritesOf : List ℕ → List ℕ → Site → Change → Status → Type 0
+GetWritesOf path query site sink status = (files : Option (List SiteFile))
+    → IfSome files (λ all. IsAccepted all site) → GetWrites path query files sink status
+
+-- what `replay` ran and wrote
+abbrev pub ReplayWritesOf : Bool → Site → Change → Change → Status → Type 0
+ReplayWritesOf journal site source sink status = (files : Option (List SiteFile))
+    → IfSome files (λ all. IsAccepted all site) → ReplayWrites journal files source sink status
+
+-- the same once its recording was read too, whichever source had it
+abbrev pub RecordingWritesOf : Bool → Site → Recording → Change → Status → Type 0
+RecordingWritesOf journal site recording sink status = (files : Option (List SiteFile)) (source : Change)
+    → IsFor files source site recording → ReplayWrites journal files source sink status
