@@ -1,11 +1,16 @@
 -- What is written behind what was written before.
-use Rattle.std.proofs.Common.{◌≡◌, ℕ, List, ◌++◌, Option, Result, Ok, Err, IsErrAnd, subst, sym}
+use Rattle.std.proofs.Common.{◌≡◌, ℕ, List, ◌++◌, Option, Result, Ok, Err, IsErrAnd, OnOk, subst, sym}
 use Rattle.std.proofs.lemmas.Result.{err_from_is_err_and}
 use Rattle.asp_io.specs.Sink.{with_bytes}
 use Rattle.asp_replay.specs.declared.stop.FeedStop.{FeedStop}
 use Rattle.asp_replay.specs.declared.stop.FeedStop.TheVariants as stop
 use Rattle.asp_replay.specs.Underway.{WritesText}
 use Rattle.asp_replay.proofs.Pieces.{part_longer, part_more, wrote_more}
+
+-- what holds whatever is given
+pub on_ok : {T E P : Type 0} (result : Result T E) → P → OnOk result P
+on_ok (Ok given) holds = holds
+on_ok (Err ended) holds = tt
 
 -- a text behind another
 pub text_then : {T : Type 0} (result : Result T FeedStop) (before middle after : Option (List ℕ)) (first second : List ℕ)

@@ -1,5 +1,5 @@
 -- What a replay comes to.
-use Rattle.std.proofs.Common.{◌≡◌, ◌⊎◌, ℕ, ◌++◌, Bool, List, [], ◌∷◌, length, append_assoc, refl, ap, sym, ◌∙◌, subst}
+use Rattle.std.proofs.Common.{◌≡◌, ◌⊎◌, ℕ, ◌++◌, Bool, true, List, [], ◌∷◌, length, append_assoc, refl, ap, sym, ◌∙◌, subst}
 use Rattle.std.proofs.Common.{inl, inr, arith, Option}
 use Rattle.std.proofs.Common.{Result, Ok, Err, IfErr, OnOk}
 use Rattle.asp_core.specs.Kernel.{CoreView, past_of, rules_by, rules_of}
@@ -13,6 +13,8 @@ use Rattle.asp_job.specs.Journal.{IsValidJournal}
 use Rattle.asp_job.specs.Rules.{Rules}
 use Rattle.asp_job.specs.Told.{Meaning}
 use Rattle.asp_record.specs.declared.recording.Item.{Item}
+use Rattle.asp_record.specs.EntryLines.{lines_in}
+use Rattle.asp_record.specs.Journal.{AreLines}
 use Rattle.asp_replay.specs.declared.stop.FeedStop.{FeedStop}
 use Rattle.asp_replay.specs.declared.stop.FeedStop.TheVariants as stop
 use Rattle.asp_replay.specs.Feed.{HasFed, HasFedPart}
@@ -105,8 +107,9 @@ module _ {R Site : Type 0} (meaning : R → Site → Meaning) where
       → HasFed (rules_by (meaning runner site) seed) items (past_of core) before held
       → WritesText (lines_of journal (past_of core)
       ++ done_line (length (shown_of (rules_of meaning core) (past_of core)))) result held after
+      → OnOk result (journal ≡ true → AreLines (lines_in (past_of core)))
       → OnOk result (HasReplayed (rules_by (meaning runner site) seed) items journal before after)
-  replay_ok core runner site seed items journal before held after (Ok given) of valid fed wrote =
+  replay_ok core runner site seed items journal before held after (Ok given) of valid fed wrote lines =
       let same = rules_here meaning core runner site seed of in
       let other = rules_by (meaning runner site) seed in
       let past = past_of core in
@@ -118,9 +121,10 @@ module _ {R Site : Type 0} (meaning : R → Site → Meaning) where
         whole = fed.whole;
         output = written.records ++ text;
         is_output = whole_output (rules_of meaning core) other past journal written.records same written.are_records;
+        lines = lines;
         wrote = wrote_more before held after written.records text written.wrote wrote;
       }
-  replay_ok core runner site seed items journal before held after (Err ended) of valid fed wrote = tt
+  replay_ok core runner site seed items journal before held after (Err ended) of valid fed wrote lines = tt
 
   replay_part : (core : CoreView R Site) (runner : R) (site : Site) (seed : List ℕ) (items : List Item)
       (journal : Bool) (before held after : Option (List ℕ))

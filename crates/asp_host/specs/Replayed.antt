@@ -1,5 +1,5 @@
 -- What a replay ran and wrote, whole or in part.
-use Rattle.std.specs.Prelude.{◌≡◌, ℕ, Bool, List, Option}
+use Rattle.std.specs.Prelude.{◌≡◌, ℕ, Bool, true, List, Option}
 use Rattle.asp_io.specs.Copying.{AddsPart}
 use Rattle.asp_io.specs.Sink.{with_bytes}
 use Rattle.asp_job.specs.declared.answer.Fail.{Fail}
@@ -7,20 +7,24 @@ use Rattle.asp_job.specs.declared.entry.Entry.{Entry}
 use Rattle.asp_job.specs.Journal.{IsValidJournal}
 use Rattle.asp_job.specs.Rules.{Rules}
 use Rattle.asp_record.specs.declared.recording.Item.{Item}
+use Rattle.asp_record.specs.EntryLines.{lines_in}
+use Rattle.asp_record.specs.Journal.{AreLines}
 use Rattle.asp_replay.specs.declared.stop.FeedStop.{FeedStop}
 use Rattle.asp_replay.specs.declared.stop.FeedStop.TheVariants as stop
 use Rattle.asp_replay.specs.Feed.{HasFailed, HasFedPart, IsWhole}
 use Rattle.asp_replay.specs.Feeding.{IsFedPart}
 use Rattle.asp_replay.specs.Shown.{IsOutput, IsOutputPart}
 
--- The items were replayed to their end, with this journal, which is a right account of all runs; and the bytes of its answers,
--- of its lines where they are asked for, and of their count were written.
+-- The items were replayed to their end, with this journal, which is a right account of all runs; and the bytes of its
+-- answers, of its lines where they are asked for, and of their count were written. Each of those lines is such as may
+-- stand in a journal.
 pub record HasReplayed (rules : Rules) (items : List Item) (journal : Bool) (before after : Option (List ℕ)) : Type 0 where
   pub past : List Entry
   pub account : IsValidJournal rules past
   pub whole : IsWhole rules items past
   pub output : List ℕ
   pub is_output : IsOutput rules past journal output
+  pub lines : journal ≡ true → AreLines (lines_in past)
   pub wrote : after ≡ with_bytes before output
 
 -- the items were replayed in part, or to their end, and first bytes of what belongs to this journal were written

@@ -1,8 +1,11 @@
 //! What a replay writes behind the records of the answers, and in all.
-ghost use Rattle.std.specs.Prelude.{◌≡◌, ◌++◌, IfErr, OnOk, length, reverse};
+ghost use Rattle.std.specs.Prelude.{◌≡◌, ◌++◌, IfErr, OnOk, length, reverse, true};
 ghost use Rattle.asp_core.specs.Kernel.{past_of, rules_by, rules_of};
 ghost use Rattle.asp_io.specs.Faults.{HasCause};
 ghost use Rattle.asp_job.specs.Journal.{IsValidJournal};
+ghost use Rattle.asp_record.specs.EntryLines.{lines_in};
+ghost use Rattle.asp_record.specs.Journal.{AreLines};
+ghost use Rattle.asp_record.specs.Ranged.{AreRanged};
 ghost use Rattle.asp_record.specs.Recorded.{IsSound};
 ghost use Rattle.asp_replay.specs.Shown.{done_line, lines_of, shown_of};
 ghost use Rattle.asp_replay.specs.Underway.{WritesText};
@@ -13,7 +16,7 @@ use asp_core::Core;
 use asp_io::Sink;
 use asp_job::{Entry, Runner};
 use asp_record::Recording;
-use asp_replay::{FeedStop, feed, write_done, write_lines};
+use asp_replay::{FeedStop, feed, journals_have_lines, write_done, write_lines};
 use std::alloc::Global;
 
 /// Writes the lines of the entries, where they are asked for.
@@ -24,6 +27,7 @@ pub fn write_journal<K: Sink>(
     sink: &mut K,
 ) -> Result<(), FeedStop>
     ensures wrote { WritesText (lines_of journal (reverse entries.now)) result (K.held sink.old) (K.held sink.new) }
+    ensures ranged { OnOk result (journal ≡ true → AreRanged entries.now) }
     ensures cause { HasCause FeedStop.WriteFault (K.faults sink.old) (K.faults sink.new) result }
 {
     if journal {
@@ -44,11 +48,14 @@ fn write_end<R: Runner, K: Sink>(
         ++ done_line (length (shown_of (rules_of R.meaning core.now) (past_of core.now))))
         result (K.held sink.old) (K.held sink.new) }
     ensures valid { IsValidJournal (rules_of R.meaning core.now) (past_of core.now) }
+    ensures lines { OnOk result (journal ≡ true → AreLines (lines_in (past_of core.now))) }
     ensures cause { HasCause FeedStop.WriteFault (K.faults sink.old) (K.faults sink.new) result }
 {
     let entries = core.journal();
     let count = count_answers(alloc, entries)?;
     write_journal(alloc, journal, entries, sink)?;
+    // The lines that were written are such as may stand in a journal.
+    journals_have_lines();
     write_done(alloc, sink, count)
 }
 

@@ -4,4 +4,5 @@ pub mod OneCourse
 pub mod OneGet
 pub mod Refusals
 pub mod OneReplayOutput
+pub mod OneReplayJournal
 pub mod OneGetOutput

@@ -7,7 +7,7 @@ use Rattle.asp_record.specs.Recorded.{Stands}
 use Rattle.site_load.specs.Accepted.{IsAccepted}
 use Rattle.replay_laws.specs.Laws.{IsReplay, OneReplay}
 use Rattle.asp_host.specs.Around.{Around}
-use Rattle.asp_host.specs.Replay.{rules_for}
+use Rattle.asp_host.specs.Replay.{ReplaysAll, rules_for}
 use Rattle.host_laws.specs.Laws.{AreAddedAlike, OneSite, ReplaysWell, TellsFiles}
 use Rattle.host_laws.proofs.Refusals.{OneRecording, of_told}
 
@@ -20,6 +20,17 @@ is_replay journal around well = record {
   is_output = well.all.replayed.is_output;
 }
 
+-- two replays of the same bytes have one recording
+pub same_recording : OneRecording → (bytes : List ℕ) (journal : Bool) (around other : Around)
+    (one : ReplaysAll journal around.files around.source around.sink)
+    (also : ReplaysAll journal other.files other.source other.sink) → around.source.before ≡ Some bytes
+    → other.source.before ≡ Some bytes → one.recording ≡ also.recording
+same_recording recordings bytes journal around other one also told more =
+    (recordings bytes one.recording also.recording (length bytes) (length bytes)
+    (of_told around.source.before bytes (λ all. Stands all one.recording (length all)) told one.is_for.whole.stands)
+    (of_told other.source.before bytes (λ all. Stands all also.recording (length all)) more
+    also.is_for.whole.stands)).0
+
 module _ (sites : OneSite) (recordings : OneRecording) (replays : OneReplay) where
   same_site : (files : List SiteFile) (journal : Bool) (around other : Around) (one : ReplaysWell journal around)
       (also : ReplaysWell journal other) → TellsFiles around files → TellsFiles other files
@@ -28,23 +39,13 @@ module _ (sites : OneSite) (recordings : OneRecording) (replays : OneReplay) whe
       (of_told around.files files (λ all. IsAccepted all one.all.site) tells.told one.all.is_for.accepted)
       (of_told other.files files (λ all. IsAccepted all also.all.site) more.told also.all.is_for.accepted)
 
-  same_recording : (bytes : List ℕ) (journal : Bool) (around other : Around) (one : ReplaysWell journal around)
-      (also : ReplaysWell journal other) → around.source.before ≡ Some bytes → other.source.before ≡ Some bytes
-      → one.all.recording ≡ also.all.recording
-  same_recording bytes journal around other one also told more =
-      (recordings bytes one.all.recording also.all.recording (length bytes) (length bytes)
-      (of_told around.source.before bytes (λ all. Stands all one.all.recording (length all)) told
-      one.all.is_for.whole.stands)
-      (of_told other.source.before bytes (λ all. Stands all also.all.recording (length all)) more
-      also.all.is_for.whole.stands)).0
-
   pub one_replay_output : (journal : Bool) (files : List SiteFile) (bytes : List ℕ) (around other : Around)
       → TellsFiles around files → TellsFiles other files → around.source.before ≡ Some bytes
       → other.source.before ≡ Some bytes → ReplaysWell journal around → ReplaysWell journal other
       → AreAddedAlike around.sink other.sink
   one_replay_output journal files bytes around other tells more told again one also =
       let site = same_site files journal around other one also tells more in
-      let recording = same_recording bytes journal around other one also told again in
+      let recording = same_recording recordings bytes journal around other one.all also.all told again in
       let output = one.all.replayed.output in
       let turned = subst (λ (last : Recording). IsReplay (rules_for also.all.site last) last.items journal output)
       recording (subst (λ site. IsReplay (rules_for site one.all.recording) one.all.recording.items journal output) site

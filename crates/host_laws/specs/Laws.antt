@@ -1,5 +1,5 @@
 -- Laws of the host's commands, over the statements by which they end.
-use Rattle.std.specs.Prelude.{◌≡◌, ℕ, Bool, List, Some, None, length, map, Result, Err}
+use Rattle.std.specs.Prelude.{◌≡◌, ℕ, ◌^◌, ◌<◌, Bool, true, List, ◌++◌, Some, None, length, map, Result, Err}
 use Rattle.std.specs.Prelude.{Ok as Given}
 use Rattle.vb_value.specs.declared.site_file.SiteFile.{SiteFile}
 use Rattle.asp_core.specs.Laws.{NoneIs}
@@ -16,6 +16,7 @@ use Rattle.asp_job.specs.Journal.{IsValidJournal}
 use Rattle.asp_job.specs.Rules.{Rules}
 use Rattle.asp_record.specs.declared.recording.Item.{Item}
 use Rattle.asp_record.specs.declared.recording.Recording.{Recording}
+use Rattle.asp_record.specs.EntryLines.{printed}
 use Rattle.asp_record.specs.Generated.{count_files, generated}
 use Rattle.asp_record.specs.Recorded.{Stands}
 use Rattle.asp_replay.specs.Feed.{HasFailed}
@@ -134,6 +135,22 @@ OneReplayOutput = (journal : Bool) (files : List SiteFile) (bytes : List ℕ) (a
     → TellsFiles around files → TellsFiles other files → around.source.before ≡ Some bytes
     → other.source.before ≡ Some bytes → ReplaysWell journal around → ReplaysWell journal other
     → AreAddedAlike around.sink other.sink
+
+-- the source tells these bytes, and the sink that it was left with this output behind what it held
+pub record TellsOutput (around : Around) (bytes output : List ℕ) : Type 0 where
+  pub read : around.source.before ≡ Some bytes
+  pub held : List ℕ
+  pub before : around.sink.before ≡ Some held
+  pub after : around.sink.after ≡ Some (held ++ output)
+
+-- Two replays to the end with `--journal` that read the same bytes and wrote the same, whatever their sites, have the
+-- same entries in their journals, but for the answers that were handed out and halts, which have no line.
+abbrev pub OneReplayJournal : Type 0
+OneReplayJournal = (bytes output : List ℕ) (around other : Around) → TellsOutput around bytes output
+    → TellsOutput other bytes output → length output < 2 ^ 64
+    → (one : ReplaysAll true around.files around.source around.sink)
+    → (also : ReplaysAll true other.files other.source other.sink)
+    → printed one.replayed.past ≡ printed also.replayed.past
 
 -- two answers of `get` to one request for the same files leave the same
 abbrev pub OneGetOutput : Type 0

@@ -1,11 +1,12 @@
 //! Laws of the host's commands. The functions do nothing but call up the laws that theirs stand on: their contracts are
 //! the laws.
 ghost use Rattle.host_laws.specs.Laws.{CheckRefusesNone, GenRefusesNone, GetRefusesNone};
-ghost use Rattle.host_laws.specs.Laws.{OneGetOutput, OneOutcome, OneReplayOutput, OneSite, ReplayRefusesNone};
+ghost use Rattle.host_laws.specs.Laws.{OneGetOutput, OneOutcome, OneReplayJournal, OneReplayOutput, OneSite};
+ghost use Rattle.host_laws.specs.Laws.{ReplayRefusesNone};
 
 use asp_record::{one_recording, recording_not_refused};
 use page_read::one_outcome;
-use replay_laws::one_replay;
+use replay_laws::{one_journal, one_replay};
 use site_load::site_or_fault;
 use vb_lex::one_token_list;
 use vb_parse::laws::one_unit;
@@ -50,7 +51,16 @@ pub fn one_replay_output()
     one_replay();
 }
 
-/// What `get` writes is a function of the files that it reads, of its path and of its query.
+/// A recording and what a replay with `--journal` wrote of it determine the journal, but for the entries that have no
+/// line.
+pub fn one_replay_journal()
+    ensures { OneReplayJournal }
+{
+    one_recording();
+    one_journal();
+}
+
+/// What `get` writes where it answers `Ok` is a function of the files that it reads, of its path and of its query.
 pub fn one_get_output()
     ensures { OneGetOutput }
 {

@@ -1,11 +1,13 @@
-use Rattle.std.proofs.Common.{◌≡◌, ℕ, List, length, reverse, ap, sym, ◌∙◌, subst}
+use Rattle.std.proofs.Common.{◌≡◌, ℕ, true, List, length, reverse, ap, sym, ◌∙◌, subst}
 use Rattle.asp_core.specs.Kernel.{past_of, rules_of}
 use Rattle.asp_core.specs.Ready.{IsAnswered}
 use Rattle.asp_io.specs.Sink.{with_bytes}
 use Rattle.asp_job.specs.declared.entry.Entry.{Entry}
+use Rattle.asp_record.specs.Ranged.{AreRanged}
 use Rattle.asp_replay.specs.Shown.{done_line, lines_of, shown_of}
 use Rattle.asp_replay.specs.Underway.{WritesText}
-use Rattle.asp_host.proofs.Outputs.{text_then}
+use Rattle.asp_replay.proofs.Ranged.{ranged_reverse}
+use Rattle.asp_host.proofs.Outputs.{on_ok, text_then}
 use Rattle.asp_host.proofs.output.write_end.Goals as goal
 
 pub returns-clause-wrote : goal.returns-clause-wrote
@@ -23,3 +25,13 @@ returns-clause-wrote g c =
     let wrote = subst (λ (n : ℕ). WritesText (done_line n) c.write_done.result middle after) count c.write_done.ensures.wrote in
     text_then c.write_done.result before middle after (lines_of c.args.journal past)
     (done_line (length (shown_of rules past))) was wrote
+
+pub returns-clause-lines : goal.returns-clause-lines
+returns-clause-lines g c =
+    let past = past_of c.args.core.now in
+    let rules = rules_of g.R.Runner.meaning c.args.core.now in
+    let entries = c.journal-entries.result.now in
+    let same = ap reverse c.journal-entries.ensures.journal in
+    on_ok c.write_done.result (λ (asked : c.args.journal ≡ true).
+    c.journals_have_lines.ensures rules past c.journal-entries.ensures.valid c.journal-entries.ensures.formed
+    (subst AreRanged same (ranged_reverse entries (c.in_ok-write_journal.ensures.ranged asked))))

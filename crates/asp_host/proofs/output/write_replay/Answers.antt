@@ -22,7 +22,7 @@ returns-clause-ok g c =
     replay_ok g.R.Runner.meaning c.in_ok-core.core c.args.runner.now c.args.site.now c.args.recording.now.seed
     c.args.recording.now.items c.args.journal (g.K.Sink.held c.args.sink.now) (g.K.Sink.held c.feed.new.sink)
     (g.K.Sink.held c.write_end.new.sink) c.write_end.result c.in_ok-core.ensures.core c.write_end.ensures.valid
-    c.in_ok-core.ensures.ok c.write_end.ensures.wrote
+    c.in_ok-core.ensures.ok c.write_end.ensures.wrote c.write_end.ensures.lines
 
 pub returns-clause-err : goal.returns-clause-err
 returns-clause-err g c =
