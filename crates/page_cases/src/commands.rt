@@ -21,33 +21,49 @@ impl Subject for CommandWords {
     fn answer(&self, alloc: Global, case: &str) -> Result<String, CaseStop> {
         let words = words_of(alloc, case)?;
         match read_words(alloc, words.as_slice()) {
-            Ok(Command::Get { site, path, query }) => {
-                let (site, path) = (site.to_string(alloc)?, path.to_string(alloc)?);
-                let count = query.len();
-                Ok(format!(in alloc; "get {path} of {site}, query of {count} bytes")?)
-            }
-            Ok(Command::Check { site }) => {
-                let site = site.to_string(alloc)?;
-                Ok(format!(in alloc; "check {site}")?)
-            }
-            Ok(
-                Command::Replay {
-                    site,
-                    workers,
-                    journal,
-                },
-            ) => {
-                let site = site.to_string(alloc)?;
-                let lines = lines_asked(journal);
-                Ok(format!(in alloc; "replay {site} with {workers} workers{lines}")?)
-            }
-            Ok(Command::Gen { count, journal }) => {
-                let lines = lines_asked(journal);
-                Ok(format!(in alloc; "gen of {count} requests{lines}")?)
-            }
+            Ok(command) => command_text(alloc, &command),
             Err(WordStop::Usage) => Ok(String::from_str(alloc, "usage")?),
             Err(WordStop::Memory) => Err(CaseStop::Memory),
         }
+    }
+}
+
+fn get_text(alloc: Global, site: &Text, path: &Text, count: usize) -> Result<String, CaseStop> {
+    let (site, path) = (site.to_string(alloc)?, path.to_string(alloc)?);
+    Ok(format!(in alloc; "get {path} of {site}, query of {count} bytes")?)
+}
+
+fn check_text(alloc: Global, site: &Text) -> Result<String, CaseStop> {
+    let site = site.to_string(alloc)?;
+    Ok(format!(in alloc; "check {site}")?)
+}
+
+fn replay_text(
+    alloc: Global,
+    site: &Text,
+    workers: u32,
+    journal: bool,
+) -> Result<String, CaseStop> {
+    let site = site.to_string(alloc)?;
+    let lines = lines_asked(journal);
+    Ok(format!(in alloc; "replay {site} with {workers} workers{lines}")?)
+}
+
+fn gen_text(alloc: Global, count: u32, journal: bool) -> Result<String, CaseStop> {
+    let lines = lines_asked(journal);
+    Ok(format!(in alloc; "gen of {count} requests{lines}")?)
+}
+
+fn command_text(alloc: Global, command: &Command) -> Result<String, CaseStop> {
+    match command {
+        Command::Get { site, path, query } => get_text(alloc, site, path, query.len()),
+        Command::Check { site } => check_text(alloc, site),
+        Command::Replay {
+            site,
+            workers,
+            journal,
+        } => replay_text(alloc, site, *workers, *journal),
+        Command::Gen { count, journal } => gen_text(alloc, *count, *journal),
     }
 }
 
@@ -78,8 +94,18 @@ fn ended<R: Threads + Wait + Sync>(rt: &R, alloc: Global, case: &str) -> Result<
     let (words, _) = case.split_once(" ## ").unwrap_or((case, ""));
     let words = words_of(alloc, words)?;
     let mut folder = read_site(alloc, case)?;
+    ended_over(rt, alloc, words.as_slice(), &mut folder)
+}
+
+/// How the command of the words ends over a folder.
+fn ended_over<R: Threads + Wait + Sync>(
+    rt: &R,
+    alloc: Global,
+    words: &[String],
+    folder: &mut MemFolder,
+) -> Result<String, CaseStop> {
     let mut sink = MemSink::new(alloc, ROOM, List::new(alloc))?;
-    let status = run(rt, alloc, words.as_slice(), &mut folder, &mut sink);
+    let status = run(rt, alloc, words, folder, &mut sink);
     ended_text(alloc, &status, sink.held())
 }
 

@@ -8,7 +8,7 @@ use crate::sites::read_files;
 use case_files::{CaseStop, Subject};
 use page_read::{Located, SiteStop, expand};
 use std::alloc::Global;
-use vb_value::{SiteFile, Text};
+use vb_value::{List, SiteFile, Text};
 
 /// Pages of sites, each with its parts: the file of each and what it is, or the file and the line of the first fault.
 pub struct Includes;
@@ -16,14 +16,20 @@ pub struct Includes;
 impl Subject for Includes {
     fn answer(&self, alloc: Global, case: &str) -> Result<String, CaseStop> {
         let (path, _) = case.split_once(" ## ").unwrap_or((case, ""));
+        let path = Text::from_str(alloc, path)?;
         let files = read_files(alloc, case)?;
-        if !are_short(files.as_slice()) {
-            return Err(CaseStop::Unreadable);
-        }
-        match expand(alloc, &files, &Text::from_str(alloc, path)?) {
-            Ok(parts) => parts_text(alloc, parts.as_slice()),
-            Err(stop) => fault_text(alloc, stop),
-        }
+        expanded(alloc, &files, &path)
+    }
+}
+
+/// The parts of a page, or its first fault.
+fn expanded(alloc: Global, files: &List<SiteFile>, path: &Text) -> Result<String, CaseStop> {
+    if !are_short(files.as_slice()) {
+        return Err(CaseStop::Unreadable);
+    }
+    match expand(alloc, files, path) {
+        Ok(parts) => parts_text(alloc, parts.as_slice()),
+        Err(stop) => fault_text(alloc, stop),
     }
 }
 

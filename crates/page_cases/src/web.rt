@@ -14,20 +14,35 @@ impl Subject for Web {
     fn answer(&self, alloc: Global, case: &str) -> Result<String, CaseStop> {
         let (call, written) = case.split_once(": ").unwrap_or((case, ""));
         let text = read_text(alloc, written)?;
-        let answer = match call {
-            "html" => html_encode(alloc, &Text::from_str(alloc, text.as_str())?)?,
-            "url" => url_encode(alloc, &Text::from_str(alloc, text.as_str())?)?,
-            "path" => match normal_path(alloc, text.as_str().as_bytes()) {
-                Ok(path) => path,
-                Err(PathStop::Memory) => return Err(CaseStop::Memory),
-                Err(stop) => return Ok(format!(in alloc; "{stop:?}")?),
-            },
-            "type" => {
-                let path = Text::from_str(alloc, text.as_str())?;
-                return Ok(String::from_str(alloc, media_type(path.as_slice()))?);
-            }
-            _ => return Err(CaseStop::Unreadable),
-        };
-        Ok(answer.to_string(alloc)?)
+        match call {
+            "html" => html_text(alloc, text.as_str()),
+            "url" => url_text(alloc, text.as_str()),
+            "path" => path_text(alloc, text.as_str().as_bytes()),
+            "type" => type_text(alloc, text.as_str()),
+            _ => Err(CaseStop::Unreadable),
+        }
     }
+}
+
+fn html_text(alloc: Global, written: &str) -> Result<String, CaseStop> {
+    let text = Text::from_str(alloc, written)?;
+    Ok(html_encode(alloc, &text)?.to_string(alloc)?)
+}
+
+fn url_text(alloc: Global, written: &str) -> Result<String, CaseStop> {
+    let text = Text::from_str(alloc, written)?;
+    Ok(url_encode(alloc, &text)?.to_string(alloc)?)
+}
+
+fn path_text(alloc: Global, target: &[u8]) -> Result<String, CaseStop> {
+    match normal_path(alloc, target) {
+        Ok(path) => Ok(path.to_string(alloc)?),
+        Err(PathStop::Memory) => Err(CaseStop::Memory),
+        Err(stop) => Ok(format!(in alloc; "{stop:?}")?),
+    }
+}
+
+fn type_text(alloc: Global, written: &str) -> Result<String, CaseStop> {
+    let path = Text::from_str(alloc, written)?;
+    Ok(String::from_str(alloc, media_type(path.as_slice()))?)
 }

@@ -5,6 +5,7 @@ use crate::requests::read_job;
 use crate::site::site_of;
 use asp_job::{Answer, Finished, Job, Runner, Step};
 use asp_run::PlainRunner;
+use asp_site::Site;
 use case_files::{CaseStop, Subject, read_text};
 use std::alloc::Global;
 
@@ -60,6 +61,35 @@ where
     }
 }
 
+/// What the job of a request leaves on a site.
+fn left_on(alloc: Global, site: &Site, asked: &str) -> Result<Option<Finished>, CaseStop> {
+    let job = read_job(alloc, asked)?;
+    run(&PlainRunner { alloc }, site, &job)
+}
+
+/// The answer that was left.
+fn left_text(alloc: Global, left: &Option<Finished>) -> Result<String, CaseStop> {
+    match left {
+        Some(finished) => match &finished.answer {
+            Some(answer) => shown(alloc, answer),
+            None => Err(CaseStop::Unreadable),
+        },
+        None => Err(CaseStop::Unreadable),
+    }
+}
+
+/// The answer of a site to a request.
+fn answer_on(alloc: Global, site: &Site, asked: &str) -> Result<String, CaseStop> {
+    let left = left_on(alloc, site, asked)?;
+    left_text(alloc, &left)
+}
+
+/// The answer of the page with this script to a request.
+fn answer_of(alloc: Global, script: &str, asked: &str) -> Result<String, CaseStop> {
+    let site = site_of(alloc, script)?;
+    answer_on(alloc, &site, asked)
+}
+
 impl Subject for Pages {
     fn answer(&self, alloc: Global, case: &str) -> Result<String, CaseStop> {
         let Some((script, asked)) = case.split_once(" ## ") else {
@@ -67,14 +97,6 @@ impl Subject for Pages {
         };
         let script = read_text(alloc, script)?;
         let asked = read_text(alloc, asked)?;
-        let site = site_of(alloc, script.as_str())?;
-        let job = read_job(alloc, asked.as_str())?;
-        let Some(finished) = run(&PlainRunner { alloc }, &site, &job)? else {
-            return Err(CaseStop::Unreadable);
-        };
-        match &finished.answer {
-            Some(answer) => shown(alloc, answer),
-            None => Err(CaseStop::Unreadable),
-        }
+        answer_of(alloc, script.as_str(), asked.as_str())
     }
 }

@@ -32,9 +32,10 @@ fn page(alloc: Global, script: &str) -> Result<Page, CaseStop> {
         return Err(CaseStop::Unreadable);
     }
     let path = Text::from_str(alloc, PAGE)?;
+    let lines = lines(alloc, &path)?;
     match script_program(alloc, &text) {
         Ok(program) => Ok(Page {
-            lines: lines(alloc, &path)?,
+            lines,
             path,
             session: false,
             program,
@@ -44,17 +45,26 @@ fn page(alloc: Global, script: &str) -> Result<Page, CaseStop> {
     }
 }
 
-/// The site whose page `/d/p.asp` has this script.
-pub fn site_of(alloc: Global, script: &str) -> Result<Site, CaseStop> {
+fn pages(alloc: Global, script: &str) -> Result<List<Page>, CaseStop> {
     let mut pages = List::new(alloc);
     pages.push(page(alloc, script)?)?;
+    Ok(pages)
+}
+
+fn statics(alloc: Global) -> Result<List<SiteFile>, CaseStop> {
     let mut statics = List::new(alloc);
     statics.push(SiteFile {
         path: Text::from_str(alloc, FILE)?,
         bytes: Bytes::from_slice(alloc, b"p {}")?,
     })?;
+    Ok(statics)
+}
+
+/// The site whose page `/d/p.asp` has this script.
+pub fn site_of(alloc: Global, script: &str) -> Result<Site, CaseStop> {
+    let statics = statics(alloc)?;
     Ok(Site {
-        pages,
+        pages: pages(alloc, script)?,
         statics,
         events: None,
     })

@@ -15,6 +15,49 @@ fn site_file(alloc: Global, path: &str, text: &str) -> Result<SiteFile, Memory> 
     })
 }
 
+/// A folder of two pages, whose call of that number fails.
+fn folder_of<R: AllocGlobal + Abort>(rt: &R, fails: u64) -> Result<MemFolder, Memory> {
+    let alloc = rt.alloc();
+    let mut files = List::new(alloc);
+    files.push(site_file(alloc, "/a.asp", "A")?)?;
+    files.push(site_file(alloc, "/p.asp", "P<%=1%>")?)?;
+    let fails = List::from_slice(alloc, &[fails])?;
+    let folder = SureFolder::new(files).expect(rt, "distinct paths that begin with a slash");
+    Ok(MemFolder::new(folder, fails))
+}
+
+fn words_of(alloc: Global) -> Result<Vec<String>, Memory> {
+    let mut words = Vec::new(alloc);
+    for word in ["get", "site", "/p.asp"] {
+        words.push(String::from_str(alloc, word)?)?;
+    }
+    Ok(words)
+}
+
+/// The exit status of a command.
+fn status_of<R: AllocGlobal + Threads + Wait + Sync>(
+    rt: &R,
+    words: &[String],
+    folder: &mut MemFolder,
+    sink: &mut MemSink,
+) -> u8 {
+    let alloc = rt.alloc();
+    let mut source = SureSource::new(Bytes::new(alloc));
+    let wire = SureWire::new(List::new(alloc));
+    let status = run_host(
+        rt,
+        alloc,
+        words,
+        folder,
+        &mut source,
+        sink,
+        wire,
+        &MemClock,
+        [0; 32],
+    );
+    status_code(&status)
+}
+
 /// The exit status and the output of `get` for one of two pages, where the calls of the folder and of the sink with
 /// these numbers fail, and the sink has so much room.
 fn get<R: AllocGlobal + Abort + Threads + Wait + Sync>(
@@ -24,30 +67,11 @@ fn get<R: AllocGlobal + Abort + Threads + Wait + Sync>(
     room: usize,
 ) -> Result<(u8, Bytes), Memory> {
     let alloc = rt.alloc();
-    let mut files = List::new(alloc);
-    files.push(site_file(alloc, "/a.asp", "A")?)?;
-    files.push(site_file(alloc, "/p.asp", "P<%=1%>")?)?;
-    let folder = SureFolder::new(files).expect(rt, "distinct paths that begin with a slash");
-    let mut folder = MemFolder::new(folder, List::from_slice(alloc, &[folder_fails])?);
+    let words = words_of(alloc)?;
     let mut sink = MemSink::new(alloc, room, List::from_slice(alloc, &[sink_fails])?)?;
-    let mut source = SureSource::new(Bytes::new(alloc));
-    let wire = SureWire::new(List::new(alloc));
-    let mut words = Vec::new(alloc);
-    for word in ["get", "site", "/p.asp"] {
-        words.push(String::from_str(alloc, word)?)?;
-    }
-    let status = run_host(
-        rt,
-        alloc,
-        words.as_slice(),
-        &mut folder,
-        &mut source,
-        &mut sink,
-        wire,
-        &MemClock,
-        [0; 32],
-    );
-    Ok((status_code(&status), Bytes::from_slice(alloc, sink.held())?))
+    let mut folder = folder_of(rt, folder_fails)?;
+    let code = status_of(rt, words.as_slice(), &mut folder, &mut sink);
+    Ok((code, Bytes::from_slice(alloc, sink.held())?))
 }
 
 /// The calls of the folder are its names and then one read for each file of the site. The command is one call of the
