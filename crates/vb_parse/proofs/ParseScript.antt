@@ -13,9 +13,9 @@ use Rattle.vb_syntax.specs.grammar.Units.{Derives, strict}
 use Rattle.vb_syntax.specs.grammar.Faults.{IsFault, fault_line}
 use Rattle.vb_parse.specs.declared.fault.ParseFault.{ParseFault}
 use Rattle.vb_parse.specs.declared.fault.ParseFault.TheVariants as kind
-use Rattle.vb_parse.specs.Reader.{Outcome}
+use Rattle.vb_read.specs.Reader.{Outcome}
 use Rattle.vb_parse.specs.Outcome.{HasFault, IsKind, Leaves, kind_by}
-use Rattle.vb_parse.specs.ReadUnits.{whole_unit}
+use Rattle.vb_read.specs.ReadUnits.{whole_unit}
 use Rattle.vb_parse.proofs.ParseUnit.{unit_sound, unit_stops, unit_unique, unit_faultless, one_unit_fault, unit_goes_on}
 use Rattle.vb_parse.proofs.ParseUnit.{no_unit_goes_on}
 

@@ -6,13 +6,13 @@ use Rattle.vb_syntax.specs.grammar.SimpleStatements.{Looser}
 use Rattle.vb_syntax.specs.grammar.Units as grammar
 use Rattle.vb_syntax.specs.grammar.Faults.{IsFault, WouldGoOn}
 use Rattle.vb_parse.specs.Outcome.{Leaves}
-use Rattle.vb_parse.specs.ReadUnits as spec
-use Rattle.vb_parse.specs.ReadUnits.{whole_unit}
-use Rattle.vb_parse.proofs.Theorems.{Fits, fits, unique, sound, stops_at_fault, spelled_no_fault}
-use Rattle.vb_parse.proofs.Theorems.{fault_unique}
+use Rattle.vb_read.specs.ReadUnits as spec
+use Rattle.vb_read.specs.ReadUnits.{whole_unit}
+use Rattle.vb_read.proofs.Theorems.{Fits, fits, unique, sound, stops_at_fault, spelled_no_fault}
+use Rattle.vb_read.proofs.Theorems.{fault_unique}
 use Rattle.vb_parse.proofs.Telling.{would_go_on, would_not_go_on}
-use Rattle.vb_parse.proofs.UnitReading.{reads_unit}
-use Rattle.vb_parse.proofs.ScriptTaking.{takes_unit}
+use Rattle.vb_read.proofs.UnitReading.{reads_unit}
+use Rattle.vb_read.proofs.ScriptTaking.{takes_unit}
 
 unit_fits : (looser : Looser) (depth : ℕ) → Fits (spec.unit looser depth) (grammar.unit looser depth)
 unit_fits looser depth = fits (reads_unit looser depth) (takes_unit looser depth) (record { fits = refl })

@@ -3,8 +3,8 @@ use Rattle.std.proofs.Common.{◌≡◌, ℕ, ◌<◌, ◌≤◌, [], ◌∷◌,
 use Rattle.vb_syntax.specs.grammar.Rules.{Tokens, Rule}
 use Rattle.vb_syntax.specs.grammar.Faults.{IsFault, WouldGoOn}
 use Rattle.vb_parse.specs.Outcome.{Leaves}
-use Rattle.vb_parse.specs.Reader.{Outcome, Reader, whole}
-use Rattle.vb_parse.proofs.Theorems.{Fits, sound, stops_at_fault, looser_reads, looser_further, looser_stops}
+use Rattle.vb_read.specs.Reader.{Outcome, Reader, whole}
+use Rattle.vb_read.proofs.Theorems.{Fits, sound, stops_at_fault, looser_reads, looser_further, looser_stops}
 
 module _ {A : Type 0} (r : Rule A) (p : Reader A) (s : Rule A) (fit : Fits p s) where
   reads_on : (tokens left : Tokens) (f : IsFault r tokens left) (x : A) → s tokens x → 0 < length left

@@ -5,7 +5,7 @@ use Rattle.vb_syntax.specs.grammar.Faults.{IsFault, fault_line}
 use Rattle.vb_syntax.specs.grammar.Units.{Derives, IsTooDeep, IsCallParens, IsTextHere}
 use Rattle.vb_parse.specs.declared.fault.ParseFault.{ParseFault}
 use Rattle.vb_parse.specs.declared.fault.ParseFault.TheVariants as kind
-use Rattle.vb_parse.specs.Reader.{Outcome}
+use Rattle.vb_read.specs.Reader.{Outcome}
 
 -- The kind of the fault at the first of the tokens that are left, behind those in front. The kinds stand in an order:
 -- of those that hold the first counts, and Unexpected where no other holds.

@@ -6,15 +6,13 @@ ghost use Rattle.vb_syntax.specs.grammar.Units.{Derives};
 ghost use Rattle.vb_value.specs.Outcome.{Answers, OnFault, Runs};
 ghost use Rattle.vb_parse.specs.Outcome.{HasFault, Leaves};
 ghost use Rattle.vb_parse.specs.Outcome as spec;
-ghost use Rattle.vb_parse.specs.Reader.{stopped_at};
-ghost use Rattle.vb_parse.specs.ReadUnits.{whole_unit};
-ghost use Rattle.vb_parse.specs.Depths.{rules};
+ghost use Rattle.vb_read.specs.Reader.{stopped_at};
+ghost use Rattle.vb_read.specs.ReadUnits.{whole_unit};
+ghost use Rattle.vb_read.specs.Depths.{rules};
 
-use crate::cursor::{Cursor, ReadStop};
 use crate::fault::{ParseFault, ParseStop};
-use crate::looser::Looser;
-use crate::unit::unit;
 use std::alloc::Global;
+use vb_read::{Cursor, Looser, ReadStop, read_unit};
 use vb_syntax::Unit;
 use vb_value::{Memory, Stop, Token};
 
@@ -37,7 +35,7 @@ const TEXTS: Looser = Looser {
 };
 
 /// Reads a whole list of words as a script, or leaves the words from the faulty one on.
-#[tactic(auto, unfolding(crate::specs::ReadUnits::whole_unit))]
+#[tactic(auto, unfolding(vb_read::specs::ReadUnits::whole_unit))]
 fn read(
     alloc: Global,
     cursor: &mut Cursor<'_>,
@@ -46,7 +44,7 @@ fn read(
 ) -> Result<Unit, ReadStop>
     ensures { Runs result stopped_at cursor.new.rest.now (whole_unit (rules looser) depth cursor.old.rest.now) }
 {
-    let found = unit(alloc, cursor, looser, depth)?;
+    let found = read_unit(alloc, cursor, looser, depth)?;
     cursor.at_end()?;
     Ok(found)
 }

@@ -1,0 +1,14 @@
+use Rattle.std.proofs.Common.{sym, ◌∙◌}
+use Rattle.vb_read.proofs.Commas.{comma_less, comma_turn}
+use Rattle.vb_read.proofs.DeclarationReading.{reads_constant}
+use Rattle.vb_read.proofs.declaration.constants.Goals as goal
+
+pub loop-cursor-smaller : goal.loop-cursor-smaller
+loop-cursor-smaller c = comma_less reads_constant _ _ _ _ _ c.in_ok-symbol.ensures
+    c.in_ok-constant-2.ensures
+
+pub loop-cursor-preserved : goal.loop-cursor-preserved
+loop-cursor-preserved c = comma_turn reads_constant (λ l. l) _ c.loop-cursor.found _
+    c.loop-cursor.cursor.rest.now _ _ _ _
+    c.loop-cursor.invariant (sym c.sees_symbol.ensures ∙ c.loop-cursor-test.true) c.in_ok-symbol.ensures
+    c.in_ok-constant-2.ensures c.in_ok-push-2.ensures

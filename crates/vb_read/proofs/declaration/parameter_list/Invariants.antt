@@ -1,0 +1,12 @@
+use Rattle.std.proofs.Common.{◌≡◌, ◌++◌, length}
+use Rattle.vb_read.specs.Reader as reader
+use Rattle.vb_read.specs.ReadDeclarations as spec
+use Rattle.vb_read.specs.ReadExpressions.{list_of, more_of}
+use Rattle.vb_read.proofs.declaration.parameter_list.Given as goal
+
+abbrev pub invariant-loop-cursor : goal.invariant-loop-cursor
+invariant-loop-cursor l = list_of (spec.parameter l.fn.depth) l.fn.cursor.rest.now
+    ≡ reader.and_then (more_of (spec.parameter l.fn.depth) l.cursor.rest.now) (λ more. reader.pure (l.found ++ more))
+
+abbrev pub decreases-loop-cursor : goal.decreases-loop-cursor
+decreases-loop-cursor l = length l.cursor.rest.now

@@ -1,0 +1,13 @@
+use Rattle.std.proofs.Common.{◌≡◌, ◌∷◌, ◌++◌, length}
+use Rattle.vb_read.specs.Reader as reader
+use Rattle.vb_read.specs.ReadDeclarations as spec
+use Rattle.vb_read.specs.ReadExpressions.{more_of}
+use Rattle.vb_read.proofs.declaration.variables_from.Given as goal
+
+abbrev pub invariant-loop-alloc : goal.invariant-loop-alloc
+invariant-loop-alloc l = (reader.◌>>=◌ (more_of (spec.declared l.fn.depth)) (λ more. reader.pure (l.fn.first ∷ more)))
+    l.fn.cursor.rest.now
+    ≡ reader.and_then (more_of (spec.declared l.fn.depth) l.cursor.rest.now) (λ more. reader.pure (l.found ++ more))
+
+abbrev pub decreases-loop-alloc : goal.decreases-loop-alloc
+decreases-loop-alloc l = length l.cursor.rest.now

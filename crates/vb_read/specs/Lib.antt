@@ -1,0 +1,11 @@
+pub mod Reader
+pub mod ReadExpressions
+pub mod Depths
+pub mod ReadDeclarations
+pub mod ReadCalls
+pub mod ReadSimpleStatements
+pub mod ReadLines
+pub mod ReadStatements
+pub mod ReadUnits
+pub mod Heads
+pub mod Nests
