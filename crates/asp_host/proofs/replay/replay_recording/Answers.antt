@@ -11,8 +11,8 @@ returns-in-Ok-clause-writes g c = λ files source is_for.
     let sink : Change = record { before = held c.args.sink.now; after = held c.write_replay.new.sink } in
     replay_done c.args.journal files c.args.site.now source sink c.args.recording.now is_for c.in-Ok.ensures.ok
 
-pub returns-clause-writes : goal.returns-clause-writes
-returns-clause-writes g c = λ files source is_for.
+pub returns-in-Err-clause-writes : goal.returns-clause-writes
+returns-in-Err-clause-writes g c = λ files source is_for.
     let held = g.K.Sink.held in
     let sink : Change = record { before = held c.args.sink.now; after = held c.write_replay.new.sink } in
     subst (λ (status : Status). ReplayWrites c.args.journal files source sink status) (sym c.from.ensures)
