@@ -1,5 +1,5 @@
 -- What `get` ran and wrote.
-use Rattle.std.proofs.Common.{◌≡◌, ℕ, List, Option, IfSome, refl}
+use Rattle.std.proofs.Common.{ℕ, List, Option, IfSome, refl}
 use Rattle.vb_value.specs.declared.site_file.SiteFile.{SiteFile}
 use Rattle.asp_get.specs.Answered.{IsGetStop}
 use Rattle.asp_get.specs.declared.stop.GetStop.{GetStop}

@@ -1,7 +1,7 @@
 -- Bytes that come from a source, one piece behind the other.
-use Rattle.std.proofs.Common.{◌≡◌, ℕ, ◌<◌, ◌≤◌, List, [], ◌++◌, length, Option, None, Some, IfSome, option_map}
-use Rattle.std.proofs.Common.{refl, ap, sym, ◌∙◌, append_assoc, arith, subst}
-use Rattle.asp_host.specs.Input.{AreRead, AreTaken, Comes}
+use Rattle.std.proofs.Common.{ℕ, List, [], ◌++◌, Option, None, Some, option_map}
+use Rattle.std.proofs.Common.{refl, ap, sym, ◌∙◌, append_assoc, subst}
+use Rattle.asp_host.specs.Input.{AreTaken, Comes}
 
 taken_none : (before : Option (List ℕ)) → AreTaken before before []
 taken_none None = refl

@@ -1,5 +1,5 @@
 -- What `replay` ran and wrote.
-use Rattle.std.proofs.Common.{◌≡◌, ◌⊎◌, ℕ, Bool, List, Option, IfSome, refl, inl, inr}
+use Rattle.std.proofs.Common.{ℕ, Bool, List, Option, IfSome, refl, inl, inr}
 use Rattle.vb_value.specs.declared.site_file.SiteFile.{SiteFile}
 use Rattle.asp_record.specs.declared.recording.Recording.{Recording}
 use Rattle.asp_replay.specs.declared.stop.FeedStop.{FeedStop}

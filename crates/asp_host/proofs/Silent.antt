@@ -1,5 +1,5 @@
 -- Where nothing came from outside no page has run, and nothing was written.
-use Rattle.std.proofs.Common.{◌≡◌, ◌⊎◌, ℕ, zero, suc, ◌+◌, ◌==◌, Bool, true, false, if◌then◌else◌, List, [], ◌∷◌, ◌++◌}
+use Rattle.std.proofs.Common.{◌≡◌, ◌⊎◌, ℕ, zero, suc, ◌==◌, Bool, true, false, if◌then◌else◌, List, [], ◌∷◌, ◌++◌}
 use Rattle.std.proofs.Common.{Option, Some, None, is_some, unwrap_or, drop, take, refl, ap, sym, ◌∙◌, subst, inl, inr}
 use Rattle.asp_core.specs.Ready.{IsAnswered, IsAnsweredBy}
 use Rattle.asp_io.specs.Copying.{AddsPart}

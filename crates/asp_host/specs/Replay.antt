@@ -1,5 +1,5 @@
 -- How `replay` ends, by its status, and what it then leaves in the sink.
-use Rattle.std.specs.Prelude.{◌≡◌, ◌⊎◌, ℕ, Bool, IfSome, List, Option}
+use Rattle.std.specs.Prelude.{◌⊎◌, ℕ, Bool, IfSome, List, Option}
 use Rattle.vb_value.specs.declared.site_file.SiteFile.{SiteFile}
 use Rattle.asp_core.specs.Kernel.{rules_by}
 use Rattle.asp_job.specs.declared.answer.Fail.{Fail}

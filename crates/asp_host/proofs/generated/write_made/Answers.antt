@@ -15,7 +15,7 @@ returns-in-Ok-clause-writes g c =
     (record { before = g.K.Sink.held c.args.sink.now; after = g.K.Sink.held c.write_generated.new.sink })
     c.requires.requests c.requires.accepted c.in-Ok.ensures.ok
 
-pub returns-in-Err-clause-writes : goal.returns-clause-writes
+pub returns-in-Err-clause-writes : goal.returns-in-Err-clause-writes
 returns-in-Err-clause-writes g c =
     let held = g.K.Sink.held in
     let sink : Change = record { before = held c.args.sink.now; after = held c.write_generated.new.sink } in

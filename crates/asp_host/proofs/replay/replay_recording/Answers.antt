@@ -11,7 +11,7 @@ returns-in-Ok-clause-writes g c = λ files source is_for.
     let sink : Change = record { before = held c.args.sink.now; after = held c.write_replay.new.sink } in
     replay_done c.args.journal files c.args.site.now source sink c.args.recording.now is_for c.in-Ok.ensures.ok
 
-pub returns-in-Err-clause-writes : goal.returns-clause-writes
+pub returns-in-Err-clause-writes : goal.returns-in-Err-clause-writes
 returns-in-Err-clause-writes g c = λ files source is_for.
     let held = g.K.Sink.held in
     let sink : Change = record { before = held c.args.sink.now; after = held c.write_replay.new.sink } in

@@ -1,4 +1,4 @@
-use Rattle.std.proofs.Common.{◌≡◌, ◌-◌, ◌<◌, ◌≤◌, ◌^◌, length}
+use Rattle.std.proofs.Common.{◌-◌, ◌<◌, ◌≤◌, ◌^◌, length}
 use Rattle.asp_host.specs.Input.{AreTaken, most_read}
 use Rattle.asp_host.proofs.source.read_source.Given as goal
 
