@@ -20,7 +20,11 @@ pub fn check<F: Folder, K: Sink>(alloc: Global, folder: &mut F, sink: &mut K) ->
     ensures write_fault { result ≡ Status.WriteFault → HasRisen (K.faults sink.old) (K.faults sink.new) }
 {
     match load(alloc, folder) {
-        Ok(site) => write_count(alloc, &site, sink),
+        Ok(site) => {
+            let status = write_count(alloc, &site, sink);
+            drop(site);
+            status
+        }
         Err(stop) => Status::from(stop),
     }
 }

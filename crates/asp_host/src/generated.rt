@@ -46,7 +46,11 @@ fn replay_made<K: Sink>(
     ensures write_fault { result ≡ Status.WriteFault → HasRisen (K.faults sink.old) (K.faults sink.new) }
 {
     match count_site(alloc, files) {
-        Ok(site) => write_made(alloc, &site, recording, count, journal, sink),
+        Ok(site) => {
+            let status = write_made(alloc, &site, recording, count, journal, sink);
+            drop(site);
+            status
+        }
         Err(Memory) => Status::Memory,
     }
 }

@@ -32,7 +32,11 @@ pub fn get<F: Folder, K: Sink>(
     ensures write_fault { result ≡ Status.WriteFault → HasRisen (K.faults sink.old) (K.faults sink.new) }
 {
     match load(alloc, folder) {
-        Ok(site) => write_answer(alloc, &site, path, query, sink),
+        Ok(site) => {
+            let status = write_answer(alloc, &site, path, query, sink);
+            drop(site);
+            status
+        }
         Err(stop) => Status::from(stop),
     }
 }

@@ -81,5 +81,7 @@ where
     ensures cause { HasCause FeedStop.WriteFault (K.faults sink.old) (K.faults sink.new) result }
 {
     let core = feed(alloc, runner, site, recording, sink)?;
-    write_end(alloc, &core, journal, sink)
+    let written = write_end(alloc, &core, journal, sink);
+    drop(core);
+    written
 }

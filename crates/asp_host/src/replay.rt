@@ -31,7 +31,11 @@ pub fn replay<F: Folder, S: Source, K: Sink>(
     ensures write_fault { result ≡ Status.WriteFault → HasRisen (K.faults sink.old) (K.faults sink.new) }
 {
     match load(alloc, folder) {
-        Ok(site) => replay_source(alloc, &site, journal, source, sink),
+        Ok(site) => {
+            let status = replay_source(alloc, &site, journal, source, sink);
+            drop(site);
+            status
+        }
         Err(stop) => Status::from(stop),
     }
 }

@@ -86,5 +86,7 @@ where
     // The sink of the answers takes all, so none of its faults is handed on.
     let mut nowhere = SureSink;
     let core = feed(alloc, runner, site, recording, &mut nowhere)?;
-    write_summary(alloc, &core, count, journal, sink)
+    let written = write_summary(alloc, &core, count, journal, sink);
+    drop(core);
+    written
 }

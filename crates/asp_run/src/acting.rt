@@ -30,6 +30,7 @@ fn event_in(
     match number {
         Some(number) => {
             if number > 4_294_967_295 {
+                drop(course);
                 return Err(Memory);
             }
             act(alloc, replies, page, Act::Proc(number as u32), course)

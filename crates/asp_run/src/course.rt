@@ -126,11 +126,23 @@ pub(crate) fn act(
 {
     let Course { mut objects, tally } = course;
     let rest = left_of(replies, objects.heard);
-    match run_act(alloc, &page.program, which, &mut objects, rest)? {
-        PlainEnd::Wants(call) => Ok(Way::Wants(call)),
-        PlainEnd::Ends(done) => {
-            let tally = after(alloc, page, &done, tally)?;
-            Ok(Way::On(Course { objects, tally }))
+    match run_act(alloc, &page.program, which, &mut objects, rest) {
+        Ok(PlainEnd::Wants(call)) => {
+            drop(objects);
+            drop(tally);
+            Ok(Way::Wants(call))
+        }
+        Ok(PlainEnd::Ends(done)) => match after(alloc, page, &done, tally) {
+            Ok(tally) => Ok(Way::On(Course { objects, tally })),
+            Err(memory) => {
+                drop(objects);
+                Err(memory)
+            }
+        },
+        Err(memory) => {
+            drop(objects);
+            drop(tally);
+            Err(memory)
         }
     }
 }

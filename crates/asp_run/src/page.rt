@@ -12,6 +12,7 @@ use crate::file::{copy_kept, is_head, refused_work};
 use crate::run::PlainRun;
 use asp_job::{Request, Verb};
 use asp_objects::{HeldSession, PageObjects};
+use asp_response::Draft;
 use asp_site::{Page, Site};
 use std::alloc::Global;
 use vb_value::{Copied, Memory};
@@ -62,6 +63,15 @@ fn session_left(
     }
 }
 
+/// What is left of the objects of a page: its answer so far, and its session.
+fn left_by(objects: PageObjects) -> (Draft, Option<HeldSession>)
+    ensures draft { result.0 ≡ objects.draft }
+    ensures session { result.1 ≡ objects.session }
+{
+    let PageObjects { draft, session, .. } = objects;
+    (draft, session)
+}
+
 /// What a page leaves whose acts have ended.
 fn page_ended(
     alloc: Global,
@@ -73,26 +83,31 @@ fn page_ended(
     ensures { Gives result (spec.page_ended (told_of run.now) request.now page.now course) }
 {
     let Course { objects, tally } = course;
-    let PageObjects {
-        draft,
-        session,
-        is_abandoned,
-        ..
-    } = objects;
-    let session = session_left(alloc, page, run.session.as_ref(), is_abandoned, session)?;
-    let answer = draft.finish(
+    let is_abandoned = objects.is_abandoned;
+    let (draft, session) = left_by(objects);
+    let left = session_left(alloc, page, run.session.as_ref(), is_abandoned, session);
+    let is_head = is_head(request.verb);
+    let finished = draft.finish(
         run.cookie.as_ref(),
         tally.failure.as_ref(),
-        is_head(request.verb),
+        is_head,
         request.close,
-    )?;
-    Ok(Ended::of(
-        Some(answer),
-        session,
-        tally.fail,
-        tally.made,
-        tally.finished,
-    ))
+    );
+    match (left, finished) {
+        (Ok(session), Ok(answer)) => Ok(Ended::of(
+            Some(answer),
+            session,
+            tally.fail,
+            tally.made,
+            tally.finished,
+        )),
+        (left, finished) => {
+            drop(left);
+            drop(finished);
+            drop(tally);
+            Err(Memory)
+        }
+    }
 }
 
 fn page_came(

@@ -86,10 +86,10 @@ fn application_event(
     requires { run.now.heard ≡ None }
     ensures { IfOk result (λ came. outcome_of came ≡ events.application_event site.now (told_of run.now) word.now) }
 {
+    let session = copy_kept(alloc, run.session.as_ref())?;
     let course = course_of(event_objects(alloc, None)?);
     let replies = run.replies.as_slice();
     let way = event(alloc, replies, site.events.as_ref(), word, course)?;
-    let session = copy_kept(alloc, run.session.as_ref())?;
     Ok(event_came(session, way))
 }
 

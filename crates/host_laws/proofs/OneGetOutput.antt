@@ -1,18 +1,14 @@
 -- Two answers of `get` to one request leave the same.
-use Rattle.std.proofs.Common.{◌≡◌, ℕ, List, Result, Ok as Given, subst, sym}
-use Rattle.vb_value.specs.declared.site_file.SiteFile.{SiteFile}
+use Rattle.std.proofs.Common.{◌≡◌, Result, Ok as Given, subst, sym}
 use Rattle.asp_get.specs.Answered.{HasAnswered}
 use Rattle.asp_get.specs.declared.stop.GetStop.{GetStop}
-use Rattle.asp_host.specs.Around.{Around}
-use Rattle.asp_host.specs.declared.status.Status.TheVariants.{Ok}
-use Rattle.asp_host.specs.Get.{GetEnds, site_rules}
+use Rattle.asp_host.specs.Get.{site_rules}
 use Rattle.asp_host.specs.Request.{job_of}
 use Rattle.asp_io.specs.Sink.{with_bytes}
 use Rattle.asp_job.specs.declared.answer.Answer.{Answer}
-use Rattle.asp_site.specs.declared.site.Site.{Site}
 use Rattle.site_load.specs.Accepted.{IsAccepted}
 use Rattle.host_laws.proofs.Refusals.{of_told}
-use Rattle.host_laws.specs.Laws.{AreAddedAlike, OneGetOutput, OneOutcome, OneSite}
+use Rattle.host_laws.specs.Laws.{OneGetOutput, OneOutcome, OneSite}
 
 one_given : (one other : Answer) → ◌≡◌ {A = Result Answer GetStop} (Given one) (Given other) → one ≡ other
 one_given one other e = cc

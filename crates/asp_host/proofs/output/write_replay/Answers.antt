@@ -21,18 +21,20 @@ pub returns-clause-ok : goal.returns-clause-ok
 returns-clause-ok g c =
     replay_ok g.R.Runner.meaning c.in_ok-core.core c.args.runner.now c.args.site.now c.args.recording.now.seed
     c.args.recording.now.items c.args.journal (g.K.Sink.held c.args.sink.now) (g.K.Sink.held c.feed.new.sink)
-    (g.K.Sink.held c.write_end.new.sink) c.write_end.result c.in_ok-core.ensures.core c.write_end.ensures.valid
-    c.in_ok-core.ensures.ok c.write_end.ensures.wrote c.write_end.ensures.lines
+    (g.K.Sink.held c.write_end-written.new.sink) c.write_end-written.result
+    c.in_ok-core.ensures.core c.write_end-written.ensures.valid
+    c.in_ok-core.ensures.ok c.write_end-written.ensures.wrote c.write_end-written.ensures.lines
 
 pub returns-clause-err : goal.returns-clause-err
 returns-clause-err g c =
     replay_err g.R.Runner.meaning c.in_ok-core.core c.args.runner.now c.args.site.now c.args.recording.now.seed
     c.args.recording.now.items c.args.journal (g.K.Sink.held c.args.sink.now) (g.K.Sink.held c.feed.new.sink)
-    (g.K.Sink.held c.write_end.new.sink) c.write_end.result c.in_ok-core.ensures.core c.write_end.ensures.valid
-    c.in_ok-core.ensures.ok c.write_end.ensures.wrote
+    (g.K.Sink.held c.write_end-written.new.sink) c.write_end-written.result
+    c.in_ok-core.ensures.core c.write_end-written.ensures.valid
+    c.in_ok-core.ensures.ok c.write_end-written.ensures.wrote
 
 pub returns-clause-cause : goal.returns-clause-cause
 returns-clause-cause g c =
     cause_after WriteFault (g.K.Sink.faults c.args.sink.now) (g.K.Sink.faults c.feed.new.sink)
-    (g.K.Sink.faults c.write_end.new.sink) c.feed.result c.write_end.result c.feed.ensures.cause
-    c.write_end.ensures.cause
+    (g.K.Sink.faults c.write_end-written.new.sink) c.feed.result c.write_end-written.result c.feed.ensures.cause
+    c.write_end-written.ensures.cause

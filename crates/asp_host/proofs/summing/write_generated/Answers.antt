@@ -24,12 +24,14 @@ pub returns-clause-ok : goal.returns-clause-ok
 returns-clause-ok g c =
     sum_ok g.R.Runner.meaning c.in_ok-core.core c.args.runner.now c.args.site.now c.args.recording.now.seed
     c.args.recording.now.items c.args.count c.args.journal (g.K.Sink.held c.args.sink.now)
-    (g.K.Sink.held c.write_summary.new.sink) c.write_summary.result c.in_ok-core.ensures.core c.write_summary.ensures.valid
-    c.in_ok-core.ensures.ok.whole c.write_summary.ensures.wrote
+    (g.K.Sink.held c.write_summary-written.new.sink) c.write_summary-written.result
+    c.in_ok-core.ensures.core c.write_summary-written.ensures.valid
+    c.in_ok-core.ensures.ok.whole c.write_summary-written.ensures.wrote
 
 pub returns-clause-err : goal.returns-clause-err
 returns-clause-err g c =
     sum_err g.R.Runner.meaning c.in_ok-core.core c.args.runner.now c.args.site.now c.args.recording.now.seed
     c.args.recording.now.items c.args.count c.args.journal (g.K.Sink.held c.args.sink.now)
-    (g.K.Sink.held c.write_summary.new.sink) c.write_summary.result c.in_ok-core.ensures.core c.write_summary.ensures.valid
-    c.in_ok-core.ensures.ok.whole c.write_summary.ensures.wrote
+    (g.K.Sink.held c.write_summary-written.new.sink) c.write_summary-written.result
+    c.in_ok-core.ensures.core c.write_summary-written.ensures.valid
+    c.in_ok-core.ensures.ok.whole c.write_summary-written.ensures.wrote
