@@ -126,9 +126,16 @@ fn closes(alloc: Global, site: &Site, run: &PlainRun, course: Course) -> Result<
     requires { run.now.heard ≡ None }
     ensures { IfOk result (λ way. spec.closes site.now (told_of run.now) course ≡ Some way) }
 {
-    let failure = course.tally.failure.copy()?;
-    let way = ending(alloc, site, run, course)?;
-    Ok(quiet(failure, way))
+    match course.tally.failure.copy() {
+        Ok(failure) => {
+            let way = ending(alloc, site, run, course)?;
+            Ok(quiet(failure, way))
+        }
+        Err(memory) => {
+            drop(course);
+            Err(memory)
+        }
+    }
 }
 
 fn leaves(alloc: Global, site: &Site, run: &PlainRun, course: Course) -> Result<Way, Memory>
