@@ -4,7 +4,7 @@ ghost use Rattle.vb_value.specs.Outcome.{Gives};
 ghost use Rattle.vb_syntax.specs.scope.Scopes as spec;
 ghost use Rattle.vb_names.specs.Declarations.{declarations_seen};
 
-use crate::key::Key;
+use crate::key::{Key, copy_name};
 use crate::names::Names;
 use std::alloc::Global;
 use vb_syntax::program::{Constant, DeclaredArray, Named, Slot};
@@ -72,8 +72,7 @@ fn push_name(found: &mut Declarations, name: &Text, meaning: Named) -> Result<()
     ensures { IfOk result (λ _. declarations_seen found.new
         ≡ spec.with_name name.now meaning (declarations_seen found.old)) }
 {
-    let key = Key::of(name)?;
-    found.names.push(name.copy()?, key)?;
+    found.names.push(copy_name(name)?, Key::at(name))?;
     found.meanings.push(meaning)
 }
 
