@@ -1,6 +1,6 @@
 -- The numbers of names, when one more name comes.
-use Rattle.std.proofs.Common.{◌≡◌, ℕ, ◌+◌, Bool, true, false, cond, IsTrue, List, [], ◌∷◌, ◌++◌}
-use Rattle.std.proofs.Common.{length, drop, Option, Some, None, Result, Ok, nat_eq, is_some, refl, sym, ap, subst, ◌∙◌, arith}
+use Rattle.std.proofs.Common.{◌≡◌, ℕ, ◌+◌, Bool, true, false, cond, if◌then◌else◌, IsTrue, List, [], ◌∷◌, ◌++◌}
+use Rattle.std.proofs.Common.{zero, suc, ◌<◌, ◌≤◌, ◌^◌, length-append, length, drop, Option, Some, None, Result, Ok, nat_eq, is_some, refl, sym, ap, subst, ◌∙◌, arith}
 use Rattle.std.specs.HashMap.{HashMap, get, IsUnchanged}
 use Rattle.std.specs.Map.{lookup}
 use Rattle.std.specs.Cmp.Lexicographic.{pointwise}
@@ -8,7 +8,7 @@ use Rattle.std.specs.List.{position_from}
 use Rattle.std.proofs.lemmas.Slice.Eq.{bytes_eq-Decides}
 use Rattle.std.proofs.lemmas.Bool.{false≢true, eqb-true, eq-eqb}
 use Rattle.std.proofs.lemmas.Bool.Decides.{Decides-eqb, same_from_decides}
-use Rattle.std.proofs.Math.Option.{some-injective}
+use Rattle.std.specs.Prelude.{unwrap_or}
 use Rattle.vb_value.specs.Folding.{folded}
 use Rattle.vb_value.specs.declared.memory.Memory.{Memory}
 use Rattle.vb_syntax.specs.scope.Names.{Name, number_of_key, add_name, has_name}
@@ -50,38 +50,41 @@ or_else-none None = refl
 pub position-none : (wide narrow : Name → Bool) → ((name : Name) → narrow name ≡ true → wide name ≡ true)
     → (at : ℕ) (names : List Name) → position_from wide at names ≡ None → position_from narrow at names ≡ None
 position-none wide narrow holds at [] none = refl
-position-none wide narrow holds at (first ∷ names) none = go (wide first) (narrow first) refl refl none
+position-none wide narrow holds at (first ∷ names) none =
+    go (wide first) (narrow first) refl refl (position-none wide narrow holds (at + 1) names) none
   where
-    go : (w n : Bool) → wide first ≡ w → narrow first ≡ n → cond w (Some at) (position_from wide (at + 1) names) ≡ None
+    go : (w n : Bool) → wide first ≡ w → narrow first ≡ n
+        → (position_from wide (at + 1) names ≡ None → position_from narrow (at + 1) names ≡ None)
+        → cond w (Some at) (position_from wide (at + 1) names) ≡ None
         → cond n (Some at) (position_from narrow (at + 1) names) ≡ None
-    go true n is _ found = absurd (false≢true (sym (ap is_some found)))
-    go false true is so found = absurd (false≢true (sym is ∙ holds first so))
-    go false false is so found = position-none wide narrow holds (at + 1) names found
+    go true n is _ later found = absurd (false≢true (sym (ap is_some found)))
+    go false true is so later found = absurd (false≢true (sym is ∙ holds first so))
+    go false false is so later found = later found
 
--- the place in a list that begins at another number
-pub position-within : (test : Name → Bool) (at : ℕ) (names : List Name) (found : ℕ)
-    → position_from test at names ≡ Some found → at ≤ found
-position-within test at [] found is = absurd (false≢true (ap is_some is))
-position-within test at (first ∷ names) found is = go (test first) is
-  where
-    go : (t : Bool) → cond t (Some at) (position_from test (at + 1) names) ≡ Some found → at ≤ found
-    go true is = omega (arith, some-injective _ _ is)
-    go false is = let later : at + 1 ≤ found = position-within test (at + 1) names found is in omega arith
-
--- where one test finds a name, a narrower one finds none before it
+-- where one test finds a name behind some, a narrower one finds none among those
 pub position-skip : (wide narrow : Name → Bool) → ((name : Name) → narrow name ≡ true → wide name ≡ true)
-    → (at : ℕ) (names : List Name) (before found : ℕ) → found ≡ at + before
-    → position_from wide at names ≡ Some found
-    → position_from narrow found (drop before names) ≡ position_from narrow at names
-position-skip wide narrow holds at names zero found is first = ap (λ n. position_from narrow n names) (omega arith)
-position-skip wide narrow holds at [] (suc before) found is first = absurd (false≢true (ap is_some first))
-position-skip wide narrow holds at (name ∷ names) (suc before) found is first = go (wide name) (narrow name) refl refl first
+    → (at : ℕ) (names : List Name) (before : ℕ)
+    → position_from wide at names ≡ Some (at + before)
+    → position_from narrow (at + before) (drop before names) ≡ position_from narrow at names
+position-skip wide narrow holds at names zero first = ap (λ n. position_from narrow n names) (omega arith)
+position-skip wide narrow holds at [] (suc before) first = absurd (false≢true (ap is_some first))
+position-skip wide narrow holds at (name ∷ names) (suc before) first =
+    go (wide name) (narrow name) refl refl (position-skip wide narrow holds (at + 1) names before) first
   where
-    go : (w n : Bool) → wide name ≡ w → narrow name ≡ n → cond w (Some at) (position_from wide (at + 1) names) ≡ Some found
-        → position_from narrow found (drop before names) ≡ cond n (Some at) (position_from narrow (at + 1) names)
-    go true n so _ first = absurd (omega (arith, some-injective _ _ first))
-    go false true so isn first = absurd (false≢true (sym so ∙ holds name isn))
-    go false false so isn first = position-skip wide narrow holds (at + 1) names before found (omega arith) first
+    more : at + 1 + before ≡ at + suc before
+    more = omega arith
+
+    go : (w n : Bool) → wide name ≡ w → narrow name ≡ n
+        → (position_from wide (at + 1) names ≡ Some (at + 1 + before)
+        → position_from narrow (at + 1 + before) (drop before names) ≡ position_from narrow (at + 1) names)
+        → cond w (Some at) (position_from wide (at + 1) names) ≡ Some (at + suc before)
+        → position_from narrow (at + suc before) (drop before names)
+        ≡ cond n (Some at) (position_from narrow (at + 1) names)
+    go true n so _ later found =
+        let same : at ≡ at + suc before = ap (λ n. unwrap_or n 0) found in absurd (omega (arith, same))
+    go false true so isn later found = absurd (false≢true (sym so ∙ holds name isn))
+    go false false so isn later found = ap (λ n. position_from narrow n (drop before names)) (sym more)
+        ∙ later (found ∙ ap Some (sym more))
 
 -- what is equal has one number
 same_hash : (key name : Name) → pointwise nat_eq key (folded name) ≡ true
@@ -97,8 +100,13 @@ unhashed names key none = position-none (λ name. nat_eq (hashed key) (hashed (f
 -- no name has the key before the first whose key has its hash
 pub hashed_from : (names : List Name) (key : Name) (first : ℕ) → number_of_hash names (hashed key) ≡ Some first
     → position_from (λ name. pointwise nat_eq key (folded name)) first (drop first names) ≡ number_of_key names key
-hashed_from names key first is = position-skip (λ name. nat_eq (hashed key) (hashed (folded name)))
-    (λ name. pointwise nat_eq key (folded name)) (same_hash key) 0 names first first (omega arith) is
+hashed_from names key first is =
+    ap (λ n. position_from (λ name. pointwise nat_eq key (folded name)) n (drop first names)) whole
+    ∙ position-skip (λ name. nat_eq (hashed key) (hashed (folded name)))
+    (λ name. pointwise nat_eq key (folded name)) (same_hash key) 0 names first (is ∙ ap Some whole)
+  where
+    whole : first ≡ 0 + first
+    whole = omega arith
 
 -- a hash that is there already changes no number
 pub number_of_hash-again : (names : List Name) (name : Name) (hash : ℕ)
@@ -140,3 +148,72 @@ number_of_hash-new names name hash absent =
     go false is =
         ap (λ b. or_else (number_of_hash names hash) (cond b (Some (0 + length names)) None)) (turned ∙ is)
         ∙ or_else-none (number_of_hash names hash)
+
+-- one more name whose hash is there already
+pub numbered_again : {S : Type 0} (numbers after : HashMap ℕ ℕ S) (names more : List Name) (name : Name) (hash : ℕ)
+    → IsNumbered numbers names → more ≡ names ++ name ∷ [] → hash ≡ hashed (folded name) → length names < 2 ^ 32
+    → is_some (get nat_eq numbers hash) ≡ true → IsUnchanged numbers after → IsNumbered after more
+numbered_again numbers after names more name hash are all is few there same =
+    let found : is_some (number_of_hash names (hashed (folded name))) ≡ true =
+    ap (λ k. is_some (number_of_hash names k)) (sym is) ∙ ap is_some (sym (are.numbered hash)) ∙ there in
+    let count : length more ≡ length names + 1 = ap length all ∙ length-append names (name ∷ []) in
+    record {
+      numbered = λ other. ap (lookup (nat_eq other)) same ∙ are.numbered other
+          ∙ sym (ap (λ l. number_of_hash l other) all ∙ number_of_hash-again names name other found);
+      few = omega (arith, count, few);
+    }
+
+-- one more name with a new hash
+pub numbered_new : {S : Type 0} (numbers after : HashMap ℕ ℕ S) (names more : List Name) (name : Name) (hash number : ℕ)
+    → IsNumbered numbers names → more ≡ names ++ name ∷ [] → hash ≡ hashed (folded name) → number ≡ length names
+    → length names < 2 ^ 32 → get nat_eq numbers hash ≡ None
+    → ((other : ℕ) → get nat_eq after other ≡ cond (nat_eq hash other) (Some number) (get nat_eq numbers other))
+    → IsNumbered after more
+numbered_new numbers after names more name hash number are all is next few absent puts =
+    let new : number_of_hash names (hashed (folded name)) ≡ None =
+    ap (number_of_hash names) (sym is) ∙ sym (are.numbered hash) ∙ absent in
+    let count : length more ≡ length names + 1 = ap length all ∙ length-append names (name ∷ []) in
+    record {
+      numbered = λ other. puts other
+          ∙ ap (λ k. cond (nat_eq k other) (Some number) (get nat_eq numbers other)) is
+          ∙ ap (λ n. cond (nat_eq (hashed (folded name)) other) (Some n) (get nat_eq numbers other)) next
+          ∙ ap (λ n. cond (nat_eq (hashed (folded name)) other) (Some (length names)) n) (are.numbered other)
+          ∙ sym (ap (λ l. number_of_hash l other) all ∙ number_of_hash-new names name other new);
+      few = omega (arith, count, few);
+    }
+
+-- a map with the same entries
+pub numbered_same : {S : Type 0} (numbers after : HashMap ℕ ℕ S) (names : List Name) → IsUnchanged numbers after
+    → IsNumbered numbers names → IsNumbered after names
+numbered_same numbers after names same are = record {
+  numbered = λ hash. ap (lookup (nat_eq hash)) same ∙ are.numbered hash;
+  few = are.few;
+}
+
+-- one more name, whose number was put at its hash if none was there
+pub numbered_put : {S : Type 0} (result : Result Bool Memory) (numbers after : HashMap ℕ ℕ S) (names more : List Name)
+    (name : Name) (hash number : ℕ) (is_new : Bool)
+    → IsNumbered numbers names → more ≡ names ++ name ∷ [] → hash ≡ hashed (folded name) → number ≡ length names
+    → length names < 2 ^ 32 → result ≡ Ok is_new
+    → (result ≡ Ok true → get nat_eq numbers hash ≡ None)
+    → (result ≡ Ok true → (other : ℕ) → get nat_eq after other
+    ≡ cond (nat_eq hash other) (Some number) (get nat_eq numbers other))
+    → (result ≡ Ok false → is_some (get nat_eq numbers hash) ≡ true)
+    → (result ≡ Ok false → IsUnchanged numbers after)
+    → IsNumbered after more
+numbered_put result numbers after names more name hash number true are all is next few answer absent puts there kept =
+    numbered_new numbers after names more name hash number are all is next few (absent answer) (puts answer)
+numbered_put result numbers after names more name hash number false are all is next few answer absent puts there kept =
+    numbered_again numbers after names more name hash are all is few (there answer) (kept answer)
+
+-- a name whose hash has no number is none of the names
+pub absent_name : {S : Type 0} (numbers : HashMap ℕ ℕ S) (names seen : List Name) (name : Name) (hash : ℕ)
+    → IsNumbered numbers names → seen ≡ names → hash ≡ hashed (folded name) → None ≡ get nat_eq numbers hash
+    → number_of_key seen (folded name) ≡ None
+absent_name numbers names seen name hash are same is none = ap (λ l. number_of_key l (folded name)) same
+    ∙ unhashed names (folded name) (ap (number_of_hash names) (sym is) ∙ sym (are.numbered hash) ∙ sym none)
+
+-- so it is added
+pub added_name : (names more : List Name) (name : Name) → more ≡ names ++ name ∷ []
+    → number_of_key names (folded name) ≡ None → more ≡ add_name names name
+added_name names more name all absent = all ∙ sym (ap (λ n. if is_some n then names else names ++ name ∷ []) absent)

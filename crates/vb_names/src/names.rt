@@ -1,5 +1,5 @@
 //! Names in an order, which are found by their numbers.
-ghost use Rattle.std.specs.Prelude.{◌≡◌, ◌++◌, ◌∷◌, ◌≤◌, ◌^◌, [], length, ℕ, cond, nat_eq};
+ghost use Rattle.std.specs.Prelude.{◌≡◌, ◌++◌, ◌∷◌, ◌≤◌, ◌<◌, ◌^◌, [], length, ℕ, cond, nat_eq};
 ghost use Rattle.std.specs.Prelude.{Ok, Some, None, is_some, true, false, IfOk, OnErr};
 ghost use Rattle.std.specs.HashMap.{get, IsUnchanged};
 ghost use Rattle.vb_value.specs.Folding.{folded};
@@ -135,6 +135,7 @@ pub fn has(names: &Names, key: &Key<'_>) -> bool
 }
 
 /// The number of the first name that has the key, where the first whose key has its hash is known.
+#[tactic(auto, using(crate::proofs::Numbering::hashed_from))]
 fn number_from(names: &[Text], key: &Key<'_>, first: u32) -> Option<u32>
     requires few { length names.now ≤ 2 ^ 32 }
     requires first { number_of_hash names.now (hashed key.now) ≡ Some first }
@@ -150,7 +151,8 @@ fn number_from(names: &[Text], key: &Key<'_>, first: u32) -> Option<u32>
 
 /// The number that one more name has.
 fn next_number(names: &[Text]) -> Result<u32, Memory>
-    ensures { IfOk result (λ number. number ≡ length names.now) }
+    ensures next { IfOk result (λ number. number ≡ length names.now) }
+    ensures few { IfOk result (λ _. length names.now < 2 ^ 32) }
 {
     u32::try_from(names.len()).map_err(|_| Memory)
 }
