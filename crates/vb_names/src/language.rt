@@ -176,10 +176,19 @@ fn plain_function(name: &[char]) -> Option<PlainFn>
     among(plain_functions(first_letter(name)), name)
 }
 
+fn integers(letter: char) -> &'static [(&'static [u8], i16)]
+    ensures { seen result.now ≡ beginning letter spec.integers }
+{
+    match letter {
+        'v' => &INTEGERS,
+        _ => &[],
+    }
+}
+
 fn integer(name: &[char]) -> Option<i16>
     ensures { result ≡ beside spec.integers name.now }
 {
-    among(&INTEGERS, name)
+    among(integers(first_letter(name)), name)
 }
 
 #[tactic(auto, unfolding(vb_syntax::specs::scope::Names::object_named))]
@@ -201,6 +210,9 @@ pub fn dictionary_member(name: &[char]) -> Option<DictionaryMember>
 fn text(name: &[char]) -> Option<&'static [char]>
     ensures { option_copied result ≡ beside spec.texts name.now }
 {
+    if first_letter(name) != 'v' {
+        return None;
+    }
     if is_word(b"vbcr", name) {
         return Some(&['\r']);
     }
