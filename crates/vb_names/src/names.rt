@@ -3,7 +3,7 @@ ghost use Rattle.std.specs.Prelude.{◌≡◌, ◌++◌, ◌∷◌, ◌≤◌, �
 ghost use Rattle.std.specs.Prelude.{Ok, Some, None, is_some, true, false, IfOk, OnErr};
 ghost use Rattle.std.specs.HashMap.{get, IsUnchanged};
 ghost use Rattle.vb_value.specs.Folding.{folded};
-ghost use Rattle.vb_value.specs.Outcome.{Changes};
+ghost use Rattle.vb_value.specs.Outcome.{Changes, Gives};
 ghost use Rattle.vb_syntax.specs.scope.Names.{number_of_key, add_name, has_name};
 ghost use Rattle.vb_names.specs.Names.{hashed, number_of_hash};
 
@@ -47,6 +47,16 @@ impl Names {
         }
     }
 
+    /// No names, with room for `count` of them.
+    pub fn with_capacity(alloc: Global, count: usize) -> Result<Names, Memory>
+        ensures { Gives result [] }
+    {
+        Ok(Names {
+            written: List::with_capacity(alloc, count)?,
+            numbers: HashMap::with_capacity(alloc, count)?,
+        })
+    }
+
     /// How many names there are.
     pub fn len(&self) -> usize
         ensures { result ≡ length self.now }
@@ -77,6 +87,9 @@ impl Names {
     pub fn number(&self, key: &Key<'_>) -> Option<u32>
         ensures { result ≡ number_of_key self.now key.now }
     {
+        if self.written.is_empty() {
+            return None;
+        }
         match self.numbers.get(&key.hash()) {
             None => None,
             Some(first) => number_from(self.written.as_slice(), key, *first),
@@ -131,7 +144,7 @@ impl Names {
 pub fn has(names: &Names, key: &Key<'_>) -> bool
     ensures { result ≡ is_some (number_of_key names.now key.now) }
 {
-    names.len() != 0 && names.number(key).is_some()
+    names.number(key).is_some()
 }
 
 /// The number of the first name that has the key, where the first whose key has its hash is known.
