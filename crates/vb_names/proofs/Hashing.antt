@@ -1,5 +1,5 @@
 -- The numbers of keys.
-use Rattle.std.proofs.Common.{◌≡◌, ℕ, List, fold, map, refl}
+use Rattle.std.proofs.Common.{◌≡◌, ℕ, List, fold}
 use Rattle.std.specs.Char.{to_ascii_lowercase}
 use Rattle.std.proofs.lemmas.List.Folds.{fold-map}
 use Rattle.vb_value.specs.Folding.{folded}

@@ -1,6 +1,6 @@
 -- The numbers of names, when one more name comes.
-use Rattle.std.proofs.Common.{◌≡◌, ℕ, ◌+◌, Bool, true, false, cond, if◌then◌else◌, IsTrue, List, [], ◌∷◌, ◌++◌}
-use Rattle.std.proofs.Common.{zero, suc, ◌<◌, ◌≤◌, ◌^◌, length-append, length, drop, Option, Some, None, Result, Ok, nat_eq, is_some, refl, sym, ap, subst, ◌∙◌, arith}
+use Rattle.std.proofs.Common.{◌≡◌, ℕ, ◌+◌, Bool, true, false, cond, if◌then◌else◌, List, [], ◌∷◌, ◌++◌}
+use Rattle.std.proofs.Common.{zero, suc, ◌<◌, ◌^◌, length-append, length, drop, Option, Some, None, Result, Ok, nat_eq, is_some, refl, sym, ap, ◌∙◌, arith}
 use Rattle.std.specs.HashMap.{HashMap, get, IsUnchanged}
 use Rattle.std.specs.Map.{lookup}
 use Rattle.std.specs.Cmp.Lexicographic.{pointwise}
@@ -11,7 +11,7 @@ use Rattle.std.proofs.lemmas.Bool.Decides.{Decides-eqb, same_from_decides}
 use Rattle.std.specs.Prelude.{unwrap_or}
 use Rattle.vb_value.specs.Folding.{folded}
 use Rattle.vb_value.specs.declared.memory.Memory.{Memory}
-use Rattle.vb_syntax.specs.scope.Names.{Name, number_of_key, add_name, has_name}
+use Rattle.vb_syntax.specs.scope.Names.{Name, number_of_key, add_name}
 use Rattle.vb_names.specs.Names.{IsNumbered, hashed, number_of_hash}
 
 -- the first of a number that is found and another one

@@ -10,6 +10,7 @@ use vb_value::{List, Memory, Text};
 
 /// What `hash_of` begins with, and what it multiplies by: those of FNV-1a, for 64 bits.
 const HASH_BASIS: u64 = 14_695_981_039_346_656_037;
+
 const HASH_PRIME: u64 = 1_099_511_628_211;
 
 /// A name with its letters made small, and a number that is the same for all names that are so written.

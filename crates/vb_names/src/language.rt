@@ -16,30 +16,17 @@ fn string_functions(letter: char) -> &'static [(&'static [u8], StrFn)]
     ensures { seen result.now ≡ beginning letter spec.string_functions }
 {
     match letter {
-        'a' => &[
-            (b"asc", StrFn::Asc),
-            (b"ascw", StrFn::AscW),
-        ],
-        'c' => &[
-            (b"chr", StrFn::Chr),
-            (b"chrw", StrFn::ChrW),
-        ],
-        'i' => &[
-            (b"instr", StrFn::InStr),
-            (b"instrrev", StrFn::InStrRev),
-        ],
-        'j' => &[
-            (b"join", StrFn::Join),
-        ],
+        'a' => &[(b"asc", StrFn::Asc), (b"ascw", StrFn::AscW)],
+        'c' => &[(b"chr", StrFn::Chr), (b"chrw", StrFn::ChrW)],
+        'i' => &[(b"instr", StrFn::InStr), (b"instrrev", StrFn::InStrRev)],
+        'j' => &[(b"join", StrFn::Join)],
         'l' => &[
             (b"len", StrFn::Len),
             (b"left", StrFn::Left),
             (b"lcase", StrFn::LCase),
             (b"ltrim", StrFn::LTrim),
         ],
-        'm' => &[
-            (b"mid", StrFn::Mid),
-        ],
+        'm' => &[(b"mid", StrFn::Mid)],
         'r' => &[
             (b"right", StrFn::Right),
             (b"rtrim", StrFn::RTrim),
@@ -52,12 +39,8 @@ fn string_functions(letter: char) -> &'static [(&'static [u8], StrFn)]
             (b"string", StrFn::String),
             (b"strcomp", StrFn::StrComp),
         ],
-        't' => &[
-            (b"trim", StrFn::Trim),
-        ],
-        'u' => &[
-            (b"ucase", StrFn::UCase),
-        ],
+        't' => &[(b"trim", StrFn::Trim)],
+        'u' => &[(b"ucase", StrFn::UCase)],
         _ => &[],
     }
 }
@@ -67,10 +50,7 @@ fn plain_functions(letter: char) -> &'static [(&'static [u8], PlainFn)]
     ensures { seen result.now ≡ beginning letter spec.plain_functions }
 {
     match letter {
-        'a' => &[
-            (b"abs", PlainFn::Abs),
-            (b"array", PlainFn::Array),
-        ],
+        'a' => &[(b"abs", PlainFn::Abs), (b"array", PlainFn::Array)],
         'c' => &[
             (b"cbool", PlainFn::CBool),
             (b"ccur", PlainFn::CCur),
@@ -78,12 +58,8 @@ fn plain_functions(letter: char) -> &'static [(&'static [u8], PlainFn)]
             (b"clng", PlainFn::CLng),
             (b"cstr", PlainFn::CStr),
         ],
-        'f' => &[
-            (b"fix", PlainFn::Fix),
-        ],
-        'h' => &[
-            (b"hex", PlainFn::Hex),
-        ],
+        'f' => &[(b"fix", PlainFn::Fix)],
+        'h' => &[(b"hex", PlainFn::Hex)],
         'i' => &[
             (b"int", PlainFn::Int),
             (b"isarray", PlainFn::IsArray),
@@ -92,21 +68,11 @@ fn plain_functions(letter: char) -> &'static [(&'static [u8], PlainFn)]
             (b"isobject", PlainFn::IsObject),
             (b"isnumeric", PlainFn::IsNumeric),
         ],
-        'l' => &[
-            (b"lbound", PlainFn::LBound),
-        ],
-        'o' => &[
-            (b"oct", PlainFn::Oct),
-        ],
-        's' => &[
-            (b"sgn", PlainFn::Sgn),
-        ],
-        'u' => &[
-            (b"ubound", PlainFn::UBound),
-        ],
-        'v' => &[
-            (b"vartype", PlainFn::VarType),
-        ],
+        'l' => &[(b"lbound", PlainFn::LBound)],
+        'o' => &[(b"oct", PlainFn::Oct)],
+        's' => &[(b"sgn", PlainFn::Sgn)],
+        'u' => &[(b"ubound", PlainFn::UBound)],
+        'v' => &[(b"vartype", PlainFn::VarType)],
         _ => &[],
     }
 }

@@ -127,7 +127,13 @@ impl Names {
         ensures added { IfOk result (λ _. self.new ≡ add_name self.old name.now) }
     {
         let number = next_number(self.written.as_slice())?;
-        match put_name(&mut self.numbers, &mut self.written, key.hash(), number, name)? {
+        match put_name(
+            &mut self.numbers,
+            &mut self.written,
+            key.hash(),
+            number,
+            name,
+        )? {
             None => Ok(false),
             Some(first) => {
                 if number_from(self.written.as_slice(), key, first).is_some() {

@@ -1,4 +1,4 @@
-use Rattle.std.proofs.Common.{rules, arith}
+use Rattle.std.proofs.Common.{rules}
 use Rattle.vb_names.proofs.Numbering.{numbered_put}
 use Rattle.vb_names.proofs.names.Names.push.Goals as goal
 
