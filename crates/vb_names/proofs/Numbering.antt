@@ -1,6 +1,7 @@
 -- The numbers of names, when one more name comes.
 use Rattle.std.proofs.Common.{◌≡◌, ℕ, ◌+◌, Bool, true, false, cond, if◌then◌else◌, List, [], ◌∷◌, ◌++◌}
-use Rattle.std.proofs.Common.{zero, suc, ◌<◌, ◌^◌, length-append, length, drop, Option, Some, None, Result, Ok, nat_eq, is_some, refl, sym, ap, ◌∙◌, arith}
+use Rattle.std.proofs.Common.{zero, suc, ◌<◌, ◌^◌, length, length-append, drop, Option, Some, None, Result, Ok, is_some}
+use Rattle.std.proofs.Common.{nat_eq, refl, sym, ap, ◌∙◌, arith}
 use Rattle.std.specs.HashMap.{HashMap, get, IsUnchanged}
 use Rattle.std.specs.Map.{lookup}
 use Rattle.std.specs.Cmp.Lexicographic.{pointwise}

@@ -81,14 +81,14 @@ impl<'a> Key<'a> {
     }
 
     /// The number of the name.
-    pub fn hash(&self) -> u64
+    pub(crate) fn hash(&self) -> u64
         ensures { result ≡ hashed self.now }
     {
         self.hash
     }
 
     /// Whether a name has the key.
-    pub fn is_of(&self, name: &Text) -> bool
+    pub(crate) fn is_of(&self, name: &Text) -> bool
         ensures { result ≡ pointwise nat_eq self.now (folded name.now) }
     {
         is_same(self.name, name.as_slice())

@@ -121,7 +121,7 @@ impl Names {
     }
 
     /// The same, of a name whose key is known.
-    pub fn add_by(&mut self, name: &Text, key: &Key<'_>) -> Result<bool, Memory>
+    pub(crate) fn add_by(&mut self, name: &Text, key: &Key<'_>) -> Result<bool, Memory>
         requires { key.now ≡ folded name.now }
         ensures was { IfOk result (λ was. was ≡ has_name self.old name.now) }
         ensures added { IfOk result (λ _. self.new ≡ add_name self.old name.now) }
