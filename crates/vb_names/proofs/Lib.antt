@@ -1,2 +1,4 @@
+pub mod Beginnings
+pub mod Hashing
 pub mod Numbering
 pub mod Objects

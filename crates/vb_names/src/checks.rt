@@ -1,11 +1,13 @@
 //! The faults of what is said in a scope.
 ghost use Rattle.std.specs.Prelude.{◌≡◌, ◌∷◌, ◌++◌, [], false, IfOk, OnOk};
+ghost use Rattle.vb_value.specs.Folding.{folded};
 ghost use Rattle.vb_value.specs.Outcome.{Gives};
 ghost use Rattle.vb_syntax.specs.scope.Faults as spec;
 ghost use Rattle.vb_syntax.specs.scope.Names.{add_name, has_name};
 ghost use Rattle.vb_names.specs.Checking.{Finds, declared_seen, is_declared_apart, names_of_kind, so_far};
 ghost use Rattle.vb_names.specs.Declarations.{scopes_seen};
 
+use crate::key::Key;
 use crate::members::member_meant;
 use crate::names::{Names, has};
 use crate::scopes::Scopes;
@@ -55,18 +57,15 @@ fn refuse(kind: ScopeFault, line: u32) -> Result<(), ScopeStop>
 fn is_declared_apart(
     declared: &DeclaredNames,
     name: &Text,
+    key: &Key<'_>,
     accessor: Option<PropertyKind>,
-) -> Result<bool, Memory>
-    ensures { Gives result (is_declared_apart (declared_seen declared.now) name.now accessor) }
+) -> bool
+    requires { key.now ≡ folded name.now }
+    ensures { result ≡ is_declared_apart (declared_seen declared.now) name.now accessor }
 {
     match accessor {
-        None => {
-            let gets = has(&declared.gets, name)?;
-            let lets = has(&declared.lets, name)?;
-            let sets = has(&declared.sets, name)?;
-            Ok(gets || lets || sets)
-        }
-        Some(_) => has(&declared.others, name),
+        None => has(&declared.gets, key) || has(&declared.lets, key) || has(&declared.sets, key),
+        Some(_) => has(&declared.others, key),
     }
 }
 
@@ -74,17 +73,19 @@ fn is_declared_apart(
 fn add_to_kind(
     declared: &mut DeclaredNames,
     name: &Text,
+    key: &Key<'_>,
     accessor: Option<PropertyKind>,
 ) -> Result<bool, Memory>
+    requires { key.now ≡ folded name.now }
     ensures was { IfOk result (λ was. was ≡ has_name (names_of_kind (declared_seen declared.old) accessor) name.now) }
     ensures added { IfOk result (λ was. was ≡ false → declared_seen declared.new
         ≡ spec.declare (declared_seen declared.old) name.now accessor) }
 {
     match accessor {
-        None => declared.others.add(name),
-        Some(PropertyKind::Get) => declared.gets.add(name),
-        Some(PropertyKind::Let) => declared.lets.add(name),
-        Some(PropertyKind::Set) => declared.sets.add(name),
+        None => declared.others.add_by(name, key),
+        Some(PropertyKind::Get) => declared.gets.add_by(name, key),
+        Some(PropertyKind::Let) => declared.lets.add_by(name, key),
+        Some(PropertyKind::Set) => declared.sets.add_by(name, key),
     }
 }
 
@@ -92,27 +93,30 @@ fn add_to_kind(
 fn declare(
     declared: &mut DeclaredNames,
     name: &Text,
+    key: &Key<'_>,
     accessor: Option<PropertyKind>,
 ) -> Result<bool, Memory>
+    requires { key.now ≡ folded name.now }
     ensures was { IfOk result (λ was. was ≡ spec.is_declared (declared_seen declared.old) name.now accessor) }
     ensures added { IfOk result (λ was. was ≡ false → declared_seen declared.new
         ≡ spec.declare (declared_seen declared.old) name.now accessor) }
 {
-    if is_declared_apart(declared, name, accessor)? {
+    if is_declared_apart(declared, name, key, accessor) {
         return Ok(true);
     }
-    add_to_kind(declared, name, accessor)
+    add_to_kind(declared, name, key, accessor)
 }
 
 /// Checks a name of the script, and adds it to the names so far.
-fn check_name(names: &mut Names, line: u32, name: &Text) -> Result<(), ScopeStop>
+fn check_name(names: &mut Names, line: u32, name: &Text, key: &Key<'_>) -> Result<(), ScopeStop>
+    requires { key.now ≡ folded name.now }
     ensures faults { Finds result (spec.in_line line (spec.name_faults names.old name.now)) }
     ensures after { OnOk result (names.new ≡ add_name names.old name.now) }
 {
-    if names.len() >= MOST_NAMES && !has(names, name)? {
+    if names.len() >= MOST_NAMES && !has(names, key) {
         return refuse(ScopeFault::TooMany, line);
     }
-    let _ = names.add(name)?;
+    let _ = names.add_by(name, key)?;
     Ok(())
 }
 
@@ -129,10 +133,11 @@ fn check_declaration(
     ensures after { OnOk result (so_far names.new declared.new
         ≡ spec.behind_declaration (so_far names.old declared.old) name.now accessor) }
 {
-    if declare(declared, name, accessor)? {
+    let key = Key::at(name);
+    if declare(declared, name, &key, accessor)? {
         return refuse(ScopeFault::Redefined, line);
     }
-    check_name(names, line, name)
+    check_name(names, line, name, &key)
 }
 
 /// Whether a name stands for a constant.
@@ -156,21 +161,29 @@ fn check_write(
         (spec.write_faults (scopes_seen scopes.entry) names.old name.now)) }
     ensures after { OnOk result (names.new ≡ add_name names.old name.now) }
 {
-    let (found, object) = scopes.meant(false, name)?;
+    let key = Key::at(name);
+    let (found, object) = scopes.meant_by(false, name, &key)?;
     if is_constant(&found) {
         return refuse(ScopeFault::ConstTarget, line);
     }
     if object.is_some() {
         return refuse(ScopeFault::BadMember, line);
     }
-    check_name(names, line, name)
+    check_name(names, line, name, &key)
 }
 
 /// Whether a name is an object of the page, and stands without a member that it has.
-fn is_bare(scopes: Scopes<'_>, name: &Text, steps: &[Shape], is_group: bool) -> Result<bool, Memory>
+fn is_bare(
+    scopes: Scopes<'_>,
+    name: &Text,
+    key: &Key<'_>,
+    steps: &[Shape],
+    is_group: bool,
+) -> Result<bool, Memory>
+    requires { key.now ≡ folded name.now }
     ensures { Gives result (spec.is_bare (scopes_seen scopes.entry) name.now steps.now is_group) }
 {
-    match scopes.meant(false, name)?.1 {
+    match scopes.meant_by(false, name, key)?.1 {
         None => Ok(false),
         Some(object) => Ok(member_meant(object, is_group, steps).is_none()),
     }
@@ -189,10 +202,11 @@ fn check_use(
         (spec.use_faults (scopes_seen scopes.entry) names.old name.now steps.now is_group)) }
     ensures after { OnOk result (names.new ≡ add_name names.old name.now) }
 {
-    if is_bare(scopes, name, steps, is_group)? {
+    let key = Key::at(name);
+    if is_bare(scopes, name, &key, steps, is_group)? {
         return refuse(ScopeFault::BadMember, line);
     }
-    check_name(names, line, name)
+    check_name(names, line, name, &key)
 }
 
 /// Checks what is said at one place.
@@ -225,7 +239,7 @@ fn check_kind(
         } => { check_use(names, scopes, line, name, steps.as_slice(), *is_group) }
         NoteKind::Write(name) => check_write(names, scopes, line, name),
         NoteKind::Resize(name) => check_write(names, scopes, line, name),
-        NoteKind::Part(name) => check_name(names, line, name),
+        NoteKind::Part(name) => check_name(names, line, name, &Key::at(name)),
     }
 }
 

@@ -1,10 +1,10 @@
 //! What a page, a class or a procedure declares.
-ghost use Rattle.std.specs.Prelude.{◌≡◌, ◌++◌, ◌+◌, IfOk};
+ghost use Rattle.std.specs.Prelude.{◌≡◌, ◌≤◌, ◌++◌, ◌+◌, IfOk, length};
 ghost use Rattle.vb_value.specs.Outcome.{Gives};
 ghost use Rattle.vb_syntax.specs.scope.Scopes as spec;
 ghost use Rattle.vb_names.specs.Declarations.{declarations_seen};
 
-use crate::key::Key;
+use crate::key::{Key, copy_name};
 use crate::names::Names;
 use std::alloc::Global;
 use vb_syntax::program::{Constant, DeclaredArray, Named, Slot};
@@ -31,6 +31,21 @@ pub struct Declarations {
 }
 
 impl Declarations {
+    /// Nothing, with room for `count` names.
+    pub fn with_capacity(alloc: Global, count: usize) -> Result<Declarations, Memory>
+        ensures { IfOk result (λ found. declarations_seen found ≡ spec.nothing_declared) }
+    {
+        Ok(Declarations {
+            names: Names::with_capacity(alloc, count)?,
+            meanings: List::with_capacity(alloc, count)?,
+            arrays: List::new(alloc),
+            constants: List::new(alloc),
+            procedures: 0,
+            classes: 0,
+            members: 0,
+        })
+    }
+
     /// Nothing.
     pub fn new(alloc: Global) -> Declarations
         ensures { declarations_seen result ≡ spec.nothing_declared }
@@ -72,8 +87,7 @@ fn push_name(found: &mut Declarations, name: &Text, meaning: Named) -> Result<()
     ensures { IfOk result (λ _. declarations_seen found.new
         ≡ spec.with_name name.now meaning (declarations_seen found.old)) }
 {
-    let key = Key::of(name)?;
-    found.names.push(name.copy()?, key)?;
+    found.names.push(copy_name(name)?, Key::at(name))?;
     found.meanings.push(meaning)
 }
 
@@ -163,11 +177,41 @@ fn declare(found: &mut Declarations, level: Level, line: u32, kind: &NoteKind) -
     }
 }
 
+/// Whether what is said at one place declares a name.
+fn is_declaration(kind: &NoteKind) -> bool {
+    match kind {
+        NoteKind::Variable(_)
+        | NoteKind::Constant(_)
+        | NoteKind::Procedure(_)
+        | NoteKind::Class(_)
+        | NoteKind::Member { .. }
+        | NoteKind::Result(_) => true,
+        NoteKind::Fault(_)
+        | NoteKind::Use { .. }
+        | NoteKind::Write(_)
+        | NoteKind::Resize(_)
+        | NoteKind::Part(_) => false,
+    }
+}
+
+/// How many names notes declare.
+fn count_declarations(notes: &[Note]) -> usize
+    ensures { result ≤ length notes.now }
+{
+    let mut count = 0;
+    for note in notes {
+        if is_declaration(&note.kind) {
+            count += 1;
+        }
+    }
+    count
+}
+
 /// What notes declare.
 pub fn declared(alloc: Global, level: Level, notes: &[Note]) -> Result<Declarations, Memory>
     ensures { IfOk result (λ found. declarations_seen found ≡ spec.declared level notes.now) }
 {
-    let mut found = Declarations::new(alloc);
+    let mut found = Declarations::with_capacity(alloc, count_declarations(notes))?;
     for note in notes {
         declare(&mut found, level, note.line, &note.kind)?;
     }

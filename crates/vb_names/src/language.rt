@@ -4,61 +4,78 @@ ghost use Rattle.std.specs.Option.{option_copied};
 ghost use Rattle.vb_value.specs.Outcome.{Gives};
 ghost use Rattle.vb_syntax.specs.scope.Names as spec;
 ghost use Rattle.vb_value.specs.Folding.{beside};
+ghost use Rattle.vb_names.specs.Beginnings.{beginning, first_letter, seen};
 
 use std::alloc::Global;
 use vb_syntax::program::{DictionaryMember, Named};
 use vb_syntax::{Literal, PageObject};
 use vb_value::{List, Memory, PlainFn, StrFn, among, is_word};
 
-/// The functions on texts.
-const STRING_FUNCTIONS: [(&[u8], StrFn); 22] = [
-    (b"len", StrFn::Len),
-    (b"left", StrFn::Left),
-    (b"right", StrFn::Right),
-    (b"mid", StrFn::Mid),
-    (b"instr", StrFn::InStr),
-    (b"instrrev", StrFn::InStrRev),
-    (b"lcase", StrFn::LCase),
-    (b"ucase", StrFn::UCase),
-    (b"trim", StrFn::Trim),
-    (b"ltrim", StrFn::LTrim),
-    (b"rtrim", StrFn::RTrim),
-    (b"replace", StrFn::Replace),
-    (b"split", StrFn::Split),
-    (b"join", StrFn::Join),
-    (b"strreverse", StrFn::StrReverse),
-    (b"space", StrFn::Space),
-    (b"string", StrFn::String),
-    (b"strcomp", StrFn::StrComp),
-    (b"asc", StrFn::Asc),
-    (b"ascw", StrFn::AscW),
-    (b"chr", StrFn::Chr),
-    (b"chrw", StrFn::ChrW),
-];
+/// The functions on texts whose names begin with a small letter.
+fn string_functions(letter: char) -> &'static [(&'static [u8], StrFn)]
+    ensures { seen result.now ≡ beginning letter spec.string_functions }
+{
+    match letter {
+        'a' => &[(b"asc", StrFn::Asc), (b"ascw", StrFn::AscW)],
+        'c' => &[(b"chr", StrFn::Chr), (b"chrw", StrFn::ChrW)],
+        'i' => &[(b"instr", StrFn::InStr), (b"instrrev", StrFn::InStrRev)],
+        'j' => &[(b"join", StrFn::Join)],
+        'l' => &[
+            (b"len", StrFn::Len),
+            (b"left", StrFn::Left),
+            (b"lcase", StrFn::LCase),
+            (b"ltrim", StrFn::LTrim),
+        ],
+        'm' => &[(b"mid", StrFn::Mid)],
+        'r' => &[
+            (b"right", StrFn::Right),
+            (b"rtrim", StrFn::RTrim),
+            (b"replace", StrFn::Replace),
+        ],
+        's' => &[
+            (b"split", StrFn::Split),
+            (b"strreverse", StrFn::StrReverse),
+            (b"space", StrFn::Space),
+            (b"string", StrFn::String),
+            (b"strcomp", StrFn::StrComp),
+        ],
+        't' => &[(b"trim", StrFn::Trim)],
+        'u' => &[(b"ucase", StrFn::UCase)],
+        _ => &[],
+    }
+}
 
-/// The other functions but `TypeName` and `CreateObject`.
-const PLAIN_FUNCTIONS: [(&[u8], PlainFn); 20] = [
-    (b"abs", PlainFn::Abs),
-    (b"int", PlainFn::Int),
-    (b"fix", PlainFn::Fix),
-    (b"sgn", PlainFn::Sgn),
-    (b"cbool", PlainFn::CBool),
-    (b"ccur", PlainFn::CCur),
-    (b"cint", PlainFn::CInt),
-    (b"clng", PlainFn::CLng),
-    (b"cstr", PlainFn::CStr),
-    (b"hex", PlainFn::Hex),
-    (b"oct", PlainFn::Oct),
-    (b"isarray", PlainFn::IsArray),
-    (b"isempty", PlainFn::IsEmpty),
-    (b"isnull", PlainFn::IsNull),
-    (b"isobject", PlainFn::IsObject),
-    (b"isnumeric", PlainFn::IsNumeric),
-    (b"vartype", PlainFn::VarType),
-    (b"array", PlainFn::Array),
-    (b"ubound", PlainFn::UBound),
-    (b"lbound", PlainFn::LBound),
-];
+/// The other functions but `TypeName` and `CreateObject`, likewise.
+fn plain_functions(letter: char) -> &'static [(&'static [u8], PlainFn)]
+    ensures { seen result.now ≡ beginning letter spec.plain_functions }
+{
+    match letter {
+        'a' => &[(b"abs", PlainFn::Abs), (b"array", PlainFn::Array)],
+        'c' => &[
+            (b"cbool", PlainFn::CBool),
+            (b"ccur", PlainFn::CCur),
+            (b"cint", PlainFn::CInt),
+            (b"clng", PlainFn::CLng),
+            (b"cstr", PlainFn::CStr),
+        ],
+        'f' => &[(b"fix", PlainFn::Fix)],
+        'h' => &[(b"hex", PlainFn::Hex)],
+        'i' => &[
+            (b"int", PlainFn::Int),
+            (b"isarray", PlainFn::IsArray),
+            (b"isempty", PlainFn::IsEmpty),
+            (b"isnull", PlainFn::IsNull),
+            (b"isobject", PlainFn::IsObject),
+            (b"isnumeric", PlainFn::IsNumeric),
+        ],
+        'l' => &[(b"lbound", PlainFn::LBound)],
+        'o' => &[(b"oct", PlainFn::Oct)],
+        's' => &[(b"sgn", PlainFn::Sgn)],
+        'u' => &[(b"ubound", PlainFn::UBound)],
+        'v' => &[(b"vartype", PlainFn::VarType)],
+        _ => &[],
+    }
+}
 
 /// The constants that are Integers.
 const INTEGERS: [(&[u8], i16); 14] = [
@@ -103,22 +120,41 @@ const DICTIONARY_MEMBERS: [(&[u8], DictionaryMember); 9] = [
 /// `vbObjectError`
 const OBJECT_ERROR: i32 = -2147221504;
 
+/// The first letter of a name, made small. Of no name it is a letter with which no name begins.
+fn first_letter(name: &[char]) -> char
+    ensures { result ≡ first_letter name.now }
+{
+    match name {
+        [] => '\0',
+        [letter, ..] => letter.to_ascii_lowercase(),
+    }
+}
+
 fn string_function(name: &[char]) -> Option<StrFn>
     ensures { result ≡ beside spec.string_functions name.now }
 {
-    among(&STRING_FUNCTIONS, name)
+    among(string_functions(first_letter(name)), name)
 }
 
 fn plain_function(name: &[char]) -> Option<PlainFn>
     ensures { result ≡ beside spec.plain_functions name.now }
 {
-    among(&PLAIN_FUNCTIONS, name)
+    among(plain_functions(first_letter(name)), name)
+}
+
+fn integers(letter: char) -> &'static [(&'static [u8], i16)]
+    ensures { seen result.now ≡ beginning letter spec.integers }
+{
+    match letter {
+        'v' => &INTEGERS,
+        _ => &[],
+    }
 }
 
 fn integer(name: &[char]) -> Option<i16>
     ensures { result ≡ beside spec.integers name.now }
 {
-    among(&INTEGERS, name)
+    among(integers(first_letter(name)), name)
 }
 
 #[tactic(auto, unfolding(vb_syntax::specs::scope::Names::object_named))]
@@ -140,6 +176,9 @@ pub fn dictionary_member(name: &[char]) -> Option<DictionaryMember>
 fn text(name: &[char]) -> Option<&'static [char]>
     ensures { option_copied result ≡ beside spec.texts name.now }
 {
+    if first_letter(name) != 'v' {
+        return None;
+    }
     if is_word(b"vbcr", name) {
         return Some(&['\r']);
     }

@@ -26,7 +26,7 @@ pub struct Scopes<'a> {
 }
 
 /// What a key stands for in one scope.
-fn standing_in<'a>(found: &'a Declarations, key: &Key) -> Option<&'a Named>
+fn standing_in<'a>(found: &'a Declarations, key: &Key<'_>) -> Option<&'a Named>
     ensures { option_copied result ≡ spec.standing_in (declarations_seen found.now) key.now }
 {
     match found.names.number(key) {
@@ -57,7 +57,7 @@ pub fn class_number(page: &Declarations, class: &Text) -> Result<Option<u32>, Me
     ensures { Gives result
         (trees.class_number (spec.standing_in (declarations_seen page.now) (folded class.now))) }
 {
-    match standing_in(page, &Key::of(class)?) {
+    match standing_in(page, &Key::at(class)) {
         Some(Named::Class(number)) => Ok(Some(*number)),
         _ => Ok(None),
     }
@@ -66,7 +66,7 @@ pub fn class_number(page: &Declarations, class: &Text) -> Result<Option<u32>, Me
 impl<'a> Scopes<'a> {
     #[tactic(auto, unfolding(vb_syntax::specs::scope::Scopes::declared_in))]
     /// What a key stands for, where a scope declares it.
-    pub fn declared(self, is_called: bool, key: &Key) -> Option<&'a Named>
+    pub fn declared(self, is_called: bool, key: &Key<'_>) -> Option<&'a Named>
         ensures { option_copied result ≡ spec.declared_in (scopes_seen self.entry) is_called key.now }
     {
         if let Some(found) = where_called(is_called, standing_in(self.body, key)) {
@@ -80,7 +80,7 @@ impl<'a> Scopes<'a> {
 
     #[tactic(auto, unfolding(vb_syntax::specs::scope::Scopes::named_in))]
     /// What a name stands for, which has the key.
-    fn named_by(self, is_called: bool, name: &Text, key: &Key) -> Result<Named, Memory>
+    fn named_by(self, is_called: bool, name: &Text, key: &Key<'_>) -> Result<Named, Memory>
         requires { key.now ≡ folded name.now }
         ensures { Gives result (spec.named_in (scopes_seen self.entry) is_called name.now) }
     {
@@ -97,12 +97,12 @@ impl<'a> Scopes<'a> {
     pub fn named(self, is_called: bool, name: &Text) -> Result<Named, Memory>
         ensures { Gives result (spec.named_in (scopes_seen self.entry) is_called name.now) }
     {
-        self.named_by(is_called, name, &Key::of(name)?)
+        self.named_by(is_called, name, &Key::at(name))
     }
 
     #[tactic(auto, using(crate::proofs::Objects::objects))]
     /// The object of the page that a name stands for, which has the key and stands for nothing else.
-    fn object_by(self, is_called: bool, name: &Text, key: &Key) -> Option<PageObject>
+    fn object_by(self, is_called: bool, name: &Text, key: &Key<'_>) -> Option<PageObject>
         requires key { key.now ≡ folded name.now }
         requires unknown { spec.is_unknown (spec.named_in (scopes_seen self) is_called name.now) ≡ true }
         ensures { result ≡ spec.object_in (scopes_seen self.entry) name.now }
@@ -123,17 +123,30 @@ impl<'a> Scopes<'a> {
     }
 
     #[tactic(auto, using(crate::proofs::Objects::objects))]
+    /// What a name stands for, which has the key, and the object of the page that it stands for.
+    pub fn meant_by(
+        self,
+        is_called: bool,
+        name: &Text,
+        key: &Key<'_>,
+    ) -> Result<(Named, Option<PageObject>), Memory>
+        requires { key.now ≡ folded name.now }
+        ensures { let scopes = scopes_seen self.entry in
+            Gives result (spec.named_in scopes is_called name.now, spec.object_in scopes name.now) }
+    {
+        let named = self.named_by(is_called, name, key)?;
+        if !is_unknown(&named) {
+            return Ok((named, None));
+        }
+        let object = self.object_by(is_called, name, key);
+        Ok((named, object))
+    }
+
     /// What a name stands for, and the object of the page that it stands for. It is called where `is_called` is true.
     pub fn meant(self, is_called: bool, name: &Text) -> Result<(Named, Option<PageObject>), Memory>
         ensures { let scopes = scopes_seen self.entry in
             Gives result (spec.named_in scopes is_called name.now, spec.object_in scopes name.now) }
     {
-        let key = Key::of(name)?;
-        let named = self.named_by(is_called, name, &key)?;
-        if !is_unknown(&named) {
-            return Ok((named, None));
-        }
-        let object = self.object_by(is_called, name, &key);
-        Ok((named, object))
+        self.meant_by(is_called, name, &Key::at(name))
     }
 }
