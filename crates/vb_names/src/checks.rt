@@ -82,10 +82,10 @@ fn add_to_kind(
         ≡ spec.declare (declared_seen declared.old) name.now accessor) }
 {
     match accessor {
-        None => declared.others.add_by(name, key),
-        Some(PropertyKind::Get) => declared.gets.add_by(name, key),
-        Some(PropertyKind::Let) => declared.lets.add_by(name, key),
-        Some(PropertyKind::Set) => declared.sets.add_by(name, key),
+        None => declared.others.add(name, key),
+        Some(PropertyKind::Get) => declared.gets.add(name, key),
+        Some(PropertyKind::Let) => declared.lets.add(name, key),
+        Some(PropertyKind::Set) => declared.sets.add(name, key),
     }
 }
 
@@ -116,7 +116,7 @@ fn check_name(names: &mut Names, line: u32, name: &Text, key: &Key<'_>) -> Resul
     if names.len() >= MOST_NAMES && !has(names, key) {
         return refuse(ScopeFault::TooMany, line);
     }
-    let _ = names.add_by(name, key)?;
+    let _ = names.add(name, key)?;
     Ok(())
 }
 

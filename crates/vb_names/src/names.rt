@@ -113,15 +113,7 @@ impl Names {
     }
 
     /// Adds a name at the end, unless one with its key is there. It answers whether one was.
-    pub fn add(&mut self, name: &Text) -> Result<bool, Memory>
-        ensures was { IfOk result (λ was. was ≡ has_name self.old name.now) }
-        ensures added { IfOk result (λ _. self.new ≡ add_name self.old name.now) }
-    {
-        self.add_by(name, &Key::at(name))
-    }
-
-    /// The same, of a name whose key is known.
-    pub(crate) fn add_by(&mut self, name: &Text, key: &Key<'_>) -> Result<bool, Memory>
+    pub(crate) fn add(&mut self, name: &Text, key: &Key<'_>) -> Result<bool, Memory>
         requires { key.now ≡ folded name.now }
         ensures was { IfOk result (λ was. was ≡ has_name self.old name.now) }
         ensures added { IfOk result (λ _. self.new ≡ add_name self.old name.now) }

@@ -1,6 +1,6 @@
 use Rattle.std.proofs.Common.{rules, sym, ap, is_some}
 use Rattle.vb_names.proofs.Numbering.{numbered_new, numbered_again, absent_name, added_name}
-use Rattle.vb_names.proofs.names.Names.add_by.Goals as goal
+use Rattle.vb_names.proofs.names.Names.add.Goals as goal
 
 pub invariant_of-self-in-None : goal.invariant_of-self-in-None
 invariant_of-self-in-None c = numbered_new c.self.inside.numbers c.put_name.new.numbers
