@@ -6,7 +6,7 @@ ghost use Rattle.vb_syntax.specs.scope.Units as spec;
 ghost use Rattle.vb_notes.specs.Bodies.{body_seen};
 
 use std::alloc::Global;
-use vb_notes::{Body, note_body, note_item, note_member, note_members};
+use vb_notes::{Body, note_body, note_item, note_items, note_member, note_members};
 use vb_syntax::{ClassMember, Item, Note};
 use vb_value::{List, Memory};
 
@@ -43,5 +43,14 @@ pub fn notes_of_item(alloc: Global, item: &Item) -> Result<List<Note>, Memory>
 {
     let mut notes = List::new(alloc);
     note_item(&mut notes, item)?;
+    Ok(notes)
+}
+
+/// What items say as parts of the page.
+pub fn notes_of_items(alloc: Global, items: &[Item]) -> Result<List<Note>, Memory>
+    ensures { Gives result (flat_map spec.item_notes items.now) }
+{
+    let mut notes = List::new(alloc);
+    note_items(&mut notes, items)?;
     Ok(notes)
 }
