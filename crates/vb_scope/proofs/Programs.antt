@@ -74,10 +74,11 @@ parts_are script page names body procedures classes written vars procs class_nam
 -- these parts are the procedure
 pub procedure_is : (explicit : Bool) (page : Declarations) (names : List Name) (class : Declarations)
     (access : Option Access) (kind : ProcedureKind) (name : Name) (body : Body) (private : Bool) (number : ℕ)
-    (by_value : List Bool) (scope : Declarations) (statements : List Statement)
+    (by_value : List Bool) (scope : Declarations) (variables : List (Option DeclaredArray)) (constants : List Constant)
+    (statements : List Statement)
     → private ≡ is_private access → number ≡ name_number names name
     → by_value ≡ map (λ (found : Parameter). found.by_value) body.parameters
-    → scope ≡ body_scope explicit page class body
+    → scope ≡ body_scope explicit page class body → variables ≡ scope.arrays → constants ≡ scope.constants
     → statements ≡ map (statement_of names (body_scopes explicit page class body)) body.statements
     → record {
       line = body.line;
@@ -85,13 +86,13 @@ pub procedure_is : (explicit : Bool) (page : Declarations) (names : List Name) (
       kind = kind;
       name = number;
       by_value = by_value;
-      variables = scope.arrays;
-      constants = scope.constants;
+      variables = variables;
+      constants = constants;
       body = statements;
     }
     ≡ procedure_in explicit page names class access kind name body
-procedure_is explicit page names class access kind name body private number by_value scope statements
-    is_it is_number are_by_value is_scope are_statements = cc
+procedure_is explicit page names class access kind name body private number by_value scope variables constants statements
+    is_it is_number are_by_value is_scope are_variables are_constants are_statements = cc
 
 -- a procedure is what its parts make it
 pub same_procedure : (explicit : Bool) (page : Declarations) (names : List Name) (class outer : Declarations)

@@ -8,8 +8,8 @@ use Rattle.vb_syntax.specs.scope.Programs as spec
 use Rattle.vb_scope.proofs.Last.{last_apart}
 use Rattle.vb_scope.proofs.trees.units.class_of.Goals as goal
 
-pub procedures-requires : goal.procedures-requires
-procedures-requires c =
+pub procedures-procedures-requires : goal.procedures-procedures-requires
+procedures-procedures-requires c =
     let page = declarations_seen c.args.script.page.now in
     let own = class_scope c.args.found.now in
     let apart = last_apart declarations_seen c.pop.new.self c.in-Some.scope

@@ -11,8 +11,8 @@ use Rattle.vb_scope.proofs.Last.{last_apart}
 use Rattle.vb_scope.proofs.Programs.{same_procedure}
 use Rattle.vb_scope.proofs.trees.units.page_procedure.Goals as goal
 
-pub procedure-requires : goal.procedure-requires
-procedure-requires c =
+pub procedure-made-requires : goal.procedure-made-requires
+procedure-made-requires c =
     let explicit = c.args.script.explicit in
     let page = declarations_seen c.args.script.page.now in
     let body = units.body_of false c.args.found.now in
