@@ -136,6 +136,22 @@ fn program(
     }
 }
 
+/// The program of a script, or its first fault.
+fn resolve_unit(alloc: Global, unit: &Unit) -> Result<Program, ScopeStop>
+    ensures program { IfOk result (λ program. Resolves unit.now (parts_of program)) }
+    ensures only { (program : Parts) → Resolves unit.now program → Answers (answered result) OutOfMemory (Ok program) }
+    ensures fault { OnFault result (IsFirstFault unit.now) }
+{
+    let page = scope_of(alloc, unit)?;
+    match check_unit(alloc, unit, &page) {
+        Ok(checked) => Ok(program(alloc, unit, page, checked)?),
+        Err(stop) => {
+            drop(page);
+            Err(stop)
+        }
+    }
+}
+
 /// Makes a script a program in which each name is what it stands for, or tells its first fault (VBScript 5.6 language
 /// reference, "Scope and Lifetime of Variables").
 pub fn resolve(alloc: Global, unit: Unit) -> Result<Program, ScopeStop>
@@ -143,7 +159,7 @@ pub fn resolve(alloc: Global, unit: Unit) -> Result<Program, ScopeStop>
     ensures only { (program : Parts) → Resolves unit program → Answers (answered result) OutOfMemory (Ok program) }
     ensures fault { OnFault result (IsFirstFault unit) }
 {
-    let page = scope_of(alloc, &unit)?;
-    let checked = check_unit(alloc, &unit, &page)?;
-    Ok(program(alloc, &unit, page, checked)?)
+    let resolved = resolve_unit(alloc, &unit);
+    drop(unit);
+    resolved
 }
