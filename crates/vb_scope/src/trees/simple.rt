@@ -1,7 +1,8 @@
 //! Parts of statements, and the statements that hold no other.
-ghost use Rattle.std.specs.Prelude.{◌≡◌, map, false};
-ghost use Rattle.vb_value.specs.Outcome.{Gives};
+ghost use Rattle.std.specs.Prelude.{◌≡◌, ◌∷◌, [], map, false};
+ghost use Rattle.vb_value.specs.Outcome.{Adds, Gives};
 ghost use Rattle.vb_syntax.specs.scope.Trees as spec;
+ghost use Rattle.vb_syntax.specs.declared.note.PathUse.TheVariants as as_a;
 ghost use Rattle.vb_syntax.specs.declared.statement.StatementKind.TheOpen as layer;
 ghost use Rattle.vb_names.specs.Declarations.{scopes_seen};
 
@@ -9,8 +10,9 @@ use crate::trees::expressions::{expression, expressions, path};
 use crate::trees::heads::Place;
 use vb_notes::call_use;
 use vb_syntax::program::{
-    Condition as ResolvedCondition, Expression as Value, Named, Repetition as ResolvedRepetition,
-    Resized as ResolvedResized, StatementKind as Resolved, Step as ResolvedStep,
+    Condition as ResolvedCondition, Expression as Value, Named, Path as ResolvedPath,
+    Repetition as ResolvedRepetition, Resized as ResolvedResized, StatementKind as Resolved,
+    Step as ResolvedStep,
 };
 use vb_syntax::{Condition, Expression, Path, PathUse, Repetition, Resized, StatementKind as Kind};
 use vb_value::{List, Memory, Text};
@@ -38,10 +40,29 @@ pub fn targets(place: Place<'_>, names: &[Text]) -> Result<List<Named>, Memory>
 fn resized(place: Place<'_>, found: &Resized) -> Result<ResolvedResized, Memory>
     ensures { Gives result (spec.resized_of place.entry.names.now (scopes_seen place.entry.scopes) found.now) }
 {
-    Ok(ResolvedResized {
-        name: target(place, &found.name)?,
-        bounds: expressions(place, found.bounds.as_slice())?,
-    })
+    match (
+        target(place, &found.name),
+        expressions(place, found.bounds.as_slice()),
+    ) {
+        (Ok(name), Ok(bounds)) => Ok(ResolvedResized { name, bounds }),
+        (name, bounds) => {
+            drop(name);
+            drop(bounds);
+            Err(Memory)
+        }
+    }
+}
+
+/// Adds an array that gets new bounds.
+fn push_resized(
+    all: &mut List<ResolvedResized>,
+    place: Place<'_>,
+    found: &Resized,
+) -> Result<(), Memory>
+    ensures { Adds result all.old all.new
+        (spec.resized_of place.entry.names.now (scopes_seen place.entry.scopes) found.now ∷ []) }
+{
+    all.push(resized(place, found)?)
 }
 
 /// Arrays that get new bounds.
@@ -51,7 +72,10 @@ pub fn arrays(place: Place<'_>, found: &[Resized]) -> Result<List<ResolvedResize
 {
     let mut all = List::with_capacity(place.alloc, found.len())?;
     for array in found {
-        all.push(resized(place, array)?)?;
+        if let Err(memory) = push_resized(&mut all, place, array) {
+            drop(all);
+            return Err(memory);
+        }
     }
     Ok(all)
 }
@@ -114,15 +138,35 @@ pub fn redim(place: Place<'_>, preserve: bool, found: &List<Resized>) -> Result<
     })
 }
 
+/// A place that is written, and what is written.
+fn written(
+    place: Place<'_>,
+    target: &Path,
+    value: &Expression,
+) -> Result<(ResolvedPath, Value), Memory>
+    ensures { let names = place.entry.names.now in let scopes = scopes_seen place.entry.scopes in
+        Gives result (spec.path_of names scopes target.now as_a.Target, spec.expression_of names scopes value.now) }
+{
+    match (
+        path(place, target, PathUse::Target),
+        expression(place, value),
+    ) {
+        (Ok(target), Ok(value)) => Ok((target, value)),
+        (target, value) => {
+            drop(target);
+            drop(value);
+            Err(Memory)
+        }
+    }
+}
+
 /// A `Set`.
 pub fn set(place: Place<'_>, target: &Path, value: &Expression) -> Result<Resolved, Memory>
     ensures { Gives result (spec.kind_layer place.entry.names.now (scopes_seen place.entry.scopes)
         (layer.Set target.now value.now)) }
 {
-    Ok(Resolved::Set {
-        target: path(place, target, PathUse::Target)?,
-        value: expression(place, value)?,
-    })
+    let (target, value) = written(place, target, value)?;
+    Ok(Resolved::Set { target, value })
 }
 
 /// An assignment.
@@ -130,10 +174,8 @@ pub fn assignment(place: Place<'_>, target: &Path, value: &Expression) -> Result
     ensures { Gives result (spec.kind_layer place.entry.names.now (scopes_seen place.entry.scopes)
         (layer.Assign target.now value.now)) }
 {
-    Ok(Resolved::Assign {
-        target: path(place, target, PathUse::Target)?,
-        value: expression(place, value)?,
-    })
+    let (target, value) = written(place, target, value)?;
+    Ok(Resolved::Assign { target, value })
 }
 
 /// A call with arguments.
