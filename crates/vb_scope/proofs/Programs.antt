@@ -10,7 +10,7 @@ use Rattle.vb_syntax.specs.declared.program.unit.Constant.{Constant}
 use Rattle.vb_syntax.specs.declared.program.unit.DeclaredArray.{DeclaredArray}
 use Rattle.vb_syntax.specs.declared.program.unit.Procedure.{Procedure}
 use Rattle.vb_syntax.specs.declared.program.unit.ProcedureKind.{ProcedureKind}
-use Rattle.vb_syntax.specs.declared.program.unit.ProcedureKind.{ProcedureKind}
+use Rattle.vb_syntax.specs.declared.program.unit.Unit.{Unit as Code}
 use Rattle.vb_syntax.specs.declared.program.unit.Field.{Field}
 use Rattle.vb_syntax.specs.declared.unit.Class.{Class as SourceClass}
 use Rattle.vb_syntax.specs.declared.unit.Unit.{Unit as Script}
@@ -47,20 +47,21 @@ listed_in page vars procs classes =
 -- these trees and names are the program of the script
 pub parts_are : (script : Script) (page : Declarations) (names : List Name) (body : List Statement)
     (procedures : List Procedure) (classes : List Class) (written vars procs class_names : List Name)
-    (dictionary : List (Option DictionaryMember))
+    (dictionary : List (Option DictionaryMember)) (code : Code)
     → page ≡ page_scope script → names ≡ names_of script
     → code_in script page names body procedures classes → listed_in page vars procs class_names
     → written ≡ names → dictionary ≡ map dictionary_member names
+    → code ≡ record {
+      body = body;
+      variables = page.arrays;
+      constants = page.constants;
+      procedures = procedures;
+      classes = classes;
+      names = written;
+      dictionary = dictionary;
+    }
     → record {
-      unit = record {
-        body = body;
-        variables = page.arrays;
-        constants = page.constants;
-        procedures = procedures;
-        classes = classes;
-        names = written;
-        dictionary = dictionary;
-      };
+      unit = code;
       vars = vars;
       procs = procs;
       classes = class_names;
@@ -68,8 +69,8 @@ pub parts_are : (script : Script) (page : Declarations) (names : List Name) (bod
     }
     ≡ program_of script
 unfolding program_of
-parts_are script page names body procedures classes written vars procs class_names dictionary in_page with_names
-    code listed are_written are_said = cc
+parts_are script page names body procedures classes written vars procs class_names dictionary code in_page with_names
+    are_trees are_listed are_written are_said are_code = cc
 
 -- these parts are the procedure
 pub procedure_is : (explicit : Bool) (page : Declarations) (names : List Name) (class : Declarations)

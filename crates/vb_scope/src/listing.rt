@@ -69,7 +69,7 @@ fn dictionary(alloc: Global, names: &[Text]) -> Result<List<Option<DictionaryMem
 }
 
 /// What a program lists of its page's scope and of its names.
-#[derive(Debug, Drop)]
+#[derive(Drop)]
 pub struct Listing {
     /// The names of variables.
     pub variables: List<Text>,

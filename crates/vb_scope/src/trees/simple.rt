@@ -2,7 +2,6 @@
 ghost use Rattle.std.specs.Prelude.{◌≡◌, ◌∷◌, [], map, false};
 ghost use Rattle.vb_value.specs.Outcome.{Adds, Gives};
 ghost use Rattle.vb_syntax.specs.scope.Trees as spec;
-ghost use Rattle.vb_syntax.specs.declared.note.PathUse.TheVariants as as_a;
 ghost use Rattle.vb_syntax.specs.declared.statement.StatementKind.TheOpen as layer;
 ghost use Rattle.vb_names.specs.Declarations.{scopes_seen};
 
@@ -138,20 +137,16 @@ pub fn redim(place: Place<'_>, preserve: bool, found: &List<Resized>) -> Result<
     })
 }
 
-/// A place that is written, and what is written.
-fn written(
-    place: Place<'_>,
-    target: &Path,
-    value: &Expression,
-) -> Result<(ResolvedPath, Value), Memory>
-    ensures { let names = place.entry.names.now in let scopes = scopes_seen place.entry.scopes in
-        Gives result (spec.path_of names scopes target.now as_a.Target, spec.expression_of names scopes value.now) }
+/// A `Set`.
+pub fn set(place: Place<'_>, target: &Path, value: &Expression) -> Result<Resolved, Memory>
+    ensures { Gives result (spec.kind_layer place.entry.names.now (scopes_seen place.entry.scopes)
+        (layer.Set target.now value.now)) }
 {
     match (
         path(place, target, PathUse::Target),
         expression(place, value),
     ) {
-        (Ok(target), Ok(value)) => Ok((target, value)),
+        (Ok(target), Ok(value)) => Ok(Resolved::Set { target, value }),
         (target, value) => {
             drop(target);
             drop(value);
@@ -160,22 +155,22 @@ fn written(
     }
 }
 
-/// A `Set`.
-pub fn set(place: Place<'_>, target: &Path, value: &Expression) -> Result<Resolved, Memory>
-    ensures { Gives result (spec.kind_layer place.entry.names.now (scopes_seen place.entry.scopes)
-        (layer.Set target.now value.now)) }
-{
-    let (target, value) = written(place, target, value)?;
-    Ok(Resolved::Set { target, value })
-}
-
 /// An assignment.
 pub fn assignment(place: Place<'_>, target: &Path, value: &Expression) -> Result<Resolved, Memory>
     ensures { Gives result (spec.kind_layer place.entry.names.now (scopes_seen place.entry.scopes)
         (layer.Assign target.now value.now)) }
 {
-    let (target, value) = written(place, target, value)?;
-    Ok(Resolved::Assign { target, value })
+    match (
+        path(place, target, PathUse::Target),
+        expression(place, value),
+    ) {
+        (Ok(target), Ok(value)) => Ok(Resolved::Assign { target, value }),
+        (target, value) => {
+            drop(target);
+            drop(value);
+            Err(Memory)
+        }
+    }
 }
 
 /// A call with arguments.

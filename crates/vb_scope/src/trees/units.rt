@@ -315,7 +315,7 @@ fn own_statement(script: Script<'_>, found: &Statement) -> Result<ResolvedStatem
 }
 
 /// The trees of a page.
-#[derive(Debug, Drop)]
+#[derive(Drop)]
 pub struct Trees {
     /// The statements of its own body.
     pub body: List<ResolvedStatement>,

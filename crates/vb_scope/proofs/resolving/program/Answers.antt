@@ -1,6 +1,5 @@
 use Rattle.std.proofs.Common.{◌≡◌, ◌∙◌, List, map, ap, refl}
 use Rattle.std.specs.List.{flat_map}
-use Rattle.vb_syntax.specs.declared.program.unit.Unit.{Unit as ResolvedUnit}
 use Rattle.vb_syntax.specs.declared.unit.Item.{Item}
 use Rattle.vb_syntax.specs.scope.Programs.{Parts, program_of, own_statement, procedure_of, class_of}
 use Rattle.vb_syntax.specs.scope.Units.{procedures_of, classes_of}
@@ -33,21 +32,14 @@ made c =
     = rw c.in-Ok-Ok.is-0 at c.page_trees-trees.ensures.classes in
     let items : c.as_slice.result.now ≡ unit.items = c.as_slice.ensures in
     let listed = c.in-Ok-Ok.listed in
-    ap (λ (code : ResolvedUnit). record {
-      unit = code;
-      vars = listed.variables;
-      procs = listed.procedures;
-      classes = listed.classes;
-      explicit = explicit;
-    }) c.unit_of.ensures
-    ∙ parts_are unit page names c.in-Ok-Ok.trees.body c.in-Ok-Ok.trees.procedures c.in-Ok-Ok.trees.classes names
-    listed.variables listed.procedures listed.classes listed.dictionary c.requires.page c.requires.names (
+    parts_are unit page names c.in-Ok-Ok.trees.body c.in-Ok-Ok.trees.procedures c.in-Ok-Ok.trees.classes names
+    listed.variables listed.procedures listed.classes listed.dictionary c.unit_of.result c.requires.page c.requires.names (
       body ∙ ap (λ (all : List Item). flat_map (own_statement page names) all) items,
       procedures ∙ ap (λ (all : List Item). map (procedure_of explicit page names) (procedures_of all)) items,
       classes ∙ ap (λ (all : List Item). map (class_of explicit page names) (classes_of all)) items,
     )
     (c.in-Ok-Ok.ensures.variables, c.in-Ok-Ok.ensures.procedures, c.in-Ok-Ok.ensures.classes) refl
-    c.in-Ok-Ok.ensures.dictionary
+    c.in-Ok-Ok.ensures.dictionary c.unit_of.ensures
 
 pub returns-in-Ok-Ok : goal.returns-in-Ok-Ok
 returns-in-Ok-Ok c = made (goal.at.returns-in-Ok-Ok c).After-unit_of

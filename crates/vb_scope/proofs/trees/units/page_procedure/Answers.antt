@@ -1,4 +1,4 @@
-use Rattle.std.proofs.Common.{◌≡◌, ◌∙◌, false, [], map, sym, ap, subst}
+use Rattle.std.proofs.Common.{◌∙◌, false, [], map, sym, ap, subst}
 use Rattle.vb_value.specs.Outcome.{Gives}
 use Rattle.vb_syntax.specs.declared.program.unit.Procedure.{Procedure}
 use Rattle.vb_syntax.specs.scope.Programs as spec
