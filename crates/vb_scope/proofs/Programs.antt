@@ -10,7 +10,7 @@ use Rattle.vb_syntax.specs.declared.program.unit.Constant.{Constant}
 use Rattle.vb_syntax.specs.declared.program.unit.DeclaredArray.{DeclaredArray}
 use Rattle.vb_syntax.specs.declared.program.unit.Procedure.{Procedure}
 use Rattle.vb_syntax.specs.declared.program.unit.ProcedureKind.{ProcedureKind}
-use Rattle.vb_syntax.specs.declared.program.unit.ProcedureKind.{ProcedureKind}
+use Rattle.vb_syntax.specs.declared.program.unit.Unit.{Unit as Code}
 use Rattle.vb_syntax.specs.declared.program.unit.Field.{Field}
 use Rattle.vb_syntax.specs.declared.unit.Class.{Class as SourceClass}
 use Rattle.vb_syntax.specs.declared.unit.Unit.{Unit as Script}
@@ -47,20 +47,21 @@ listed_in page vars procs classes =
 -- these trees and names are the program of the script
 pub parts_are : (script : Script) (page : Declarations) (names : List Name) (body : List Statement)
     (procedures : List Procedure) (classes : List Class) (written vars procs class_names : List Name)
-    (dictionary : List (Option DictionaryMember))
+    (dictionary : List (Option DictionaryMember)) (code : Code)
     → page ≡ page_scope script → names ≡ names_of script
     → code_in script page names body procedures classes → listed_in page vars procs class_names
     → written ≡ names → dictionary ≡ map dictionary_member names
+    → code ≡ record {
+      body = body;
+      variables = page.arrays;
+      constants = page.constants;
+      procedures = procedures;
+      classes = classes;
+      names = written;
+      dictionary = dictionary;
+    }
     → record {
-      unit = record {
-        body = body;
-        variables = page.arrays;
-        constants = page.constants;
-        procedures = procedures;
-        classes = classes;
-        names = written;
-        dictionary = dictionary;
-      };
+      unit = code;
       vars = vars;
       procs = procs;
       classes = class_names;
@@ -68,16 +69,17 @@ pub parts_are : (script : Script) (page : Declarations) (names : List Name) (bod
     }
     ≡ program_of script
 unfolding program_of
-parts_are script page names body procedures classes written vars procs class_names dictionary in_page with_names
-    code listed are_written are_said = cc
+parts_are script page names body procedures classes written vars procs class_names dictionary code in_page with_names
+    are_trees are_listed are_written are_said are_code = cc
 
 -- these parts are the procedure
 pub procedure_is : (explicit : Bool) (page : Declarations) (names : List Name) (class : Declarations)
     (access : Option Access) (kind : ProcedureKind) (name : Name) (body : Body) (private : Bool) (number : ℕ)
-    (by_value : List Bool) (scope : Declarations) (statements : List Statement)
+    (by_value : List Bool) (scope : Declarations) (variables : List (Option DeclaredArray)) (constants : List Constant)
+    (statements : List Statement)
     → private ≡ is_private access → number ≡ name_number names name
     → by_value ≡ map (λ (found : Parameter). found.by_value) body.parameters
-    → scope ≡ body_scope explicit page class body
+    → scope ≡ body_scope explicit page class body → variables ≡ scope.arrays → constants ≡ scope.constants
     → statements ≡ map (statement_of names (body_scopes explicit page class body)) body.statements
     → record {
       line = body.line;
@@ -85,13 +87,13 @@ pub procedure_is : (explicit : Bool) (page : Declarations) (names : List Name) (
       kind = kind;
       name = number;
       by_value = by_value;
-      variables = scope.arrays;
-      constants = scope.constants;
+      variables = variables;
+      constants = constants;
       body = statements;
     }
     ≡ procedure_in explicit page names class access kind name body
-procedure_is explicit page names class access kind name body private number by_value scope statements
-    is_it is_number are_by_value is_scope are_statements = cc
+procedure_is explicit page names class access kind name body private number by_value scope variables constants statements
+    is_it is_number are_by_value is_scope are_variables are_constants are_statements = cc
 
 -- a procedure is what its parts make it
 pub same_procedure : (explicit : Bool) (page : Declarations) (names : List Name) (class outer : Declarations)

@@ -3,6 +3,7 @@
 
 mod laws;
 mod listing;
+mod noting;
 mod resolving;
 mod trees;
 mod unit_checks;

@@ -1,5 +1,5 @@
 //! The names that a program lists.
-ghost use Rattle.std.specs.Prelude.{◌≡◌, map};
+ghost use Rattle.std.specs.Prelude.{◌≡◌, IfOk, map};
 ghost use Rattle.vb_value.specs.Outcome.{Gives};
 ghost use Rattle.vb_syntax.specs.scope.Names as names_spec;
 ghost use Rattle.vb_syntax.specs.scope.Programs as spec;
@@ -7,8 +7,8 @@ ghost use Rattle.vb_names.specs.Declarations.{declarations_seen};
 ghost use Rattle.vb_scope.specs.Standing.{stands_so};
 
 use std::alloc::Global;
-use vb_names::{Declarations, dictionary_member};
-use vb_syntax::program::{DictionaryMember, Named};
+use vb_names::{Declarations, Names, dictionary_member};
+use vb_syntax::program::{Constant, DeclaredArray, DictionaryMember, Named};
 use vb_value::{Copied, List, Memory, Text};
 
 /// What a name of a page stands for that a program lists.
@@ -34,7 +34,7 @@ fn stands_so(standing: Standing, meaning: &Named) -> bool
 }
 
 /// The names of a scope that stand for that, in their order.
-pub fn names_where(
+fn names_where(
     alloc: Global,
     standing: Standing,
     found: &Declarations,
@@ -58,7 +58,7 @@ pub fn names_where(
 }
 
 /// Of each name, which member of a Dictionary it says.
-pub fn dictionary(alloc: Global, names: &[Text]) -> Result<List<Option<DictionaryMember>>, Memory>
+fn dictionary(alloc: Global, names: &[Text]) -> Result<List<Option<DictionaryMember>>, Memory>
     ensures { Gives result (map names_spec.dictionary_member names.now) }
 {
     let mut all = List::with_capacity(alloc, names.len())?;
@@ -66,4 +66,52 @@ pub fn dictionary(alloc: Global, names: &[Text]) -> Result<List<Option<Dictionar
         all.push(dictionary_member(name.as_slice()))?;
     }
     Ok(all)
+}
+
+/// What a program lists of its page's scope and of its names.
+#[derive(Drop)]
+pub struct Listing {
+    /// The names of variables.
+    pub variables: List<Text>,
+    /// The names of procedures.
+    pub procedures: List<Text>,
+    /// The names of classes.
+    pub classes: List<Text>,
+    /// Of each name of the script, which member of a Dictionary it says.
+    pub dictionary: List<Option<DictionaryMember>>,
+}
+
+/// What a program lists.
+pub fn list_names(alloc: Global, page: &Declarations, names: &Names) -> Result<Listing, Memory>
+    ensures variables { IfOk result (λ listed. listed.variables
+        ≡ spec.names_in spec.is_place (declarations_seen page.now)) }
+    ensures procedures { IfOk result (λ listed. listed.procedures
+        ≡ spec.names_in spec.is_procedure (declarations_seen page.now)) }
+    ensures classes { IfOk result (λ listed. listed.classes
+        ≡ spec.names_in spec.is_class (declarations_seen page.now)) }
+    ensures dictionary { IfOk result (λ listed. listed.dictionary ≡ map names_spec.dictionary_member names.now) }
+{
+    let variables = names_where(alloc, Standing::Variable, page)?;
+    let procedures = names_where(alloc, Standing::Procedure, page)?;
+    let classes = names_where(alloc, Standing::Class, page)?;
+    let dictionary = dictionary(alloc, names.as_slice())?;
+    Ok(Listing {
+        variables,
+        procedures,
+        classes,
+        dictionary,
+    })
+}
+
+/// The variables and the constants that a scope declares.
+pub fn declared_in(found: Declarations) -> (List<Option<DeclaredArray>>, List<Constant>)
+    ensures variables { result.0 ≡ found.arrays }
+    ensures constants { result.1 ≡ found.constants }
+{
+    let Declarations {
+        arrays,
+        constants,
+        ..
+    } = found;
+    (arrays, constants)
 }

@@ -11,15 +11,25 @@ ghost use Rattle.vb_names.specs.Declarations.{declarations_seen};
 ghost use Rattle.vb_scope.specs.Answers.{answered, parts_of};
 ghost use Rattle.vb_scope.specs.Inside.{scopes_inside};
 
-use crate::listing::{Standing, dictionary, names_where};
+use crate::listing::{Listing, declared_in, list_names};
+use crate::noting::notes_of_items;
 use crate::trees::{Script, Trees, page_trees};
 use crate::unit_checks::check_items;
 use std::alloc::Global;
 use vb_names::{Declarations, DeclaredNames, Names, page_scope};
-use vb_notes::note_items;
-use vb_syntax::program::{Program, Unit as ResolvedUnit};
+use vb_syntax::program::{DictionaryMember, Program, Unit as ResolvedUnit};
 use vb_syntax::{ScopeStop, Unit};
 use vb_value::{List, Memory};
+
+/// The scope of a script's page.
+fn scope_of(alloc: Global, unit: &Unit) -> Result<Declarations, Memory>
+    ensures { IfOk result (λ page. declarations_seen page ≡ scope_of_page unit.now) }
+{
+    let notes = notes_of_items(alloc, unit.items.as_slice())?;
+    let page = page_scope(alloc, unit.option_explicit, notes.as_slice());
+    drop(notes);
+    page
+}
 
 #[tactic(auto, unfolding(vb_syntax::specs::scope::Faults::faults_of, vb_syntax::specs::scope::Faults::names_of))]
 /// Checks a script, and gives its names and the scopes inside each of its items.
@@ -37,8 +47,44 @@ fn check_unit(
     let mut names = Names::new(alloc);
     let mut declared = DeclaredNames::new(alloc);
     let (explicit, items) = (unit.option_explicit, unit.items.as_slice());
-    let inside = check_items(&mut names, &mut declared, alloc, explicit, page, items)?;
-    Ok((names, inside))
+    let inside = check_items(&mut names, &mut declared, alloc, explicit, page, items);
+    drop(declared);
+    match inside {
+        Ok(inside) => Ok((names, inside)),
+        Err(stop) => {
+            drop(names);
+            Err(stop)
+        }
+    }
+}
+
+/// What a program does and has, taken over from its page's scope, its names and its trees.
+fn unit_of(
+    page: Declarations,
+    names: Names,
+    trees: Trees,
+    dictionary: List<Option<DictionaryMember>>,
+) -> ResolvedUnit
+    ensures { result ≡ record {
+      body = trees.body;
+      variables = page.arrays;
+      constants = page.constants;
+      procedures = trees.procedures;
+      classes = trees.classes;
+      names = names;
+      dictionary = dictionary;
+    } }
+{
+    let (variables, constants) = declared_in(page);
+    ResolvedUnit {
+        body: trees.body,
+        variables,
+        constants,
+        procedures: trees.procedures,
+        classes: trees.classes,
+        names: names.into_texts(),
+        dictionary,
+    }
 }
 
 #[tactic(auto, using(crate::proofs::Programs::resolved), unfolding(vb_syntax::specs::scope::Programs::program_of))]
@@ -63,32 +109,47 @@ fn program(
         page: &page,
         names: &names,
     };
-    let trees = page_trees(script, unit.items.as_slice(), inside)?;
-    let says = dictionary(alloc, names.as_slice())?;
-    let vars = names_where(alloc, Standing::Variable, &page)?;
-    let procs = names_where(alloc, Standing::Procedure, &page)?;
-    let class_names = names_where(alloc, Standing::Class, &page)?;
-    let Declarations {
-        arrays,
-        constants,
-        ..
-    } = page;
-    let resolved = ResolvedUnit {
-        body: trees.body,
-        variables: arrays,
-        constants,
-        procedures: trees.procedures,
-        classes: trees.classes,
-        names: names.into_texts(),
-        dictionary: says,
-    };
-    Ok(Program {
-        unit: resolved,
-        vars,
-        procs,
-        classes: class_names,
-        explicit: unit.option_explicit,
-    })
+    let trees = page_trees(script, unit.items.as_slice(), inside);
+    match (trees, list_names(alloc, &page, &names)) {
+        (Ok(trees), Ok(listed)) => {
+            let Listing {
+                variables,
+                procedures,
+                classes,
+                dictionary,
+            } = listed;
+            Ok(Program {
+                unit: unit_of(page, names, trees, dictionary),
+                vars: variables,
+                procs: procedures,
+                classes,
+                explicit: unit.option_explicit,
+            })
+        }
+        (trees, listed) => {
+            drop(trees);
+            drop(listed);
+            drop(page);
+            drop(names);
+            Err(Memory)
+        }
+    }
+}
+
+/// The program of a script, or its first fault.
+fn resolve_unit(alloc: Global, unit: &Unit) -> Result<Program, ScopeStop>
+    ensures program { IfOk result (λ program. Resolves unit.now (parts_of program)) }
+    ensures only { (program : Parts) → Resolves unit.now program → Answers (answered result) OutOfMemory (Ok program) }
+    ensures fault { OnFault result (IsFirstFault unit.now) }
+{
+    let page = scope_of(alloc, unit)?;
+    match check_unit(alloc, unit, &page) {
+        Ok(checked) => Ok(program(alloc, unit, page, checked)?),
+        Err(stop) => {
+            drop(page);
+            Err(stop)
+        }
+    }
 }
 
 /// Makes a script a program in which each name is what it stands for, or tells its first fault (VBScript 5.6 language
@@ -98,9 +159,7 @@ pub fn resolve(alloc: Global, unit: Unit) -> Result<Program, ScopeStop>
     ensures only { (program : Parts) → Resolves unit program → Answers (answered result) OutOfMemory (Ok program) }
     ensures fault { OnFault result (IsFirstFault unit) }
 {
-    let mut notes = List::new(alloc);
-    note_items(&mut notes, unit.items.as_slice())?;
-    let page = page_scope(alloc, unit.option_explicit, notes.as_slice())?;
-    let checked = check_unit(alloc, &unit, &page)?;
-    Ok(program(alloc, &unit, page, checked)?)
+    let resolved = resolve_unit(alloc, &unit);
+    drop(unit);
+    resolved
 }

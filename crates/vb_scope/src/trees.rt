@@ -2,6 +2,7 @@
 
 mod expressions;
 mod heads;
+mod holding;
 mod members;
 mod simple;
 mod statements;

@@ -1,26 +1,72 @@
 //! The faults of a whole script, in the order of their places, and the scopes that stand inside its items.
 ghost use Rattle.std.specs.Prelude.{◌≡◌, ◌++◌, ◌∷◌, [], OnOk, IfOk, fold, map, false, true};
+ghost use Rattle.vb_value.specs.Outcome.{Gives};
 ghost use Rattle.vb_syntax.specs.scope.Faults as spec;
 ghost use Rattle.vb_syntax.specs.scope.Scopes as scopes_spec;
 ghost use Rattle.vb_syntax.specs.scope.Units as units;
 ghost use Rattle.vb_notes.specs.Bodies.{body_seen};
 ghost use Rattle.vb_names.specs.Checking.{Finds, so_far};
-ghost use Rattle.vb_names.specs.Declarations.{declarations_seen};
+ghost use Rattle.vb_names.specs.Declarations.{declarations_seen, scopes_seen};
 ghost use Rattle.vb_scope.specs.Inside.{member_scope, scopes_inside};
 
+use crate::noting::{notes_of_body, notes_of_item, notes_of_member, notes_of_members};
 use std::alloc::Global;
 use vb_names::{Declarations, DeclaredNames, Names, Scopes, body_scope, check_notes, declared};
-use vb_notes::{Body, body_of, body_of_property, note_body, note_item, note_member, note_members};
-use vb_syntax::{Class, ClassMember, Item, Level, ScopeStop};
+use vb_notes::{Body, body_of, body_of_property};
+use vb_syntax::{Class, ClassMember, Item, Level, Note, Procedure, ScopeStop};
 use vb_value::{List, Memory};
 
 /// A class's scope.
 pub fn class_scope(alloc: Global, class: &Class) -> Result<Declarations, Memory>
     ensures { IfOk result (λ found. declarations_seen found ≡ scopes_spec.class_scope class.now) }
 {
-    let mut notes = List::new(alloc);
-    note_members(&mut notes, class.members.as_slice())?;
-    declared(alloc, Level::Class, notes.as_slice())
+    let notes = notes_of_members(alloc, class.members.as_slice())?;
+    let found = declared(alloc, Level::Class, notes.as_slice());
+    drop(notes);
+    found
+}
+
+/// Checks what is said in a scope that has declared nothing yet.
+fn check_anew(
+    names: &mut Names,
+    alloc: Global,
+    scopes: Scopes<'_>,
+    notes: &[Note],
+) -> Result<(), ScopeStop>
+    ensures faults { Finds result (spec.notes_faults (scopes_seen scopes.entry) (spec.fresh names.old) notes.entry.now) }
+    ensures after { OnOk result (names.new ≡ (spec.after_notes (spec.fresh names.old) notes.entry.now).names) }
+{
+    let mut declared = DeclaredNames::new(alloc);
+    let checked = check_notes(names, &mut declared, scopes, notes);
+    drop(declared);
+    checked
+}
+
+/// Checks what the body of a procedure says, and gives its scope.
+fn check_said(
+    names: &mut Names,
+    alloc: Global,
+    explicit: bool,
+    page: &Declarations,
+    class: &Declarations,
+    notes: &[Note],
+) -> Result<Declarations, ScopeStop>
+    ensures faults { Finds result (spec.notes_faults (scopes_spec.scopes_of (declarations_seen page.now)
+        (declarations_seen class.now) (scopes_spec.body_scope_of explicit (declarations_seen page.now)
+        (declarations_seen class.now) notes.entry.now)) (spec.fresh names.old) notes.entry.now) }
+    ensures after { OnOk result (names.new ≡ (spec.after_notes (spec.fresh names.old) notes.entry.now).names) }
+    ensures scope { IfOk result (λ found. declarations_seen found ≡ scopes_spec.body_scope_of explicit
+        (declarations_seen page.now) (declarations_seen class.now) notes.entry.now) }
+{
+    let found = body_scope(alloc, explicit, page, class, notes)?;
+    let body = &found;
+    match check_anew(names, alloc, Scopes { page, class, body }, notes) {
+        Ok(()) => Ok(found),
+        Err(stop) => {
+            drop(found);
+            Err(stop)
+        }
+    }
 }
 
 /// Checks the body of a procedure, and gives its scope.
@@ -38,14 +84,10 @@ fn check_body(
     ensures scope { IfOk result (λ found. declarations_seen found ≡ scopes_spec.body_scope explicit
         (declarations_seen page.now) (declarations_seen class.now) (body_seen body.entry)) }
 {
-    let mut notes = List::new(alloc);
-    note_body(&mut notes, body)?;
-    let found = body_scope(alloc, explicit, page, class, notes.as_slice())?;
-    let body = &found;
-    let scopes = Scopes { page, class, body };
-    let mut declared = DeclaredNames::new(alloc);
-    check_notes(names, &mut declared, scopes, notes.as_slice())?;
-    Ok(found)
+    let notes = notes_of_body(alloc, body)?;
+    let found = check_said(names, alloc, explicit, page, class, notes.as_slice());
+    drop(notes);
+    found
 }
 
 /// Checks the body of a member, if it has one, and gives its scope.
@@ -74,6 +116,31 @@ fn check_bodies(
     }
 }
 
+/// Checks what a member says as a part of its class.
+fn check_said_in_class(
+    names: &mut Names,
+    declared: &mut DeclaredNames,
+    alloc: Global,
+    page: &Declarations,
+    class: &Declarations,
+    member: &ClassMember,
+) -> Result<(), ScopeStop>
+    ensures faults { Finds result (spec.notes_faults (scopes_spec.scopes_of (declarations_seen page.now)
+        (declarations_seen class.now) scopes_spec.nothing_declared) (so_far names.old declared.old)
+        (units.member_notes member.now)) }
+    ensures after { OnOk result (so_far names.new declared.new
+        ≡ spec.after_notes (so_far names.old declared.old) (units.member_notes member.now)) }
+{
+    let notes = notes_of_member(alloc, member)?;
+    let nothing = Declarations::new(alloc);
+    let body = &nothing;
+    let scopes = Scopes { page, class, body };
+    let checked = check_notes(names, declared, scopes, notes.as_slice());
+    drop(nothing);
+    drop(notes);
+    checked
+}
+
 /// Checks a member of a class, and then its body, of which it gives the scope.
 fn check_member(
     names: &mut Names,
@@ -91,11 +158,7 @@ fn check_member(
     ensures scope { IfOk result (λ found. declarations_seen found ≡ member_scope explicit (declarations_seen page.now)
         (declarations_seen class.now) member.now) }
 {
-    let mut notes = List::new(alloc);
-    note_member(&mut notes, member)?;
-    let body = &Declarations::new(alloc);
-    let scopes = Scopes { page, class, body };
-    check_notes(names, declared, scopes, notes.as_slice())?;
+    check_said_in_class(names, declared, alloc, page, class, member)?;
     check_bodies(names, alloc, explicit, page, class, member)
 }
 
@@ -125,6 +188,40 @@ fn check_members(
     Ok(all)
 }
 
+/// Checks the members of a class that has declared nothing yet, and gives the scopes of their bodies.
+fn check_members_anew(
+    names: &mut Names,
+    alloc: Global,
+    explicit: bool,
+    page: &Declarations,
+    class: &Declarations,
+    members: &[ClassMember],
+) -> Result<List<Declarations>, ScopeStop>
+    ensures faults { Finds result (spec.members_faults explicit (declarations_seen page.now) (declarations_seen class.now)
+        (spec.fresh names.old) members.entry.now) }
+    ensures after { OnOk result (names.new ≡ (spec.after_members (spec.fresh names.old) members.entry.now).names) }
+    ensures scopes { IfOk result (λ all. map declarations_seen all ≡ map (member_scope explicit
+        (declarations_seen page.now) (declarations_seen class.now)) members.entry.now) }
+{
+    let mut declared = DeclaredNames::new(alloc);
+    let all = check_members(names, &mut declared, alloc, explicit, page, class, members);
+    drop(declared);
+    all
+}
+
+/// Scopes with one more at the end.
+fn with_last(mut all: List<Declarations>, last: Declarations) -> Result<List<Declarations>, Memory>
+    ensures { Gives result (all ++ last ∷ []) }
+{
+    match all.push(last) {
+        Ok(()) => Ok(all),
+        Err(memory) => {
+            drop(all);
+            Err(memory)
+        }
+    }
+}
+
 #[tactic(auto, using(crate::proofs::Last::map_push))]
 /// Checks a class, and gives the scopes of its members' bodies and then its own.
 fn check_class(
@@ -142,18 +239,35 @@ fn check_class(
         ++ scopes_spec.class_scope class.now ∷ []) }
 {
     let found = class_scope(alloc, class)?;
-    let mut declared = DeclaredNames::new(alloc);
-    let mut all = check_members(
-        names,
-        &mut declared,
-        alloc,
-        explicit,
-        page,
-        &found,
-        class.members.as_slice(),
-    )?;
-    all.push(found)?;
-    Ok(all)
+    let members = class.members.as_slice();
+    match check_members_anew(names, alloc, explicit, page, &found, members) {
+        Ok(all) => Ok(with_last(all, found)?),
+        Err(stop) => {
+            drop(found);
+            Err(stop)
+        }
+    }
+}
+
+/// Checks a procedure of the page, and gives its scope as the only one.
+fn check_procedure(
+    names: &mut Names,
+    alloc: Global,
+    explicit: bool,
+    page: &Declarations,
+    found: &Procedure,
+) -> Result<List<Declarations>, ScopeStop>
+    ensures faults { Finds result (spec.body_faults explicit (declarations_seen page.now) scopes_spec.nothing_declared
+        names.old (units.body_of false found.now)) }
+    ensures after { OnOk result (names.new ≡ spec.after_body names.old (units.body_of false found.now)) }
+    ensures scopes { IfOk result (λ all. map declarations_seen all ≡ scopes_spec.body_scope explicit
+        (declarations_seen page.now) scopes_spec.nothing_declared (units.body_of false found.now) ∷ []) }
+{
+    let nothing = Declarations::new(alloc);
+    let body = body_of(false, found);
+    let checked = check_body(names, alloc, explicit, page, &nothing, body);
+    drop(nothing);
+    Ok(with_last(List::new(alloc), checked?)?)
 }
 
 /// Checks what stands inside an item, and gives its scopes.
@@ -170,17 +284,33 @@ fn check_inside(
         ≡ scopes_inside explicit (declarations_seen page.now) item.now) }
 {
     match item {
-        Item::Procedure(found) => {
-            let nothing = Declarations::new(alloc);
-            let body = body_of(false, found);
-            let scope = check_body(names, alloc, explicit, page, &nothing, body)?;
-            let mut all = List::new(alloc);
-            all.push(scope)?;
-            Ok(all)
-        }
+        Item::Procedure(found) => check_procedure(names, alloc, explicit, page, found),
         Item::Class(found) => check_class(names, alloc, explicit, page, found),
         Item::Statement(_) | Item::Variables { .. } => Ok(List::new(alloc)),
     }
+}
+
+/// Checks what an item says on the page.
+fn check_said_on_page(
+    names: &mut Names,
+    declared: &mut DeclaredNames,
+    alloc: Global,
+    page: &Declarations,
+    item: &Item,
+) -> Result<(), ScopeStop>
+    ensures faults { Finds result (spec.notes_faults (scopes_spec.on_page_in (declarations_seen page.now))
+        (so_far names.old declared.old) (units.item_notes item.now)) }
+    ensures after { OnOk result (so_far names.new declared.new
+        ≡ spec.after_notes (so_far names.old declared.old) (units.item_notes item.now)) }
+{
+    let notes = notes_of_item(alloc, item)?;
+    let nothing = Declarations::new(alloc);
+    let (class, body) = (&nothing, &nothing);
+    let scopes = Scopes { page, class, body };
+    let checked = check_notes(names, declared, scopes, notes.as_slice());
+    drop(nothing);
+    drop(notes);
+    checked
 }
 
 /// Checks an item: what it says on the page, and then what stands inside, of which it gives the scopes.
@@ -199,12 +329,7 @@ fn check_item(
     ensures scopes { IfOk result (λ all. map declarations_seen all
         ≡ scopes_inside explicit (declarations_seen page.now) item.now) }
 {
-    let mut notes = List::new(alloc);
-    note_item(&mut notes, item)?;
-    let class = &Declarations::new(alloc);
-    let body = class;
-    let scopes = Scopes { page, class, body };
-    check_notes(names, declared, scopes, notes.as_slice())?;
+    check_said_on_page(names, declared, alloc, page, item)?;
     check_inside(names, alloc, explicit, page, item)
 }
 

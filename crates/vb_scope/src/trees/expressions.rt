@@ -4,9 +4,8 @@ ghost use Rattle.vb_value.specs.Outcome.{Adds, Gives};
 ghost use Rattle.vb_syntax.specs.scope.Trees as spec;
 ghost use Rattle.vb_names.specs.Declarations.{scopes_seen};
 
-use crate::trees::heads::{Place, head, number};
+use crate::trees::heads::{Place, number, path_head};
 use vb_names::class_number;
-use vb_notes::steps_used;
 use vb_syntax::program::{
     Expression as Resolved, Operation as ResolvedOperation, Path as ResolvedPath,
     Step as ResolvedStep,
@@ -42,8 +41,13 @@ pub fn expression(place: Place<'_>, found: &Expression) -> Result<Resolved, Memo
         Expression::Chain { first, rest } => {
             let first = expression(place, first.get())?;
             let first = Boxed::new(place.alloc, first)?;
-            let rest = operations(place, rest.as_slice())?;
-            Ok(Resolved::Chain { first, rest })
+            match operations(place, rest.as_slice()) {
+                Ok(rest) => Ok(Resolved::Chain { first, rest }),
+                Err(memory) => {
+                    drop(first);
+                    Err(memory)
+                }
+            }
         }
     }
 }
@@ -71,10 +75,14 @@ pub fn path(place: Place<'_>, found: &Path, used: PathUse) -> Result<ResolvedPat
     ensures { Gives result
         (spec.path_of place.entry.names.now (scopes_seen place.entry.scopes) found.now used) }
 {
-    let shapes = steps_used(place.alloc, used, found.steps.as_slice())?;
-    let (head, count) = head(place, used, &found.head, shapes.as_slice())?;
-    let steps = kept(place, found.steps.as_slice(), count)?;
-    Ok(ResolvedPath { head, steps })
+    let (head, count) = path_head(place, used, found)?;
+    match kept(place, found.steps.as_slice(), count) {
+        Ok(steps) => Ok(ResolvedPath { head, steps }),
+        Err(memory) => {
+            drop(head);
+            Err(memory)
+        }
+    }
 }
 
 /// The steps that stay where so many of them say which member is meant.

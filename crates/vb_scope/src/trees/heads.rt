@@ -5,12 +5,14 @@ ghost use Rattle.vb_syntax.specs.scope.Trees as spec;
 ghost use Rattle.vb_syntax.specs.scope.Members.{member_meant};
 ghost use Rattle.vb_syntax.specs.scope.Names.{name_number};
 ghost use Rattle.vb_syntax.specs.scope.Notes.{is_group};
+ghost use Rattle.vb_syntax.specs.scope.Shapes.{shape_of, used_steps};
 ghost use Rattle.vb_names.specs.Declarations.{scopes_seen};
 
 use std::alloc::Global;
 use vb_names::{Key, Names, Scopes, err_meant, groups_behind, length_of, member_meant};
+use vb_notes::steps_used;
 use vb_syntax::program::{Head, Named};
-use vb_syntax::{PageObject, PathHead, PathUse, Shape};
+use vb_syntax::{PageObject, Path, PathHead, PathUse, Shape};
 use vb_value::{Memory, Text};
 
 /// All names of the script, and the scopes around a place.
@@ -117,7 +119,7 @@ fn name_head(
 }
 
 /// Where a path begins, and how many of its steps say so.
-pub fn head(
+fn head(
     place: Place<'_>,
     used: PathUse,
     head: &PathHead,
@@ -131,4 +133,15 @@ pub fn head(
         PathHead::Me => Ok((Head::Me, 0)),
         PathHead::With(name) => Ok((Head::With(number(place, name)?), 0)),
     }
+}
+
+/// Where a path begins that is used so, and how many of its steps say so.
+pub fn path_head(place: Place<'_>, used: PathUse, found: &Path) -> Result<(Head, usize), Memory>
+    ensures { Gives result (spec.head_of place.entry.names.now (scopes_seen place.entry.scopes) used found.now.head
+        (used_steps used (map shape_of found.now.steps))) }
+{
+    let shapes = steps_used(place.alloc, used, found.steps.as_slice())?;
+    let begin = head(place, used, &found.head, shapes.as_slice());
+    drop(shapes);
+    begin
 }

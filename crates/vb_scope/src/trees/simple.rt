@@ -1,6 +1,6 @@
 //! Parts of statements, and the statements that hold no other.
-ghost use Rattle.std.specs.Prelude.{◌≡◌, map, false};
-ghost use Rattle.vb_value.specs.Outcome.{Gives};
+ghost use Rattle.std.specs.Prelude.{◌≡◌, ◌∷◌, [], map, false};
+ghost use Rattle.vb_value.specs.Outcome.{Adds, Gives};
 ghost use Rattle.vb_syntax.specs.scope.Trees as spec;
 ghost use Rattle.vb_syntax.specs.declared.statement.StatementKind.TheOpen as layer;
 ghost use Rattle.vb_names.specs.Declarations.{scopes_seen};
@@ -9,8 +9,9 @@ use crate::trees::expressions::{expression, expressions, path};
 use crate::trees::heads::Place;
 use vb_notes::call_use;
 use vb_syntax::program::{
-    Condition as ResolvedCondition, Expression as Value, Named, Repetition as ResolvedRepetition,
-    Resized as ResolvedResized, StatementKind as Resolved, Step as ResolvedStep,
+    Condition as ResolvedCondition, Expression as Value, Named, Path as ResolvedPath,
+    Repetition as ResolvedRepetition, Resized as ResolvedResized, StatementKind as Resolved,
+    Step as ResolvedStep,
 };
 use vb_syntax::{Condition, Expression, Path, PathUse, Repetition, Resized, StatementKind as Kind};
 use vb_value::{List, Memory, Text};
@@ -38,10 +39,29 @@ pub fn targets(place: Place<'_>, names: &[Text]) -> Result<List<Named>, Memory>
 fn resized(place: Place<'_>, found: &Resized) -> Result<ResolvedResized, Memory>
     ensures { Gives result (spec.resized_of place.entry.names.now (scopes_seen place.entry.scopes) found.now) }
 {
-    Ok(ResolvedResized {
-        name: target(place, &found.name)?,
-        bounds: expressions(place, found.bounds.as_slice())?,
-    })
+    match (
+        target(place, &found.name),
+        expressions(place, found.bounds.as_slice()),
+    ) {
+        (Ok(name), Ok(bounds)) => Ok(ResolvedResized { name, bounds }),
+        (name, bounds) => {
+            drop(name);
+            drop(bounds);
+            Err(Memory)
+        }
+    }
+}
+
+/// Adds an array that gets new bounds.
+fn push_resized(
+    all: &mut List<ResolvedResized>,
+    place: Place<'_>,
+    found: &Resized,
+) -> Result<(), Memory>
+    ensures { Adds result all.old all.new
+        (spec.resized_of place.entry.names.now (scopes_seen place.entry.scopes) found.now ∷ []) }
+{
+    all.push(resized(place, found)?)
 }
 
 /// Arrays that get new bounds.
@@ -51,7 +71,10 @@ pub fn arrays(place: Place<'_>, found: &[Resized]) -> Result<List<ResolvedResize
 {
     let mut all = List::with_capacity(place.alloc, found.len())?;
     for array in found {
-        all.push(resized(place, array)?)?;
+        if let Err(memory) = push_resized(&mut all, place, array) {
+            drop(all);
+            return Err(memory);
+        }
     }
     Ok(all)
 }
@@ -119,10 +142,17 @@ pub fn set(place: Place<'_>, target: &Path, value: &Expression) -> Result<Resolv
     ensures { Gives result (spec.kind_layer place.entry.names.now (scopes_seen place.entry.scopes)
         (layer.Set target.now value.now)) }
 {
-    Ok(Resolved::Set {
-        target: path(place, target, PathUse::Target)?,
-        value: expression(place, value)?,
-    })
+    match (
+        path(place, target, PathUse::Target),
+        expression(place, value),
+    ) {
+        (Ok(target), Ok(value)) => Ok(Resolved::Set { target, value }),
+        (target, value) => {
+            drop(target);
+            drop(value);
+            Err(Memory)
+        }
+    }
 }
 
 /// An assignment.
@@ -130,10 +160,17 @@ pub fn assignment(place: Place<'_>, target: &Path, value: &Expression) -> Result
     ensures { Gives result (spec.kind_layer place.entry.names.now (scopes_seen place.entry.scopes)
         (layer.Assign target.now value.now)) }
 {
-    Ok(Resolved::Assign {
-        target: path(place, target, PathUse::Target)?,
-        value: expression(place, value)?,
-    })
+    match (
+        path(place, target, PathUse::Target),
+        expression(place, value),
+    ) {
+        (Ok(target), Ok(value)) => Ok(Resolved::Assign { target, value }),
+        (target, value) => {
+            drop(target);
+            drop(value);
+            Err(Memory)
+        }
+    }
 }
 
 /// A call with arguments.

@@ -8,15 +8,16 @@ ghost use Rattle.vb_names.specs.Declarations.{scopes_seen};
 
 use crate::trees::expressions::{expression, expressions, path};
 use crate::trees::heads::Place;
-use crate::trees::simple::{
-    assignment, call, erase, group, optional, redim, repetition, set, target,
+use crate::trees::holding::{
+    do_loop, for_each_loop, for_loop, if_block, select, while_loop, with_block,
 };
+use crate::trees::simple::{assignment, call, erase, redim, set};
 use vb_syntax::program::{
     Case as ResolvedCase, ElseIf as ResolvedElseIf, Statement as ResolvedStatement,
     StatementKind as Resolved,
 };
-use vb_syntax::{Case, ElseIf, Expression, PathUse, Repetition, Statement, StatementKind as Kind};
-use vb_value::{Copied, List, Memory, Text};
+use vb_syntax::{Case, ElseIf, Expression, PathUse, Statement, StatementKind as Kind};
+use vb_value::{Copied, List, Memory};
 
 /// A statement. It recurses once for each statement and each expression inside another.
 #[cycle(blocks)]
@@ -53,32 +54,32 @@ fn kind(place: Place<'_>, found: &Kind) -> Result<Resolved, Memory>
             then,
             others,
             otherwise,
-        } => if_block(place, then, others, otherwise, condition),
+        } => if_on_lines(place, then, others, otherwise, condition),
         Kind::LineIf {
             condition,
             then,
             otherwise,
-        } => line_if(place, then, otherwise, condition),
+        } => if_on_line(place, then, otherwise, condition),
         Kind::Select {
             subject,
             cases,
             otherwise,
-        } => select(place, cases, otherwise, subject),
+        } => select_block(place, cases, otherwise, subject),
         Kind::For {
             variable,
             from,
             to,
             step,
             body,
-        } => for_loop(place, body, variable, from, to, step),
+        } => for_loop(place, variable, from, to, step, block(place, body)?),
         Kind::ForEach {
             variable,
             group,
             body,
-        } => for_each_loop(place, body, variable, group),
-        Kind::Do { repetition, body } => do_loop(place, body, repetition),
-        Kind::While { condition, body } => while_loop(place, body, condition),
-        Kind::With { subject, body } => with_block(place, body, subject),
+        } => for_each_loop(place, variable, group, block(place, body)?),
+        Kind::Do { repetition, body } => do_loop(place, repetition, block(place, body)?),
+        Kind::While { condition, body } => while_loop(place, condition, block(place, body)?),
+        Kind::With { subject, body } => with_block(place, subject, block(place, body)?),
         Kind::Exit { kind } => Ok(Resolved::Exit { kind: *kind }),
         Kind::OnErrorResumeNext => Ok(Resolved::OnErrorResumeNext),
         Kind::OnErrorGoToZero => Ok(Resolved::OnErrorGoToZero),
@@ -92,7 +93,7 @@ fn kind(place: Place<'_>, found: &Kind) -> Result<Resolved, Memory>
 
 /// An `If` on several lines.
 #[cycle(blocks)]
-fn if_block(
+fn if_on_lines(
     place: Place<'_>,
     then: &List<Statement>,
     others: &List<ElseIf>,
@@ -104,17 +105,26 @@ fn if_block(
         (map (spec.statement_of names scopes) then.now) (map (spec.else_if_of names scopes) others.now)
         (option_map (map (spec.statement_of names scopes)) last.now))) }
 {
-    Ok(Resolved::If {
-        condition: expression(place, condition)?,
-        then: block(place, then)?,
-        others: else_ifs(place, others)?,
-        otherwise: otherwise(place, last)?,
-    })
+    match (
+        block(place, then),
+        else_ifs(place, others),
+        otherwise(place, last),
+    ) {
+        (Ok(then), Ok(others), Ok(otherwise)) => if_block(
+            place, condition, then, others, otherwise,
+        ),
+        (then, others, otherwise) => {
+            drop(then);
+            drop(others);
+            drop(otherwise);
+            Err(Memory)
+        }
+    }
 }
 
 /// An `If` on one line.
 #[cycle(blocks)]
-fn line_if(
+fn if_on_line(
     place: Place<'_>,
     then: &List<Statement>,
     last: &Option<List<Statement>>,
@@ -125,17 +135,21 @@ fn line_if(
         (map (spec.statement_of names scopes) then.now)
         (option_map (map (spec.statement_of names scopes)) last.now))) }
 {
-    Ok(Resolved::If {
-        condition: expression(place, condition)?,
-        then: block(place, then)?,
-        others: List::new(place.alloc),
-        otherwise: otherwise(place, last)?,
-    })
+    match (block(place, then), otherwise(place, last)) {
+        (Ok(then), Ok(otherwise)) => {
+            if_block(place, condition, then, List::new(place.alloc), otherwise)
+        }
+        (then, otherwise) => {
+            drop(then);
+            drop(otherwise);
+            Err(Memory)
+        }
+    }
 }
 
 /// A `Select`.
 #[cycle(blocks)]
-fn select(
+fn select_block(
     place: Place<'_>,
     found: &List<Case>,
     last: &Option<List<Statement>>,
@@ -146,100 +160,14 @@ fn select(
         (map (spec.case_of names scopes) found.now)
         (option_map (map (spec.statement_of names scopes)) last.now))) }
 {
-    Ok(Resolved::Select {
-        subject: expression(place, subject)?,
-        cases: cases(place, found)?,
-        otherwise: otherwise(place, last)?,
-    })
-}
-
-/// A `For` that counts.
-#[cycle(blocks)]
-fn for_loop(
-    place: Place<'_>,
-    body: &List<Statement>,
-    variable: &Text,
-    from: &Expression,
-    to: &Expression,
-    step: &Option<Expression>,
-) -> Result<Resolved, Memory>
-    ensures { let names = place.entry.names.now in let scopes = scopes_seen place.entry.scopes in
-        Gives result (spec.kind_layer names scopes (layer.For variable.now from.now to.now step.now
-        (map (spec.statement_of names scopes) body.now))) }
-{
-    Ok(Resolved::For {
-        variable: target(place, variable)?,
-        from: expression(place, from)?,
-        to: expression(place, to)?,
-        step: optional(place, step)?,
-        body: block(place, body)?,
-    })
-}
-
-/// A `For Each`.
-#[cycle(blocks)]
-fn for_each_loop(
-    place: Place<'_>,
-    body: &List<Statement>,
-    variable: &Text,
-    found: &Expression,
-) -> Result<Resolved, Memory>
-    ensures { let names = place.entry.names.now in let scopes = scopes_seen place.entry.scopes in
-        Gives result (spec.kind_layer names scopes (layer.ForEach variable.now found.now
-        (map (spec.statement_of names scopes) body.now))) }
-{
-    Ok(Resolved::ForEach {
-        variable: target(place, variable)?,
-        group: group(place, found)?,
-        body: block(place, body)?,
-    })
-}
-
-/// A `Do`.
-#[cycle(blocks)]
-fn do_loop(place: Place<'_>, body: &List<Statement>, found: &Repetition) -> Result<Resolved, Memory>
-    ensures { let names = place.entry.names.now in let scopes = scopes_seen place.entry.scopes in
-        Gives result (spec.kind_layer names scopes (layer.Do found.now
-        (map (spec.statement_of names scopes) body.now))) }
-{
-    Ok(Resolved::Do {
-        repetition: repetition(place, found)?,
-        body: block(place, body)?,
-    })
-}
-
-/// A `While`.
-#[cycle(blocks)]
-fn while_loop(
-    place: Place<'_>,
-    body: &List<Statement>,
-    condition: &Expression,
-) -> Result<Resolved, Memory>
-    ensures { let names = place.entry.names.now in let scopes = scopes_seen place.entry.scopes in
-        Gives result (spec.kind_layer names scopes (layer.While condition.now
-        (map (spec.statement_of names scopes) body.now))) }
-{
-    Ok(Resolved::While {
-        condition: expression(place, condition)?,
-        body: block(place, body)?,
-    })
-}
-
-/// A `With`.
-#[cycle(blocks)]
-fn with_block(
-    place: Place<'_>,
-    body: &List<Statement>,
-    subject: &Expression,
-) -> Result<Resolved, Memory>
-    ensures { let names = place.entry.names.now in let scopes = scopes_seen place.entry.scopes in
-        Gives result (spec.kind_layer names scopes (layer.With subject.now
-        (map (spec.statement_of names scopes) body.now))) }
-{
-    Ok(Resolved::With {
-        subject: expression(place, subject)?,
-        body: block(place, body)?,
-    })
+    match (cases(place, found), otherwise(place, last)) {
+        (Ok(cases), Ok(otherwise)) => select(place, subject, cases, otherwise),
+        (cases, otherwise) => {
+            drop(cases);
+            drop(otherwise);
+            Err(Memory)
+        }
+    }
 }
 
 /// The statements behind an `Else`, where there is one.

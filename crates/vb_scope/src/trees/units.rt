@@ -1,5 +1,5 @@
 //! Procedures and classes.
-ghost use Rattle.std.specs.Prelude.{◌≡◌, ◌++◌, ◌∷◌, [], map, false, true, IfOk};
+ghost use Rattle.std.specs.Prelude.{◌≡◌, ◌++◌, ◌∷◌, [], codes, map, false, true, IfOk};
 ghost use Rattle.std.specs.List.{flat_map};
 ghost use Rattle.vb_value.specs.Outcome.{Adds, Gives};
 ghost use Rattle.vb_syntax.specs.declared.declaration.Parameter.{Parameter};
@@ -11,6 +11,7 @@ ghost use Rattle.vb_notes.specs.Bodies.{body_seen};
 ghost use Rattle.vb_names.specs.Declarations.{declarations_seen};
 ghost use Rattle.vb_scope.specs.Inside.{member_scope, scopes_inside};
 
+use crate::listing::declared_in;
 use crate::trees::heads::{Place, name_number};
 use crate::trees::members::{fields, sub_number};
 use crate::trees::statements::{block, statement};
@@ -106,22 +107,29 @@ fn procedure(
             body: &found,
         },
     };
-    let statements = block(place, body.statements)?;
-    let Declarations {
-        arrays,
-        constants,
-        ..
-    } = found;
-    Ok(ResolvedProcedure {
-        line: body.line,
-        is_private: is_private(heading.access),
-        kind: heading.kind,
-        name: name_number(script.names, heading.name)?,
-        by_value: by_value(script.alloc, body.parameters.as_slice())?,
-        variables: arrays,
-        constants,
-        body: statements,
-    })
+    let name = name_number(script.names, heading.name);
+    let by_value = by_value(script.alloc, body.parameters.as_slice());
+    match (name, by_value, block(place, body.statements)) {
+        (Ok(name), Ok(by_value), Ok(statements)) => {
+            let (variables, constants) = declared_in(found);
+            Ok(ResolvedProcedure {
+                line: body.line,
+                is_private: is_private(heading.access),
+                kind: heading.kind,
+                name,
+                by_value,
+                variables,
+                constants,
+                body: statements,
+            })
+        }
+        (_, by_value, statements) => {
+            drop(by_value);
+            drop(statements);
+            drop(found);
+            Err(Memory)
+        }
+    }
 }
 
 /// How a procedure of the page or of a class stands in its script.
@@ -201,6 +209,46 @@ fn procedures(
     Ok(all)
 }
 
+/// The numbers of the Subs of a class that begin and end an object.
+fn event_numbers(members: &[ClassMember]) -> Result<(Option<u32>, Option<u32>), Memory>
+    ensures { Gives result (
+      spec.sub_number (codes "class_initialize") members.now,
+      spec.sub_number (codes "class_terminate") members.now,
+    ) }
+{
+    let initialize = sub_number(b"class_initialize", members)?;
+    let terminate = sub_number(b"class_terminate", members)?;
+    Ok((initialize, terminate))
+}
+
+/// A class, by its methods and properties.
+fn class_with(
+    script: Script<'_>,
+    found: &Class,
+    procedures: List<ResolvedProcedure>,
+) -> Result<ResolvedClass, Memory>
+    requires { procedures ≡ flat_map (spec.procedure_member script.explicit (declarations_seen script.page.now)
+        script.names.now (class_scope found.now)) found.now.members }
+    ensures { Gives result (spec.class_of script.entry.explicit (declarations_seen script.entry.page.now)
+        script.entry.names.now found.now) }
+{
+    let members = found.members.as_slice();
+    match (fields(script, members), event_numbers(members)) {
+        (Ok(fields), Ok((initialize, terminate))) => Ok(ResolvedClass {
+            line: found.line,
+            fields,
+            procedures,
+            initialize,
+            terminate,
+        }),
+        (fields, _) => {
+            drop(fields);
+            drop(procedures);
+            Err(Memory)
+        }
+    }
+}
+
 /// A class, by the scopes of its members and its own.
 fn class_of(
     script: Script<'_>,
@@ -215,14 +263,36 @@ fn class_of(
     let Some(scope) = scopes.pop() else {
         unreachable!();
     };
-    let members = found.members.as_slice();
-    Ok(ResolvedClass {
-        line: found.line,
-        fields: fields(script, members)?,
-        procedures: procedures(script, &scope, members, scopes)?,
-        initialize: sub_number(b"class_initialize", members)?,
-        terminate: sub_number(b"class_terminate", members)?,
-    })
+    let procedures = procedures(script, &scope, found.members.as_slice(), scopes);
+    drop(scope);
+    class_with(script, found, procedures?)
+}
+
+/// A procedure of the page, by its scope, which is the only one.
+fn page_procedure(
+    script: Script<'_>,
+    found: &Procedure,
+    mut scopes: List<Declarations>,
+) -> Result<ResolvedProcedure, Memory>
+    requires { map declarations_seen scopes ≡ body_scope script.explicit (declarations_seen script.page.now)
+        nothing_declared (units.body_of false found.now) ∷ [] }
+    ensures { Gives result (spec.procedure_of script.entry.explicit (declarations_seen script.entry.page.now)
+        script.entry.names.now found.now) }
+{
+    let Some(scope) = scopes.pop() else {
+        unreachable!();
+    };
+    drop(scopes);
+    let nothing = Declarations::new(script.alloc);
+    let made = procedure(
+        script,
+        &nothing,
+        heading_of(found),
+        body_of(false, found),
+        scope,
+    );
+    drop(nothing);
+    made
 }
 
 /// A statement of the page's own body.
@@ -231,19 +301,21 @@ fn own_statement(script: Script<'_>, found: &Statement) -> Result<ResolvedStatem
         (on_page_in (declarations_seen script.entry.page.now)) found.now) }
 {
     let (alloc, names, page) = (script.alloc, script.names, script.page);
-    let class = &Declarations::new(alloc);
-    let body = class;
+    let nothing = Declarations::new(alloc);
+    let (class, body) = (&nothing, &nothing);
     let scopes = Scopes { page, class, body };
     let place = Place {
         alloc,
         names,
         scopes,
     };
-    statement(place, found)
+    let made = statement(place, found);
+    drop(nothing);
+    made
 }
 
 /// The trees of a page.
-#[derive(Debug, Drop)]
+#[derive(Drop)]
 pub struct Trees {
     /// The statements of its own body.
     pub body: List<ResolvedStatement>,
@@ -258,7 +330,7 @@ fn push_item(
     all: &mut Trees,
     script: Script<'_>,
     item: &Item,
-    mut scopes: List<Declarations>,
+    scopes: List<Declarations>,
 ) -> Result<(), Memory>
     requires { map declarations_seen scopes
         ≡ scopes_inside script.explicit (declarations_seen script.page.now) item.now }
@@ -272,18 +344,18 @@ fn push_item(
         (units.class_in_item item.now)) }
 {
     match item {
-        Item::Statement(found) => all.body.push(own_statement(script, found)?),
-        Item::Variables { line, .. } => all.body.push(ResolvedStatement {
-            line: *line,
-            kind: ResolvedStatementKind::Declaration,
-        }),
-        Item::Procedure(found) => {
-            let Some(scope) = scopes.pop() else {
-                unreachable!();
-            };
-            let (nothing, body) = (Declarations::new(script.alloc), body_of(false, found));
-            all.procedures.push(procedure(script, &nothing, heading_of(found), body, scope)?)
+        Item::Statement(found) => {
+            drop(scopes);
+            all.body.push(own_statement(script, found)?)
         }
+        Item::Variables { line, .. } => {
+            drop(scopes);
+            all.body.push(ResolvedStatement {
+                line: *line,
+                kind: ResolvedStatementKind::Declaration,
+            })
+        }
+        Item::Procedure(found) => { all.procedures.push(page_procedure(script, found, scopes)?) }
         Item::Class(found) => all.classes.push(class_of(script, found, scopes)?),
     }
 }

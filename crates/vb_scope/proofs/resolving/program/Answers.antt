@@ -1,46 +1,48 @@
-use Rattle.std.proofs.Common.{◌≡◌, List, map, rules}
+use Rattle.std.proofs.Common.{◌≡◌, ◌∙◌, List, map, ap, refl}
 use Rattle.std.specs.List.{flat_map}
-use Rattle.vb_syntax.specs.scope.Names.{dictionary_member}
-use Rattle.vb_syntax.specs.scope.Programs.{own_statement, procedure_of, class_of}
-use Rattle.vb_syntax.specs.scope.Programs.{names_where, is_place, is_procedure, is_class}
+use Rattle.vb_syntax.specs.declared.unit.Item.{Item}
+use Rattle.vb_syntax.specs.scope.Programs.{Parts, program_of, own_statement, procedure_of, class_of}
 use Rattle.vb_syntax.specs.scope.Units.{procedures_of, classes_of}
 use Rattle.vb_names.specs.Declarations.{declarations_seen}
 use Rattle.vb_scope.proofs.Programs.{resolved, parts_are}
 use Rattle.vb_scope.proofs.resolving.program.Goals as goal
+use Rattle.vb_scope.proofs.resolving.program.Goals.{After-unit_of}
 
-pub returns : goal.returns
-returns c =
+-- the parts are the program of the script
+made : (c : After-unit_of) → ◌≡◌ {A = Parts}
+    (record {
+      unit = c.unit_of.result;
+      vars = c.in-Ok-Ok.listed.variables;
+      procs = c.in-Ok-Ok.listed.procedures;
+      classes = c.in-Ok-Ok.listed.classes;
+      explicit = c.args.unit.now.option_explicit;
+    })
+    (program_of c.args.unit.now)
+made c =
     let unit = c.args.unit.now in
     let page = declarations_seen c.args.page in
-    let body : c.in_ok-trees.trees.body ≡ flat_map (own_statement page c.args.checked.0) unit.items = search rules in
-    let procedures : c.in_ok-trees.trees.procedures
-    ≡ map (procedure_of unit.option_explicit page c.args.checked.0) (procedures_of unit.items) = search rules in
-    let classes : c.in_ok-trees.trees.classes
-    ≡ map (class_of unit.option_explicit page c.args.checked.0) (classes_of unit.items) = search rules in
-    let says : c.in_ok-says.says ≡ map dictionary_member c.args.checked.0 = search rules in
-    let vars : c.in_ok-vars.vars ≡ names_where is_place page.names page.meanings = search rules in
-    let procs : c.in_ok-procs.procs ≡ names_where is_procedure page.names page.meanings = search rules in
-    let class_names : c.in_ok-class_names.class_names ≡ names_where is_class page.names page.meanings = search rules in
-    parts_are unit page c.args.checked.0 c.in_ok-trees.trees.body c.in_ok-trees.trees.procedures c.in_ok-trees.trees.classes
-    c.into_texts.result c.in_ok-vars.vars c.in_ok-procs.procs c.in_ok-class_names.class_names c.in_ok-says.says
-    c.requires.page c.requires.names (body, procedures, classes) (vars, procs, class_names) c.into_texts.ensures says
+    let names = c.args.checked.0 in
+    let explicit = unit.option_explicit in
+    let body : c.in-Ok-Ok.trees.body ≡ flat_map (own_statement page names) c.as_slice.result.now
+    = rw c.in-Ok-Ok.is-0 at c.page_trees-trees.ensures.body in
+    let procedures : c.in-Ok-Ok.trees.procedures
+    ≡ map (procedure_of explicit page names) (procedures_of c.as_slice.result.now)
+    = rw c.in-Ok-Ok.is-0 at c.page_trees-trees.ensures.procedures in
+    let classes : c.in-Ok-Ok.trees.classes ≡ map (class_of explicit page names) (classes_of c.as_slice.result.now)
+    = rw c.in-Ok-Ok.is-0 at c.page_trees-trees.ensures.classes in
+    let items : c.as_slice.result.now ≡ unit.items = c.as_slice.ensures in
+    let listed = c.in-Ok-Ok.listed in
+    parts_are unit page names c.in-Ok-Ok.trees.body c.in-Ok-Ok.trees.procedures c.in-Ok-Ok.trees.classes names
+    listed.variables listed.procedures listed.classes listed.dictionary c.unit_of.result c.requires.page c.requires.names (
+      body ∙ ap (λ (all : List Item). flat_map (own_statement page names) all) items,
+      procedures ∙ ap (λ (all : List Item). map (procedure_of explicit page names) (procedures_of all)) items,
+      classes ∙ ap (λ (all : List Item). map (class_of explicit page names) (classes_of all)) items,
+    )
+    (c.in-Ok-Ok.ensures.variables, c.in-Ok-Ok.ensures.procedures, c.in-Ok-Ok.ensures.classes) refl
+    c.in-Ok-Ok.ensures.dictionary c.unit_of.ensures
+
+pub returns-in-Ok-Ok : goal.returns-in-Ok-Ok
+returns-in-Ok-Ok c = made (goal.at.returns-in-Ok-Ok c).After-unit_of
 
 pub invariant_of-result : goal.invariant_of-result
-invariant_of-result c =
-    let unit = c.args.unit.now in
-    let page = declarations_seen c.args.page in
-    let body : c.in_ok-trees.trees.body ≡ flat_map (own_statement page c.args.checked.0) unit.items = search rules in
-    let procedures : c.in_ok-trees.trees.procedures
-    ≡ map (procedure_of unit.option_explicit page c.args.checked.0) (procedures_of unit.items) = search rules in
-    let classes : c.in_ok-trees.trees.classes
-    ≡ map (class_of unit.option_explicit page c.args.checked.0) (classes_of unit.items) = search rules in
-    let says : c.in_ok-says.says ≡ map dictionary_member c.args.checked.0 = search rules in
-    let vars : c.in_ok-vars.vars ≡ names_where is_place page.names page.meanings = search rules in
-    let procs : c.in_ok-procs.procs ≡ names_where is_procedure page.names page.meanings = search rules in
-    let class_names : c.in_ok-class_names.class_names ≡ names_where is_class page.names page.meanings = search rules in
-    record {
-      resolved = resolved unit _ c.requires.faultless (parts_are unit page c.args.checked.0 c.in_ok-trees.trees.body
-          c.in_ok-trees.trees.procedures c.in_ok-trees.trees.classes c.into_texts.result c.in_ok-vars.vars
-          c.in_ok-procs.procs c.in_ok-class_names.class_names c.in_ok-says.says c.requires.page c.requires.names
-          (body, procedures, classes) (vars, procs, class_names) c.into_texts.ensures says);
-    }
+invariant_of-result c = record { resolved = resolved c.args.unit.now _ c.requires.faultless (made c) }

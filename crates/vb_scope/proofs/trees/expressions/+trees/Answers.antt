@@ -6,15 +6,14 @@ use Rattle.vb_names.specs.Declarations.{scopes_seen}
 use Rattle.vb_scope.proofs.TreePaths.{path-is}
 use Rattle.vb_scope.proofs.trees.expressions.+trees.Goals as goal
 
-pub path-returns : goal.path-returns
-path-returns t c =
+pub path-returns-in-Ok : goal.path-returns-in-Ok
+path-returns-in-Ok t c =
     let names = c.args.place.names.now in
     let scopes = scopes_seen c.args.place.scopes in
     let begins = spec.head_of names scopes c.args.used c.args.found.now.head
     (used_steps c.args.used (map shape_of c.args.found.now.steps)) in
-    let shapes : c.in_ok-shapes.shapes ≡ used_steps c.args.used (map shape_of c.args.found.now.steps) = search rules in
     let begin : (c.in_ok-head.head, c.in_ok-head.count) ≡ begins = search rules in
-    let steps : c.in_ok-steps.steps
+    let steps : c.in-Ok.steps
     ≡ spec.kept c.in_ok-head.count (map (spec.step_of names scopes) c.args.found.now.steps) = search rules in
     ap (λ steps. roll-Path (record { head = c.in_ok-head.head; steps = steps })) steps
     ∙ ap (λ begin. spec.resolved_path begin (map (spec.step_of names scopes) c.args.found.now.steps)) begin

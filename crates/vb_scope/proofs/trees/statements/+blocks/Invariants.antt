@@ -25,29 +25,14 @@ decreases-statement l = 4 * goal.size-statement l
 abbrev pub decreases-kind : goal.decreases-kind
 decreases-kind l = 4 * goal.size-kind l
 
-abbrev pub decreases-if_block : goal.decreases-if_block
-decreases-if_block l = 4 * size-StatementKind (st.If l.condition.now l.then.now l.others.now l.last.now) - 1
+abbrev pub decreases-if_on_lines : goal.decreases-if_on_lines
+decreases-if_on_lines l = 4 * size-StatementKind (st.If l.condition.now l.then.now l.others.now l.last.now) - 1
 
-abbrev pub decreases-line_if : goal.decreases-line_if
-decreases-line_if l = 4 * size-StatementKind (st.LineIf l.condition.now l.then.now l.last.now) - 1
+abbrev pub decreases-if_on_line : goal.decreases-if_on_line
+decreases-if_on_line l = 4 * size-StatementKind (st.LineIf l.condition.now l.then.now l.last.now) - 1
 
-abbrev pub decreases-select : goal.decreases-select
-decreases-select l = 4 * size-StatementKind (st.Select l.subject.now l.found.now l.last.now) - 1
-
-abbrev pub decreases-for_loop : goal.decreases-for_loop
-decreases-for_loop l = 4 * goal.size-for_loop l + 2
-
-abbrev pub decreases-for_each_loop : goal.decreases-for_each_loop
-decreases-for_each_loop l = 4 * goal.size-for_each_loop l + 2
-
-abbrev pub decreases-do_loop : goal.decreases-do_loop
-decreases-do_loop l = 4 * goal.size-do_loop l + 2
-
-abbrev pub decreases-while_loop : goal.decreases-while_loop
-decreases-while_loop l = 4 * goal.size-while_loop l + 2
-
-abbrev pub decreases-with_block : goal.decreases-with_block
-decreases-with_block l = 4 * goal.size-with_block l + 2
+abbrev pub decreases-select_block : goal.decreases-select_block
+decreases-select_block l = 4 * size-StatementKind (st.Select l.subject.now l.found.now l.last.now) - 1
 
 abbrev pub decreases-otherwise : goal.decreases-otherwise
 decreases-otherwise l = 4 * goal.size-otherwise l + 2
