@@ -133,7 +133,7 @@ fn check_declaration(
     ensures after { OnOk result (so_far names.new declared.new
         ≡ spec.behind_declaration (so_far names.old declared.old) name.now accessor) }
 {
-    let key = Key::at(name);
+    let key = Key::of(name);
     if declare(declared, name, &key, accessor)? {
         return refuse(ScopeFault::Redefined, line);
     }
@@ -161,7 +161,7 @@ fn check_write(
         (spec.write_faults (scopes_seen scopes.entry) names.old name.now)) }
     ensures after { OnOk result (names.new ≡ add_name names.old name.now) }
 {
-    let key = Key::at(name);
+    let key = Key::of(name);
     let (found, object) = scopes.meant_by(false, name, &key)?;
     if is_constant(&found) {
         return refuse(ScopeFault::ConstTarget, line);
@@ -202,7 +202,7 @@ fn check_use(
         (spec.use_faults (scopes_seen scopes.entry) names.old name.now steps.now is_group)) }
     ensures after { OnOk result (names.new ≡ add_name names.old name.now) }
 {
-    let key = Key::at(name);
+    let key = Key::of(name);
     if is_bare(scopes, name, &key, steps, is_group)? {
         return refuse(ScopeFault::BadMember, line);
     }
@@ -239,7 +239,7 @@ fn check_kind(
         } => { check_use(names, scopes, line, name, steps.as_slice(), *is_group) }
         NoteKind::Write(name) => check_write(names, scopes, line, name),
         NoteKind::Resize(name) => check_write(names, scopes, line, name),
-        NoteKind::Part(name) => check_name(names, line, name, &Key::at(name)),
+        NoteKind::Part(name) => check_name(names, line, name, &Key::of(name)),
     }
 }
 

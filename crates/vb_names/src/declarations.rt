@@ -87,7 +87,7 @@ fn push_name(found: &mut Declarations, name: &Text, meaning: Named) -> Result<()
     ensures { IfOk result (λ _. declarations_seen found.new
         ≡ spec.with_name name.now meaning (declarations_seen found.old)) }
 {
-    found.names.push(copy_name(name)?, Key::at(name))?;
+    found.names.push(copy_name(name)?, Key::of(name))?;
     found.meanings.push(meaning)
 }
 

@@ -63,7 +63,7 @@ fn is_same(one: &[char], other: &[char]) -> bool
 
 impl<'a> Key<'a> {
     /// The key of a name. It takes no memory.
-    pub fn at(name: &'a Text) -> Key<'a>
+    pub fn of(name: &'a Text) -> Key<'a>
         ensures { result ≡ folded name.now }
     {
         let name = name.as_slice();
@@ -71,13 +71,6 @@ impl<'a> Key<'a> {
             name,
             hash: hash_of(name),
         }
-    }
-
-    /// The same, for who may run out of memory.
-    pub fn of(name: &'a Text) -> Result<Key<'a>, Memory>
-        ensures { Gives result (folded name.now) }
-    {
-        Ok(Key::at(name))
     }
 
     /// The number of the name.

@@ -57,7 +57,7 @@ pub fn class_number(page: &Declarations, class: &Text) -> Result<Option<u32>, Me
     ensures { Gives result
         (trees.class_number (spec.standing_in (declarations_seen page.now) (folded class.now))) }
 {
-    match standing_in(page, &Key::at(class)) {
+    match standing_in(page, &Key::of(class)) {
         Some(Named::Class(number)) => Ok(Some(*number)),
         _ => Ok(None),
     }
@@ -97,7 +97,7 @@ impl<'a> Scopes<'a> {
     pub fn named(self, is_called: bool, name: &Text) -> Result<Named, Memory>
         ensures { Gives result (spec.named_in (scopes_seen self.entry) is_called name.now) }
     {
-        self.named_by(is_called, name, &Key::at(name))
+        self.named_by(is_called, name, &Key::of(name))
     }
 
     #[tactic(auto, using(crate::proofs::Objects::objects))]
@@ -147,6 +147,6 @@ impl<'a> Scopes<'a> {
         ensures { let scopes = scopes_seen self.entry in
             Gives result (spec.named_in scopes is_called name.now, spec.object_in scopes name.now) }
     {
-        self.meant_by(is_called, name, &Key::at(name))
+        self.meant_by(is_called, name, &Key::of(name))
     }
 }

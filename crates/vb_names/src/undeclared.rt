@@ -35,7 +35,7 @@ fn mentioned<'a>(
 fn resized<'a>(scopes: Scopes<'_>, name: &'a Text) -> Result<Option<&'a Text>, Memory>
     ensures { IfOk result (λ made. option_copied made ≡ spec.resized (scopes_seen scopes.entry) name.now) }
 {
-    if scopes.declared(false, &Key::at(name)).is_some() {
+    if scopes.declared(false, &Key::of(name)).is_some() {
         return Ok(None);
     }
     Ok(Some(name))

@@ -44,7 +44,7 @@ fn check_unit(
     ensures inside { IfOk result (λ found. map (map declarations_seen) found.1
         ≡ map (scopes_inside unit.now.option_explicit (declarations_seen page.now)) unit.now.items) }
 {
-    let mut names = Names::new(alloc);
+    let mut names = Names::with_capacity(alloc, page.names.len())?;
     let mut declared = DeclaredNames::new(alloc);
     let (explicit, items) = (unit.option_explicit, unit.items.as_slice());
     let inside = check_items(&mut names, &mut declared, alloc, explicit, page, items);

@@ -115,7 +115,7 @@ fn push_kept(
             if says_member {
                 return Ok(());
             }
-            all.push(ResolvedStep::Member(number(place, name)?))
+            all.push(ResolvedStep::Member(number(place, name)))
         }
         Step::Group(given) => {
             let given = expressions(place, given.as_slice())?;

@@ -24,15 +24,15 @@ pub struct Place<'a> {
 }
 
 /// The number of a name among all names.
-pub fn name_number(names: &Names, name: &Text) -> Result<u32, Memory>
-    ensures { Gives result (name_number names.now name.now) }
+pub fn name_number(names: &Names, name: &Text) -> u32
+    ensures { result ≡ name_number names.now name.now }
 {
-    Ok(names.number(&Key::of(name)?).unwrap_or(0))
+    names.number(&Key::of(name)).unwrap_or(0)
 }
 
 /// The same at a place.
-pub fn number(place: Place<'_>, name: &Text) -> Result<u32, Memory>
-    ensures { Gives result (name_number place.entry.names.now name.now) }
+pub fn number(place: Place<'_>, name: &Text) -> u32
+    ensures { result ≡ name_number place.entry.names.now name.now }
 {
     name_number(place.names, name)
 }
@@ -131,7 +131,7 @@ fn head(
     match head {
         PathHead::Name(name) => name_head(place, used, name, steps),
         PathHead::Me => Ok((Head::Me, 0)),
-        PathHead::With(name) => Ok((Head::With(number(place, name)?), 0)),
+        PathHead::With(name) => Ok((Head::With(number(place, name)), 0)),
     }
 }
 

@@ -33,7 +33,7 @@ fn push_declared_fields(
 {
     for field in fields {
         all.push(Field {
-            name: name_number(script.names, &field.name)?,
+            name: name_number(script.names, &field.name),
             is_private: is_private_field(access),
             array: copy_array(line, &field.bounds)?,
         })?;

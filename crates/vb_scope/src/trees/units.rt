@@ -109,8 +109,8 @@ fn procedure(
     };
     let name = name_number(script.names, heading.name);
     let by_value = by_value(script.alloc, body.parameters.as_slice());
-    match (name, by_value, block(place, body.statements)) {
-        (Ok(name), Ok(by_value), Ok(statements)) => {
+    match (by_value, block(place, body.statements)) {
+        (Ok(by_value), Ok(statements)) => {
             let (variables, constants) = declared_in(found);
             Ok(ResolvedProcedure {
                 line: body.line,
@@ -123,7 +123,7 @@ fn procedure(
                 body: statements,
             })
         }
-        (_, by_value, statements) => {
+        (by_value, statements) => {
             drop(by_value);
             drop(statements);
             drop(found);
