@@ -22,5 +22,5 @@ returns-in-Ok-Ok c =
     procedure_is c.args.script.explicit page names class c.args.heading.access c.args.heading.kind
     c.args.heading.name.now (body_seen c.args.body) c.is_private.result c.name_number-name.result c.in-Ok-Ok.by_value
     (declarations_seen c.args.found) c.declared_in-variables.result.0 c.declared_in-variables.result.1
-    c.in-Ok-Ok.statements c.is_private.ensures c.name_number-name.ensures by_value c.requires c.declared_in-variables.ensures.variables
-    c.declared_in-variables.ensures.constants statements
+    c.in-Ok-Ok.statements c.is_private.ensures c.name_number-name.ensures by_value c.requires
+    c.declared_in-variables.ensures.variables c.declared_in-variables.ensures.constants statements

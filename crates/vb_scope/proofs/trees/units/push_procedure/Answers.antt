@@ -35,7 +35,8 @@ returns-in_ok-procedure-in-Property c =
     c.heading_of_property-heading.result.kind (spec.kind_of_property found.kind)
     c.heading_of_property-heading.result.name.now found.name
     (body_seen c.body_of_property-body.result) (units.body_of_property found) refl
-    c.heading_of_property-heading.ensures.access c.heading_of_property-heading.ensures.kind c.heading_of_property-heading.ensures.name c.body_of_property-body.ensures in
+    c.heading_of_property-heading.ensures.access c.heading_of_property-heading.ensures.kind
+    c.heading_of_property-heading.ensures.name c.body_of_property-body.ensures in
     adds_one c.push-in-Property.result c.args.all.now c.push-in-Property.new.self c.in_ok-procedure-in-Property.field-0
     (spec.procedure_member explicit page names class c.args.member.now) c.push-in-Property.ensures
     (ap (λ (made : Procedure). made ∷ []) (c.in_ok-procedure-in-Property.ensures ∙ same)
