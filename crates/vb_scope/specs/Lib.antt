@@ -1,4 +1,3 @@
 pub mod Answers
 pub mod Inside
-pub mod Standing
 pub mod Subs

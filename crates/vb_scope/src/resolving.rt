@@ -11,13 +11,15 @@ ghost use Rattle.vb_names.specs.Declarations.{declarations_seen};
 ghost use Rattle.vb_scope.specs.Answers.{answered, parts_of};
 ghost use Rattle.vb_scope.specs.Inside.{scopes_inside};
 
-use crate::listing::{Listing, declared_in, list_names};
+use crate::listing::{Listing, list_names};
 use crate::noting::notes_of_items;
 use crate::trees::{Script, Trees, page_trees};
 use crate::unit_checks::check_items;
 use std::alloc::Global;
 use vb_names::{Declarations, DeclaredNames, Names, page_scope};
-use vb_syntax::program::{DictionaryMember, Program, Unit as ResolvedUnit};
+use vb_syntax::program::{
+    Constant, DeclaredArray, DictionaryMember, Program, Unit as ResolvedUnit,
+};
 use vb_syntax::{ScopeStop, Unit};
 use vb_value::{List, Memory};
 
@@ -58,24 +60,24 @@ fn check_unit(
     }
 }
 
-/// What a program does and has, taken over from its page's scope, its names and its trees.
+/// What a program does and has, taken over from its names, its trees and what it lists.
 fn unit_of(
-    page: Declarations,
     names: Names,
     trees: Trees,
+    variables: List<Option<DeclaredArray>>,
+    constants: List<Constant>,
     dictionary: List<Option<DictionaryMember>>,
 ) -> ResolvedUnit
     ensures { result ≡ record {
       body = trees.body;
-      variables = page.arrays;
-      constants = page.constants;
+      variables = variables;
+      constants = constants;
       procedures = trees.procedures;
       classes = trees.classes;
       names = names;
       dictionary = dictionary;
     } }
 {
-    let (variables, constants) = declared_in(page);
     ResolvedUnit {
         body: trees.body,
         variables,
@@ -110,16 +112,18 @@ fn program(
         names: &names,
     };
     let trees = page_trees(script, unit.items.as_slice(), inside);
-    match (trees, list_names(alloc, &page, &names)) {
+    match (trees, list_names(alloc, page, &names)) {
         (Ok(trees), Ok(listed)) => {
             let Listing {
                 variables,
                 procedures,
                 classes,
+                arrays,
+                constants,
                 dictionary,
             } = listed;
             Ok(Program {
-                unit: unit_of(page, names, trees, dictionary),
+                unit: unit_of(names, trees, arrays, constants, dictionary),
                 vars: variables,
                 procs: procedures,
                 classes,
@@ -129,7 +133,6 @@ fn program(
         (trees, listed) => {
             drop(trees);
             drop(listed);
-            drop(page);
             drop(names);
             Err(Memory)
         }
