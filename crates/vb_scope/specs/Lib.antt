@@ -1,3 +1,4 @@
 pub mod Answers
 pub mod Inside
+pub mod Parts
 pub mod Subs
