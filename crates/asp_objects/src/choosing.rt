@@ -2,7 +2,8 @@
 ghost use Rattle.std.specs.Prelude.{◌≡◌, ◌==◌, ◌-◌, ◌^◌, IfOk, length, min};
 ghost use Rattle.std.specs.List.{list_all};
 ghost use Rattle.vb_value.specs.Outcome.{Answers};
-ghost use Rattle.vb_value.specs.Sound.{is_sound as is_sound_value, item_count as item_count_of, places as places_of, product as product_of};
+ghost use Rattle.vb_value.specs.Sound.{is_sound as is_sound_value, item_count as item_count_of, places as places_of};
+ghost use Rattle.vb_value.specs.Sound.{product as product_of};
 ghost use Rattle.asp_job.specs.Calls.{IsShared};
 ghost use Rattle.asp_objects.specs.Choosing as spec;
 

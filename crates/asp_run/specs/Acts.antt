@@ -1,5 +1,6 @@
 -- The acts of a run, one after another, over one session and one draft. Each takes the replies that those before it left.
-use Rattle.std.specs.Prelude.{ℕ, ◌+◌, ◌-◌, ◌^◌, min, Bool, true, false, if◌then◌else◌, List, codes, drop, position, Option, Some, None}
+use Rattle.std.specs.Prelude.{ℕ, ◌+◌, ◌-◌, ◌^◌, min, Bool, true, false, if◌then◌else◌, List, codes, drop, position}
+use Rattle.std.specs.Prelude.{Option, Some, None}
 use Rattle.std.specs.Option.{option_or}
 use Rattle.vb_value.specs.declared.application.AppReply.{AppReply}
 use Rattle.vb_value.specs.Folding.{same_name}

@@ -13,7 +13,8 @@ pub taken_here : (key at : ℕ) (waiting : List Waiter) (waiter : Waiter) → at
 taken_here key at waiting waiter within is of_key =
     let front : drop at waiting ≡ get_or waiting at waiter ∷ drop (at + 1) waiting =
     rw (add-one, drop-cons waiting at waiter) refl in
-    let same : ((get_or waiting at waiter).key == key) ≡ true = ap (λ (one : Waiter). one.key == key) (sym is) ∙ eq-eqb waiter.key key of_key in
+    let same : ((get_or waiting at waiter).key == key) ≡ true =
+    ap (λ (one : Waiter). one.key == key) (sym is) ∙ eq-eqb waiter.key key of_key in
     ap (without_first key) front
     ∙ (λ i. if same i then drop (at + 1) waiting
     else get_or waiting at waiter ∷ without_first key (drop (at + 1) waiting))

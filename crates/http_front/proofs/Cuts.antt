@@ -1,5 +1,6 @@
 -- A section that is cut behind a line feed is whole field lines.
-use Rattle.std.proofs.Common.{◌≡◌, ℕ, true, false, ◌<◌, ◌≤◌, List, [], ◌∷◌, ◌++◌, length, drop, refl, sym, ap, subst, ◌∙◌, arith, append_assoc, append-nil, length-append, length-drop, flat_map}
+use Rattle.std.proofs.Common.{◌≡◌, ℕ, true, false, ◌<◌, ◌≤◌, List, [], ◌∷◌, ◌++◌, length, drop, refl, sym, ap, subst}
+use Rattle.std.proofs.Common.{◌∙◌, arith, append_assoc, append-nil, length-append, length-drop, flat_map}
 use Rattle.std.specs.Prelude.{Bool, not, All, ◌==◌}
 use Rattle.std.specs.List.{list_all}
 use Rattle.std.proofs.lemmas.List.{append_cancel_left}
@@ -10,7 +11,8 @@ use Rattle.std.proofs.lemmas.Bool.{and_from}
 use Rattle.std.proofs.lemmas.Bool.Decides.{nat_tests}
 use Rattle.std.proofs.str.Laws.{order}
 use mathlib.Core.Logic.{⊎_elim}
-use Rattle.httparse.specs.Grammar.{LineEnd, crlf, lf, print_end, Field, IsField, print_field, print_section, HasNoSection, is_token_byte, is_value_byte}
+use Rattle.httparse.specs.Grammar.{LineEnd, crlf, lf, print_end, Field, IsField, print_field, print_section}
+use Rattle.httparse.specs.Grammar.{HasNoSection, is_token_byte, is_value_byte}
 use Rattle.asp_text.proofs.Places.{by_cases, both_true}
 use Rattle.http_front.proofs.Shortest.{longer_prefix}
 
@@ -26,7 +28,8 @@ by_test test fails b passes =
 pub all_of : (test : ℕ → Bool) → test 10 ≡ false → (bs : List ℕ) → list_all test bs ≡ true → list_all no_feed bs ≡ true
 all_of test fails [] e = refl
 all_of test fails (b ∷ bs) e =
-    let parts = both_true (test b) (list_all test bs) e in and_from _ _ (by_test test fails b parts.0) (all_of test fails bs parts.1)
+    let parts = both_true (test b) (list_all test bs) e in
+    and_from _ _ (by_test test fails b parts.0) (all_of test fails bs parts.1)
 
 pub feed_is_no_token : is_token_byte 10 ≡ false
 unfolding is_token_byte
@@ -70,14 +73,16 @@ field_body f = f.name ++ 58 ∷ f.raw ++ end_body f.end
 
 field_is : (f : Field) → print_field f ≡ field_body f ++ 10 ∷ []
 unfolding field_body
-field_is f = ap (λ l. f.name ++ 58 ∷ f.raw ++ l) (end_is f.end) ∙ sym (append_assoc (f.name ++ 58 ∷ f.raw) (end_body f.end) (10 ∷ []))
+field_is f = ap (λ l. f.name ++ 58 ∷ f.raw ++ l) (end_is f.end)
+    ∙ sym (append_assoc (f.name ++ 58 ∷ f.raw) (end_body f.end) (10 ∷ []))
 
 field_none : (f : Field) → IsField f → list_all no_feed (field_body f) ≡ true
 unfolding field_body
 field_none f is =
     let name = all_of is_token_byte feed_is_no_token f.name (list_all-from_AllPass is_token_byte f.name is.name.1) in
     let raw = all_of is_value_byte refl f.raw (list_all-from_AllPass is_value_byte f.raw is.raw) in
-    let front : list_all no_feed (f.name ++ 58 ∷ f.raw) ≡ true = list_all-append no_feed f.name (58 ∷ f.raw) ∙ and_from _ _ name raw in
+    let front : list_all no_feed (f.name ++ 58 ∷ f.raw) ≡ true =
+    list_all-append no_feed f.name (58 ∷ f.raw) ∙ and_from _ _ name raw in
     list_all-append no_feed (f.name ++ 58 ∷ f.raw) (end_body f.end) ∙ and_from _ _ front (end_none f.end)
 
 -- what is left behind a shorter front ends in the line feed too

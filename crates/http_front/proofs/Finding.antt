@@ -1,5 +1,7 @@
 -- From the spans of a head to what the bytes give first.
-use Rattle.std.proofs.Common.{◌≡◌, ℕ, true, false, cond, ◌+◌, ◌-◌, ◌<◌, ◌≤◌, List, [], ◌∷◌, ◌++◌, length, take, drop, map, refl, sym, ap, subst, ◌∙◌, arith, append_assoc, append-nil, length-append, length-take, length-drop, Some, None}
+use Rattle.std.proofs.Common.{◌≡◌, ℕ, true, false, cond, ◌+◌, ◌-◌, ◌<◌, ◌≤◌, List, [], ◌∷◌, ◌++◌, length, take, drop}
+use Rattle.std.proofs.Common.{map, refl, sym, ap, subst, ◌∙◌, arith, append_assoc, append-nil, length-append}
+use Rattle.std.proofs.Common.{length-take, length-drop, Some, None}
 use Rattle.std.specs.Prelude.{nat_le, nat_lt, slice_range, ◌==◌, ◌||◌}
 use Rattle.std.proofs.lemmas.List.{take-take, take-append-drop, take_at, drop-drop, length-map}
 use Rattle.std.proofs.lemmas.Bool.Decides.{nat_tests}
@@ -23,7 +25,8 @@ module _ (bytes : List ℕ) (spans : List HeaderSpan) (head : RequestSpans) (h :
 
   printed : take head.len bytes ≡ print_request h
   printed =
-      sym (take-take head.len 16384 bytes short) ∙ ap (take head.len) is.reads.1 ∙ take_at (print_request h) _ head.len (sym is.len)
+      sym (take-take head.len 16384 bytes short) ∙ ap (take head.len) is.reads.1
+      ∙ take_at (print_request h) _ head.len (sym is.len)
 
   pub opens_whole : IsOpening bytes (Whole h (drop head.len bytes))
   opens_whole = (
@@ -44,7 +47,8 @@ module _ (bytes : List ℕ) (spans : List HeaderSpan) (head : RequestSpans) (h :
   fields_are : fields_of (map (header_bytes (window bytes)) (take head.headers spans)) ≡ fields_of (headers_of h)
   fields_are = ap fields_of is.fields
 
-  module _ (m t : List ℕ) (f : Fields) (m_is : m ≡ span_bytes (window bytes) head.method) (t_is : t ≡ span_bytes (window bytes) head.path)
+  module _ (m t : List ℕ) (f : Fields) (m_is : m ≡ span_bytes (window bytes) head.method)
+      (t_is : t ≡ span_bytes (window bytes) head.path)
       (f_is : f ≡ fields_of (map (header_bytes (window bytes)) (take head.headers spans))) where
     pub known_status : status_by (verb_of m) (is_some (path_of t)) head.version head.headers f ≡ status_of h
     known_status =
@@ -72,7 +76,8 @@ module _ (bytes : List ℕ) (spans : List HeaderSpan) (head : RequestSpans) (h :
   gives_request n none size fits =
       let after = drop head.len bytes in
       let left : length after ≡ length bytes - head.len = length-drop head.len bytes in
-      let some : nat_le (body_size h) (length after) ≡ true = (let few : body_size h ≤ length after = omega arith in grind (arith, nat_tests)) in
+      let some : nat_le (body_size h) (length after) ≡ true =
+      (let few : body_size h ≤ length after = omega arith in grind (arith, nat_tests)) in
       let range : (head.len + n) - head.len ≡ body_size h = omega arith in
       let body : slice_range bytes head.len (head.len + n) ≡ take (body_size h) after = ap (λ k. take k after) range in
       let rest : drop (head.len + n) bytes ≡ drop (body_size h) after =
@@ -94,7 +99,8 @@ waits_now bytes need wait short =
     subst (λ l. IsFront l More) (append-nil bytes) (wait [] (omega (arith, length-append bytes [])))
 
 -- while the window is the beginning of a head
-pub open_front : (bytes : List ℕ) → BeginsHead (window bytes) → length bytes ≤ 16384 → IsFront bytes More × Waits bytes (length bytes + 1)
+pub open_front : (bytes : List ℕ) → BeginsHead (window bytes) → length bytes ≤ 16384
+    → IsFront bytes More × Waits bytes (length bytes + 1)
 open_front bytes begins short =
     let test : nat_lt 16384 (length bytes) ≡ false = grind (arith, nat_tests) in
     let here : IsFront bytes More =

@@ -1,5 +1,7 @@
 -- Bytes give one thing first, and what they give stays when more come.
-use Rattle.std.proofs.Common.{◌≡◌, ℕ, zero, suc, ◌+◌, ◌-◌, ◌<◌, ◌≤◌, true, false, cond, Bool, List, [], ◌∷◌, ◌++◌, length, take, drop, refl, sym, ap, subst, ◌∙◌, arith, append_assoc, append-nil, length-append}
+use Rattle.std.proofs.Common.{◌≡◌, ℕ, zero, suc, ◌+◌, ◌-◌, ◌<◌, ◌≤◌, true, false, cond, Bool, List, [], ◌∷◌, ◌++◌}
+use Rattle.std.proofs.Common.{length, take, drop, refl, sym, ap, subst, ◌∙◌, arith, append_assoc, append-nil}
+use Rattle.std.proofs.Common.{length-append}
 use Rattle.std.specs.Prelude.{Option, Some, None, nat_lt, nat_le}
 use Rattle.std.proofs.lemmas.List.{take-take, take-append-le, take-append-drop, take_at, drop-append-le}
 use Rattle.std.proofs.lemmas.Bool.Decides.{nat_tests}
@@ -7,7 +9,9 @@ use Rattle.httparse.specs.Grammar.{RequestHead, print_request, ReadsRequest, Nev
 use Rattle.httparse.proofs.GrammarLemmas.{request_unique, request_prefix_free, ReadsRequest-append}
 use Rattle.http_front.specs.Status.{status_of, body_size}
 use Rattle.asp_text.proofs.Places.{by_cases}
-use Rattle.http_front.specs.Front.{Opening, Unfinished, Hopeless, Whole, window, BeginsHead, IsOpening, Front, More, Request, Refused, answered, front_of, IsFront, StaysWith, HasEnded, Taken, Takes, IsStream}
+use Rattle.http_front.specs.Front.{Opening, Unfinished, Hopeless, Whole, window, BeginsHead, IsOpening, Front, More}
+use Rattle.http_front.specs.Front.{Request, Refused, answered, front_of, IsFront, StaysWith, HasEnded, Taken, Takes}
+use Rattle.http_front.specs.Front.{IsStream}
 
 -- the window of bytes that begin with a head has that head
 window-head : (bytes : List ℕ) (h : RequestHead) (after : List ℕ) → ReadsRequest bytes h after
@@ -51,7 +55,8 @@ pub take-append : (n : ℕ) (xs ys : List ℕ) → take n (xs ++ ys) ≡ take n 
 take-append zero xs ys = ap (λ k. take k ys) (let e : 0 ≡ 0 - length xs = omega arith in e)
 take-append (suc n) [] ys = ap (λ k. take k ys) (let e : suc n ≡ suc n - 0 = omega arith in e)
 take-append (suc n) (x ∷ xs) ys =
-    ap (λ l. x ∷ l) (take-append n xs ys ∙ ap (λ k. take n xs ++ take k ys) (let e : n - length xs ≡ suc n - suc (length xs) = omega arith in e))
+    ap (λ l. x ∷ l) (take-append n xs ys
+    ∙ ap (λ k. take n xs ++ take k ys) (let e : n - length xs ≡ suc n - suc (length xs) = omega arith in e))
 
 never-append : (w m : List ℕ) → NeverHasRequest w → NeverHasRequest (w ++ m)
 never-append w m never more h rest reads =
@@ -60,7 +65,8 @@ never-append w m never more h rest reads =
 hopeless-append : (a b : List ℕ) → IsOpening a Hopeless → IsOpening (a ++ b) Hopeless
 hopeless-append a b never = subst NeverHasRequest (sym (take-append 16384 a b)) (never-append (window a) _ never)
 
-whole-append : (a b : List ℕ) (h : RequestHead) (after : List ℕ) → IsOpening a (Whole h after) → IsOpening (a ++ b) (Whole h (after ++ b))
+whole-append : (a b : List ℕ) (h : RequestHead) (after : List ℕ) → IsOpening a (Whole h after)
+    → IsOpening (a ++ b) (Whole h (after ++ b))
 whole-append a b h after x = (ReadsRequest-append a h after b x.0, x.1)
 
 long-append : (a b : List ℕ) → 16384 < length a → IsOpening a Unfinished → IsOpening (a ++ b) Unfinished
@@ -72,7 +78,8 @@ answered-request : (s : Option ℕ) (k h : RequestHead) (after b body rest : Lis
 answered-request (Some s) k h after b body rest e = cc
 answered-request None k h after b body rest e =
     let n = body_size k in
-    by_cases (λ t. Request h body rest ≡ cond t (Request k (take n after) (drop n after)) More → Request h body (rest ++ b) ≡ answered None k (after ++ b))
+    by_cases (λ t. Request h body rest ≡ cond t (Request k (take n after) (drop n after)) More
+    → Request h body (rest ++ b) ≡ answered None k (after ++ b))
     (nat_le n (length after))
     (λ t. λ e'.
     let fits : n ≤ length after = grind (arith, nat_tests) in
@@ -89,7 +96,8 @@ no_request : (t : Bool) (h : RequestHead) (body rest : List ℕ) → Request h b
 no_request true h body rest e = cc
 no_request false h body rest e = cc
 
-request_grows : (a b : List ℕ) (o : Opening) → IsOpening a o → (h : RequestHead) (body rest : List ℕ) → Request h body rest ≡ front_of (length a) o
+request_grows : (a b : List ℕ) (o : Opening) → IsOpening a o → (h : RequestHead) (body rest : List ℕ)
+    → Request h body rest ≡ front_of (length a) o
     → IsFront (a ++ b) (Request h body (rest ++ b))
 request_grows a b Unfinished opens h body rest e = absurd (no_request (nat_lt 16384 (length a)) h body rest e)
 request_grows a b Hopeless opens h body rest e = absurd cc
@@ -109,7 +117,8 @@ answered-refused : (s : Option ℕ) (k : RequestHead) (after b : List ℕ) (stat
 answered-refused (Some s) k after b status e = e
 answered-refused None k after b status e =
     let n = body_size k in
-    by_cases (λ t. Refused status ≡ cond t (Request k (take n after) (drop n after)) More → Refused status ≡ answered None k (after ++ b))
+    by_cases (λ t. Refused status ≡ cond t (Request k (take n after) (drop n after)) More
+    → Refused status ≡ answered None k (after ++ b))
     (nat_le n (length after)) (λ t. λ e'. cc) (λ t. λ e'. cc) e
 
 refused_grows : (a b : List ℕ) (o : Opening) → IsOpening a o → (status : ℕ) → Refused status ≡ front_of (length a) o
@@ -120,7 +129,12 @@ refused_grows a b Unfinished opens status e =
     let long : 16384 < length a = grind (arith, nat_tests) in
     let longer : 16384 < length (a ++ b) = omega (arith, length-append a b) in
     let more : nat_lt 16384 (length (a ++ b)) ≡ true = grind (arith, nat_tests) in
-    record { opening = Unfinished; opens = long-append a b long opens; gives = e' ∙ sym (ap (λ t. cond t (Refused 431) More) more) })
+    record {
+      opening = Unfinished;
+      opens = long-append a b long opens;
+      gives =
+          e' ∙ sym (ap (λ t. cond t (Refused 431) More) more);
+    })
     (λ t. λ e'. absurd cc) e
 refused_grows a b Hopeless opens status e = record { opening = Hopeless; opens = hopeless-append a b opens; gives = e }
 refused_grows a b (Whole k after) opens status e = record {
@@ -147,7 +161,8 @@ takes-append a b [] rest x = ap (λ l. l ++ b) x
 takes-append a b (t ∷ ts) rest x = (x.0 ++ b, front-request a b t.0 t.1 x.0 x.1, takes-append x.0 b ts rest x.2)
 
 -- Requests that are taken one after another.
-pub takes_then : (a : List ℕ) (ts us : List Taken) (rest left : List ℕ) → Takes a ts rest → Takes rest us left → Takes a (ts ++ us) left
+pub takes_then : (a : List ℕ) (ts us : List Taken) (rest left : List ℕ) → Takes a ts rest → Takes rest us left
+    → Takes a (ts ++ us) left
 takes_then a [] us rest left x y = subst (λ l. Takes l us left) x y
 takes_then a (t ∷ ts) us rest left x y = (x.0, x.1, takes_then x.0 ts us rest left x.2 y)
 

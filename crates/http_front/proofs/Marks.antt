@@ -1,10 +1,12 @@
 -- Reading goes on at a mark: what is known of the section behind it is known of the head.
-use Rattle.std.proofs.Common.{◌≡◌, ℕ, ◌+◌, ◌<◌, ◌≤◌, List, [], ◌∷◌, ◌++◌, length, take, drop, refl, sym, ap, subst, ◌∙◌, arith, append_assoc, append-nil, length-append, flat_map}
+use Rattle.std.proofs.Common.{◌≡◌, ℕ, ◌+◌, ◌<◌, ◌≤◌, List, [], ◌∷◌, ◌++◌, length, take, drop, refl, sym, ap, subst, ◌∙◌}
+use Rattle.std.proofs.Common.{arith, append_assoc, append-nil, length-append, flat_map}
 use Rattle.std.specs.Prelude.{All}
 use Rattle.std.proofs.lemmas.List.{take-append-le, take-append-drop}
 use Rattle.std.proofs.lemmas.List.Elements.{All-append}
 use Rattle.std.proofs.lemmas.Grind.{flat_map-append}
-use Rattle.httparse.specs.Grammar.{LineEnd, print_end, Field, IsField, print_field, print_section, HasNoSection, NeverHasSection, MayBecomeSection, RequestHead, ReadsRequest, NeverHasRequest}
+use Rattle.httparse.specs.Grammar.{LineEnd, print_end, Field, IsField, print_field, print_section, HasNoSection}
+use Rattle.httparse.specs.Grammar.{NeverHasSection, MayBecomeSection, RequestHead, ReadsRequest, NeverHasRequest}
 use Rattle.httparse.specs.Pieces.{Section, RequestStart}
 use Rattle.httparse.proofs.PieceLemmas.{RequestStart_deterministic, Section_skip}
 use Rattle.httparse.proofs.GrammarLemmas.{RequestTree, request_tree, request_head, request_pieces, request_from_pieces}
@@ -54,7 +56,8 @@ mark_never w mark m never more h rest reads =
     never more skipped.0 h.last rest skipped.2
 
 -- Where a section is begun behind the mark, a head is begun.
-pub mark_begins : (w : List ℕ) (mark : ℕ) → IsMark w mark → MayBecomeSection (drop mark w) → HasNoSection (drop mark w) → BeginsHead w
+pub mark_begins : (w : List ℕ) (mark : ℕ) → IsMark w mark → MayBecomeSection (drop mark w) → HasNoSection (drop mark w)
+    → BeginsHead w
 mark_begins w mark m may none =
     let more = may.0 in
     let tree : RequestTree = (m.start, (m.fields ++ may.1, may.2)) in
@@ -69,7 +72,8 @@ mark_begins w mark m may none =
     (more, request_head tree, some more refl, reads)
   where
     some : (l : List ℕ) → may.0 ≡ l → 0 < length l
-    some [] e = absurd (none may.1 may.2 [] (may.3.0, sym (append-nil (drop mark w)) ∙ ap (λ l. drop mark w ++ l) (sym e) ∙ may.3.1))
+    some [] e = absurd (none may.1 may.2 []
+        (may.3.0, sym (append-nil (drop mark w)) ∙ ap (λ l. drop mark w ++ l) (sym e) ∙ may.3.1))
     some (b ∷ l) e = omega arith
 
 -- More bytes leave the mark.
@@ -79,7 +83,8 @@ mark_stays w more mark m = record {
   start = m.start;
   fields = m.fields;
   valid = m.valid;
-  reads = λ after. subst (λ l. RequestStart m.start (l ++ after) (flat_map print_field m.fields ++ after)) (sym (take-append-le mark w more m.within)) (m.reads after);
+  reads = λ after. subst (λ l. RequestStart m.start (l ++ after) (flat_map print_field m.fields ++ after))
+      (sym (take-append-le mark w more m.within)) (m.reads after);
 }
 
 -- ---- the first mark
@@ -96,17 +101,21 @@ line_body h = h.method ++ 32 ∷ (h.target ++ 32 ∷ (print_version h.minor ++ e
 line_none : (h : RequestHead) → IsRequestHead h → list_all no_feed (line_body h) ≡ true
 unfolding line_body
 line_none h is =
-    let version = list_all-append no_feed (print_version h.minor) (end_body h.line_end) ∙ and_from _ _ (version_none h.minor is.minor) (end_none h.line_end) in
+    let version = list_all-append no_feed (print_version h.minor) (end_body h.line_end)
+    ∙ and_from _ _ (version_none h.minor is.minor) (end_none h.line_end) in
     let target = list_all-append no_feed h.target (32 ∷ (print_version h.minor ++ end_body h.line_end))
     ∙ and_from _ _ (all_of is_uri_byte refl h.target (list_all-from_AllPass is_uri_byte h.target is.target.1)) version in
     list_all-append no_feed h.method (32 ∷ (h.target ++ 32 ∷ (print_version h.minor ++ end_body h.line_end)))
-    ∙ and_from _ _ (all_of is_token_byte feed_is_no_token h.method (list_all-from_AllPass is_token_byte h.method is.method.1)) target
+    ∙ and_from _ _ (all_of is_token_byte feed_is_no_token h.method
+    (list_all-from_AllPass is_token_byte h.method is.method.1)) target
 
 regroup : (a b c d e x : List ℕ) → a ++ (b ++ 32 ∷ (c ++ 32 ∷ (d ++ (e ++ x)))) ≡ a ++ ((b ++ 32 ∷ (c ++ 32 ∷ (d ++ e))) ++ x)
 regroup a b c d e x = simp (append_assoc, cons-append)
 
 -- after the request line
-line_reads : (h : RequestHead) (x : List ℕ) → print_blank h.blank ++ (h.method ++ 32 ∷ (h.target ++ 32 ∷ (print_version h.minor ++ (print_end h.line_end ++ x))))
+line_reads : (h : RequestHead) (x : List ℕ)
+    → print_blank h.blank ++ (h.method
+    ++ 32 ∷ (h.target ++ 32 ∷ (print_version h.minor ++ (print_end h.line_end ++ x))))
     ≡ print_blank h.blank ++ (line_body h ++ 10 ∷ x)
 unfolding line_body
 line_reads h x =
@@ -137,19 +146,26 @@ mark_of h is gs valid text e = record {
   valid = valid;
   reads = λ more.
       let lines = flat_map print_field gs in
-      let all : take (length text) text ++ more ≡ print_blank h.blank ++ (h.method ++ 32 ∷ (h.target ++ 32 ∷ (print_version h.minor ++ (print_end h.line_end ++ (lines ++ more))))) =
+      let all : take (length text) text ++ more
+      ≡ print_blank h.blank ++ (h.method
+      ++ 32 ∷ (h.target ++ 32 ∷ (print_version h.minor ++ (print_end h.line_end ++ (lines ++ more))))) =
       ap (λ l. l ++ more) (take_all (length text) text (omega arith) ∙ e)
       ∙ append_assoc (print_blank h.blank) (line_body h ++ 10 ∷ lines) more
       ∙ ap (λ l. print_blank h.blank ++ l) (append_assoc (line_body h) (10 ∷ lines) more)
       ∙ sym (line_reads h (lines ++ more)) in (
         _,
         (all, Stops_token h.method _ is.method.0 is.method.1),
-        (_, (is.method.0, is.method.1, refl), (_, ((is.target.0, is.target.1, refl), is.target_text), (_, (is.minor, refl), refl))),
+        (
+          _,
+          (is.method.0, is.method.1, refl),
+          (_, ((is.target.0, is.target.1, refl), is.target_text), (_, (is.minor, refl), refl)),
+        ),
       );
 }
 
 -- A window that ends in a line feed behind its empty lines, and goes on to a head, is whole lines.
-pub mark_cut : (p more : List ℕ) (h : RequestHead) → ReadsRequest ((p ++ 10 ∷ []) ++ more) h [] → length (print_blank h.blank) ≤ length p
+pub mark_cut : (p more : List ℕ) (h : RequestHead) → ReadsRequest ((p ++ 10 ∷ []) ++ more) h []
+    → length (print_blank h.blank) ≤ length p
     → HasNoRequest (p ++ 10 ∷ []) → IsMark (p ++ 10 ∷ []) (length (p ++ 10 ∷ []))
 mark_cut p more h reads behind none =
     let text : List ℕ = p ++ 10 ∷ [] in
@@ -163,8 +179,10 @@ mark_cut p more h reads behind none =
     let ends = left_feed blank t p first some in
     let q = ends.0 in
     let rest : t ++ more ≡ body ++ 10 ∷ section =
-    append_cancel_left blank (t ++ more) (body ++ 10 ∷ section) (sym (append_assoc blank t more) ∙ ap (λ l. l ++ more) (sym first) ∙ e) in
-    let feeds : q ++ 10 ∷ more ≡ body ++ 10 ∷ section = sym (append_assoc q (10 ∷ []) more) ∙ ap (λ l. l ++ more) (sym ends.1) ∙ rest in
+    append_cancel_left blank (t ++ more) (body ++ 10 ∷ section)
+    (sym (append_assoc blank t more) ∙ ap (λ l. l ++ more) (sym first) ∙ e) in
+    let feeds : q ++ 10 ∷ more ≡ body ++ 10 ∷ section =
+    sym (append_assoc q (10 ∷ []) more) ∙ ap (λ l. l ++ more) (sym ends.1) ∙ rest in
     let far = feed_at q body more section (line_none h reads.0) feeds in
     let line : List ℕ = body ++ 10 ∷ [] in
     let lined : line ++ section ≡ t ++ more = append_assoc body (10 ∷ []) section ∙ sym rest in
@@ -173,7 +191,8 @@ mark_cut p more h reads behind none =
     let s : List ℕ = drop (length line) t in
     let left : s ++ more ≡ section =
     append_cancel_left line (s ++ more) section (sym (append_assoc line s more) ∙ ap (λ l. l ++ more) (sym second) ∙ sym lined) in
-    let whole : (gs : List Field) → s ≡ flat_map print_field gs → text ≡ blank ++ (body ++ 10 ∷ flat_map print_field gs) = λ gs is.
+    let whole : (gs : List Field) → s ≡ flat_map print_field gs
+    → text ≡ blank ++ (body ++ 10 ∷ flat_map print_field gs) = λ gs is.
     first ∙ ap (λ l. blank ++ l) (second ∙ append_assoc body (10 ∷ []) s ∙ ap (λ l. body ++ 10 ∷ l) is) in
     ⊎_elim
     (λ (z : length s < 1).
@@ -183,11 +202,19 @@ mark_cut p more h reads behind none =
     let no_section : HasNoSection (again.0 ++ 10 ∷ []) = λ gs l r x.
     let k : RequestHead = record h { fields = gs; last = l } in
     none k r (
-      record { method = reads.0.method; target = reads.0.target; target_text = reads.0.target_text; minor = reads.0.minor; fields = x.0 },
+      record {
+        method = reads.0.method;
+        target = reads.0.target;
+        target_text = reads.0.target_text;
+        minor =
+            reads.0.minor;
+        fields = x.0;
+      },
       first ∙ ap (λ v. blank ++ v) (second ∙ append_assoc body (10 ∷ []) s ∙ ap (λ v. body ++ 10 ∷ v) (again.1 ∙ x.1))
           ∙ sym (line_reads h (print_section gs l ++ r)) ∙ sym (print_request-append k r),
     ) in
-    let cut = section_cut h.fields h.last again.0 more reads.0.fields (ap (λ l. l ++ more) (sym again.1) ∙ left ∙ append-nil (print_section h.fields h.last)) no_section in
+    let cut = section_cut h.fields h.last again.0 more reads.0.fields
+    (ap (λ l. l ++ more) (sym again.1) ∙ left ∙ append-nil (print_section h.fields h.last)) no_section in
     mark_of h reads.0 cut.0 cut.1 text (whole cut.0 (again.1 ∙ cut.2)))
     (order (length s) 1)
   where
@@ -237,7 +264,8 @@ window_mark w first at begins order_is inside feed other =
     let opened : BeginsHead text = (more, h, omega (arith, length-append (drop (at + 1) w) begins.0, begins.2), reads) in
     let none : HasNoRequest text = λ k r x. not_both text r k x opened in
     let mark = mark_cut p more h reads (omega (arith, short, size)) none in
-    let here : IsMark w (length text) = subst (λ l. IsMark l (length text)) (sym split) (mark_stays text (drop (at + 1) w) (length text) mark) in
+    let here : IsMark w (length text) =
+    subst (λ l. IsMark l (length text)) (sym split) (mark_stays text (drop (at + 1) w) (length text) mark) in
     subst (IsMark w) (let e : length text ≡ at + 1 = omega (arith, length-append p (10 ∷ []), size) in e) here
 
 pub marked_stays : (w more : List ℕ) (mark : ℕ) → IsMarked w mark → IsMarked (w ++ more) mark

@@ -1,5 +1,6 @@
 -- A window that ends inside a target.
-use Rattle.std.proofs.Common.{◌≡◌, ℕ, true, false, cond, ◌*◌, ◌≤◌, List, [], ◌∷◌, ◌++◌, length, refl, sym, ap, subst, ◌∙◌, arith, append_assoc, length-append, Some, flat_map}
+use Rattle.std.proofs.Common.{◌≡◌, ℕ, true, false, cond, ◌*◌, ◌≤◌, List, [], ◌∷◌, ◌++◌, length, refl, sym, ap, subst}
+use Rattle.std.proofs.Common.{◌∙◌, arith, append_assoc, length-append, Some, flat_map}
 use Rattle.std.specs.Prelude.{Bool, not, All, IsTrue, ◌==◌, IsUtf8, ◌&&◌, ◌||◌}
 use Rattle.std.specs.List.{list_all, list_any}
 use Rattle.std.proofs.lemmas.List.Elements.{All-append, All-nil, All-head, All-tail}
@@ -7,7 +8,9 @@ use Rattle.std.proofs.lemmas.List.Folds.{list_all-append}
 use Rattle.std.proofs.lemmas.List.Sums.{list_all-from_AllPass}
 use Rattle.std.proofs.lemmas.Bool.{and_from}
 use Rattle.std.proofs.lemmas.Bool.Decides.{nat_tests}
-use Rattle.httparse.specs.Grammar.{LineEnd, crlf, lf, print_end, print_blank, print_version, print_section, Field, IsField, print_field, RequestHead, NeverHasRequest, EndsInTarget, AllPass, is_token_byte, is_uri_byte}
+use Rattle.httparse.specs.Grammar.{LineEnd, crlf, lf, print_end, print_blank, print_version, print_section, Field}
+use Rattle.httparse.specs.Grammar.{IsField, print_field, RequestHead, NeverHasRequest, EndsInTarget, AllPass}
+use Rattle.httparse.specs.Grammar.{is_token_byte, is_uri_byte}
 use Rattle.httparse.specs.Spans.{RequestExceeds}
 use Rattle.httparse.proofs.GrammarLemmas.{print_request-append, cons-append}
 use Rattle.asp_text.proofs.Places.{by_cases, both_true}
@@ -26,7 +29,8 @@ not_true true e = sym e
 not_true false e = refl
 
 -- no byte of the class is a space
-all_of : (test : ℕ → Bool) → ((b : ℕ) → test b ≡ true → no_space b ≡ true) → (bytes : List ℕ) → AllPass test bytes → HasNoSpace bytes
+all_of : (test : ℕ → Bool) → ((b : ℕ) → test b ≡ true → no_space b ≡ true) → (bytes : List ℕ) → AllPass test bytes
+    → HasNoSpace bytes
 all_of test each bytes all = go bytes (list_all-from_AllPass test bytes all)
   where
     go : (bs : List ℕ) → list_all test bs ≡ true → HasNoSpace bs
@@ -68,7 +72,8 @@ after_space-front (b ∷ front) rest none =
 after_space-split : (w t : List ℕ) → after_space w ≡ Some t → (front : List ℕ) × HasNoSpace front × (w ≡ front ++ 32 ∷ t)
 after_space-split [] t e = absurd cc
 after_space-split (b ∷ w) t e =
-    by_cases (λ s. cond s (Some w) (after_space w) ≡ Some t → (front : List ℕ) × HasNoSpace front × (b ∷ w ≡ front ++ 32 ∷ t)) (b == 32)
+    by_cases (λ s. cond s (Some w) (after_space w) ≡ Some t
+    → (front : List ℕ) × HasNoSpace front × (b ∷ w ≡ front ++ 32 ∷ t)) (b == 32)
     (λ is. λ e'. let same : b ≡ 32 = grind (arith, nat_tests) in ([], refl, cc))
     (λ is. λ e'. let r = after_space-split w t e' in (b ∷ r.0, and_from _ _ (ap not is) r.1, ap (λ l. b ∷ l) r.2))
     e
@@ -92,11 +97,14 @@ pub shut_target : (w t : List ℕ) → after_space w ≡ Some t → HasNoSpace t
 shut_target w t found none no_text more h rest reads =
     let split = after_space-split w t found in
     let there : after_space (w ++ more) ≡ Some (t ++ more) =
-    ap after_space (ap (λ l. l ++ more) split.2 ∙ append_assoc split.0 (32 ∷ t) more) ∙ after_space-front split.0 (t ++ more) split.1 in
+    ap after_space (ap (λ l. l ++ more) split.2 ∙ append_assoc split.0 (32 ∷ t) more)
+    ∙ after_space-front split.0 (t ++ more) split.1 in
     let tail : List ℕ = print_version h.minor ++ (print_end h.line_end ++ (print_section h.fields h.last ++ rest)) in
     let text : after_space (w ++ more) ≡ Some (h.target ++ 32 ∷ tail) =
-    ap after_space (reads.1 ∙ print_request-append h rest ∙ sym (append_assoc (print_blank h.blank) h.method (32 ∷ (h.target ++ 32 ∷ tail))))
-    ∙ after_space-front (print_blank h.blank ++ h.method) (h.target ++ 32 ∷ tail) (front_has_none h.blank h.method reads.0.method.1) in
+    ap after_space (reads.1 ∙ print_request-append h rest
+    ∙ sym (append_assoc (print_blank h.blank) h.method (32 ∷ (h.target ++ 32 ∷ tail))))
+    ∙ after_space-front (print_blank h.blank ++ h.method) (h.target ++ 32 ∷ tail)
+    (front_has_none h.blank h.method reads.0.method.1) in
     let same : t ++ more ≡ h.target ++ 32 ∷ tail = cc in
     let p = prefix_of t more h.target tail none same in
     no_text p.0 (subst IsUtf8 p.1 reads.0.target_text)
@@ -114,7 +122,16 @@ open_target w t found goes ends =
     let same : t ≡ ends.2 = cc in
     let g = subst GoesOn same goes in
     let tail : List ℕ = 32 ∷ (print_version 1 ++ (print_end lf ++ (print_section [] lf ++ []))) in
-    let h : RequestHead = record { blank = ends.0; method = ends.1; target = ends.2 ++ g.0; minor = 1; line_end = lf; fields = []; last = lf } in (
+    let h : RequestHead = record {
+      blank = ends.0;
+      method = ends.1;
+      target = ends.2 ++ g.0;
+      minor = 1;
+      line_end =
+          lf;
+      fields = [];
+      last = lf;
+    } in (
       g.0 ++ tail,
       h,
       omega (arith, length-append g.0 tail, g.1),
@@ -126,7 +143,8 @@ open_target w t found goes ends =
           minor = omega arith;
           fields = All-nil IsField;
         },
-        ap (λ l. l ++ (g.0 ++ tail)) ends.5 ∙ regroup (print_blank ends.0) ends.1 ends.2 g.0 tail ∙ sym (print_request-append h []),
+        ap (λ l. l ++ (g.0 ++ tail)) ends.5 ∙ regroup (print_blank ends.0) ends.1 ends.2 g.0 tail
+            ∙ sym (print_request-append h []),
       ),
     )
 
@@ -141,12 +159,24 @@ end_long lf = omega arith
 
 field_long : (f : Field) → IsField f → 3 ≤ length (print_field f)
 field_long f is =
-    omega (arith, length-append (f.name ++ 58 ∷ f.raw) (print_end f.end), length-append f.name (58 ∷ f.raw), end_long f.end, is.name.0)
+    omega (
+      arith,
+      length-append (f.name ++ 58 ∷ f.raw) (print_end f.end),
+      length-append f.name (58 ∷ f.raw),
+      end_long
+          f.end,
+      is.name.0,
+    )
 
 fields_long : (fs : List Field) → All IsField fs → 3 * length fs ≤ length (flat_map print_field fs)
 fields_long [] all = omega arith
 fields_long (f ∷ fs) all =
-    omega (arith, fields_long fs (All-tail IsField f fs all), length-append (print_field f) (flat_map print_field fs), field_long f (All-head IsField f fs all))
+    omega (
+      arith,
+      fields_long fs (All-tail IsField f fs all),
+      length-append (print_field f) (flat_map print_field fs),
+      field_long f (All-head IsField f fs all),
+    )
 
 pub room_suffices : (w : List ℕ) → length w ≤ 16384 → RequestExceeds 5461 w → ⊥
 room_suffices w short x =

@@ -1,5 +1,7 @@
 -- The definition of a front agrees with the shortest prefix that decides.
-use Rattle.std.proofs.Common.{◌≡◌, ℕ, true, false, cond, ◌<◌, ◌≤◌, List, [], ◌++◌, length, take, drop, refl, sym, ap, subst, ◌∙◌, arith, inl, inr, append_assoc, append-nil, length-append, length-take, length-drop}
+use Rattle.std.proofs.Common.{◌≡◌, ℕ, true, false, cond, ◌<◌, ◌≤◌, List, [], ◌++◌, length, take, drop, refl, sym, ap}
+use Rattle.std.proofs.Common.{subst, ◌∙◌, arith, inl, inr, append_assoc, append-nil, length-append, length-take}
+use Rattle.std.proofs.Common.{length-drop}
 use Rattle.std.specs.Prelude.{nat_lt}
 use Rattle.std.proofs.lemmas.List.{take-append-le, take-append-drop, take_at}
 use Rattle.std.proofs.lemmas.Bool.Decides.{nat_tests}
@@ -8,7 +10,8 @@ use mathlib.Core.Logic.{⊎_elim}
 use Rattle.httparse.specs.Grammar.{RequestHead, print_request, ReadsRequest, NeverHasRequest}
 use Rattle.httparse.proofs.GrammarLemmas.{request_unique, ReadsRequest-append}
 use Rattle.http_front.specs.Status.{status_of}
-use Rattle.http_front.specs.Front.{Opening, Unfinished, Hopeless, Whole, window, BeginsHead, IsOpening, Front, More, Refused, answered, front_of, IsFront}
+use Rattle.http_front.specs.Front.{Opening, Unfinished, Hopeless, Whole, window, BeginsHead, IsOpening, Front, More}
+use Rattle.http_front.specs.Front.{Refused, answered, front_of, IsFront}
 use Rattle.http_front.specs.Shortest.{IsWhole, BeginsNone, Decides, IsByShortest}
 use Rattle.http_front.proofs.Fronts.{not_both, not_hopeless}
 
@@ -52,7 +55,8 @@ unfinished : (bytes : List ℕ) → IsOpening bytes Unfinished → IsByShortest 
 unfinished bytes opens = record {
   some = λ prefix rest s.
       let short_not : length prefix < 16385 → ⊥ = λ short.
-      open_decides_not prefix (opens_front (window bytes) prefix _ (in_window bytes prefix rest s.split (omega arith)) opens) (omega arith) s.decides in record {
+      open_decides_not prefix (opens_front (window bytes) prefix _ (in_window bytes prefix rest s.split (omega arith))
+      opens) (omega arith) s.decides in record {
         long = λ is. ap (λ t. cond t (Refused 431) More)
             (let many : 16384 < length bytes = omega (arith, ap length s.split, length-append prefix rest) in
             let test : nat_lt 16384 (length bytes) ≡ true = grind (arith, nat_tests) in test);
@@ -64,7 +68,8 @@ unfinished bytes opens = record {
       (λ (p : length bytes < 16385). ap (λ t. cond t (Refused 431) More)
       (let test : nat_lt 16384 (length bytes) ≡ false = grind (arith, nat_tests) in test))
       (λ (p : 16385 ≤ length bytes).
-      absurd (never (take 16385 bytes) (drop 16385 bytes) (sym (take-append-drop 16385 bytes)) (inr (inr (omega (arith, length-take 16385 bytes))))))
+      absurd (never (take 16385 bytes) (drop 16385 bytes) (sym (take-append-drop 16385 bytes))
+      (inr (inr (omega (arith, length-take 16385 bytes))))))
       (order (length bytes) 16385);
 }
 
@@ -77,26 +82,31 @@ hopeless bytes never = record {
         let w = window bytes in
         let size : length w ≡ 16384 = omega (arith, length-take 16384 bytes, ap length s.split, length-append prefix rest) in
         let split = longer_prefix w (drop 16384 bytes) prefix rest (take-append-drop 16384 bytes ∙ s.split) (omega arith) in
-        absurd (s.shortest w (drop (length w) prefix) split (omega (arith, length-drop (length w) prefix)) (inr (inl (never_begins w never))));
+        absurd (s.shortest w (drop (length w) prefix) split (omega (arith, length-drop (length w) prefix))
+        (inr (inl (never_begins w never))));
     none = λ short _. refl;
     whole = λ short h reads.
         let split = in_window bytes prefix rest s.split (omega arith) in
         let w = window bytes in
         absurd (not_hopeless w (drop (length prefix) w) h
-        (subst (λ l. ReadsRequest l h (drop (length prefix) w)) (sym split) (ReadsRequest-append prefix h [] (drop (length prefix) w) reads)) never);
+        (subst (λ l. ReadsRequest l h (drop (length prefix) w)) (sym split)
+        (ReadsRequest-append prefix h [] (drop (length prefix) w) reads)) never);
   };
-  none = λ each. absurd (each (window bytes) (drop 16384 bytes) (sym (take-append-drop 16384 bytes)) (inr (inl (never_begins (window bytes) never))));
+  none = λ each. absurd (each (window bytes) (drop 16384 bytes) (sym (take-append-drop 16384 bytes))
+      (inr (inl (never_begins (window bytes) never))));
 }
 
 -- ---- where a head stands at the front
 
-whole : (bytes after : List ℕ) (h : RequestHead) → IsOpening bytes (Whole h after) → IsByShortest bytes (answered (status_of h) h after)
+whole : (bytes after : List ℕ) (h : RequestHead) → IsOpening bytes (Whole h after)
+    → IsByShortest bytes (answered (status_of h) h after)
 whole bytes after h opens =
     let p = print_request h in record {
       some = λ prefix rest s.
           let past : length p < length prefix → ⊥ = λ longer.
           let split = longer_prefix p after prefix rest (sym opens.0.1 ∙ s.split) (omega arith) in
-          s.shortest p (drop (length p) prefix) split (omega (arith, length-drop (length p) prefix)) (inl (whole_head h bytes after opens.0)) in record {
+          s.shortest p (drop (length p) prefix) split (omega (arith, length-drop (length p) prefix))
+          (inl (whole_head h bytes after opens.0)) in record {
             long = λ is. absurd (past (omega (arith, opens.1)));
             none = λ short begins.
                 ⊎_elim (λ (q : length p < length prefix). absurd (past q))

@@ -1,5 +1,6 @@
 -- Blanks at the end of a value.
-use Rattle.std.proofs.Common.{◌≡◌, ℕ, ◌+◌, ◌-◌, ◌<◌, ◌≤◌, true, false, List, [], ◌∷◌, ◌++◌, length, take, get_or, reverse, sym, ap, ◌∙◌, arith}
+use Rattle.std.proofs.Common.{◌≡◌, ℕ, ◌+◌, ◌-◌, ◌<◌, ◌≤◌, true, false, List, [], ◌∷◌, ◌++◌, length, take, get_or}
+use Rattle.std.proofs.Common.{reverse, sym, ap, ◌∙◌, arith}
 use Rattle.std.proofs.lemmas.List.{take_more, take_all, reverse-append, reverse-reverse, nil_from_length}
 use Rattle.httparse.specs.Grammar.{is_ows, skip_ows}
 use Rattle.httparse.proofs.TrimLemmas.{skip_ows_yes, skip_ows_no}
@@ -24,4 +25,5 @@ pub none_back : (rest : List ℕ) → 1 ≤ length rest → is_ows (get_or rest 
 none_back rest some other = ap reverse (skip_ows_no (backwards rest some) (sym other)) ∙ reverse-reverse rest
 
 pub nothing_back : (rest : List ℕ) → length rest < 1 → reverse (skip_ows (reverse rest)) ≡ rest
-nothing_back rest none = let e : rest ≡ [] = nil_from_length rest (omega arith) in ap (λ l. reverse (skip_ows (reverse l))) e ∙ sym e
+nothing_back rest none = let e : rest ≡ [] = nil_from_length rest (omega arith) in
+    ap (λ l. reverse (skip_ows (reverse l))) e ∙ sym e

@@ -1,5 +1,7 @@
 -- Which texts can go on to UTF-8.
-use Rattle.std.proofs.Common.{◌≡◌, ℕ, zero, suc, true, false, cond, ◌+◌, ◌-◌, ◌*◌, ◌<◌, ◌≤◌, List, [], ◌∷◌, ◌++◌, length, take, drop, get_or, refl, sym, ap, subst, ◌∙◌, arith, append_assoc, append-nil, length-append, length-drop, Some, None, Option, inl, inr}
+use Rattle.std.proofs.Common.{◌≡◌, ℕ, zero, suc, true, false, cond, ◌+◌, ◌-◌, ◌*◌, ◌<◌, ◌≤◌, List, [], ◌∷◌, ◌++◌}
+use Rattle.std.proofs.Common.{length, take, drop, get_or, refl, sym, ap, subst, ◌∙◌, arith, append_assoc, append-nil}
+use Rattle.std.proofs.Common.{length-append, length-drop, Some, None, Option, inl, inr}
 use Rattle.std.specs.Prelude.{Bool, ◌⊎◌, nat_lt, IsTrue, IsUtf8, IsAscii}
 use Rattle.std.specs.Int.{is_in_range}
 use mathlib.Core.Logic.{⊎_elim}
@@ -26,7 +28,13 @@ slash_is_text = IsUtf8-from_ascii (47 ∷ []) ascii
     ascii (suc i) = omega arith
 
 pub text_goes_on : (t : List ℕ) → IsUtf8 t → GoesOn t
-text_goes_on t is = (47 ∷ [], omega arith, All-cons (λ b. IsTrue (is_uri_byte b)) 47 [] refl (All-nil _), IsUtf8-append t (47 ∷ []) is slash_is_text)
+text_goes_on t is = (
+  47 ∷ [],
+  omega arith,
+  All-cons (λ b. IsTrue (is_uri_byte b)) 47 [] refl (All-nil _),
+  IsUtf8-append
+      t (47 ∷ []) is slash_is_text,
+)
 
 -- ---- what `utf8_error_len` tests, byte by byte
 
@@ -54,7 +62,8 @@ four_bytes : (x y z w : ℕ) (ds : List ℕ) → error_len_of_some (x ∷ y ∷ 
 four_bytes x y z w ds =
     let n = length (x ∷ y ∷ z ∷ w ∷ ds) in
     λ i. cond (is_in_range 194 244 x) (cond (not_below n 2 (omega arith) i) None
-    (cond (seconds x y) (cond (not_below n 3 (omega arith) i) None (cond (thirds z) (cond (not_below n 4 (omega arith) i) None (Some 3)) (Some 2))) (Some 1))) (Some 1)
+    (cond (seconds x y) (cond (not_below n 3 (omega arith) i) None
+    (cond (thirds z) (cond (not_below n 4 (omega arith) i) None (Some 3)) (Some 2))) (Some 1))) (Some 1)
 
 -- what a second byte is, after the first
 record Second (x y : ℕ) : Type 0 where
@@ -102,7 +111,8 @@ text_three x y z l h s lz hz =
     ⊎_elim (λ (p : x < 225). let least = s.after_224 (omega arith) in omega arith) (λ (p : 225 ≤ x). omega arith) (order x 225) in
     let scalar : (c < 55296) ⊎ (57344 ≤ c) =
     ⊎_elim (λ (p : x < 237). inl (let most = s.most in omega arith))
-    (λ (p : 237 ≤ x). ⊎_elim (λ (q : x < 238). inl (let most = s.after_237 (omega arith) in omega arith)) (λ (q : 238 ≤ x). inr (omega arith)) (order x 238))
+    (λ (p : 237 ≤ x). ⊎_elim (λ (q : x < 238). inl (let most = s.after_237 (omega arith) in omega arith))
+    (λ (q : 238 ≤ x). inr (omega arith)) (order x 238))
     (order x 237) in
     of_three (x ∷ y ∷ z ∷ []) 0 (omega arith) (l, h) (s.least, s.most) (lz, hz) long scalar
 
@@ -111,7 +121,8 @@ text_four x y z w l h s lz hz lw hw =
     let low : 16 ≤ (x - 240) * 64 + (y - 128) =
     ⊎_elim (λ (p : x < 241). let least = s.after_240 (omega arith) in omega arith) (λ (p : 241 ≤ x). omega arith) (order x 241) in
     let high : (x - 240) * 64 + (y - 128) < 272 =
-    ⊎_elim (λ (p : x < 244). let most = s.most in omega arith) (λ (p : 244 ≤ x). let most = s.after_244 (omega arith) in omega arith) (order x 244) in
+    ⊎_elim (λ (p : x < 244). let most = s.most in omega arith)
+    (λ (p : 244 ≤ x). let most = s.after_244 (omega arith) in omega arith) (order x 244) in
     of_four (x ∷ y ∷ z ∷ w ∷ []) 0 (omega arith) l (s.least, s.most) (lz, hz) (lw, hw) (low, high)
 
 -- ---- a fault that more bytes can mend
@@ -128,27 +139,87 @@ uri_nil = All-nil (λ v. IsTrue (is_uri_byte v))
 goes_one : (x : ℕ) → 194 ≤ x → x ≤ 244 → (u : List ℕ) × Mends (x ∷ []) u
 goes_one x l h =
     ⊎_elim
-    (λ (p : x < 224). (128 ∷ [], (omega arith, uri_cons 128 [] refl uri_nil, text_two x 128 l p (second 128 (omega arith) (omega arith) (λ e. omega arith) (λ e. omega arith) (λ e. omega arith) (λ e. omega arith)))))
+    (λ (p : x < 224). (
+      128 ∷ [],
+      (
+        omega arith,
+        uri_cons 128 [] refl uri_nil,
+        text_two x 128 l p
+            (second 128 (omega arith) (omega arith) (λ e. omega arith) (λ e. omega arith) (λ e. omega arith)
+            (λ e. omega arith)),
+      ),
+    ))
     (λ (p : 224 ≤ x). ⊎_elim
     (λ (q : x < 240). ⊎_elim
-    (λ (r : x < 237). (160 ∷ 128 ∷ [], (omega arith, uri_cons 160 (128 ∷ []) refl (uri_cons 128 [] refl uri_nil), text_three x 160 128 p q (second 160 (omega arith) (omega arith) (λ e. omega arith) (λ e. omega arith) (λ e. omega arith) (λ e. omega arith)) (omega arith) (omega arith))))
-    (λ (r : 237 ≤ x). (128 ∷ 128 ∷ [], (omega arith, uri_cons 128 (128 ∷ []) refl (uri_cons 128 [] refl uri_nil), text_three x 128 128 p q (second 128 (omega arith) (omega arith) (λ e. omega arith) (λ e. omega arith) (λ e. omega arith) (λ e. omega arith)) (omega arith) (omega arith))))
+    (λ (r : x < 237). (
+      160 ∷ 128 ∷ [],
+      (
+        omega arith,
+        uri_cons 160 (128 ∷ []) refl (uri_cons 128 [] refl uri_nil),
+        text_three x 160 128 p q
+            (second 160 (omega arith) (omega arith) (λ e. omega arith) (λ e. omega arith) (λ e. omega arith)
+            (λ e. omega arith)) (omega arith) (omega arith),
+      ),
+    ))
+    (λ (r : 237 ≤ x). (
+      128 ∷ 128 ∷ [],
+      (
+        omega arith,
+        uri_cons 128 (128 ∷ []) refl (uri_cons 128 [] refl uri_nil),
+        text_three x 128 128 p q
+            (second 128 (omega arith) (omega arith) (λ e. omega arith) (λ e. omega arith) (λ e. omega arith)
+            (λ e. omega arith)) (omega arith) (omega arith),
+      ),
+    ))
     (order x 237))
     (λ (q : 240 ≤ x). ⊎_elim
-    (λ (r : x < 244). (144 ∷ 128 ∷ 128 ∷ [], (omega arith, uri_cons 144 (128 ∷ 128 ∷ []) refl (uri_cons 128 (128 ∷ []) refl (uri_cons 128 [] refl uri_nil)), text_four x 144 128 128 q h (second 144 (omega arith) (omega arith) (λ e. omega arith) (λ e. omega arith) (λ e. omega arith) (λ e. omega arith)) (omega arith) (omega arith) (omega arith) (omega arith))))
-    (λ (r : 244 ≤ x). (128 ∷ 128 ∷ 128 ∷ [], (omega arith, uri_cons 128 (128 ∷ 128 ∷ []) refl (uri_cons 128 (128 ∷ []) refl (uri_cons 128 [] refl uri_nil)), text_four x 128 128 128 q h (second 128 (omega arith) (omega arith) (λ e. omega arith) (λ e. omega arith) (λ e. omega arith) (λ e. omega arith)) (omega arith) (omega arith) (omega arith) (omega arith))))
+    (λ (r : x < 244). (
+      144 ∷ 128 ∷ 128 ∷ [],
+      (
+        omega arith,
+        uri_cons 144 (128 ∷ 128 ∷ []) refl (uri_cons 128 (128 ∷ []) refl (uri_cons 128 [] refl uri_nil)),
+        text_four x 144 128 128 q h (second 144 (omega arith) (omega arith) (λ e. omega arith) (λ e. omega arith)
+            (λ e. omega arith) (λ e. omega arith)) (omega arith) (omega arith) (omega arith) (omega arith),
+      ),
+    ))
+    (λ (r : 244 ≤ x). (
+      128 ∷ 128 ∷ 128 ∷ [],
+      (
+        omega arith,
+        uri_cons 128 (128 ∷ 128 ∷ []) refl (uri_cons 128 (128 ∷ []) refl (uri_cons 128 [] refl uri_nil)),
+        text_four x 128 128 128 q h (second 128 (omega arith) (omega arith) (λ e. omega arith) (λ e. omega arith)
+            (λ e. omega arith) (λ e. omega arith)) (omega arith) (omega arith) (omega arith) (omega arith),
+      ),
+    ))
     (order x 244))
     (order x 240))
     (order x 224)
   where
-    second : (y : ℕ) → 128 ≤ y → y < 192 → (x ≡ 224 → 160 ≤ y) → (x ≡ 237 → y < 160) → (x ≡ 240 → 144 ≤ y) → (x ≡ 244 → y < 144) → Second x y
+    second : (y : ℕ) → 128 ≤ y → y < 192 → (x ≡ 224 → 160 ≤ y) → (x ≡ 237 → y < 160) → (x ≡ 240 → 144 ≤ y)
+        → (x ≡ 244 → y < 144) → Second x y
     second y a b c d e f = record { least = a; most = b; after_224 = c; after_237 = d; after_240 = e; after_244 = f }
 
 goes_two : (x y : ℕ) → 224 ≤ x → x ≤ 244 → Second x y → (u : List ℕ) × Mends (x ∷ y ∷ []) u
 goes_two x y l h s =
     ⊎_elim
-    (λ (q : x < 240). (128 ∷ [], (omega arith, uri_cons 128 [] refl uri_nil, text_three x y 128 l q s (omega arith) (omega arith))))
-    (λ (q : 240 ≤ x). (128 ∷ 128 ∷ [], (omega arith, uri_cons 128 (128 ∷ []) refl (uri_cons 128 [] refl uri_nil), text_four x y 128 128 q h s (omega arith) (omega arith) (omega arith) (omega arith))))
+    (λ (q : x < 240). (
+      128 ∷ [],
+      (
+        omega arith,
+        uri_cons 128 [] refl uri_nil,
+        text_three x y 128 l q s (omega arith)
+            (omega arith),
+      ),
+    ))
+    (λ (q : 240 ≤ x). (
+      128 ∷ 128 ∷ [],
+      (
+        omega arith,
+        uri_cons 128 (128 ∷ []) refl (uri_cons 128 [] refl uri_nil),
+        text_four x y 128 128 q h s
+            (omega arith) (omega arith) (omega arith) (omega arith),
+      ),
+    ))
     (order x 240)
 
 goes_three : (x y z : ℕ) → 240 ≤ x → x ≤ 244 → Second x y → 128 ≤ z → z < 192 → (u : List ℕ) × Mends (x ∷ y ∷ z ∷ []) u
@@ -175,17 +246,21 @@ tail_goes_on (x ∷ []) some none e =
     (λ on. λ e'. let r = lead_range x on in goes_one x r.0 r.1)
     (λ off. λ e'. absurd cc) e
 tail_goes_on (x ∷ y ∷ []) some none e =
-    by_cases (λ t. cond t (cond (seconds x y) None at_one) at_one ≡ None → (u : List ℕ) × Mends (x ∷ y ∷ []) u) (is_in_range 194 244 x)
+    by_cases (λ t. cond t (cond (seconds x y) None at_one) at_one ≡ None → (u : List ℕ) × Mends (x ∷ y ∷ []) u)
+    (is_in_range 194 244 x)
     (λ on. by_cases (λ t. cond t None at_one ≡ None → (u : List ℕ) × Mends (x ∷ y ∷ []) u) (seconds x y)
     (λ on2. λ e'.
     let r = lead_range x on in
     let s = is_second x y on2 in
-    ⊎_elim (λ (p : x < 224). absurd (none 2 (omega arith) (text_two x y r.0 p s))) (λ (p : 224 ≤ x). goes_two x y p r.1 s) (order x 224))
+    ⊎_elim (λ (p : x < 224). absurd (none 2 (omega arith) (text_two x y r.0 p s)))
+    (λ (p : 224 ≤ x). goes_two x y p r.1 s) (order x 224))
     (λ off. λ e'. absurd cc))
     (λ off. λ e'. absurd cc) e
 tail_goes_on (x ∷ y ∷ z ∷ []) some none e =
-    by_cases (λ t. cond t (cond (seconds x y) (cond (thirds z) None at_two) at_one) at_one ≡ None → (u : List ℕ) × Mends (x ∷ y ∷ z ∷ []) u) (is_in_range 194 244 x)
-    (λ on. by_cases (λ t. cond t (cond (thirds z) None at_two) at_one ≡ None → (u : List ℕ) × Mends (x ∷ y ∷ z ∷ []) u) (seconds x y)
+    by_cases (λ t. cond t (cond (seconds x y) (cond (thirds z) None at_two) at_one) at_one ≡ None
+    → (u : List ℕ) × Mends (x ∷ y ∷ z ∷ []) u) (is_in_range 194 244 x)
+    (λ on. by_cases (λ t. cond t (cond (thirds z) None at_two) at_one ≡ None → (u : List ℕ) × Mends (x ∷ y ∷ z ∷ []) u)
+    (seconds x y)
     (λ on2. by_cases (λ t. cond t None at_two ≡ None → (u : List ℕ) × Mends (x ∷ y ∷ z ∷ []) u) (thirds z)
     (λ on3. λ e'.
     let r = lead_range x on in
@@ -215,8 +290,13 @@ pub fault_goes_on : (t : List ℕ) (n : ℕ) → IsValidUpTo t n → utf8_error_
 fault_goes_on t n valid e =
     let d = drop n t in
     let some : 0 < length d = omega (arith, length-drop n t, valid.short) in
-    let r = tail_goes_on d some (past_front t n valid) (sym (utf8_error_len_some d some) ∙ e) in
-    (r.0, r.1.0, r.1.1, subst IsUtf8 (sym (append_assoc (take n t) d r.0) ∙ ap (λ l. l ++ r.0) (take-append-drop n t)) (IsUtf8-append (take n t) (d ++ r.0) valid.front r.1.2))
+    let r = tail_goes_on d some (past_front t n valid) (sym (utf8_error_len_some d some) ∙ e) in (
+      r.0,
+      r.1.0,
+      r.1.1,
+      subst IsUtf8 (sym (append_assoc (take n t) d r.0) ∙ ap (λ l. l ++ r.0) (take-append-drop n t))
+          (IsUtf8-append (take n t) (d ++ r.0) valid.front r.1.2),
+    )
 
 -- ---- a fault that stays
 
@@ -225,7 +305,8 @@ module _ (n x y z w : ℕ) (r : Ranged n x y z w) where
   bad_lead off none =
       ⊎_elim (λ (p : x < 128). none (of_one (x ∷ []) 0 (omega arith) p))
       (λ (p : 128 ≤ x). let s = r.second p in
-      ⊎_elim (λ (q : x < 245). no_lead x off s.0 (omega arith)) (λ (q : 245 ≤ x). let f = r.fourth (omega arith) in omega (arith, f.2.1)) (order x 245))
+      ⊎_elim (λ (q : x < 245). no_lead x off s.0 (omega arith))
+      (λ (q : 245 ≤ x). let f = r.fourth (omega arith) in omega (arith, f.2.1)) (order x 245))
       (order x 128)
 
   bad_second : seconds x y ≡ false → 194 ≤ x → x ≤ 244 → ⊥
@@ -235,7 +316,8 @@ module _ (n x y z w : ℕ) (r : Ranged n x y z w) where
         least = s.2.0;
         most = s.2.1;
         after_224 = λ e. let f = r.in_three (omega arith) (omega arith) in omega (arith, f.0);
-        after_237 = λ e. let f = r.in_three (omega arith) (omega arith) in ⊎_elim (λ q. omega (arith, q)) (λ q. omega (arith, q, s.2.1)) f.1;
+        after_237 = λ e. let f = r.in_three (omega arith) (omega arith) in
+            ⊎_elim (λ q. omega (arith, q)) (λ q. omega (arith, q, s.2.1)) f.1;
         after_240 = λ e. let f = r.fourth (omega arith) in omega (arith, f.2.0);
         after_244 = λ e. let f = r.fourth (omega arith) in omega (arith, f.2.1);
       })
@@ -270,7 +352,8 @@ not_ranged (x ∷ y ∷ z ∷ w ∷ ds) more n k some none e r =
     ⊎_elim (λ (p : x < 224). none 2 (omega arith) (text_two x y l.0 p s))
     (λ (p : 224 ≤ x). let f = r.third p in
     ⊎_elim (λ (o : x < 240). none 3 (omega arith) (text_three x y z p o s f.1.0 f.1.1))
-    (λ (o : 240 ≤ x). let g = r.fourth o in none 4 (omega arith) (text_four x y z w o l.1 s f.1.0 f.1.1 g.1.0 g.1.1)) (order x 240))
+    (λ (o : 240 ≤ x). let g = r.fourth o in none 4 (omega arith) (text_four x y z w o l.1 s f.1.0 f.1.1 g.1.0 g.1.1))
+    (order x 240))
     (order x 224))
     (λ off. bad_second n x y z w r off l.0 l.1))
     (λ off. bad_lead n x y z w r off (none 1 (omega arith)))
@@ -282,5 +365,8 @@ fault_is_final t n k valid e more is =
     let some : 0 < length d = omega (arith, length-drop n t, valid.short) in
     let front : IsUtf8 (take n (t ++ more)) = subst IsUtf8 (sym (take-append-le n t more short)) valid.front in
     let later : IsUtf8 (d ++ more) = subst IsUtf8 (drop-append-le n t more short) (after_text (t ++ more) n is front) in
-    let none : StartsWithNoChar (d ++ more) = no_char (d ++ more) 0 (not_ranged d more _ k some (past_front t n valid) (sym (utf8_error_len_some d some) ∙ e)) in
-    no_text (d ++ more) [] (subst StartsWithNoChar (sym (append-nil (d ++ more))) none) later (omega (arith, length-append d more))
+    let none : StartsWithNoChar (d ++ more) =
+    no_char (d ++ more) 0 (not_ranged d more _ k some (past_front t n valid) (sym (utf8_error_len_some d some) ∙ e))
+    in
+    no_text (d ++ more) [] (subst StartsWithNoChar (sym (append-nil (d ++ more))) none) later
+    (omega (arith, length-append d more))

@@ -1,6 +1,7 @@
 -- What the header fields of a request's head say of its host, of its body and of the connection (RFC 9112, sections
 -- 3.2, 6 and 9.6).
-use Rattle.std.specs.Prelude.{ℕ, min, Bool, ◌&&◌, ◌||◌, ◌+◌, List, [], ◌∷◌, map, length, filter, if◌then◌else◌, ◌==◌, nat_lt, codes, bytes_eq}
+use Rattle.std.specs.Prelude.{ℕ, min, Bool, ◌&&◌, ◌||◌, ◌+◌, List, [], ◌∷◌, map, length, filter, if◌then◌else◌, ◌==◌}
+use Rattle.std.specs.Prelude.{nat_lt, codes, bytes_eq}
 use Rattle.std.specs.List.{list_all, list_any, slice_split}
 use Rattle.std.specs.Char.{is_ascii_digit, to_ascii_lowercase}
 use Rattle.std.specs.Str.Parse.{digits_value}

@@ -5,7 +5,8 @@ use Rattle.httparse.specs.Grammar.{NeverHasRequest, HasNoSection, MayBecomeSecti
 use Rattle.httparse.specs.Spans.{IsRequestWithin, IsRequestOf}
 use Rattle.http_front.specs.Front.{BeginsHead}
 use Rattle.http_front.specs.declared.opening.Lines.{Lines}
-use Rattle.http_front.specs.declared.opening.Lines.TheVariants.{Open as Lines-Open, Ended as Lines-Ended, Hopeless as Lines-Hopeless}
+use Rattle.http_front.specs.declared.opening.Lines.TheVariants.{Open as Lines-Open, Ended as Lines-Ended}
+use Rattle.http_front.specs.declared.opening.Lines.TheVariants.{Hopeless as Lines-Hopeless}
 use Rattle.http_front.specs.declared.opening.Parsed.{Parsed}
 use Rattle.http_front.specs.declared.opening.Parsed.TheVariants.{Unfinished, Hopeless, Whole}
 

@@ -14,7 +14,8 @@ use Rattle.page_read.specs.declared.located.Located.{Located}
 use Rattle.page_read.specs.declared.located.SiteStop.{SiteStop}
 use Rattle.page_read.specs.declared.located.SiteStop.TheVariants as stops
 use Rattle.page_read.specs.Fragments.{HasFault, IsFragmentsOf, unmarked}
-use Rattle.page_read.specs.Expansion.{ComesOf, IsOwnFault, Outcome, PieceGives, PiecesGive, UnlessLate, fault_at, followed, late_line, site_kind}
+use Rattle.page_read.specs.Expansion.{ComesOf, IsOwnFault, Outcome, PieceGives, PiecesGive, UnlessLate, fault_at}
+use Rattle.page_read.specs.Expansion.{followed, late_line, site_kind}
 use Rattle.page_read.specs.Reading.{ComesNext, GivesPieces, IsLate, Shows, StartsShort, StopsAtFault}
 use Rattle.page_read.proofs.SpelledForms.{pieces_spelled}
 
@@ -101,20 +102,25 @@ no_items (piece ∷ items) none = absurd (omega arith)
 -- what comes of a file's pieces comes of the file
 file_gives : (left : ℕ) (files : List SiteFile) (around : List (List ℕ)) (file : SiteFile) (pieces : List Fragment)
     (outcome : Outcome) → IsFragmentsOf file.bytes pieces → late_line around pieces ≡ None
-    → PiecesGive (PieceGives (ComesNext left files (around ++ file.path ∷ [])) files left (around ++ file.path ∷ []) file.path) pieces outcome
+    → PiecesGive (PieceGives (ComesNext left files (around ++ file.path ∷ [])) files left (around ++ file.path ∷ [])
+    file.path) pieces outcome
     → ComesOf left files around file outcome
 unfolding ComesOf
 file_gives zero files around file pieces outcome of none gives = inr (
   pieces,
   of,
   subst (λ (found : Option ℕ).
-      UnlessLate file.path found (PiecesGive (PieceGives (ComesNext zero files (around ++ file.path ∷ [])) files zero (around ++ file.path ∷ []) file.path) pieces) outcome) (sym none) gives,
+      UnlessLate file.path found (PiecesGive
+      (PieceGives (ComesNext zero files (around ++ file.path ∷ [])) files zero (around ++ file.path ∷ []) file.path)
+      pieces) outcome) (sym none) gives,
 )
 file_gives (suc left) files around file pieces outcome of none gives = inr (
   pieces,
   of,
   subst (λ (found : Option ℕ).
-      UnlessLate file.path found (PiecesGive (PieceGives (ComesNext (suc left) files (around ++ file.path ∷ [])) files (suc left) (around ++ file.path ∷ []) file.path) pieces) outcome) (sym none) gives,
+      UnlessLate file.path found (PiecesGive
+      (PieceGives (ComesNext (suc left) files (around ++ file.path ∷ [])) files (suc left)
+      (around ++ file.path ∷ []) file.path) pieces) outcome) (sym none) gives,
 )
 
 -- what stands in the way of a file's pieces is the fault of the file
@@ -126,14 +132,18 @@ file_stops zero files around file fault (inr late) = inr (
   late.pieces,
   late.of,
   subst (λ (found : Option ℕ).
-      UnlessLate file.path found (PiecesGive (PieceGives (ComesNext zero files (around ++ file.path ∷ [])) files zero (around ++ file.path ∷ []) file.path) late.pieces) (Err fault)) (sym late.late) (ap Err late.told),
+      UnlessLate file.path found (PiecesGive
+      (PieceGives (ComesNext zero files (around ++ file.path ∷ [])) files zero (around ++ file.path ∷ []) file.path)
+      late.pieces) (Err fault)) (sym late.late) (ap Err late.told),
 )
 file_stops (suc left) files around file fault (inl own) = inl own
 file_stops (suc left) files around file fault (inr late) = inr (
   late.pieces,
   late.of,
   subst (λ (found : Option ℕ).
-      UnlessLate file.path found (PiecesGive (PieceGives (ComesNext (suc left) files (around ++ file.path ∷ [])) files (suc left) (around ++ file.path ∷ []) file.path) late.pieces) (Err fault)) (sym late.late) (ap Err late.told),
+      UnlessLate file.path found (PiecesGive
+      (PieceGives (ComesNext (suc left) files (around ++ file.path ∷ [])) files (suc left)
+      (around ++ file.path ∷ []) file.path) late.pieces) (Err fault)) (sym late.late) (ap Err late.told),
 )
 
 -- what a call answers of the pieces it answers of the file
@@ -143,9 +153,12 @@ pub file_shows : (left : ℕ) (files : List SiteFile) (around chain : List (List
     → Shows result (PiecesGive (PieceGives (ComesNext left files chain) files left chain file.path) pieces)
     → Shows result (ComesOf left files around file)
 file_shows left files around chain file pieces (Ok parts) of is gives = file_gives left files around file pieces (Ok parts)
-    of.0 of.1 (subst (λ (c : List (List ℕ)). PiecesGive (PieceGives (ComesNext left files c) files left c file.path) pieces (Ok parts)) is gives)
-file_shows left files around chain file pieces (Err (stops.Fault fault)) of is gives = file_gives left files around file pieces (Err fault)
-    of.0 of.1 (subst (λ (c : List (List ℕ)). PiecesGive (PieceGives (ComesNext left files c) files left c file.path) pieces (Err fault)) is gives)
+    of.0 of.1 (subst (λ (c : List (List ℕ)). PiecesGive (PieceGives (ComesNext left files c) files left c file.path)
+    pieces (Ok parts)) is gives)
+file_shows left files around chain file pieces (Err (stops.Fault fault)) of is gives =
+    file_gives left files around file pieces (Err fault)
+    of.0 of.1 (subst (λ (c : List (List ℕ)). PiecesGive (PieceGives (ComesNext left files c) files left c file.path)
+    pieces (Err fault)) is gives)
 file_shows left files around chain file pieces (Err stops.Memory) of is gives = tt
 
 -- what a call answers in place of the pieces it answers of the file

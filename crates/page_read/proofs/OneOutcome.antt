@@ -7,7 +7,9 @@ use Rattle.page_read.specs.declared.fault.PageFault.{PageFault}
 use Rattle.page_read.specs.declared.fragment.Fragment.{Fragment}
 use Rattle.page_read.specs.declared.fragment.Fragment.TheVariants.{Directive, Text, Script, Write, Element, Include}
 use Rattle.page_read.specs.Including.{file_at, included}
-use Rattle.page_read.specs.Expansion.{ComesOf, ComesOfPage, ComesToNothing, FileGives, GoesOn, IncludeGives, Outcome, PageGives, PieceGives, PiecesGive, UnlessLate, fault_at, followed, late_line, most_nested, site_kind}
+use Rattle.page_read.specs.Expansion.{ComesOf, ComesOfPage, ComesToNothing, FileGives, GoesOn, IncludeGives, Outcome}
+use Rattle.page_read.specs.Expansion.{PageGives, PieceGives, PiecesGive, UnlessLate, fault_at, followed, late_line}
+use Rattle.page_read.specs.Expansion.{most_nested, site_kind}
 use Rattle.page_read.proofs.Pieces.{list_or_fault, one_fault, one_list}
 
 -- at most one outcome comes of each file

@@ -237,7 +237,8 @@ block_cases before inside first line piece rest (Some pair) cut is opens =
 element_or_object_is : (text rest : List ℕ) (line : ℕ) (piece : Fragment) (found : Option (List Attribute × List ℕ))
     → form.server_tag (codes "<script") text ≡ found → form.element_or_object line text found ≡ Ok (piece, rest)
     → IsSpelledFirst text piece rest
-element_or_object_is text rest line piece (Some tag) tagged is = element_is text rest (form.line_behind line text tag.1) piece tag tagged is
+element_or_object_is text rest line piece (Some tag) tagged is =
+    element_is text rest (form.line_behind line text tag.1) piece tag tagged is
 element_or_object_is text rest line piece None tagged is = cc
 
 -- an include or an element

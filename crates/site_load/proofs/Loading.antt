@@ -1,6 +1,8 @@
 -- What was read of a folder, file by file.
-use Rattle.std.proofs.Common.{◌≡◌, ◌∙◌, ℕ, suc, ◌+◌, ◌<◌, ◌≤◌, Bool, true, false, List, [], ◌∷◌, ◌++◌, map, length, take, drop, get_or}
-use Rattle.std.proofs.Common.{Option, None, Some, option_map, refl, sym, ap, subst, arith, append_assoc, drop-cons, add-one, cond, IfSome}
+use Rattle.std.proofs.Common.{◌≡◌, ◌∙◌, ℕ, suc, ◌+◌, ◌<◌, ◌≤◌, Bool, true, false, List, [], ◌∷◌, ◌++◌, map, length}
+use Rattle.std.proofs.Common.{take, drop, get_or}
+use Rattle.std.proofs.Common.{Option, None, Some, option_map, refl, sym, ap, subst, arith, append_assoc, drop-cons}
+use Rattle.std.proofs.Common.{add-one, cond, IfSome}
 use Rattle.std.specs.Prelude.{nat_eq}
 use Rattle.std.specs.Cmp.Lexicographic.{pointwise}
 use Rattle.std.specs.List.{Contains, find, sum_by}

@@ -1,5 +1,6 @@
 -- A folder that is a site has no fault.
-use Rattle.std.proofs.Common.{◌≡◌, ◌≢◌, ◌∙◌, inl, inr, ℕ, suc, ◌+◌, ◌≤◌, Bool, true, false, List, [], ◌∷◌, ◌++◌, Result, Ok, Err, length, get_or, drop, map, arith, refl, sym, ap, subst}
+use Rattle.std.proofs.Common.{◌≡◌, ◌≢◌, ◌∙◌, inl, inr, ℕ, suc, ◌+◌, ◌≤◌, Bool, true, false, List, [], ◌∷◌, ◌++◌, Result}
+use Rattle.std.proofs.Common.{Ok, Err, length, get_or, drop, map, arith, refl, sym, ap, subst}
 use Rattle.std.proofs.lemmas.List.{get_or_append_left, length-append}
 use Rattle.std.proofs.lemmas.List.Sums.{sum_by-append}
 use Rattle.std.specs.List.{All, AllPairs, Contains, sum_by}
@@ -11,7 +12,8 @@ use Rattle.page_read.specs.declared.located.Located.{Located}
 use Rattle.asp_site.specs.declared.site.Page.{Page}
 use Rattle.asp_site.specs.declared.site.Site.{Site}
 use Rattle.page_build.specs.Building.{HasPageFault, IsPageOf}
-use Rattle.site_load.specs.Accepted.{Adds, AreRuns, HasFault, IsAccepted, IsBuilt, IsFileFault, IsFirstFault, IsFolderFault, IsSite, role_of}
+use Rattle.site_load.specs.Accepted.{Adds, AreRuns, HasFault, IsAccepted, IsBuilt, IsFileFault, IsFirstFault}
+use Rattle.site_load.specs.Accepted.{IsFolderFault, IsSite, role_of}
 use Rattle.site_load.specs.Files.{AreSmall, IsSiteOf, IsTooLargeAt, most_of_file, size_of}
 use Rattle.site_load.specs.declared.building.Role.{Role}
 use Rattle.site_load.specs.declared.building.Role.TheVariants as role

@@ -1,5 +1,6 @@
 -- The pages and the events of files, one after the other.
-use Rattle.std.proofs.Common.{◌≡◌, ◌∙◌, ℕ, suc, ◌+◌, ◌<◌, ◌≤◌, List, [], ◌∷◌, ◌++◌, length, take, drop, get_or, map, arith, refl, sym, ap, subst}
+use Rattle.std.proofs.Common.{◌≡◌, ◌∙◌, ℕ, suc, ◌+◌, ◌<◌, ◌≤◌, List, [], ◌∷◌, ◌++◌, length, take, drop, get_or, map}
+use Rattle.std.proofs.Common.{arith, refl, sym, ap, subst}
 use Rattle.std.proofs.Common.{Err, Option, None, Some, append-nil, append_assoc, drop-cons, add-one}
 use Rattle.std.proofs.lemmas.List.{take-append-drop, take_all, take_more}
 use Rattle.std.specs.Option.{option_or}

@@ -1,5 +1,6 @@
 -- A folder has one list of files that make up its site.
-use Rattle.std.proofs.Common.{◌≡◌, ◌≢◌, ◌∙◌, ℕ, zero, suc, ◌<◌, List, [], ◌∷◌, length, get_or, drop, map, arith, refl, sym, ap, subst}
+use Rattle.std.proofs.Common.{◌≡◌, ◌≢◌, ◌∙◌, ℕ, zero, suc, ◌<◌, List, [], ◌∷◌, length, get_or, drop, map, arith, refl}
+use Rattle.std.proofs.Common.{sym, ap, subst}
 use Rattle.std.proofs.lemmas.List.{get_or-map, length-map}
 use Rattle.std.proofs.lemmas.List.Elements.{All-contains}
 use Rattle.std.specs.List.{All, AllPairs, Contains}
@@ -80,7 +81,8 @@ never_both_before path other before behind =
 -- names have one list of chosen paths
 pub same_paths : (names paths others : List (List ℕ)) → AreChosen names paths → AreChosen names others → paths ≡ others
 same_paths names paths others one other = same_lists (λ path next. IsBefore (folded path) (folded next)) never_both_before
-    paths others one.ordered other.ordered (λ path there. other.all path (All-contains (IsChosen names) paths path one.each there))
+    paths others one.ordered other.ordered
+    (λ path there. other.all path (All-contains (IsChosen names) paths path one.each there))
     (λ path there. one.all path (All-contains (IsChosen names) others path other.each there))
 
 -- one file of a folder has a path

@@ -55,7 +55,8 @@ impl<
         requires enters { Enters I (host I.asked I.answered) self.now.levels (N.pre self.now.enter)
             (N.post self.now.enter) }
         ensures { Ran (spec.returned I (inside I (host I.asked I.answered) p.now self.now.levels)
-            (record playing.old.world { frame = caller; calls = calls }) (seen playing.old env.old)) result (seen playing.new env.new) }
+            (record playing.old.world { frame = caller; calls = calls }) (seen playing.old env.old))
+            result (seen playing.new env.new) }
     {
         let value = result_value(self.alloc, &playing.world)?;
         hold(&mut playing.world, &value)?;
@@ -76,7 +77,8 @@ impl<
         requires enters { Enters I (host I.asked I.answered) self.now.levels (N.pre self.now.enter)
             (N.post self.now.enter) }
         ensures { Ran (releases.settle I (inside I (host I.asked I.answered) p.now self.now.levels)
-            (in_world I (spec.left (record playing.old.world { frame = caller; calls = calls }) playing.old.world) (seen playing.old env.old)))
+            (in_world I (spec.left (record playing.old.world { frame = caller; calls = calls }) playing.old.world)
+            (seen playing.old env.old)))
             result (seen playing.new env.new) }
     {
         leave(&mut playing.world, caller, calls);
@@ -124,7 +126,8 @@ impl<
     ) -> Result<Exit, Stop>
         requires executes { Executes I (host I.asked I.answered) self.now.levels (T.pre self.now.statement)
             (T.post self.now.statement) }
-        ensures { Ran (spec.runs I (inside I (host I.asked I.answered) p.now self.now.levels) procedure.now arguments (seen playing.old env.old))
+        ensures { Ran (spec.runs I (inside I (host I.asked I.answered) p.now self.now.levels) procedure.now arguments
+            (seen playing.old env.old))
             result (seen playing.new env.new) }
     {
         begins(self.alloc, &mut playing.world, procedure, arguments)?;
@@ -173,7 +176,8 @@ impl<
             (T.post self.now.statement) }
         requires enters { Enters I (host I.asked I.answered) self.now.levels (N.pre self.now.enter)
             (N.post self.now.enter) }
-        ensures { Ran (spec.opened I (inside I (host I.asked I.answered) p.now self.now.levels) owner procedure.now arguments (seen playing.old env.old))
+        ensures { Ran (spec.opened I (inside I (host I.asked I.answered) p.now self.now.levels) owner procedure.now
+            arguments (seen playing.old env.old))
             result (seen playing.new env.new) }
     {
         if playing.world.calls >= MOST_CALLS {
@@ -198,7 +202,8 @@ impl<
             (T.post self.now.statement) }
         requires enters { Enters I (host I.asked I.answered) self.now.levels (N.pre self.now.enter)
             (N.post self.now.enter) }
-        ensures { Ran (spec.enter_of I (inside I (host I.asked I.answered) p.now self.now.levels) owner procedure.now arguments (seen playing.old env.old))
+        ensures { Ran (spec.enter_of I (inside I (host I.asked I.answered) p.now self.now.levels) owner procedure.now
+            arguments (seen playing.old env.old))
             result (seen playing.new env.new) }
     {
         if arguments.len() != procedure.by_value.len() {

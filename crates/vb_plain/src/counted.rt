@@ -56,7 +56,8 @@ impl<
     ) -> Result<Value, Stop>
         requires evaluates { Evaluates I (host I.asked I.answered) self.now.levels (V.pre self.now.value)
             (V.post self.now.value) }
-        ensures { Ran (spec.step_value I (inside I (host I.asked I.answered) p.now self.now.levels) (option_copied step.entry) (seen playing.old env.old))
+        ensures { Ran (spec.step_value I (inside I (host I.asked I.answered) p.now self.now.levels)
+            (option_copied step.entry) (seen playing.old env.old))
             result (seen playing.new env.new) }
     {
         match step {
@@ -103,7 +104,8 @@ impl<
             (V.post self.now.value) }
         requires enters { Enters I (host I.asked I.answered) self.now.levels (N.pre self.now.enter)
             (N.post self.now.enter) }
-        ensures { Ran (spec.range I (inside I (host I.asked I.answered) p.now self.now.levels) from.now to.now (option_copied step.entry) (seen playing.old env.old))
+        ensures { Ran (spec.range I (inside I (host I.asked I.answered) p.now self.now.levels) from.now to.now
+            (option_copied step.entry) (seen playing.old env.old))
             result (seen playing.new env.new) }
     {
         let mark = playing.world.heap.mark();
@@ -161,8 +163,8 @@ impl<
             (T.post self.now.statement) }
         requires enters { Enters I (host I.asked I.answered) self.now.levels (N.pre self.now.enter)
             (N.post self.now.enter) }
-        ensures { Ran (spec.for_statement I (inside I (host I.asked I.answered) p.now self.now.levels) variable.now from.now to.now
-            (option_copied step.entry) body.now (seen playing.old env.old))
+        ensures { Ran (spec.for_statement I (inside I (host I.asked I.answered) p.now self.now.levels) variable.now
+            from.now to.now (option_copied step.entry) body.now (seen playing.old env.old))
             result (seen playing.new env.new) }
     {
         let range = self.range(p, playing, env, from, to, step)?;
@@ -183,7 +185,8 @@ impl<
     ) -> Result<Exit, Stop>
         requires executes { Executes I (host I.asked I.answered) self.now.levels (T.pre self.now.statement)
             (T.post self.now.statement) }
-        ensures { Ran (spec.each_turns I (inside I (host I.asked I.answered) p.now self.now.levels) variable.now items.entry.now body.now (seen playing.old env.old))
+        ensures { Ran (spec.each_turns I (inside I (host I.asked I.answered) p.now self.now.levels) variable.now
+            items.entry.now body.now (seen playing.old env.old))
             result (seen playing.new env.new) }
     {
         while let [first, others @ ..] = items {
@@ -212,7 +215,8 @@ impl<
             (V.post self.now.value) }
         requires executes { Executes I (host I.asked I.answered) self.now.levels (T.pre self.now.statement)
             (T.post self.now.statement) }
-        ensures { Ran (spec.for_each_statement I (inside I (host I.asked I.answered) p.now self.now.levels) variable.now group.now body.now (seen playing.old env.old))
+        ensures { Ran (spec.for_each_statement I (inside I (host I.asked I.answered) p.now self.now.levels) variable.now
+            group.now body.now (seen playing.old env.old))
             result (seen playing.new env.new) }
     {
         let group = self.value(p, playing, env, group)?;

@@ -78,7 +78,8 @@ impl<
             (V.post self.now.value) }
         requires enters { Enters I (host I.asked I.answered) self.now.levels (N.pre self.now.enter)
             (N.post self.now.enter) }
-        ensures { Ran (spec.goes_on I (inside I (host I.asked I.answered) p.now self.now.levels) asked.now (seen playing.old env.old))
+        ensures { Ran (spec.goes_on I (inside I (host I.asked I.answered) p.now self.now.levels) asked.now
+            (seen playing.old env.old))
             result (seen playing.new env.new) }
     {
         let holds = self.condition(p, playing, env, &asked.test)?;
@@ -215,7 +216,8 @@ impl<
             (T.post self.now.statement) }
         requires enters { Enters I (host I.asked I.answered) self.now.levels (N.pre self.now.enter)
             (N.post self.now.enter) }
-        ensures { Ran (spec.do_statement I (inside I (host I.asked I.answered) p.now self.now.levels) repeated.now body.now (seen playing.old env.old))
+        ensures { Ran (spec.do_statement I (inside I (host I.asked I.answered) p.now self.now.levels) repeated.now
+            body.now (seen playing.old env.old))
             result (seen playing.new env.new) }
     {
         match repeated {
@@ -243,7 +245,8 @@ impl<
             (T.post self.now.statement) }
         requires enters { Enters I (host I.asked I.answered) self.now.levels (N.pre self.now.enter)
             (N.post self.now.enter) }
-        ensures { Ran (spec.while_statement I (inside I (host I.asked I.answered) p.now self.now.levels) test.now body.now (seen playing.old env.old))
+        ensures { Ran (spec.while_statement I (inside I (host I.asked I.answered) p.now self.now.levels) test.now
+            body.now (seen playing.old env.old))
             result (seen playing.new env.new) }
     {
         let mut most = u64::from(playing.world.ticks) + 1;

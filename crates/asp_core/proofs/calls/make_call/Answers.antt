@@ -74,7 +74,8 @@ returns-clause-ok g c =
     c.replies_to.new.application (length c.args.answers.now) c.args.run.now c.take_reply.new.self
     c.number-number.result c.in-Some.call.now c.in-Some-take_reply.call c.in-Ok.replies
     c.replies_to.new.journal.capacity c.push_reserved.new.self.capacity
-    (sym c.in-Some.ensures.wanted) took.call c.number-number.ensures c.in-Some.ensures.call c.in-Ok.ensures.ok c.replies_to.ensures.items
+    (sym c.in-Some.ensures.wanted) took.call c.number-number.ensures c.in-Some.ensures.call c.in-Ok.ensures.ok
+    c.replies_to.ensures.items
     c.push_reserved.ensures.items c.push_reserved.ensures.capacity took.number took.stand_ins took.going took.stands
 
 pub returns-clause-blocked : goal.returns-clause-blocked

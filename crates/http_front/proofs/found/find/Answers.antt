@@ -10,7 +10,8 @@ parse_from-requires-clause-short c = omega (arith, ap length c.window-window.ens
 
 pub parse_from-requires-clause-marked : goal.parse_from-requires-clause-marked
 parse_from-requires-clause-marked c =
-    subst (λ w. IsMarked w c.args.mark) (sym c.window-window.ensures) (marked_window c.args.bytes.now c.args.mark c.requires.marked)
+    subst (λ w. IsMarked w c.args.mark) (sym c.window-window.ensures)
+    (marked_window c.args.bytes.now c.args.mark c.requires.marked)
 
 pub mark_of-requires-clause-short : goal.mark_of-requires-clause-short
 mark_of-requires-clause-short c = omega (arith, ap length c.window-window.ensures, length-take 16384 c.args.bytes.now)
@@ -19,9 +20,14 @@ pub returns-in-Unfinished-2 : goal.returns-in-Unfinished-2
 returns-in-Unfinished-2 c =
     let bytes = c.args.bytes.now in
     let begins = subst BeginsHead c.window-window.ensures c.in-Unfinished-2.ensures in
-    let gives = open_front bytes begins c.if-bytes-gt-MAX_HEAD.false in
-    (gives.0, gives.1, marked_bytes bytes c.mark_of.result (subst (λ w. IsMarked w c.mark_of.result) c.window-window.ensures c.mark_of.ensures))
+    let gives = open_front bytes begins c.if-bytes-gt-MAX_HEAD.false in (
+      gives.0,
+      gives.1,
+      marked_bytes bytes c.mark_of.result
+          (subst (λ w. IsMarked w c.mark_of.result) c.window-window.ensures c.mark_of.ensures),
+    )
 
 pub mark_of-requires-clause-marked : goal.mark_of-requires-clause-marked
 mark_of-requires-clause-marked c =
-    subst (λ w. IsMarked w c.args.mark) (sym c.window-window.ensures) (marked_window c.args.bytes.now c.args.mark c.requires.marked)
+    subst (λ w. IsMarked w c.args.mark) (sym c.window-window.ensures)
+    (marked_window c.args.bytes.now c.args.mark c.requires.marked)

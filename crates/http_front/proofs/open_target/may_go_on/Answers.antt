@@ -15,7 +15,8 @@ pub returns-in_default-clause-open : goal.returns-in_default-clause-open
 returns-in_default-clause-open c is ends =
     let t = in_target c.args.window.now ends in
     let same : t.0 ≡ c.in-Some.target.now = cc (t.1, c.in-Some.ensures) in
-    absurd (some_space_left c.in-Some.target.now (sym c.contains.ensures.value ∙ c.if-not-contains.false) (subst HasNoSpace same t.2))
+    absurd (some_space_left c.in-Some.target.now (sym c.contains.ensures.value ∙ c.if-not-contains.false)
+    (subst HasNoSpace same t.2))
 
 pub returns-in_default-2-clause-open : goal.returns-in_default-2-clause-open
 returns-in_default-2-clause-open c is ends =

@@ -20,6 +20,7 @@ loop-request-preserved c =
       before.0 ++ more,
       before.1 ++ request ∷ [],
       takes_then c.args.reader.now before.0 more c.loop-request.reader c.next.new.self before.2 (c.next.new.self, gives.3, refl),
-      c.in_ok-push-in-Request.ensures ∙ ap (λ l. l ++ request ∷ []) before.3 ∙ append_assoc c.args.requests.now before.1 (request ∷ []),
+      c.in_ok-push-in-Request.ensures ∙ ap (λ l. l ++ request ∷ []) before.3
+          ∙ append_assoc c.args.requests.now before.1 (request ∷ []),
       are_requests-append before.0 more before.1 (request ∷ []) before.4 (gives.2, tt),
     )

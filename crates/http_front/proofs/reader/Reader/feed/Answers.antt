@@ -18,8 +18,18 @@ invariant_of-self-2 c =
     let all = c.in_ok-extend_from_slice.ensures.items in
     let new : drop taken c.extend_from_slice.new.self.items ≡ pending ++ piece =
     ap (drop taken) all ∙ drop-append-le taken items piece c.self.invariant.within in record {
-      few = omega (arith, ap length all, length-append items piece, length-drop taken items, wanting_is_short pending wants, c.requires.short);
+      few = omega (
+        arith,
+        ap length all,
+        length-append items piece,
+        length-drop taken items,
+        wanting_is_short pending
+            wants,
+        c.requires.short,
+      );
       within = omega (arith, ap length all, length-append items piece, c.self.invariant.within);
-      waits = subst (λ l. Waits l c.self.inside.need) (sym new) (waits-append pending piece c.self.inside.need c.self.invariant.waits);
-      marked = subst (λ l. IsMarked l c.self.inside.mark) (sym new) (marked_stays pending piece c.self.inside.mark c.self.invariant.marked);
+      waits = subst (λ l. Waits l c.self.inside.need) (sym new)
+          (waits-append pending piece c.self.inside.need c.self.invariant.waits);
+      marked = subst (λ l. IsMarked l c.self.inside.mark) (sym new)
+          (marked_stays pending piece c.self.inside.mark c.self.invariant.marked);
     }

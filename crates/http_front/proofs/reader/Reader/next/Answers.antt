@@ -7,8 +7,12 @@ use Rattle.http_front.proofs.reader.Reader.next.Goals as goal
 pub returns-then-len-self-clause-ok : goal.returns-then-len-self-clause-ok
 returns-then-len-self-clause-ok c =
     let items = c.self.inside.bytes.items in
-    let few : length (drop c.self.inside.taken items) < c.self.inside.need = omega (arith, length-drop c.self.inside.taken items, c.len.ensures) in
-    (subst (λ l. IsFront l More) c.self.view_is (waits_now (drop c.self.inside.taken items) c.self.inside.need c.self.invariant.waits few), refl)
+    let few : length (drop c.self.inside.taken items) < c.self.inside.need =
+    omega (arith, length-drop c.self.inside.taken items, c.len.ensures) in (
+      subst (λ l. IsFront l More) c.self.view_is
+          (waits_now (drop c.self.inside.taken items) c.self.inside.need c.self.invariant.waits few),
+      refl,
+    )
 
 pub returns-in_ok-request-in-Request-clause-ok : goal.returns-in_ok-request-in-Request-clause-ok
 returns-in_ok-request-in-Request-clause-ok c =

@@ -11,7 +11,8 @@ invariant-loop-most g l =
     do_turns (g.row.I.Denot) (inside (g.row.I.Denot) (host g.I.Intrinsics.asked g.I.Intrinsics.answered) l.p l.self.levels)
     (l.fn.playing.world.ticks + 1) (repetition.After l.line l.asked) l.body (seen l.fn.playing l.fn.env)
     ≡ after_turns (g.row.I.Denot) (inside (g.row.I.Denot) (host g.I.Intrinsics.asked g.I.Intrinsics.answered) l.p l.self.levels)
-    l.most (λ s. in_line l.line (goes_on (g.row.I.Denot) (inside (g.row.I.Denot) (host g.I.Intrinsics.asked g.I.Intrinsics.answered) l.p l.self.levels) l.asked s))
+    l.most (λ s. in_line l.line (goes_on (g.row.I.Denot)
+    (inside (g.row.I.Denot) (host g.I.Intrinsics.asked g.I.Intrinsics.answered) l.p l.self.levels) l.asked s))
     l.body (seen l.playing l.env)
 
 abbrev pub decreases-loop-most : goal.decreases-loop-most

@@ -10,7 +10,8 @@ invariant-loop-most g l =
     do_turns (g.row.I.Denot) (inside (g.row.I.Denot) (host g.I.Intrinsics.asked g.I.Intrinsics.answered) l.p l.self.levels)
     (l.fn.playing.world.ticks + 1) (repetition.Before l.asked) l.body (seen l.fn.playing l.fn.env)
     ≡ before_turns (g.row.I.Denot) (inside (g.row.I.Denot) (host g.I.Intrinsics.asked g.I.Intrinsics.answered) l.p l.self.levels)
-    l.most leaves_do (goes_on (g.row.I.Denot) (inside (g.row.I.Denot) (host g.I.Intrinsics.asked g.I.Intrinsics.answered) l.p l.self.levels) l.asked)
+    l.most leaves_do (goes_on (g.row.I.Denot)
+    (inside (g.row.I.Denot) (host g.I.Intrinsics.asked g.I.Intrinsics.answered) l.p l.self.levels) l.asked)
     l.body (seen l.playing l.env)
 
 abbrev pub decreases-loop-most : goal.decreases-loop-most

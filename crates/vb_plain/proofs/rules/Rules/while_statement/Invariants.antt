@@ -10,7 +10,8 @@ invariant-loop-most g l =
     while_statement (g.row.I.Denot) (inside (g.row.I.Denot) (host g.I.Intrinsics.asked g.I.Intrinsics.answered) l.p l.self.levels)
     l.test l.body (seen l.fn.playing l.fn.env)
     ≡ before_turns (g.row.I.Denot) (inside (g.row.I.Denot) (host g.I.Intrinsics.asked g.I.Intrinsics.answered) l.p l.self.levels)
-    l.most leaves_none (condition (g.row.I.Denot) (inside (g.row.I.Denot) (host g.I.Intrinsics.asked g.I.Intrinsics.answered) l.p l.self.levels) l.test)
+    l.most leaves_none (condition (g.row.I.Denot)
+    (inside (g.row.I.Denot) (host g.I.Intrinsics.asked g.I.Intrinsics.answered) l.p l.self.levels) l.test)
     l.body (seen l.playing l.env)
 
 abbrev pub decreases-loop-most : goal.decreases-loop-most
