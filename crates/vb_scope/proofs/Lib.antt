@@ -3,3 +3,4 @@ pub mod TreePaths
 pub mod Programs
 pub mod OneProgram
 pub mod Last
+pub mod Parts

@@ -47,14 +47,16 @@ listed_in page vars procs classes =
 -- these trees and names are the program of the script
 pub parts_are : (script : Script) (page : Declarations) (names : List Name) (body : List Statement)
     (procedures : List Procedure) (classes : List Class) (written vars procs class_names : List Name)
+    (variables : List (Option DeclaredArray)) (constants : List Constant)
     (dictionary : List (Option DictionaryMember)) (code : Code)
     → page ≡ page_scope script → names ≡ names_of script
     → code_in script page names body procedures classes → listed_in page vars procs class_names
+    → variables ≡ page.arrays → constants ≡ page.constants
     → written ≡ names → dictionary ≡ map dictionary_member names
     → code ≡ record {
       body = body;
-      variables = page.arrays;
-      constants = page.constants;
+      variables = variables;
+      constants = constants;
       procedures = procedures;
       classes = classes;
       names = written;
@@ -69,8 +71,9 @@ pub parts_are : (script : Script) (page : Declarations) (names : List Name) (bod
     }
     ≡ program_of script
 unfolding program_of
-parts_are script page names body procedures classes written vars procs class_names dictionary code in_page with_names
-    are_trees are_listed are_written are_said are_code = cc
+parts_are script page names body procedures classes written vars procs class_names variables constants
+    dictionary code in_page with_names are_trees are_listed are_variables are_constants are_written are_said
+    are_code = cc
 
 -- these parts are the procedure
 pub procedure_is : (explicit : Bool) (page : Declarations) (names : List Name) (class : Declarations)

@@ -1,4 +1,4 @@
 pub mod Answers
 pub mod Inside
-pub mod Standing
+pub mod Parts
 pub mod Subs

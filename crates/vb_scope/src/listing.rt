@@ -1,57 +1,62 @@
 //! The names that a program lists.
-ghost use Rattle.std.specs.Prelude.{◌≡◌, IfOk, map};
-ghost use Rattle.vb_value.specs.Outcome.{Gives};
+ghost use Rattle.std.specs.Prelude.{◌≡◌, ◌∷◌, [], IfOk, if◌then◌else◌, map};
+ghost use Rattle.vb_value.specs.Outcome.{Adds, Gives};
 ghost use Rattle.vb_syntax.specs.scope.Names as names_spec;
 ghost use Rattle.vb_syntax.specs.scope.Programs as spec;
 ghost use Rattle.vb_names.specs.Declarations.{declarations_seen};
-ghost use Rattle.vb_scope.specs.Standing.{stands_so};
 
 use std::alloc::Global;
 use vb_names::{Declarations, Names, dictionary_member};
 use vb_syntax::program::{Constant, DeclaredArray, DictionaryMember, Named};
-use vb_value::{Copied, List, Memory, Text};
+use vb_value::{List, Memory, Text};
 
-/// What a name of a page stands for that a program lists.
-#[derive(Clone, Copy)]
-pub enum Standing {
-    /// A variable.
-    Variable,
-    /// A procedure.
-    Procedure,
-    /// A class.
-    Class,
+/// The names of a page that a program lists, by what they stand for.
+#[derive(Drop)]
+struct ListedNames {
+    variables: List<Text>,
+    procedures: List<Text>,
+    classes: List<Text>,
 }
 
-/// Whether a name stands for that.
-fn stands_so(standing: Standing, meaning: &Named) -> bool
-    ensures { result ≡ stands_so standing meaning.now }
+/// Puts a name in the list of what it stands for, or lets it go where no list has that.
+fn put_name(all: &mut ListedNames, name: Text, meaning: &Named) -> Result<(), Memory>
+    ensures variables { Adds result all.old.variables all.new.variables
+        (if spec.is_place meaning.now then name ∷ [] else []) }
+    ensures procedures { Adds result all.old.procedures all.new.procedures
+        (if spec.is_procedure meaning.now then name ∷ [] else []) }
+    ensures classes { Adds result all.old.classes all.new.classes
+        (if spec.is_class meaning.now then name ∷ [] else []) }
 {
-    match standing {
-        Standing::Variable => matches!(meaning, Named::Place(_)),
-        Standing::Procedure => matches!(meaning, Named::Procedure(_)),
-        Standing::Class => matches!(meaning, Named::Class(_)),
+    match meaning {
+        Named::Place(_) => all.variables.push(name),
+        Named::Procedure(_) => all.procedures.push(name),
+        Named::Class(_) => all.classes.push(name),
+        _ => Ok(()),
     }
 }
 
-/// The names of a scope that stand for that, in their order.
-fn names_where(
+/// The names of a page that a program lists, each list in their order.
+fn listed_names(
     alloc: Global,
-    standing: Standing,
-    found: &Declarations,
-) -> Result<List<Text>, Memory>
-    ensures { Gives result (spec.names_in (stands_so standing) (declarations_seen found.now)) }
+    names: List<Text>,
+    mut meanings: &[Named],
+) -> Result<ListedNames, Memory>
+    ensures variables { IfOk result (λ all. all.variables ≡ spec.names_where spec.is_place names meanings.entry.now) }
+    ensures procedures { IfOk result (λ all. all.procedures
+        ≡ spec.names_where spec.is_procedure names meanings.entry.now) }
+    ensures classes { IfOk result (λ all. all.classes ≡ spec.names_where spec.is_class names meanings.entry.now) }
 {
-    let mut all = List::new(alloc);
-    let mut names = found.names.as_slice();
-    let mut meanings = found.meanings.as_slice();
-    while let [name, more @ ..] = names {
+    let mut all = ListedNames {
+        variables: List::new(alloc),
+        procedures: List::new(alloc),
+        classes: List::new(alloc),
+    };
+    let mut names = names.into_vec().into_iter();
+    while let Some(name) = names.next() {
         let [meaning, rest @ ..] = meanings else {
             return Ok(all);
         };
-        if stands_so(standing, meaning) {
-            all.push(name.copy()?)?;
-        }
-        names = more;
+        put_name(&mut all, name, meaning)?;
         meanings = rest;
     }
     Ok(all)
@@ -68,7 +73,7 @@ fn dictionary(alloc: Global, names: &[Text]) -> Result<List<Option<DictionaryMem
     Ok(all)
 }
 
-/// What a program lists of its page's scope and of its names.
+/// What a program has of its page's scope and of its names.
 #[derive(Drop)]
 pub struct Listing {
     /// The names of variables.
@@ -77,30 +82,59 @@ pub struct Listing {
     pub procedures: List<Text>,
     /// The names of classes.
     pub classes: List<Text>,
+    /// The variables.
+    pub arrays: List<Option<DeclaredArray>>,
+    /// The constants.
+    pub constants: List<Constant>,
     /// Of each name of the script, which member of a Dictionary it says.
     pub dictionary: List<Option<DictionaryMember>>,
 }
 
-/// What a program lists.
-pub fn list_names(alloc: Global, page: &Declarations, names: &Names) -> Result<Listing, Memory>
+/// What a program has of its names, and of its page's scope, which it takes over.
+pub fn list_names(alloc: Global, page: Declarations, names: &Names) -> Result<Listing, Memory>
     ensures variables { IfOk result (λ listed. listed.variables
-        ≡ spec.names_in spec.is_place (declarations_seen page.now)) }
+        ≡ spec.names_in spec.is_place (declarations_seen page)) }
     ensures procedures { IfOk result (λ listed. listed.procedures
-        ≡ spec.names_in spec.is_procedure (declarations_seen page.now)) }
+        ≡ spec.names_in spec.is_procedure (declarations_seen page)) }
     ensures classes { IfOk result (λ listed. listed.classes
-        ≡ spec.names_in spec.is_class (declarations_seen page.now)) }
+        ≡ spec.names_in spec.is_class (declarations_seen page)) }
+    ensures arrays { IfOk result (λ listed. listed.arrays ≡ page.arrays) }
+    ensures constants { IfOk result (λ listed. listed.constants ≡ page.constants) }
     ensures dictionary { IfOk result (λ listed. listed.dictionary ≡ map names_spec.dictionary_member names.now) }
 {
-    let variables = names_where(alloc, Standing::Variable, page)?;
-    let procedures = names_where(alloc, Standing::Procedure, page)?;
-    let classes = names_where(alloc, Standing::Class, page)?;
-    let dictionary = dictionary(alloc, names.as_slice())?;
-    Ok(Listing {
-        variables,
-        procedures,
-        classes,
-        dictionary,
-    })
+    let Declarations {
+        names: declared,
+        meanings,
+        arrays,
+        constants,
+        ..
+    } = page;
+    let listed = listed_names(alloc, declared.into_texts(), meanings.as_slice());
+    drop(meanings);
+    match (listed, dictionary(alloc, names.as_slice())) {
+        (Ok(listed), Ok(dictionary)) => {
+            let ListedNames {
+                variables,
+                procedures,
+                classes,
+            } = listed;
+            Ok(Listing {
+                variables,
+                procedures,
+                classes,
+                arrays,
+                constants,
+                dictionary,
+            })
+        }
+        (listed, dictionary) => {
+            drop(listed);
+            drop(dictionary);
+            drop(arrays);
+            drop(constants);
+            Err(Memory)
+        }
+    }
 }
 
 /// The variables and the constants that a scope declares.

@@ -1,5 +1,5 @@
 //! The faults of a whole script, in the order of their places, and the scopes that stand inside its items.
-ghost use Rattle.std.specs.Prelude.{◌≡◌, ◌++◌, ◌∷◌, [], OnOk, IfOk, fold, map, false, true};
+ghost use Rattle.std.specs.Prelude.{◌≡◌, ◌≤◌, ◌++◌, ◌∷◌, [], OnOk, IfOk, fold, length, map, sum, false, true};
 ghost use Rattle.vb_value.specs.Outcome.{Gives};
 ghost use Rattle.vb_syntax.specs.scope.Faults as spec;
 ghost use Rattle.vb_syntax.specs.scope.Scopes as scopes_spec;
@@ -8,8 +8,9 @@ ghost use Rattle.vb_notes.specs.Bodies.{body_seen};
 ghost use Rattle.vb_names.specs.Checking.{Finds, so_far};
 ghost use Rattle.vb_names.specs.Declarations.{declarations_seen, scopes_seen};
 ghost use Rattle.vb_scope.specs.Inside.{member_scope, scopes_inside};
+ghost use Rattle.vb_scope.specs.Parts.{parts_by};
 
-use crate::noting::{notes_of_body, notes_of_item, notes_of_member, notes_of_members};
+use crate::noting::{ItemNotes, notes_of_body, notes_of_member, notes_of_members};
 use std::alloc::Global;
 use vb_names::{Declarations, DeclaredNames, Names, Scopes, body_scope, check_notes, declared};
 use vb_notes::{Body, body_of, body_of_property};
@@ -296,20 +297,18 @@ fn check_said_on_page(
     declared: &mut DeclaredNames,
     alloc: Global,
     page: &Declarations,
-    item: &Item,
+    notes: &[Note],
 ) -> Result<(), ScopeStop>
     ensures faults { Finds result (spec.notes_faults (scopes_spec.on_page_in (declarations_seen page.now))
-        (so_far names.old declared.old) (units.item_notes item.now)) }
+        (so_far names.old declared.old) notes.entry.now) }
     ensures after { OnOk result (so_far names.new declared.new
-        ≡ spec.after_notes (so_far names.old declared.old) (units.item_notes item.now)) }
+        ≡ spec.after_notes (so_far names.old declared.old) notes.entry.now) }
 {
-    let notes = notes_of_item(alloc, item)?;
     let nothing = Declarations::new(alloc);
     let (class, body) = (&nothing, &nothing);
     let scopes = Scopes { page, class, body };
-    let checked = check_notes(names, declared, scopes, notes.as_slice());
+    let checked = check_notes(names, declared, scopes, notes);
     drop(nothing);
-    drop(notes);
     checked
 }
 
@@ -321,7 +320,9 @@ fn check_item(
     explicit: bool,
     page: &Declarations,
     item: &Item,
+    notes: &[Note],
 ) -> Result<List<Declarations>, ScopeStop>
+    requires { notes.now ≡ units.item_notes item.now }
     ensures faults { Finds result (spec.item_faults explicit (declarations_seen page.now)
         (so_far names.old declared.old) item.now) }
     ensures after { OnOk result (so_far names.new declared.new
@@ -329,12 +330,12 @@ fn check_item(
     ensures scopes { IfOk result (λ all. map declarations_seen all
         ≡ scopes_inside explicit (declarations_seen page.now) item.now) }
 {
-    check_said_on_page(names, declared, alloc, page, item)?;
+    check_said_on_page(names, declared, alloc, page, notes)?;
     check_inside(names, alloc, explicit, page, item)
 }
 
-/// Checks items, each with what stands inside it, up to the first fault, and gives the scopes inside each. After a fault,
-/// or out of memory, `names` and `declared` have some of the names.
+/// Checks items, each with what stands inside it, up to the first fault, and gives the scopes inside each. `noted` is
+/// what they say. After a fault, or out of memory, `names` and `declared` have some of the names.
 pub fn check_items(
     names: &mut Names,
     declared: &mut DeclaredNames,
@@ -342,7 +343,10 @@ pub fn check_items(
     explicit: bool,
     page: &Declarations,
     mut items: &[Item],
+    noted: &ItemNotes,
 ) -> Result<List<List<Declarations>>, ScopeStop>
+    requires parts { parts_by noted.now.counts noted.now.notes ≡ map units.item_notes items.now }
+    requires within { sum noted.now.counts ≤ length noted.now.notes }
     ensures faults { Finds result (spec.items_faults explicit (declarations_seen page.now)
         (so_far names.old declared.old) items.entry.now) }
     ensures after { OnOk result (so_far names.new declared.new
@@ -351,10 +355,18 @@ pub fn check_items(
         ≡ map (scopes_inside explicit (declarations_seen page.now)) items.entry.now) }
 {
     let mut all = List::with_capacity(alloc, items.len())?;
+    let mut notes = noted.notes.as_slice();
+    let mut counts = noted.counts.as_slice();
     while let [item, rest @ ..] = items {
-        let scopes = check_item(names, declared, alloc, explicit, page, item)?;
+        let [count, later @ ..] = counts else {
+            unreachable!();
+        };
+        let (own, behind) = notes.split_at(*count);
+        let scopes = check_item(names, declared, alloc, explicit, page, item, own)?;
         all.push(scopes)?;
         items = rest;
+        notes = behind;
+        counts = later;
     }
     Ok(all)
 }

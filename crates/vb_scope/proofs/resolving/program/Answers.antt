@@ -33,13 +33,14 @@ made c =
     let items : c.as_slice.result.now ≡ unit.items = c.as_slice.ensures in
     let listed = c.in-Ok-Ok.listed in
     parts_are unit page names c.in-Ok-Ok.trees.body c.in-Ok-Ok.trees.procedures c.in-Ok-Ok.trees.classes names
-    listed.variables listed.procedures listed.classes listed.dictionary c.unit_of.result c.requires.page c.requires.names (
+    listed.variables listed.procedures listed.classes listed.arrays listed.constants listed.dictionary c.unit_of.result
+    c.requires.page c.requires.names (
       body ∙ ap (λ (all : List Item). flat_map (own_statement page names) all) items,
       procedures ∙ ap (λ (all : List Item). map (procedure_of explicit page names) (procedures_of all)) items,
       classes ∙ ap (λ (all : List Item). map (class_of explicit page names) (classes_of all)) items,
     )
-    (c.in-Ok-Ok.ensures.variables, c.in-Ok-Ok.ensures.procedures, c.in-Ok-Ok.ensures.classes) refl
-    c.in-Ok-Ok.ensures.dictionary c.unit_of.ensures
+    (c.in-Ok-Ok.ensures.variables, c.in-Ok-Ok.ensures.procedures, c.in-Ok-Ok.ensures.classes)
+    c.in-Ok-Ok.ensures.arrays c.in-Ok-Ok.ensures.constants refl c.in-Ok-Ok.ensures.dictionary c.unit_of.ensures
 
 pub returns-in-Ok-Ok : goal.returns-in-Ok-Ok
 returns-in-Ok-Ok c = made (goal.at.returns-in-Ok-Ok c).After-unit_of

@@ -21,5 +21,5 @@ only_memory result script program (Fault kind line) resolves finds =
 only_memory result script program Memory resolves finds = λ some. absurd (some refl)
 
 pub returns-in-Err-clause-only : goal.returns-in-Err-clause-only
-returns-in-Err-clause-only c = λ program resolves. only_memory c.check_unit.result c.args.unit.now program
+returns-in-Err-clause-only c = λ program resolves. only_memory c.check_script.result c.args.unit.now program
     c.in-Err.stop resolves c.in-Err.ensures.faults
