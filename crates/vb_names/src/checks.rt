@@ -44,6 +44,18 @@ impl DeclaredNames {
             sets: Names::new(alloc),
         }
     }
+
+    /// No names, with room for `count` of them that are no properties'.
+    pub fn with_capacity(alloc: Global, count: usize) -> Result<DeclaredNames, Memory>
+        ensures { IfOk result (λ declared. declared_seen declared ≡ (spec.fresh []).declared) }
+    {
+        Ok(DeclaredNames {
+            others: Names::with_capacity(alloc, count)?,
+            gets: Names::new(alloc),
+            lets: Names::new(alloc),
+            sets: Names::new(alloc),
+        })
+    }
 }
 
 /// A fault in a line.

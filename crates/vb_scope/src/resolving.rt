@@ -43,7 +43,7 @@ fn check_unit(
         ≡ map (scopes_inside unit.now.option_explicit (declarations_seen page.now)) unit.now.items) }
 {
     let mut names = Names::with_capacity(alloc, page.names.len())?;
-    let mut declared = DeclaredNames::new(alloc);
+    let mut declared = DeclaredNames::with_capacity(alloc, page.names.len())?;
     let (explicit, items) = (unit.option_explicit, unit.items.as_slice());
     let inside = check_items(
         &mut names,
