@@ -1,7 +1,9 @@
 -- What a page says makes a sound draft, whatever its calls are.
-use Rattle.std.proofs.Common.{◌≡◌, ℕ, suc, zero, ◌+◌, ◌<◌, Bool, true, false, List, [], ◌∷◌, ◌++◌, length, refl, sym, ap, ◌∙◌, subst}
+use Rattle.std.proofs.Common.{◌≡◌, ℕ, suc, zero, ◌+◌, ◌<◌, Bool, true, false, List, [], ◌∷◌, ◌++◌, length, refl, sym}
+use Rattle.std.proofs.Common.{ap, ◌∙◌, subst}
 use Rattle.std.proofs.Common.{Option, Some, None, Result, Ok, Err, option_map, take, arith}
-use Rattle.std.specs.Prelude.{IfSome, ◌==◌, ◌&&◌, ◌||◌, not, nat_lt, cond, codes, encode_utf8_all, is_some, slice_index_or}
+use Rattle.std.specs.Prelude.{IfSome, ◌==◌, ◌&&◌, ◌||◌, not, nat_lt, cond, codes, encode_utf8_all, is_some}
+use Rattle.std.specs.Prelude.{slice_index_or}
 use Rattle.std.specs.Char.{is_ascii_alphanumeric}
 use Rattle.std.specs.List.{All, list_all, list_any}
 use Rattle.std.proofs.lemmas.Bool.{cond_both}
@@ -13,14 +15,17 @@ use Rattle.asp_response.specs.declared.cookie.CookiePart.{CookiePart}
 use Rattle.asp_response.specs.declared.cookie.CookiePart.TheVariants as part
 use Rattle.asp_response.specs.declared.draft.Draft.{Draft}
 use Rattle.asp_response.specs.declared.status.Status.{Status}
-use Rattle.asp_response.specs.Calls.{DraftCall, Write, Clear, Flush, Buffer, Status as SetStatus, ContentType, Charset, Cache}
+use Rattle.asp_response.specs.Calls.{DraftCall, Write, Clear, Flush, Buffer, Status as SetStatus, ContentType}
+use Rattle.asp_response.specs.Calls.{Charset, Cache}
 use Rattle.asp_response.specs.Calls.{Field, Cookie as SetCookie, Part, Redirect, after, said_by, where_done}
 use Rattle.asp_response.specs.Cookies.{new_cookie, place_of, put_at, with_cookie, with_part, with_value}
 use Rattle.asp_response.specs.Draft.{Done, fits_part, fixed, head_answer, redirected, settled, write_answer, written}
 use Rattle.asp_response.specs.Draft.{with_cookie_text, with_cookie_part, with_header}
-use Rattle.asp_response.specs.Head.{code_in, is_printable, is_reserved, is_token, is_token_character, is_value, status_in}
+use Rattle.asp_response.specs.Head.{code_in, is_printable, is_reserved, is_token, is_token_character, is_value}
+use Rattle.asp_response.specs.Head.{status_in}
 use Rattle.asp_response.specs.Sound.{ArePrintable, IsGraphic, IsPrintable, IsSoundHeader}
-use Rattle.asp_response.proofs.Printable.{character_graphic, left_true, nothing_printable, one_more, printable_of, right_true, utf8_printable}
+use Rattle.asp_response.proofs.Printable.{character_graphic, left_true, nothing_printable, one_more, printable_of}
+use Rattle.asp_response.proofs.Printable.{right_true, utf8_printable}
 
 -- a cookie whose path and domain are printable; the other parts are written as a URL has them
 pub record SoundCookie (cookie : Cookie) : Type 0 where
@@ -70,7 +75,8 @@ token_printable name met =
 
 -- the reason beside a code, where there is one
 reason_beside : (code : Option ℕ) (reason : List ℕ) → IsPrintable reason
-    → IfSome (option_map (λ number. record { code = number; reason = reason }) code) (λ (status : Status). IsPrintable status.reason)
+    → IfSome (option_map (λ number. record { code = number; reason = reason }) code)
+    (λ (status : Status). IsPrintable status.reason)
 reason_beside None reason printable = tt
 reason_beside (Some number) reason printable = printable
 
@@ -160,9 +166,11 @@ written_sound text draft sound =
     (λ off. with_body draft more.body (length more.body) true draft.buffer sound))
 
 after_sound : (call : DraftCall) (draft : Draft) → SoundDraft draft → SoundDraft (after call draft)
-after_sound (Write text) draft sound = either (write_answer text draft) (written text draft) draft (written_sound text draft sound) sound
+after_sound (Write text) draft sound = either (write_answer text draft) (written text draft) draft
+    (written_sound text draft sound) sound
 after_sound Clear draft sound =
-    cond_both (is_some draft.location) draft (record draft { body = take draft.flushed draft.body }) SoundDraft (λ has. sound)
+    cond_both (is_some draft.location) draft (record draft { body = take draft.flushed draft.body }) SoundDraft
+    (λ has. sound)
     (λ none. with_body draft (take draft.flushed draft.body) draft.flushed draft.sent draft.buffer sound)
 after_sound Flush draft sound =
     cond_both (is_some draft.location) draft (fixed draft) SoundDraft (λ has. sound)
@@ -213,9 +221,11 @@ after_sound (Field name text) draft sound =
       cache = sound.cache;
       location = sound.location;
       cookies = sound.cookies;
-      added = All-append IsSoundHeader draft.added (record { name = name; value = encode_utf8_all text } ∷ []) sound.added
+      added = All-append IsSoundHeader draft.added (record { name = name; value = encode_utf8_all text } ∷ [])
+          sound.added
           (All-cons IsSoundHeader (record { name = name; value = encode_utf8_all text }) [] record {
-            name = token_printable name (left_true (is_token name) (not (is_reserved name)) (left_true named (is_value text) fits));
+            name = token_printable name
+                (left_true (is_token name) (not (is_reserved name)) (left_true named (is_value text) fits));
             value = utf8_printable (printable_of text (right_true named (is_value text) fits));
           } (All-nil IsSoundHeader));
     }) sound

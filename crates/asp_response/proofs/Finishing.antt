@@ -13,13 +13,16 @@ use Rattle.asp_response.specs.declared.cookie.CookieValue.TheVariants.{Whole, Pa
 use Rattle.asp_response.specs.declared.draft.Draft.{Draft}
 use Rattle.asp_response.specs.declared.fixed.Unavailable.{Unavailable}
 use Rattle.asp_response.specs.declared.status.Status.{Status}
-use Rattle.asp_response.specs.Finish.{cookie_header, cookie_text, charset_text, domain_text, finished, header, headers_of}
+use Rattle.asp_response.specs.Finish.{cookie_header, cookie_text, charset_text, domain_text, finished, header}
+use Rattle.asp_response.specs.Finish.{headers_of}
 use Rattle.asp_response.specs.Finish.{location_headers, next_pair, pair_text, pairs_text, reason_of, secure_text}
 use Rattle.asp_response.specs.Finish.{session_headers, session_text, status_of, type_text, value_text}
-use Rattle.asp_response.specs.Fixed.{allowed, not_allowed_headers, not_allowed_of, plain_header, status_answer_of, unavailable_of}
+use Rattle.asp_response.specs.Fixed.{allowed, not_allowed_headers, not_allowed_of, plain_header, status_answer_of}
+use Rattle.asp_response.specs.Fixed.{unavailable_of}
 use Rattle.asp_response.specs.Sound.{ArePrintable, IsPrintable, IsSound, IsSoundHeader}
 use Rattle.asp_response.proofs.Drafts.{SoundCookie, SoundDraft}
-use Rattle.asp_response.proofs.Printable.{both_printable, nothing_printable, printable_of, url_printable, utf8_printable}
+use Rattle.asp_response.proofs.Printable.{both_printable, nothing_printable, printable_of, url_printable}
+use Rattle.asp_response.proofs.Printable.{utf8_printable}
 use Rattle.asp_response.proofs.Reasons.{reason_printable}
 
 -- fields that are sound
@@ -84,7 +87,8 @@ charset_printable : (charset : List ℕ) → IsPrintable charset → IsPrintable
 charset_printable [] printable = nothing_printable
 charset_printable (first ∷ charset) printable = both_printable (printable_of (codes "; Charset=") refl) printable
 
-said_or : (said : Option (List ℕ)) (other : List ℕ) → ArePrintable said → IsPrintable other → IsPrintable (unwrap_or said other)
+said_or : (said : Option (List ℕ)) (other : List ℕ) → ArePrintable said → IsPrintable other
+    → IsPrintable (unwrap_or said other)
 said_or None other printable stands = stands
 said_or (Some text) other printable stands = printable
 
@@ -103,20 +107,23 @@ headers_sound : (draft : Draft) (letters : Option (List ℕ)) → SoundDraft dra
     → AreSound (headers_of draft letters)
 unfolding headers_of
 headers_sound draft letters sound printable =
-    let said = both_printable (said_or draft.content_type (codes "text/html") sound.content_type (printable_of (codes "text/html") refl))
+    let said = both_printable
+    (said_or draft.content_type (codes "text/html") sound.content_type (printable_of (codes "text/html") refl))
     (charset_printable (unwrap_or draft.charset (codes "utf-8"))
     (said_or draft.charset (codes "utf-8") sound.charset (printable_of (codes "utf-8") refl))) in
     let type_sound : AreSound (header (codes "Content-Type") (type_text draft) ∷ []) =
     one_sound (codes "Content-Type") (type_text draft) (printable_of (codes "Content-Type") refl) said in
     let cookies_sound : AreSound (map cookie_header draft.cookies) = record {
       each = All-map IsSoundHeader cookie_header draft.cookies
-          (All-weaker SoundCookie (λ cookie. IsSoundHeader (cookie_header cookie)) cookie_sound draft.cookies sound.cookies);
+          (All-weaker SoundCookie (λ cookie. IsSoundHeader (cookie_header cookie)) cookie_sound draft.cookies
+          sound.cookies);
     } in
     let added_sound : AreSound draft.added = record { each = sound.added } in
     let cache_sound = one_sound (codes "Cache-control") (unwrap_or draft.cache (codes "private"))
     (printable_of (codes "Cache-control") refl)
     (said_or draft.cache (codes "private") sound.cache (printable_of (codes "private") refl)) in
-    both_sound (both_sound (both_sound (both_sound (both_sound type_sound (location_sound draft.location sound.location))
+    both_sound (both_sound
+    (both_sound (both_sound (both_sound type_sound (location_sound draft.location sound.location))
     (session_sound letters printable)) cookies_sound) added_sound) cache_sound
 
 status_sound : (set : Option Status) (failed : Bool) → IfSome set (λ status. IsPrintable status.reason)
@@ -142,8 +149,10 @@ pub status_answer_sound : (status : ℕ) (head_only close : Bool) → IsSound (s
 status_answer_sound status head_only close = record { reason = reason_printable status; headers = plain_sound.each }
 
 allow_sound : (page : Bool) → AreSound (header (codes "Allow") (allowed page) ∷ [])
-allow_sound true = one_sound (codes "Allow") (allowed true) (printable_of (codes "Allow") refl) (printable_of (codes "GET, HEAD, POST") refl)
-allow_sound false = one_sound (codes "Allow") (allowed false) (printable_of (codes "Allow") refl) (printable_of (codes "GET, HEAD") refl)
+allow_sound true = one_sound (codes "Allow") (allowed true) (printable_of (codes "Allow") refl)
+    (printable_of (codes "GET, HEAD, POST") refl)
+allow_sound false = one_sound (codes "Allow") (allowed false) (printable_of (codes "Allow") refl)
+    (printable_of (codes "GET, HEAD") refl)
 
 pub not_allowed_sound : (page head_only close : Bool) → IsSound (not_allowed_of page head_only close)
 not_allowed_sound page head_only close = record {

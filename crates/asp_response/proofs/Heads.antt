@@ -1,12 +1,14 @@
 -- The heads of sound answers are whole lines.
-use Rattle.std.proofs.Common.{◌≡◌, ℕ, ◌+◌, ◌<◌, Bool, true, false, List, [], ◌∷◌, ◌++◌, length, refl, arith, length-append, subst, sym}
+use Rattle.std.proofs.Common.{◌≡◌, ℕ, ◌+◌, ◌<◌, Bool, true, false, List, [], ◌∷◌, ◌++◌, length, refl, arith}
+use Rattle.std.proofs.Common.{length-append, subst, sym}
 use Rattle.std.specs.Prelude.{codes, encode_utf8_all, map}
 use Rattle.std.specs.Fmt.{decimal}
 use Rattle.std.specs.List.{All, flat_map}
 use Rattle.std.proofs.lemmas.List.Elements.{All-nil, All-cons, All-append, All-map, All-weaker}
 use Rattle.asp_job.specs.declared.answer.Answer.{Answer}
 use Rattle.asp_job.specs.declared.request.Header.{Header}
-use Rattle.asp_response.specs.AnswerText.{IsAnswerText, answer_text, close_lines, content, field, field_of, head_lines, line, status_line}
+use Rattle.asp_response.specs.AnswerText.{IsAnswerText, answer_text, close_lines, content, field, field_of}
+use Rattle.asp_response.specs.AnswerText.{head_lines, line, status_line}
 use Rattle.asp_response.specs.Sound.{HasWholeLines, IsHeadLine, IsPrintable, IsSound, IsSoundHeader}
 use Rattle.asp_response.proofs.Dates.{date_printable}
 use Rattle.asp_response.proofs.Printable.{both_printable, decimal_printable, printable_of, utf8_printable}
@@ -18,7 +20,8 @@ field_whole name value named valued = record {
 }
 
 header_whole : (header : Header) → IsSoundHeader header → IsHeadLine (field_of header)
-header_whole header sound = field_whole (encode_utf8_all header.name) header.value (utf8_printable sound.name) sound.value
+header_whole header sound = field_whole (encode_utf8_all header.name) header.value (utf8_printable sound.name)
+    sound.value
 
 status_whole : (answer : Answer) → IsSound answer → IsHeadLine (status_line answer)
 status_whole answer sound = record {
@@ -29,11 +32,13 @@ status_whole answer sound = record {
 
 close_whole : (close : Bool) (answer : Answer) → answer.close ≡ close → All IsHeadLine (close_lines answer)
 close_whole true answer is = rw is (All-cons IsHeadLine (field (codes "Connection") (codes "close")) []
-    (field_whole (codes "Connection") (codes "close") (printable_of (codes "Connection") refl) (printable_of (codes "close") refl))
+    (field_whole (codes "Connection") (codes "close") (printable_of (codes "Connection") refl)
+    (printable_of (codes "close") refl))
     (All-nil IsHeadLine))
 close_whole false answer is = rw is (All-nil IsHeadLine)
 
-lines_whole : (answer : Answer) (date : List ℕ) → IsSound answer → IsPrintable date → All IsHeadLine (head_lines answer date)
+lines_whole : (answer : Answer) (date : List ℕ) → IsSound answer → IsPrintable date
+    → All IsHeadLine (head_lines answer date)
 lines_whole answer date sound printable =
     let length_line = field (codes "Content-Length") (decimal (length answer.body)) in
     let length_whole : IsHeadLine length_line =

@@ -1,5 +1,6 @@
 -- Texts that are encoded a character or a byte at a time.
-use Rattle.std.proofs.Common.{◌≡◌, ℕ, ◌+◌, ◌<◌, ◌^◌, ◌/◌, ◌%◌, List, [], ◌∷◌, ◌++◌, length, take, get_or, refl, sym, ap, ◌∙◌, append-nil, arith, IsAscii, All, map, ◌≢◌, ltb}
+use Rattle.std.proofs.Common.{◌≡◌, ℕ, ◌+◌, ◌<◌, ◌^◌, ◌/◌, ◌%◌, List, [], ◌∷◌, ◌++◌, length, take, get_or, refl, sym}
+use Rattle.std.proofs.Common.{ap, ◌∙◌, append-nil, arith, IsAscii, All, map, ◌≢◌, ltb}
 use Rattle.std.specs.Prelude.{◌==◌, cond}
 use Rattle.std.specs.List.{flat_map}
 use Rattle.std.specs.Fmt.{decimal}
@@ -15,7 +16,8 @@ use Rattle.std.proofs.lemmas.Fmt.{IsAscii-decimal}
 use Rattle.std.proofs.lemmas.Str.{chars-IsAscii}
 use Rattle.std.proofs.lemmas.Str.Ascii.{IsAscii-from_all}
 use Rattle.percent_encoding.specs.Percent.{percent_encode_byte, percent_decode}
-use Rattle.percent_encoding.proofs.PercentLemmas.{IsEscapeByte, All-percent_encode_byte, percent_decode-nil, percent_decode_not_percent, percent_decode-percent_encode_byte}
+use Rattle.percent_encoding.proofs.PercentLemmas.{IsEscapeByte, All-percent_encode_byte, percent_decode-nil}
+use Rattle.percent_encoding.proofs.PercentLemmas.{percent_decode_not_percent, percent_decode-percent_encode_byte}
 use Rattle.asp_text.specs.Html.{html_character, html_encoded}
 use Rattle.asp_text.specs.Laws.{IsText, IsUrlCharacter, plus_to_space, IsUrlOf}
 use Rattle.asp_text.specs.Url.{url_byte, url_bytes, url_encoded}
@@ -48,10 +50,12 @@ escape_character c is = (grind arith, grind (arith, nat_tests))
 url_character : (b : ℕ) → All IsUrlCharacter (url_byte b)
 url_character b =
     cond_both (is_ascii_alphanumeric b) (b ∷ []) (cond (b == 32) (43 ∷ []) (percent_encode_byte b)) (All IsUrlCharacter)
-    (λ letter. All-cons IsUrlCharacter b [] (grind (arith, nat_tests), grind (arith, nat_tests)) (All-nil IsUrlCharacter))
+    (λ letter. All-cons IsUrlCharacter b [] (grind (arith, nat_tests), grind (arith, nat_tests))
+    (All-nil IsUrlCharacter))
     (λ other. cond_both (b == 32) (43 ∷ []) (percent_encode_byte b) (All IsUrlCharacter)
     (λ space. All-cons IsUrlCharacter 43 [] (omega arith, refl) (All-nil IsUrlCharacter))
-    (λ byte. All-weaker IsEscapeByte IsUrlCharacter escape_character (percent_encode_byte b) (All-percent_encode_byte b)))
+    (λ byte. All-weaker IsEscapeByte IsUrlCharacter escape_character (percent_encode_byte b)
+    (All-percent_encode_byte b)))
 
 pub url_clean : (bytes : List ℕ) → All IsUrlCharacter (url_bytes bytes)
 unfolding url_bytes
@@ -60,7 +64,8 @@ url_clean (b ∷ bytes) = All-append IsUrlCharacter (url_byte b) (url_bytes byte
 
 url_ascii : (bytes : List ℕ) → IsAscii (url_bytes bytes)
 url_ascii bytes =
-    IsAscii-from_all (url_bytes bytes) (All-weaker IsUrlCharacter (λ c. c < 128) (λ c is. is.0) (url_bytes bytes) (url_clean bytes))
+    IsAscii-from_all (url_bytes bytes)
+    (All-weaker IsUrlCharacter (λ c. c < 128) (λ c is. is.0) (url_bytes bytes) (url_clean bytes))
 
 -- the characters of what was encoded
 pub url_characters : (bytes text encoded : List ℕ) → bytes ≡ encode_utf8_all text → encoded ≡ url_bytes bytes
@@ -79,18 +84,23 @@ no_plus (c ∷ cs) none =
 read_byte : (b : ℕ) (rest : List ℕ) → b < 256
     → percent_decode (map plus_to_space (url_byte b ++ rest)) ≡ b ∷ percent_decode (map plus_to_space rest)
 read_byte b rest small =
-    let Reads : List ℕ → Type 0 = λ cs. percent_decode (map plus_to_space (cs ++ rest)) ≡ b ∷ percent_decode (map plus_to_space rest) in
+    let Reads : List ℕ → Type 0 = λ cs. percent_decode (map plus_to_space (cs ++ rest))
+    ≡ b ∷ percent_decode (map plus_to_space rest) in
     cond_both (is_ascii_alphanumeric b) (b ∷ []) (cond (b == 32) (43 ∷ []) (percent_encode_byte b)) Reads
     (λ letter.
     let kept : plus_to_space b ≡ b = grind (arith, nat_tests) in
-    ap (λ c. percent_decode (c ∷ map plus_to_space rest)) kept ∙ percent_decode_not_percent b (map plus_to_space rest) (λ percent. grind (arith, nat_tests)))
+    ap (λ c. percent_decode (c ∷ map plus_to_space rest)) kept
+    ∙ percent_decode_not_percent b (map plus_to_space rest) (λ percent. grind (arith, nat_tests)))
     (λ other. cond_both (b == 32) (43 ∷ []) (percent_encode_byte b) Reads
     (λ space.
     let is : b ≡ 32 = grind (arith, nat_tests) in
-    percent_decode_not_percent 32 (map plus_to_space rest) (λ percent. omega arith) ∙ ap (λ c. c ∷ percent_decode (map plus_to_space rest)) (sym is))
+    percent_decode_not_percent 32 (map plus_to_space rest) (λ percent. omega arith)
+    ∙ ap (λ c. c ∷ percent_decode (map plus_to_space rest)) (sym is))
     (λ byte.
-    let none = All-weaker IsEscapeByte (λ c. c ≢ 43) (λ c is plus. grind arith) (percent_encode_byte b) (All-percent_encode_byte b) in
-    ap percent_decode (map-append plus_to_space (percent_encode_byte b) rest ∙ ap (λ l. l ++ map plus_to_space rest) (no_plus (percent_encode_byte b) none))
+    let none = All-weaker IsEscapeByte (λ c. c ≢ 43) (λ c is plus. grind arith) (percent_encode_byte b)
+    (All-percent_encode_byte b) in
+    ap percent_decode (map-append plus_to_space (percent_encode_byte b) rest
+    ∙ ap (λ l. l ++ map plus_to_space rest) (no_plus (percent_encode_byte b) none))
     ∙ percent_decode-percent_encode_byte b (map plus_to_space rest) small))
 
 read_bytes : (bytes : List ℕ) → All (λ b. b < 256) bytes → percent_decode (map plus_to_space (url_bytes bytes)) ≡ bytes
@@ -115,9 +125,12 @@ small_code c small =
     (λ _. cond_both (ltb c 2048) ((192 + c / 64) ∷ last ∷ []) _ (All P)
     (λ two. let low : c < 2048 = grind (arith, nat_tests) in small_two (192 + c / 64) last (omega arith) (omega arith))
     (λ _. cond_both (ltb c 65536) ((224 + c / 4096) ∷ before ∷ last ∷ []) _ (All P)
-    (λ three. let low : c < 65536 = grind (arith, nat_tests) in All-cons P (224 + c / 4096) (before ∷ last ∷ []) (omega arith) (small_two before last (omega arith) (omega arith)))
+    (λ three. let low : c < 65536 = grind (arith, nat_tests) in
+    All-cons P (224 + c / 4096) (before ∷ last ∷ []) (omega arith)
+    (small_two before last (omega arith) (omega arith)))
     (λ _. All-cons P (240 + c / 262144) ((128 + c / 4096 % 64) ∷ before ∷ last ∷ []) (omega arith)
-    (All-cons P (128 + c / 4096 % 64) (before ∷ last ∷ []) (omega arith) (small_two before last (omega arith) (omega arith))))))
+    (All-cons P (128 + c / 4096 % 64) (before ∷ last ∷ []) (omega arith)
+    (small_two before last (omega arith) (omega arith))))))
 
 small_codes : (text : List ℕ) → IsText text → All (λ b. b < 256) (encode_utf8_all text)
 small_codes [] is = All-nil (λ b. b < 256)

@@ -1,5 +1,6 @@
 -- The HTML of a text is clean, and is read as the text.
-use Rattle.std.proofs.Common.{◌≡◌, ℕ, suc, ◌+◌, ◌<◌, ◌≤◌, List, [], ◌∷◌, ◌++◌, take, drop, refl, sym, ap, ◌∙◌, arith, All, true, false, cond, append_assoc}
+use Rattle.std.proofs.Common.{◌≡◌, ℕ, suc, ◌+◌, ◌<◌, ◌≤◌, List, [], ◌∷◌, ◌++◌, take, drop, refl, sym, ap, ◌∙◌, arith}
+use Rattle.std.proofs.Common.{All, true, false, cond, append_assoc}
 use Rattle.std.specs.Prelude.{Bool, ◌==◌, ◌&&◌, nat_lt, codes, not}
 use Rattle.std.specs.List.{flat_map, list_all, slice_split, onto_first, before_first, after_first, position_or_len}
 use Rattle.std.specs.Fmt.{decimal}
@@ -31,12 +32,15 @@ semicolon_cut [] part inner = (refl, refl)
 semicolon_cut (c ∷ name) part inner =
     let parts = both_true (is_inner c) (list_all is_inner name) inner in
     let test = (both_true (not (is_semicolon c)) (not (is_ampersand c)) parts.0).0 in
-    let place : position_or_len is_semicolon (c ∷ (name ++ 59 ∷ part)) ≡ 1 + position_or_len is_semicolon (name ++ 59 ∷ part) =
+    let place : position_or_len is_semicolon (c ∷ (name ++ 59 ∷ part))
+    ≡ 1 + position_or_len is_semicolon (name ++ 59 ∷ part) =
     ap (λ t. cond t (1 + position_or_len is_semicolon (name ++ 59 ∷ part)) 0) test in
     let later = semicolon_cut name part parts.1 in
     let n = position_or_len is_semicolon (name ++ 59 ∷ part) in (
-      ap (λ k. take k (c ∷ (name ++ 59 ∷ part))) (place ∙ (let e : 1 + n ≡ suc n = omega arith in e)) ∙ ap (λ l. c ∷ l) later.0,
-      ap (λ k. drop (k + 1) (c ∷ (name ++ 59 ∷ part))) place ∙ ap (λ k. drop k (c ∷ (name ++ 59 ∷ part))) (let e : 1 + n + 1 ≡ suc (n + 1) = omega arith in e) ∙ later.1,
+      ap (λ k. take k (c ∷ (name ++ 59 ∷ part))) (place ∙ (let e : 1 + n ≡ suc n = omega arith in e))
+          ∙ ap (λ l. c ∷ l) later.0,
+      ap (λ k. drop (k + 1) (c ∷ (name ++ 59 ∷ part))) place
+          ∙ ap (λ k. drop k (c ∷ (name ++ 59 ∷ part))) (let e : 1 + n + 1 ≡ suc (n + 1) = omega arith in e) ∙ later.1,
     )
 
 -- ---- where the next one begins
@@ -54,7 +58,11 @@ split_text : (text : List ℕ) → Split text
 split_text [] = record { part = []; parts = []; is = refl }
 split_text (c ∷ text) =
     by_cases (λ t. is_ampersand c ≡ t → Split (c ∷ text)) (is_ampersand c)
-    (λ _ e. record { part = []; parts = slice_split is_ampersand text; is = slice_split-cons_yes is_ampersand c text e })
+    (λ _ e. record {
+      part = [];
+      parts = slice_split is_ampersand text;
+      is = slice_split-cons_yes is_ampersand c text e;
+    })
     (λ _ e. onto c (c ∷ text) (slice_split is_ampersand text) (slice_split-cons_no is_ampersand c text e)) refl
 
 -- characters before the first `&`
@@ -73,9 +81,11 @@ read_plain : (c : ℕ) (text : List ℕ) → is_ampersand c ≡ false → html_d
 unfolding html_decoded
 read_plain c text other =
     let s = split_text text in
-    ap parts_read (slice_split-cons_no is_ampersand c text other ∙ ap (onto_first c) s.is) ∙ sym (ap (λ l. c ∷ parts_read l) s.is)
+    ap parts_read (slice_split-cons_no is_ampersand c text other ∙ ap (onto_first c) s.is)
+    ∙ sym (ap (λ l. c ∷ parts_read l) s.is)
 
-inner_others : (name : List ℕ) → list_all is_inner name ≡ true → list_all (λ c. not (is_ampersand c)) (name ++ 59 ∷ []) ≡ true
+inner_others : (name : List ℕ) → list_all is_inner name ≡ true
+    → list_all (λ c. not (is_ampersand c)) (name ++ 59 ∷ []) ≡ true
 inner_others [] inner = refl
 inner_others (c ∷ name) inner =
     let parts = both_true (is_inner c) (list_all is_inner name) inner in
@@ -108,7 +118,9 @@ clean_digits : (ds : List ℕ) → AllDigits 10 ds → All IsHtmlCharacter ds
 clean_digits [] all = All-nil IsHtmlCharacter
 clean_digits (d ∷ ds) all =
     let one : (48 ≤ d) × (d ≤ 57) = (grind (arith, nat_tests, all.0), grind (arith, nat_tests, all.0)) in
-    All-cons IsHtmlCharacter d ds (omega (arith, one.1), λ e. omega (arith, one.1), λ e. omega (arith, one.1), λ e. omega (arith, one.0)) (clean_digits ds all.1)
+    All-cons IsHtmlCharacter d ds
+    (omega (arith, one.1), λ e. omega (arith, one.1), λ e. omega (arith, one.1), λ e. omega (arith, one.0))
+    (clean_digits ds all.1)
 
 read_number : (c : ℕ) (text : List ℕ) → c < 1114112 → html_decoded (numbered c ++ text) ≡ c ∷ html_decoded text
 read_number c text small =
@@ -116,7 +128,8 @@ read_number c text small =
     let name = 35 ∷ decimal c in
     let whole : numbered c ++ text ≡ 38 ∷ ((name ++ 59 ∷ []) ++ text) = refl in
     let worth : referred name ≡ c = numeral.1 in
-    ap html_decoded whole ∙ read_reference name text (inner_digits (decimal c) numeral.0.1) ∙ ap (λ x. x ∷ html_decoded text) worth
+    ap html_decoded whole ∙ read_reference name text (inner_digits (decimal c) numeral.0.1)
+    ∙ ap (λ x. x ∷ html_decoded text) worth
 
 -- ---- all characters
 
@@ -124,13 +137,17 @@ read_character : (c : ℕ) (text : List ℕ) → c < 1114112 → html_decoded (h
 read_character c text small =
     let Reads : List ℕ → Type 0 = λ code. html_decoded (code ++ text) ≡ c ∷ html_decoded text in
     cond_both (c == 60) (codes "&lt;") _ Reads
-    (λ e. read_reference (codes "lt") text refl ∙ ap (λ x. x ∷ html_decoded text) (let same : 60 ≡ c = grind (arith, nat_tests) in same))
+    (λ e. read_reference (codes "lt") text refl
+    ∙ ap (λ x. x ∷ html_decoded text) (let same : 60 ≡ c = grind (arith, nat_tests) in same))
     (λ _. cond_both (c == 62) (codes "&gt;") _ Reads
-    (λ e. read_reference (codes "gt") text refl ∙ ap (λ x. x ∷ html_decoded text) (let same : 62 ≡ c = grind (arith, nat_tests) in same))
+    (λ e. read_reference (codes "gt") text refl
+    ∙ ap (λ x. x ∷ html_decoded text) (let same : 62 ≡ c = grind (arith, nat_tests) in same))
     (λ _. cond_both (c == 38) (codes "&amp;") _ Reads
-    (λ e. read_reference (codes "amp") text refl ∙ ap (λ x. x ∷ html_decoded text) (let same : 38 ≡ c = grind (arith, nat_tests) in same))
+    (λ e. read_reference (codes "amp") text refl
+    ∙ ap (λ x. x ∷ html_decoded text) (let same : 38 ≡ c = grind (arith, nat_tests) in same))
     (λ plain. cond_both (c == 34) (codes "&quot;") _ Reads
-    (λ e. read_reference (codes "quot") text refl ∙ ap (λ x. x ∷ html_decoded text) (let same : 34 ≡ c = grind (arith, nat_tests) in same))
+    (λ e. read_reference (codes "quot") text refl
+    ∙ ap (λ x. x ∷ html_decoded text) (let same : 34 ≡ c = grind (arith, nat_tests) in same))
     (λ _. cond_both (nat_lt c 128) (c ∷ []) (numbered c) Reads
     (λ _. read_plain c text plain)
     (λ _. read_number c text small)))))
@@ -154,13 +171,19 @@ clean_test (c ∷ cs) all =
     let p = both_true (nat_lt c 128) _ parts.0 in
     let q = both_true (not (c == 60)) _ p.1 in
     let r = both_true (not (c == 62)) (not (c == 34)) q.1 in
-    All-cons IsHtmlCharacter c cs (grind (arith, nat_tests), λ e. grind (arith, nat_tests), λ e. grind (arith, nat_tests), λ e. grind (arith, nat_tests)) (clean_test cs parts.1)
+    All-cons IsHtmlCharacter c cs (
+      grind (arith, nat_tests),
+      λ e. grind (arith, nat_tests),
+      λ e. grind (arith, nat_tests),
+      λ e. grind (arith, nat_tests),
+    ) (clean_test cs parts.1)
 
 clean_number : (c : ℕ) → c < 1114112 → All IsHtmlCharacter (numbered c)
 clean_number c small =
     let numeral = decimal_is_IsNumeral c (omega arith) in
     All-append IsHtmlCharacter (codes "&#" ++ decimal c) (codes ";")
-    (All-append IsHtmlCharacter (codes "&#") (decimal c) (clean_test (codes "&#") refl) (clean_digits (decimal c) numeral.0.1))
+    (All-append IsHtmlCharacter (codes "&#") (decimal c) (clean_test (codes "&#") refl)
+    (clean_digits (decimal c) numeral.0.1))
     (clean_test (codes ";") refl)
 
 clean_character : (c : ℕ) → c < 1114112 → All IsHtmlCharacter (html_character c)
@@ -170,14 +193,20 @@ clean_character c small =
     (λ greater. cond_both (c == 38) (codes "&amp;") _ (All IsHtmlCharacter) (λ _. clean_test (codes "&amp;") refl)
     (λ _. cond_both (c == 34) (codes "&quot;") _ (All IsHtmlCharacter) (λ _. clean_test (codes "&quot;") refl)
     (λ quote. cond_both (nat_lt c 128) (c ∷ []) (numbered c) (All IsHtmlCharacter)
-    (λ ascii. All-cons IsHtmlCharacter c [] (grind (arith, nat_tests), λ e. grind (arith, nat_tests), λ e. grind (arith, nat_tests), λ e. grind (arith, nat_tests)) (All-nil IsHtmlCharacter))
+    (λ ascii. All-cons IsHtmlCharacter c [] (
+      grind (arith, nat_tests),
+      λ e. grind (arith, nat_tests),
+      λ e. grind (arith, nat_tests),
+      λ e. grind (arith, nat_tests),
+    ) (All-nil IsHtmlCharacter))
     (λ _. clean_number c small)))))
 
 clean : (text : List ℕ) → IsText text → All IsHtmlCharacter (html_encoded text)
 unfolding html_encoded
 clean [] is = All-nil IsHtmlCharacter
 clean (c ∷ text) is =
-    All-append IsHtmlCharacter (html_character c) (html_encoded text) (clean_character c (All-head (λ x. x < 1114112) c text is))
+    All-append IsHtmlCharacter (html_character c) (html_encoded text)
+    (clean_character c (All-head (λ x. x < 1114112) c text is))
     (clean text (All-tail (λ x. x < 1114112) c text is))
 
 pub html_of : (text : List ℕ) → IsText text → IsHtmlOf text (html_encoded text)

@@ -1,6 +1,7 @@
 -- The normal path that the path of a request names: percent-decoded once (RFC 3986, section 2.1), and
 -- with its segments followed from the root on (section 5.2.4). The host's own: `..` may not lead above the root.
-use Rattle.std.specs.Prelude.{ℕ, Bool, true, false, not, ◌&&◌, ◌||◌, ◌==◌, if◌then◌else◌, List, [], ◌∷◌, ◌++◌, take, length, codes, bytes_eq, Option, None, Some, Result, Ok, Err}
+use Rattle.std.specs.Prelude.{ℕ, Bool, true, false, not, ◌&&◌, ◌||◌, ◌==◌, if◌then◌else◌, List, [], ◌∷◌, ◌++◌, take}
+use Rattle.std.specs.Prelude.{length, codes, bytes_eq, Option, None, Some, Result, Ok, Err}
 use Rattle.std.specs.List.{flat_map, list_any, slice_split}
 use Rattle.std.specs.Option.{option_and_then}
 use Rattle.std.specs.Str.{chars, is_utf8}

@@ -1,5 +1,6 @@
 -- This crate's own: what its steps along a path answer.
-use Rattle.std.specs.Prelude.{◌≡◌, ◌≢◌, ◌<◌, ℕ, Bool, List, [], ◌∷◌, length, map, Option, None, Some, MatchOption, Result, Ok, Err}
+use Rattle.std.specs.Prelude.{◌≡◌, ◌≢◌, ◌<◌, ℕ, Bool, List, [], ◌∷◌, length, map, Option, None, Some, MatchOption}
+use Rattle.std.specs.Prelude.{Result, Ok, Err}
 use Rattle.std.specs.Borrow.{Bor}
 use Rattle.asp_text.specs.declared.path.PathStop.{PathStop}
 use Rattle.asp_text.specs.declared.path.PathStop.TheVariants.{Escapes, Memory}

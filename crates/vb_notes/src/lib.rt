@@ -5,6 +5,4 @@ mod body;
 mod notes;
 
 pub use body::{Body, body_of, body_of_property};
-pub use notes::{
-    call_use, note_body, note_item, note_items, note_member, note_members, steps_used,
-};
+pub use notes::{call_use, note_body, note_item, note_member, note_members, steps_used};

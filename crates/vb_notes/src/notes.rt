@@ -7,5 +7,5 @@ mod units;
 mod words;
 
 pub use expressions::steps_used;
-pub use units::{note_body, note_item, note_items, note_member, note_members};
+pub use units::{note_body, note_item, note_member, note_members};
 pub use words::call_use;

@@ -1,15 +1,13 @@
 //! Reading the conditions of loops, and texts that the grammar does not have.
-ghost use Rattle.std.specs.Prelude.{◌≡◌, true};
+ghost use Rattle.std.specs.Prelude.{true};
 ghost use Rattle.vb_syntax.specs.grammar.Units.{strict};
 ghost use Rattle.vb_read.specs.ReadExpressions.{expressions};
 ghost use Rattle.vb_read.specs.ReadStatements as spec;
 ghost use Rattle.vb_value.specs.Outcome.{Runs};
 ghost use Rattle.vb_read.specs.Reader.{stopped_at};
-ghost use Rattle.vb_read.specs.Depths.{rules};
 
 use crate::cursor::{Cursor, ReadStop};
 use crate::expression::expression;
-use crate::looser::Looser;
 use std::alloc::Global;
 use vb_syntax::{Condition, Repetition};
 use vb_value::Keyword;

@@ -1,5 +1,4 @@
 //! Colons and line ends, which end statements.
-ghost use Rattle.vb_value.specs.declared.token.Symbol.TheVariants as symbols;
 ghost use Rattle.vb_syntax.specs.grammar.Statements.{break_of};
 ghost use Rattle.vb_read.specs.Reader as reader;
 ghost use Rattle.vb_read.specs.ReadLines as spec;

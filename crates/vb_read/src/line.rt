@@ -1,6 +1,6 @@
 //! Reading the statements of one line. Each function reads what the rule of its name spells, where `depth` more
 //! constructs may open.
-ghost use Rattle.std.specs.Prelude.{◌≡◌, ◌||◌, true, false, suc};
+ghost use Rattle.std.specs.Prelude.{◌||◌, true, false, suc};
 ghost use Rattle.vb_read.specs.Reader as reader;
 ghost use Rattle.vb_read.specs.Heads.{head_of};
 ghost use Rattle.vb_read.specs.ReadExpressions.{expressions};

@@ -1,6 +1,6 @@
 //! Where a statement stands. The rules of statements that hold others take the reader of blocks as a parameter, so
 //! that each is proved by itself.
-ghost use Rattle.std.specs.Prelude.{◌≡◌, ◌<◌};
+ghost use Rattle.std.specs.Prelude.{◌<◌};
 ghost use Rattle.vb_read.specs.Heads.{head_of};
 ghost use Rattle.vb_read.specs.ReadExpressions.{list_of};
 ghost use Rattle.vb_read.specs.ReadLines.{line_if_from};

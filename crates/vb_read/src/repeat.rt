@@ -1,5 +1,5 @@
 //! Reading loops. Each method reads what the rule of its name spells.
-ghost use Rattle.std.specs.Prelude.{◌≡◌, ◌<◌};
+ghost use Rattle.std.specs.Prelude.{◌<◌};
 ghost use Rattle.vb_read.specs.ReadStatements as spec;
 ghost use Rattle.vb_read.specs.Nests.{Nests};
 ghost use Rattle.vb_value.specs.Outcome.{Runs};

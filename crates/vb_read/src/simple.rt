@@ -1,6 +1,6 @@
 //! Reading statements that hold no other. Each function reads what the rule of its name spells, where `depth`
 //! more constructs may open.
-ghost use Rattle.std.specs.Prelude.{◌≡◌, []};
+ghost use Rattle.std.specs.Prelude.{[]};
 ghost use Rattle.vb_syntax.specs.grammar.Words.{name_of};
 ghost use Rattle.vb_read.specs.Reader as reader;
 ghost use Rattle.vb_read.specs.ReadExpressions.{list_of};

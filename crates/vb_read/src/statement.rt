@@ -1,5 +1,4 @@
 //! Reading statements that hold others, and blocks.
-ghost use Rattle.std.specs.Prelude.{◌≡◌};
 ghost use Rattle.vb_read.specs.Reader as reader;
 ghost use Rattle.vb_read.specs.ReadLines.{«end»};
 ghost use Rattle.vb_read.specs.ReadStatements as spec;

@@ -1,6 +1,6 @@
 //! Words that statements ask for: quoted names, numbers, texts of the page.
 ghost use Rattle.std.specs.List.{list_all};
-ghost use Rattle.std.specs.Prelude.{◌≡◌, [], IfOk};
+ghost use Rattle.std.specs.Prelude.{◌≡◌, []};
 ghost use Rattle.vb_syntax.specs.grammar.Declarations.{number_of, number_of_kind, negative_of, negative_of_kind};
 ghost use Rattle.vb_syntax.specs.grammar.SimpleStatements.{named_at, quoted_at, text_at};
 ghost use Rattle.vb_syntax.specs.grammar.Statements.{passed, passed_kind, says_nothing};

@@ -87,16 +87,6 @@ pub fn note_item(notes: &mut Notes, item: &Item) -> Result<(), Memory>
     }
 }
 
-/// Adds what items say as parts of the page.
-pub fn note_items(notes: &mut Notes, items: &[Item]) -> Result<(), Memory>
-    ensures { Adds result notes.old notes.new (flat_map spec.item_notes items.now) }
-{
-    for item in items {
-        note_item(notes, item)?;
-    }
-    Ok(())
-}
-
 /// Adds what a member says as a part of its class.
 pub fn note_member(notes: &mut Notes, member: &ClassMember) -> Result<(), Memory>
     ensures { Adds result notes.old notes.new (spec.member_notes member.now) }
