@@ -139,25 +139,26 @@ fn unit_of(
 /// The program of a script without a fault, by its page's scope, its names, and the scopes inside each of its items.
 fn program(
     alloc: Global,
-    unit: &Unit,
+    unit: Unit,
     page: Declarations,
     checked: (Names, List<List<Declarations>>),
 ) -> Result<Program, Memory>
-    requires page { declarations_seen page ≡ scope_of_page unit.now }
-    requires names { checked.0 ≡ names_of unit.now }
+    requires page { declarations_seen page ≡ scope_of_page unit }
+    requires names { checked.0 ≡ names_of unit }
     requires inside { map (map declarations_seen) checked.1
-        ≡ map (scopes_inside unit.now.option_explicit (declarations_seen page)) unit.now.items }
-    requires faultless { faults_of unit.now ≡ [] }
-    ensures { IfOk result (λ program. parts_of program ≡ program_of unit.now) }
+        ≡ map (scopes_inside unit.option_explicit (declarations_seen page)) unit.items }
+    requires faultless { faults_of unit ≡ [] }
+    ensures { IfOk result (λ program. parts_of program ≡ program_of unit) }
 {
     let (names, inside) = checked;
+    let explicit = unit.option_explicit;
     let script = Script {
         alloc,
-        explicit: unit.option_explicit,
+        explicit,
         page: &page,
         names: &names,
     };
-    let trees = page_trees(script, unit.items.as_slice(), inside);
+    let trees = page_trees(script, unit.items, inside);
     match (trees, list_names(alloc, page, &names)) {
         (Ok(trees), Ok(listed)) => {
             let Listing {
@@ -173,7 +174,7 @@ fn program(
                 vars: variables,
                 procs: procedures,
                 classes,
-                explicit: unit.option_explicit,
+                explicit,
             })
         }
         (trees, listed) => {
@@ -185,18 +186,6 @@ fn program(
     }
 }
 
-/// The program of a script, or its first fault.
-fn resolve_unit(alloc: Global, unit: &Unit) -> Result<Program, ScopeStop>
-    ensures program { IfOk result (λ program. Resolves unit.now (parts_of program)) }
-    ensures only { (program : Parts) → Resolves unit.now program → Answers (answered result) OutOfMemory (Ok program) }
-    ensures fault { OnFault result (IsFirstFault unit.now) }
-{
-    match check_script(alloc, unit) {
-        Ok((page, checked)) => Ok(program(alloc, unit, page, checked)?),
-        Err(stop) => Err(stop),
-    }
-}
-
 /// Makes a script a program in which each name is what it stands for, or tells its first fault (VBScript 5.6 language
 /// reference, "Scope and Lifetime of Variables").
 pub fn resolve(alloc: Global, unit: Unit) -> Result<Program, ScopeStop>
@@ -204,7 +193,11 @@ pub fn resolve(alloc: Global, unit: Unit) -> Result<Program, ScopeStop>
     ensures only { (program : Parts) → Resolves unit program → Answers (answered result) OutOfMemory (Ok program) }
     ensures fault { OnFault result (IsFirstFault unit) }
 {
-    let resolved = resolve_unit(alloc, &unit);
-    drop(unit);
-    resolved
+    match check_script(alloc, &unit) {
+        Ok((page, checked)) => Ok(program(alloc, unit, page, checked)?),
+        Err(stop) => {
+            drop(unit);
+            Err(stop)
+        }
+    }
 }

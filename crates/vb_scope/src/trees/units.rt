@@ -360,20 +360,44 @@ fn push_item(
     }
 }
 
-/// The trees of a page, by the scopes inside each of its items.
+/// Adds what an item is, by the scopes inside it, and lets the item go.
+fn take_item(
+    all: &mut Trees,
+    script: Script<'_>,
+    item: Item,
+    scopes: List<Declarations>,
+) -> Result<(), Memory>
+    requires { map declarations_seen scopes
+        ≡ scopes_inside script.explicit (declarations_seen script.page.now) item }
+    ensures body { Adds result all.old.body all.new.body (spec.own_statement
+        (declarations_seen script.entry.page.now) script.entry.names.now item) }
+    ensures procedures { Adds result all.old.procedures all.new.procedures (map (spec.procedure_of
+        script.entry.explicit (declarations_seen script.entry.page.now) script.entry.names.now)
+        (units.procedure_in_item item)) }
+    ensures classes { Adds result all.old.classes all.new.classes (map (spec.class_of
+        script.entry.explicit (declarations_seen script.entry.page.now) script.entry.names.now)
+        (units.class_in_item item)) }
+{
+    let added = push_item(all, script, &item, scopes);
+    drop(item);
+    added
+}
+
+/// The trees of a page, by the scopes inside each of its items. Each item is let go once it is made one of them, so that
+/// no more than one item stands twice.
 pub fn page_trees(
     script: Script<'_>,
-    mut items: &[Item],
+    items: List<Item>,
     inside: List<List<Declarations>>,
 ) -> Result<Trees, Memory>
     requires { map (map declarations_seen) inside
-        ≡ map (scopes_inside script.explicit (declarations_seen script.page.now)) items.now }
+        ≡ map (scopes_inside script.explicit (declarations_seen script.page.now)) items }
     ensures body { IfOk result (λ trees. trees.body ≡ flat_map (spec.own_statement
-        (declarations_seen script.entry.page.now) script.entry.names.now) items.entry.now) }
+        (declarations_seen script.entry.page.now) script.entry.names.now) items) }
     ensures procedures { IfOk result (λ trees. trees.procedures ≡ map (spec.procedure_of script.entry.explicit
-        (declarations_seen script.entry.page.now) script.entry.names.now) (units.procedures_of items.entry.now)) }
+        (declarations_seen script.entry.page.now) script.entry.names.now) (units.procedures_of items)) }
     ensures classes { IfOk result (λ trees. trees.classes ≡ map (spec.class_of script.entry.explicit
-        (declarations_seen script.entry.page.now) script.entry.names.now) (units.classes_of items.entry.now)) }
+        (declarations_seen script.entry.page.now) script.entry.names.now) (units.classes_of items)) }
 {
     let mut all = Trees {
         body: List::new(script.alloc),
@@ -381,12 +405,12 @@ pub fn page_trees(
         classes: List::new(script.alloc),
     };
     let mut inside = inside.into_vec().into_iter();
-    while let [item, rest @ ..] = items {
+    let mut items = items.into_vec().into_iter();
+    while let Some(item) = items.next() {
         let Some(scopes) = inside.next() else {
             unreachable!();
         };
-        push_item(&mut all, script, item, scopes)?;
-        items = rest;
+        take_item(&mut all, script, item, scopes)?;
     }
     Ok(all)
 }

@@ -7,20 +7,20 @@ use Rattle.vb_names.specs.Declarations.{declarations_seen}
 use Rattle.vb_scope.specs.Inside.{scopes_inside}
 use Rattle.vb_scope.proofs.trees.units.page_trees.Given as goal
 
-abbrev pub invariant-loop-items : goal.invariant-loop-items
-invariant-loop-items l =
+abbrev pub invariant-loop-item : goal.invariant-loop-item
+invariant-loop-item l =
     (map (map declarations_seen) (into_iter_items l.inside)
-    ≡ map (scopes_inside l.script.explicit (declarations_seen l.script.page.now)) l.items)
-    × (l.all.body ++ flat_map (spec.own_statement (declarations_seen l.script.page.now) l.script.names.now) l.items
-    ≡ flat_map (spec.own_statement (declarations_seen l.script.page.now) l.script.names.now) l.initial.items)
+    ≡ map (scopes_inside l.script.explicit (declarations_seen l.script.page.now)) (into_iter_items l.items))
+    × (l.all.body ++ flat_map (spec.own_statement (declarations_seen l.script.page.now) l.script.names.now) (into_iter_items l.items)
+    ≡ flat_map (spec.own_statement (declarations_seen l.script.page.now) l.script.names.now) (into_iter_items l.initial.items))
     × (l.all.procedures ++ map (spec.procedure_of l.script.explicit (declarations_seen l.script.page.now)
-    l.script.names.now) (units.procedures_of l.items)
+    l.script.names.now) (units.procedures_of (into_iter_items l.items))
     ≡ map (spec.procedure_of l.script.explicit (declarations_seen l.script.page.now) l.script.names.now)
-    (units.procedures_of l.initial.items))
+    (units.procedures_of (into_iter_items l.initial.items)))
     × (l.all.classes ++ map (spec.class_of l.script.explicit (declarations_seen l.script.page.now)
-    l.script.names.now) (units.classes_of l.items)
+    l.script.names.now) (units.classes_of (into_iter_items l.items))
     ≡ map (spec.class_of l.script.explicit (declarations_seen l.script.page.now) l.script.names.now)
-    (units.classes_of l.initial.items))
+    (units.classes_of (into_iter_items l.initial.items)))
 
-abbrev pub decreases-loop-items : goal.decreases-loop-items
-decreases-loop-items l = length l.items
+abbrev pub decreases-loop-item : goal.decreases-loop-item
+decreases-loop-item l = length (into_iter_items l.items)

@@ -10,7 +10,7 @@ use Rattle.vb_syntax.specs.scope.Resolving.{Resolves}
 use Rattle.vb_names.specs.Checking.{Finds}
 use Rattle.vb_scope.specs.Answers.{answered}
 use Rattle.vb_scope.proofs.OneProgram.{program_faultless_lem}
-use Rattle.vb_scope.proofs.resolving.resolve_unit.Goals as goal
+use Rattle.vb_scope.proofs.resolving.resolve.Goals as goal
 
 -- where the check stops and the script resolves, memory has run out
 only_memory : {T : Type 0} (result : Result T (Stop ScopeFault)) (script : Script) (program : Parts)
@@ -21,5 +21,5 @@ only_memory result script program (Fault kind line) resolves finds =
 only_memory result script program Memory resolves finds = λ some. absurd (some refl)
 
 pub returns-in-Err-clause-only : goal.returns-in-Err-clause-only
-returns-in-Err-clause-only c = λ program resolves. only_memory c.check_script.result c.args.unit.now program
+returns-in-Err-clause-only c = λ program resolves. only_memory c.check_script.result c.args.unit program
     c.in-Err.stop resolves c.in-Err.ensures.faults
