@@ -1,6 +1,5 @@
 -- Whether a member of a class is a Sub of a name, as a call answers it.
-use Rattle.std.specs.Prelude.{Bool, true, false, Option, Some, None}
-use Rattle.vb_value.specs.Folding.{same_name}
+use Rattle.std.specs.Prelude.{Bool, false, Option, Some, None}
 use Rattle.vb_syntax.specs.declared.unit.ClassMember.{ClassMember}
 use Rattle.vb_syntax.specs.declared.unit.ClassMember.TheVariants as member
 use Rattle.vb_syntax.specs.scope.Names.{Name}

@@ -11,8 +11,10 @@ abbrev pub invariant-loop-item : goal.invariant-loop-item
 invariant-loop-item l =
     (map (map declarations_seen) (into_iter_items l.inside)
     ≡ map (scopes_inside l.script.explicit (declarations_seen l.script.page.now)) (into_iter_items l.items))
-    × (l.all.body ++ flat_map (spec.own_statement (declarations_seen l.script.page.now) l.script.names.now) (into_iter_items l.items)
-    ≡ flat_map (spec.own_statement (declarations_seen l.script.page.now) l.script.names.now) (into_iter_items l.initial.items))
+    × (l.all.body ++ flat_map (spec.own_statement (declarations_seen l.script.page.now) l.script.names.now)
+    (into_iter_items l.items)
+    ≡ flat_map (spec.own_statement (declarations_seen l.script.page.now) l.script.names.now)
+    (into_iter_items l.initial.items))
     × (l.all.procedures ++ map (spec.procedure_of l.script.explicit (declarations_seen l.script.page.now)
     l.script.names.now) (units.procedures_of (into_iter_items l.items))
     ≡ map (spec.procedure_of l.script.explicit (declarations_seen l.script.page.now) l.script.names.now)
