@@ -1,11 +1,10 @@
 //! Times stores, reads and release points on the data of a page. What was done goes to standard output, and the time that
 //! it took to standard error.
-#![tactic(auto)]
 
 use std::alloc::Global;
 use std::io;
 use std::io::ErrorKind;
-use std::rt::Clock;
+use std::rt::{Clock, Runtime};
 use std::time::{Duration, Instant};
 use vb_heap::{CellNo, Heap, HeapStop, Place};
 use vb_value::{List, Value, VbFault};
@@ -71,13 +70,14 @@ fn release_time<R: AllocGlobal + Clock>(rt: &R) -> io::Result<(bool, Duration)> 
     Ok((is_named, start.elapsed(rt)?))
 }
 
-fn main(rt: HostRuntime) -> io::Result<()> {
+/// Runs each trial, and tells what was done and the time that it took.
+pub fn time_pages<R: Runtime + AllocGlobal>(rt: &R) -> io::Result<()> {
     for cells in [1, 1_000, 100_000] {
-        let time = stores_time(&rt, cells)?;
+        let time = stores_time(rt, cells)?;
         println!(rt; "cells: {cells}; stores and reads: {ROUNDS}")?;
         eprintln!(rt; "{} microseconds", time.as_micros())?;
     }
-    let (is_named, time) = release_time(&rt)?;
+    let (is_named, time) = release_time(rt)?;
     println!(rt; "live objects, each in a cell: {OBJECTS}; named at a release point: {is_named}")?;
     eprintln!(rt; "{} microseconds", time.as_micros())
 }
