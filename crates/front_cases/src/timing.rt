@@ -1,15 +1,14 @@
 //! Times requests and answers. What was done goes to standard output, and the time that it took to standard error.
-#![tactic(auto)]
 
 ghost use Rattle.std.specs.Prelude.{◌≤◌, length};
 
 use asp_response::{Draft, DraftStop, answer_bytes};
 use http_front::{End, Reader, take_requests};
 use std::alloc::Global;
+use std::io;
 use std::io::ErrorKind;
 use std::rt::Runtime;
 use std::time::Instant;
-use std::{env, io};
 use vb_value::{List, Memory, Text};
 
 /// How many requests without a body are read.
@@ -127,16 +126,13 @@ fn run<R: Runtime + AllocGlobal>(rt: &R, name: &str) -> io::Result<()> {
     }
 }
 
-fn main(rt: HostRuntime) -> io::Result<()> {
-    let mut are_named = false;
-    for name in env::args(&rt)?.skip(1) {
-        are_named = true;
-        run(&rt, name.as_str())?;
+/// Runs the trials of this name, or all of them in turn for `time`.
+pub fn time<R: Runtime + AllocGlobal>(rt: &R, name: &str) -> io::Result<()> {
+    if name != "time" {
+        return run(rt, name);
     }
-    if !are_named {
-        for name in ["heads", "bodies", "quarter", "whole", "answers"] {
-            run(&rt, name)?;
-        }
+    for trial in ["heads", "bodies", "quarter", "whole", "answers"] {
+        run(rt, trial)?;
     }
     Ok(())
 }
