@@ -1,21 +1,28 @@
-//! Tries the cases of data/: scripts and pages, with their words, trees, programs and faults.
+//! Tries the cases of data/: scripts and pages, with their words, trees, programs and faults. With words on its command
+//! line it times the stages of a long script instead.
 #![tactic(auto)]
 
+mod asked;
 mod expressions;
 mod grammar;
 mod names;
 mod programs;
+mod rounds;
 mod statements;
 mod stopped;
 mod subject;
+mod timing;
 mod units;
 mod words;
 mod writing;
 
+use asked::read_words;
 use case_files::try_file;
 use std::io;
 use std::io::ErrorKind;
+use std::rt::Files;
 use subject::Scripts;
+use timing::time_stages;
 
 /// The files of cases, and what each is tried on.
 const FILES: [(&str, Scripts); 11] = [
@@ -32,10 +39,11 @@ const FILES: [(&str, Scripts); 11] = [
     ("pages.txt", Scripts::PageParts),
 ];
 
-fn main(rt: HostRuntime) -> io::Result<()> {
+/// Tries each file of cases.
+fn try_cases<R: Files + AllocGlobal + Print>(rt: &R) -> io::Result<()> {
     let mut all_passed = true;
     for (name, subject) in FILES {
-        if !try_file(&rt, name, &subject)? {
+        if !try_file(rt, name, &subject)? {
             all_passed = false;
         }
     }
@@ -43,5 +51,12 @@ fn main(rt: HostRuntime) -> io::Result<()> {
         Ok(())
     } else {
         Err(ErrorKind::InvalidData.into())
+    }
+}
+
+fn main(rt: HostRuntime) -> io::Result<()> {
+    match read_words(&rt)? {
+        Some(asked) => time_stages(&rt, &asked),
+        None => try_cases(&rt),
     }
 }

@@ -25,17 +25,17 @@ fn number(word: Option<String>) -> io::Result<u32> {
     }
 }
 
-/// Reads the words of the command line: a file, a count of copies, and a count of rounds.
-pub fn read_words<R: Env + AllocGlobal>(rt: &R) -> io::Result<Asked> {
+/// Reads the words of the command line: none, or a file, a count of copies, and a count of rounds.
+pub fn read_words<R: Env + AllocGlobal>(rt: &R) -> io::Result<Option<Asked>> {
     let mut words = env::args(rt)?.skip(1);
     let Some(file) = words.next() else {
-        return Err(ErrorKind::InvalidInput.into());
+        return Ok(None);
     };
     let copies = number(words.next())?;
     let rounds = number(words.next())?;
-    Ok(Asked {
+    Ok(Some(Asked {
         file,
         copies,
         rounds,
-    })
+    }))
 }

@@ -1,15 +1,12 @@
-//! Times the stages by which a long script becomes a program. What the script is goes to standard output, and the least
-//! processor time of each stage to standard error.
-#![tactic(auto)]
+//! The stages of a long script, timed. What the script has goes to standard output, and the least processor time of
+//! each stage to standard error.
 
-mod asked;
-mod rounds;
-
-use asked::{Asked, read_words};
+use crate::asked::Asked;
+use crate::rounds::{Size, Times, round, told};
 use case_files::read_text;
-use rounds::{Size, Times};
 use std::alloc::Global;
 use std::rt::Files;
+use std::time::CpuClock;
 use std::{fs, io};
 use vb_value::Text;
 
@@ -19,17 +16,20 @@ fn script<R: Files + AllocGlobal>(rt: &R, asked: &Asked) -> io::Result<Text> {
     let part = fs::read_to_string(rt, asked.file.as_str())?;
     let copies = asked.copies;
     let written = format!(in alloc; "~{copies}*{part}~")?;
-    let text = rounds::told(read_text(alloc, written.as_str()))?;
-    rounds::told(Text::from_str(alloc, text.as_str()))
+    let text = told(read_text(alloc, written.as_str()))?;
+    told(Text::from_str(alloc, text.as_str()))
 }
 
-fn main(rt: HostRuntime) -> io::Result<()> {
-    let asked = read_words(&rt)?;
-    let text = script(&rt, &asked)?;
+/// Times the stages of the script that is asked for.
+pub fn time_stages<R: Files + CpuClock + AllocGlobal + Print + Eprint>(
+    rt: &R,
+    asked: &Asked,
+) -> io::Result<()> {
+    let text = script(rt, asked)?;
     let mut times = Times::longest();
     let mut size = Size::nothing();
     for _ in 0..asked.rounds {
-        size = rounds::round(&rt, &text, &mut times)?;
+        size = round(rt, &text, &mut times)?;
     }
     println!(rt;
         "{} characters, {} words; {} variables, {} procedures, {} names",
