@@ -6,12 +6,8 @@ use crate::site::site_of;
 use asp_job::{Answer, Finished, Job, Runner, Step};
 use asp_run::PlainRunner;
 use asp_site::Site;
-use case_files::{CaseStop, Subject, read_text};
+use case_files::{CaseStop, read_text};
 use std::alloc::Global;
-
-/// A script, a request behind ` ## `, and the answer: its status, its fields but for those that a page sets by itself,
-/// and its content, or for a HEAD its length.
-pub struct Pages;
 
 /// What a page has in these fields by itself.
 const USUAL: [&str; 2] = ["text/html; Charset=utf-8", "private"];
@@ -90,13 +86,13 @@ fn answer_of(alloc: Global, script: &str, asked: &str) -> Result<String, CaseSto
     answer_on(alloc, &site, asked)
 }
 
-impl Subject for Pages {
-    fn answer(&self, alloc: Global, case: &str) -> Result<String, CaseStop> {
-        let Some((script, asked)) = case.split_once(" ## ") else {
-            return Err(CaseStop::Unreadable);
-        };
-        let script = read_text(alloc, script)?;
-        let asked = read_text(alloc, asked)?;
-        answer_of(alloc, script.as_str(), asked.as_str())
-    }
+/// The answer to a request, which stands behind the script and ` ## `: its status, its fields but for those that a page
+/// sets by itself, and its content, or for a HEAD its length.
+pub fn answered(alloc: Global, case: &str) -> Result<String, CaseStop> {
+    let Some((script, asked)) = case.split_once(" ## ") else {
+        return Err(CaseStop::Unreadable);
+    };
+    let script = read_text(alloc, script)?;
+    let asked = read_text(alloc, asked)?;
+    answer_of(alloc, script.as_str(), asked.as_str())
 }

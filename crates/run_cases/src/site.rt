@@ -1,8 +1,9 @@
 //! A site of one page and one static file.
 
+use crate::programs::program;
+use crate::stopped::Stopped;
 use asp_site::{LineSpot, Page, Site};
 use case_files::CaseStop;
-use page_build::{ScriptStop, script_program};
 use std::alloc::Global;
 use vb_value::{Bytes, Copied, List, SiteFile, Text};
 
@@ -27,21 +28,17 @@ fn lines(alloc: Global, path: &Text) -> Result<List<LineSpot>, CaseStop> {
 }
 
 fn page(alloc: Global, script: &str) -> Result<Page, CaseStop> {
-    let text = Text::from_str(alloc, script)?;
-    if text.len() >= 1 << 31 {
-        return Err(CaseStop::Unreadable);
-    }
     let path = Text::from_str(alloc, PAGE)?;
     let lines = lines(alloc, &path)?;
-    match script_program(alloc, &text) {
+    match program(alloc, script) {
         Ok(program) => Ok(Page {
             lines,
             path,
             session: false,
             program,
         }),
-        Err(ScriptStop::Fault { .. }) => Err(CaseStop::Unreadable),
-        Err(ScriptStop::Memory) => Err(CaseStop::Memory),
+        Err(Stopped::Fault { .. }) => Err(CaseStop::Unreadable),
+        Err(Stopped::Case(stop)) => Err(stop),
     }
 }
 

@@ -1,13 +1,13 @@
 //! Scripts as they run.
 
 use crate::notes::Notes;
+use crate::programs::program;
 use crate::stopped::Stopped;
 use case_files::{CaseStop, read_text};
-use page_build::script_program;
 use std::alloc::Global;
 use vb_meaning::PlainEnd;
 use vb_plain::run_act;
-use vb_syntax::{Act, ActDone, ActEnd, Program};
+use vb_syntax::{Act, ActDone, ActEnd};
 use vb_value::{AppCall, AppReply, List, Memory, Text, Value};
 
 /// What a script writes, and how it ends where that is not at its end.
@@ -31,7 +31,7 @@ pub fn counted(alloc: Global, case: &str) -> Result<String, Stopped> {
 }
 
 /// What a script writes and how it ends, given replies of the Application object: their numbers stand first, with blanks
-/// between them and ` : ` behind.
+/// between them and `: ` behind.
 pub fn replied(alloc: Global, case: &str) -> Result<String, Stopped> {
     let Some((numbers, script)) = case.split_once(": ") else {
         return Err(Stopped::Case(CaseStop::Unreadable));
@@ -55,15 +55,6 @@ fn replies(alloc: Global, numbers: &str) -> Result<List<AppReply>, Stopped> {
         }
     }
     Ok(replies)
-}
-
-/// The program of a script.
-fn program(alloc: Global, script: &str) -> Result<Program, Stopped> {
-    let text = Text::from_str(alloc, script)?;
-    if text.len() >= 1 << 31 {
-        return Err(Stopped::Case(CaseStop::Unreadable));
-    }
-    Ok(script_program(alloc, &text)?)
 }
 
 fn run(

@@ -6,6 +6,7 @@ use std::alloc::{AllocError, AllocFailed, Global};
 use vb_value::Memory;
 
 /// Why a script does not run.
+#[derive(Clone, Copy)]
 pub enum Stopped {
     /// Its first fault, with its line.
     Fault { kind: ScriptFault, line: u32 },

@@ -1,5 +1,5 @@
--- What the environment of the cases does: it notes what Response.Write is given. In its wider form it also ends the page
--- at Response.End, and asks the Application object for the items that are read; every other member is Object required.
+-- What the environment of a script does: it notes what Response.Write is given. In its wider form it also ends the page at
+-- Response.End, and asks the Application object for the items that are read; every other member is Object required.
 use Rattle.std.specs.Prelude.{Bool, true, false, List, [], ◌∷◌, ◌++◌, ℕ, Result, Ok, Err}
 use Rattle.vb_value.specs.declared.application.AppCall.TheVariants.{Get}
 use Rattle.vb_value.specs.declared.application.AppReply.{AppReply}
@@ -16,7 +16,7 @@ use Rattle.vb_syntax.specs.declared.act.Given.TheVariants as given
 use Rattle.vb_syntax.specs.declared.member.Member.{Member}
 use Rattle.vb_syntax.specs.declared.member.Member.TheVariants as member
 use Rattle.vb_syntax.specs.declared.member.ContentsPart.TheVariants.{Item}
-use Rattle.act_cases.specs.declared.notes.Notes.{Notes}
+use Rattle.run_cases.specs.declared.notes.Notes.{Notes}
 
 -- what is said to a question, and the environment after it
 abbrev pub Said : Type 0

@@ -1,15 +1,15 @@
-//! The environment of the cases.
+//! The environment of a script.
 ghost use Rattle.std.specs.Prelude.{◌≡◌, Ok};
 ghost use Rattle.vb_value.specs.Outcome.{Runs};
 ghost use Rattle.vb_value.specs.Errors.{object_required};
 ghost use Rattle.vb_syntax.specs.Asking.{stops};
-ghost use Rattle.act_cases.specs.Notes as spec;
+ghost use Rattle.run_cases.specs.Notes as spec;
 
 use std::alloc::Global;
 use vb_syntax::{AskStop, ContentsPart, Given, Intrinsics, Member};
 use vb_value::{AppCall, AppReply, Text, Value, VbError, VbFault, fold, to_str};
 
-/// What a page has written.
+/// What a script has written.
 #[derive(Drop)]
 pub struct Notes {
     /// What memory is taken from.
@@ -69,7 +69,7 @@ impl Notes {
 }
 
 impl Intrinsics for Notes {
-    ghost use Rattle.act_cases.specs.Notes.{asked as notes_asked, answered as notes_answered};
+    ghost use Rattle.run_cases.specs.Notes.{asked as notes_asked, answered as notes_answered};
 
     ghost asked = { notes_asked };
 
