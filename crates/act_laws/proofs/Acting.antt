@@ -21,7 +21,7 @@ use Rattle.vb_meaning.specs.Errors.{raised_by}
 use Rattle.vb_meaning.specs.Meaning.{most_levels}
 use Rattle.vb_meaning.specs.Releases.{settle_last, end_all}
 use Rattle.vb_meaning.specs.State.{State, on_world}
-use Rattle.vb_meaning.specs.Step.{Step, Gives, Ends, ◌>>◌}
+use Rattle.vb_meaning.specs.Step.{Step, Returns, Ends, ◌>>◌}
 use Rattle.act_laws.specs.Calls.{wanted}
 use Rattle.act_laws.proofs.Calling.{block_fits}
 use Rattle.act_laws.proofs.Inside.{Inners, one, two, Same}
@@ -49,7 +49,7 @@ module _ (l : Link) (i : Inners l) where
 
   closed_past : (how : ActEnd) (call : AppCall) (second : Step (State l.F) (Unit {0})) → Past l call second
       → l.past call (acts.closed l.F (two i) how second).1 (state_of second).replies
-  closed_past how call (Gives done s) past = past
+  closed_past how call (Returns done s) past = past
   closed_past how call (Ends (stop.Limit kind line) s) past = past
   closed_past how call (Ends (stop.Error what line) s) past = past
   closed_past how call (Ends stop.Page s) past = past
@@ -100,7 +100,7 @@ module _ (l : Link) (i : Inners l) where
 
   act_past : (call : AppCall) (second : Step (State l.F) (Unit {0})) → Past l call second
       → (others : List AppReply) × l.past call (acts.ends_act l.F (two i) second).1 others
-  act_past call (Gives done s) past = page_past end.Done call s past
+  act_past call (Returns done s) past = page_past end.Done call s past
   act_past call (Ends stop.Page s) past = page_past end.Stopped call s past
   act_past call (Ends (stop.Error what line) s) past =
       page_past (acts.error_end (raised_by what) (acts.line_or_none line)) call s past

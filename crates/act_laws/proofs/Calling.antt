@@ -16,7 +16,7 @@ use Rattle.vb_meaning.specs.Errors.{tick, too_deep}
 use Rattle.vb_meaning.specs.Inner.{Owner}
 use Rattle.vb_meaning.specs.Releases.{in_world, settle}
 use Rattle.vb_meaning.specs.State.{State, Does, on_world}
-use Rattle.vb_meaning.specs.Step.{Step, Gives, Ends, ◌>>◌, ends as step_ends}
+use Rattle.vb_meaning.specs.Step.{Step, Returns, Ends, ◌>>◌, ends as step_ends}
 use Rattle.act_laws.proofs.Inside.{Inners, one, two, Same, seen_fits}
 use Rattle.act_laws.specs.Objects.{Account, Kept, Settled, account_at, account_of}
 use Rattle.act_laws.proofs.Joined.{Link, Alike, JoinedTurn, Past, gives, ends, gone}
@@ -59,7 +59,7 @@ module _ (l : Link) (i : Inners l) where
     where
       goes_on : (call : AppCall) (second : Step (State l.F) Exit) → Past l call second
           → Past l call (calling.abandoned l.F (two i) caller second)
-      goes_on call (Gives exit s) past = (returned_fits caller).joined.goes_on call s.world s.env s.replies past
+      goes_on call (Returns exit s) past = (returned_fits caller).joined.goes_on call s.world s.env s.replies past
       goes_on call (Ends (stop.Error what line) s) past =
           (then_fits (settle_fits l i) (λ done. error_fits {A = Value} l what line)).joined.goes_on
           call (calling.left caller s.world) s.env s.replies past
@@ -92,7 +92,7 @@ module _ (l : Link) (i : Inners l) where
     where
       keeps : (before : Account) (step : Step (State l.F) Exit) → Kept account_at before step
           → Kept account_at before (calling.abandoned l.F (two i) caller step)
-      keeps before (Gives exit s) kept = kept_from account_at kept (calling.returned l.F (two i) caller s)
+      keeps before (Returns exit s) kept = kept_from account_at kept (calling.returned l.F (two i) caller s)
           ((returned_fits caller).keeps s kept.onward.adds_up)
       keeps before (Ends (stop.Error what line) s) kept =
           let t = in_world l.F (calling.left caller s.world) s in

@@ -6,7 +6,7 @@ use Rattle.vb_meaning.specs.declared.world.World.{World}
 use Rattle.vb_meaning.specs.Errors.{in_line}
 use Rattle.vb_meaning.specs.Releases.{ended, terminated, without_page_stop}
 use Rattle.vb_meaning.specs.State.{State, Does}
-use Rattle.vb_meaning.specs.Step.{Step, Gives, Ends, and_then}
+use Rattle.vb_meaning.specs.Step.{Step, Returns, Ends, and_then}
 use Rattle.act_laws.specs.Objects.{Account, AddsUp, IsEnding, IsLive, Kept, Onward, Settled, account_at, account_of}
 use Rattle.act_laws.proofs.Accounts.{mark_onward, onward_then, settled_one, settled_then, with_end, with_mark}
 use Rattle.act_laws.proofs.Marks.{ended_gone}
@@ -39,7 +39,7 @@ ran_later object before after right live ran = subst (λ account. Later before a
 module _ {E : Type 0} where
   -- what comes of a terminator
   abbrev pub Outcome : ℕ → Account → Step (State E) (Unit {0}) → Type 0
-  Outcome object before (Gives done s) = Ran object before (account_at s)
+  Outcome object before (Returns done s) = Ran object before (account_at s)
   Outcome object before (Ends stop.Page s) = Ran object before (account_at s)
   Outcome object before (Ends (stop.Error what line) s) = ⊥
   Outcome object before (Ends (stop.Limit kind line) s) = Onward before (account_at s)
@@ -48,7 +48,7 @@ module _ {E : Type 0} where
 
   pub terminated_out : (object : ℕ) (before : World) (a : Account) → IsEnding object a → (step : Step (State E) Value)
       → Kept account_at a step → Outcome object a (terminated E object before step)
-  terminated_out object before a ends (Gives value s) kept = ended_ran object before a s.world ends kept
+  terminated_out object before a ends (Returns value s) kept = ended_ran object before a s.world ends kept
   terminated_out object before a ends (Ends (stop.Error what line) s) kept =
       ended_ran object before a s.world ends kept
   terminated_out object before a ends (Ends stop.Page s) kept = ended_ran object before a s.world ends kept
@@ -58,7 +58,7 @@ module _ {E : Type 0} where
 
   -- what comes of a live object that ends
   abbrev pub One : Account → Step (State E) (Unit {0}) → Type 0
-  One before (Gives done s) = Later before (account_at s)
+  One before (Returns done s) = Later before (account_at s)
   One before (Ends stop.Page s) = Later before (account_at s)
   One before (Ends (stop.Error what line) s) = ⊥
   One before (Ends (stop.Limit kind line) s) = Onward before (account_at s)
@@ -67,7 +67,7 @@ module _ {E : Type 0} where
 
   pub one_out : (object : ℕ) (before : Account) → AddsUp before → IsLive object before
       → (step : Step (State E) (Unit {0})) → Outcome object (with_mark object before) step → One before step
-  one_out object before right live (Gives done s) out = ran_later object before (account_at s) right live out
+  one_out object before right live (Returns done s) out = ran_later object before (account_at s) right live out
   one_out object before right live (Ends stop.Page s) out = ran_later object before (account_at s) right live out
   one_out object before right live (Ends (stop.Error what line) s) out = out
   one_out object before right live (Ends (stop.Limit kind line) s) out =
@@ -80,7 +80,7 @@ module _ {E : Type 0} where
   -- What comes of a release point or of the page's end: no error, a page stop if it may come, and a fact of the state
   -- where it comes to its end.
   abbrev pub Comes : Type 0 → (State E → Type 0) → Account → Step (State E) (Unit {0}) → Type 0
-  Comes stops P before (Gives done s) = Settled before (account_at s) × P s
+  Comes stops P before (Returns done s) = Settled before (account_at s) × P s
   Comes stops P before (Ends stop.Page s) = stops × Settled before (account_at s)
   Comes stops P before (Ends (stop.Error what line) s) = ⊥
   Comes stops P before (Ends (stop.Limit kind line) s) = Onward before (account_at s)
@@ -89,7 +89,7 @@ module _ {E : Type 0} where
 
   pub comes_kept : (stops : Type 0) (P : State E → Type 0) (before : Account) (step : Step (State E) (Unit {0}))
       → Comes stops P before step → Kept account_at before step
-  comes_kept stops P before (Gives done s) comes = comes.0
+  comes_kept stops P before (Returns done s) comes = comes.0
   comes_kept stops P before (Ends stop.Page s) comes = comes.1
   comes_kept stops P before (Ends (stop.Error what line) s) comes = absurd comes
   comes_kept stops P before (Ends (stop.Limit kind line) s) comes = comes
@@ -98,7 +98,7 @@ module _ {E : Type 0} where
 
   comes_from : (stops : Type 0) (P : State E → Type 0) {a b : Account} → Settled a b
       → (step : Step (State E) (Unit {0})) → Comes stops P b step → Comes stops P a step
-  comes_from stops P before (Gives done s) comes = (settled_then before comes.0, comes.1)
+  comes_from stops P before (Returns done s) comes = (settled_then before comes.0, comes.1)
   comes_from stops P before (Ends stop.Page s) comes = (comes.0, settled_then before comes.1)
   comes_from stops P before (Ends (stop.Error what line) s) comes = comes
   comes_from stops P before (Ends (stop.Limit kind line) s) comes = onward_then before.onward comes
@@ -110,7 +110,7 @@ module _ {E : Type 0} where
       (step : Step (State E) (Unit {0})) → Comes stops P before step
       → ((s : State E) → Settled before (account_at s) → P s → Comes stops Q (account_at s) (next s))
       → Comes stops Q before (and_then step (λ done. next))
-  comes_then stops P Q next before (Gives done s) comes after =
+  comes_then stops P Q next before (Returns done s) comes after =
       comes_from stops Q comes.0 (next s) (after s comes.0 comes.1)
   comes_then stops P Q next before (Ends stop.Page s) comes after = comes
   comes_then stops P Q next before (Ends (stop.Error what line) s) comes after = absurd comes
@@ -121,7 +121,7 @@ module _ {E : Type 0} where
   -- a live object that ends
   pub one_comes : (before : Account) (step : Step (State E) (Unit {0})) → One before step
       → Comes (Unit {0}) (λ s. before.finished < s.world.finished) before step
-  one_comes before (Gives done s) one = one
+  one_comes before (Returns done s) one = one
   one_comes before (Ends stop.Page s) one = (tt, one.0)
   one_comes before (Ends (stop.Error what line) s) one = absurd one
   one_comes before (Ends (stop.Limit kind line) s) one = one
@@ -131,7 +131,7 @@ module _ {E : Type 0} where
   -- the same in a line of its own, where a page stop goes no further
   pub one_closes : (line : ℕ) (before : Account) (step : Step (State E) (Unit {0})) → One before step
       → Comes ⊥ (λ s. before.finished < s.world.finished) before (in_line line (without_page_stop E step))
-  one_closes line before (Gives done s) one = one
+  one_closes line before (Returns done s) one = one
   one_closes line before (Ends stop.Page s) one = one
   one_closes line before (Ends (stop.Error what at) s) one = absurd one
   one_closes line before (Ends (stop.Limit kind None) s) one = one

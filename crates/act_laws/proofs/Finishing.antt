@@ -18,7 +18,7 @@ use Rattle.vb_meaning.specs.Inner.{Inner, Owner}
 use Rattle.vb_meaning.specs.Meaning.{inside, most_levels}
 use Rattle.vb_meaning.specs.Releases.{end_all, in_world, settle_last}
 use Rattle.vb_meaning.specs.State.{State, on_world}
-use Rattle.vb_meaning.specs.Step.{Step, Gives, Ends, ◌>>◌}
+use Rattle.vb_meaning.specs.Step.{Step, Returns, Ends, ◌>>◌}
 use Rattle.act_laws.specs.Laws.{ObjectsEnd}
 use Rattle.act_laws.specs.Objects.{Account, AddsUp, IsEnding, Kept, Settled, account_at, account_of}
 use Rattle.act_laws.specs.Terminators.{HaveEnded}
@@ -90,7 +90,7 @@ module _ (E : Type 0) (m : Inner E)
   closed_tells : (how : ActEnd) (before : Account) → ((number : ℕ) → IsEnding number before → ⊥)
       → (step : Step (State E) (Unit {0})) → Comes ⊥ IsEmptied before step → (done : ActDone)
       → (acts.closed E m how step).0 ≡ Some (Ended done) → HaveEnded done.end done.made done.finished
-  closed_tells how before none (Gives left s) comes = told how s.world.heap.objects_made s.world.finished
+  closed_tells how before none (Returns left s) comes = told how s.world.heap.objects_made s.world.finished
       (all_ended how s.world.heap.objects_made s.world.finished
       (none_left (account_at s) comes.0.onward.adds_up
       (comes.1 (λ number ends. none number (comes.0.stood number ends)))))
@@ -116,7 +116,7 @@ module _ (E : Type 0) (m : Inner E)
   ends_tell : (before : Account) → ((number : ℕ) → IsEnding number before → ⊥) → (step : Step (State E) (Unit {0}))
       → Kept account_at before step → (done : ActDone)
       → (acts.ends_act E m step).0 ≡ Some (Ended done) → HaveEnded done.end done.made done.finished
-  ends_tell before none (Gives left s) kept = page_tells end.Done before none s kept
+  ends_tell before none (Returns left s) kept = page_tells end.Done before none s kept
   ends_tell before none (Ends stop.Page s) kept = page_tells end.Stopped before none s kept
   ends_tell before none (Ends (stop.Error what line) s) kept =
       page_tells (acts.error_end (raised_by what) (acts.line_or_none line)) before none s kept

@@ -9,7 +9,7 @@ use Rattle.vb_meaning.specs.declared.stop.Stop.TheVariants as stop
 use Rattle.vb_meaning.specs.declared.world.World.{World}
 use Rattle.vb_meaning.specs.Asking.{Host}
 use Rattle.vb_meaning.specs.State.{State, Does, on_world, lifted}
-use Rattle.vb_meaning.specs.Step.{Step, Gives, Ends, Run, and_then, ◌>>=◌, pure, ends as step_ends}
+use Rattle.vb_meaning.specs.Step.{Step, Returns, Ends, Run, and_then, ◌>>=◌, pure, ends as step_ends}
 use Rattle.act_laws.proofs.Keeping.{state_of}
 use Rattle.act_laws.proofs.Wantless.{Wantless, NoWant}
 
@@ -40,8 +40,8 @@ Past l call step = l.past call (state_of step).env (state_of step).replies
 pub data Alike (l : Link) {A : Type 0} : Step (State l.E) A → Step (State l.F) A → Type 0 where
   gives : (value : A) (world : World) (env : l.E) (replies : List AppReply) (other_env : l.F) (others : List AppReply)
       → l.now env replies other_env others
-      → Alike l (Gives value (record { world = world; env = env; replies = replies }))
-      (Gives value (record { world = world; env = other_env; replies = others }))
+      → Alike l (Returns value (record { world = world; env = env; replies = replies }))
+      (Returns value (record { world = world; env = other_env; replies = others }))
   ends : (why : Stop) (world : World) (env : l.E) (replies : List AppReply) (other_env : l.F) (others : List AppReply)
       → Ended l why env replies other_env others
       → Alike l (Ends why (record { world = world; env = env; replies = replies }))
@@ -84,7 +84,7 @@ pub next_turn : {A B : Type 0} {l : Link} {next : A → Does l.E B} {other : A �
 next_turn {A} {B} {l} {next} {other} fit = record { alike = alike; goes_on = goes_on }
   where
     goes_on : (call : AppCall) (second : Step (State l.F) A) → Past l call second → Past l call (and_then second other)
-    goes_on call (Gives value s) past = (fit value).goes_on call s.world s.env s.replies past
+    goes_on call (Returns value s) past = (fit value).goes_on call s.world s.env s.replies past
     goes_on call (Ends why s) past = past
 
     alike : (first : Step (State l.E) A) (second : Step (State l.F) A) → Alike l first second
@@ -130,7 +130,7 @@ limit_joined l kind line = record {
 pub lifted_alike : {A : Type 0} (l : Link) (env : l.E) (replies : List AppReply) (other_env : l.F)
     (others : List AppReply) → l.now env replies other_env others → (step : Step World A) → NoWant step
     → Alike l (lifted env replies step) (lifted other_env others step)
-lifted_alike l env replies other_env others now (Gives value world) none =
+lifted_alike l env replies other_env others now (Returns value world) none =
     gives value world env replies other_env others now
 lifted_alike l env replies other_env others now (Ends (stop.Wants call) world) none = absurd none
 lifted_alike l env replies other_env others now (Ends (stop.Error what line) world) none =
@@ -144,7 +144,7 @@ lifted_alike l env replies other_env others now (Ends stop.Memory world) none =
 
 lifted_past : {A : Type 0} (l : Link) (call : AppCall) (env : l.F) (replies : List AppReply) → l.past call env replies
     → (step : Step World A) → Past l call (lifted env replies step)
-lifted_past l call env replies past (Gives value world) = past
+lifted_past l call env replies past (Returns value world) = past
 lifted_past l call env replies past (Ends why world) = past
 
 -- what is done to the world alone

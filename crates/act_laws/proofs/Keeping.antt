@@ -12,7 +12,7 @@ use Rattle.vb_meaning.specs.declared.world.World.{World}
 use Rattle.vb_meaning.specs.Asking.{Host, Said, ask, heard}
 use Rattle.vb_meaning.specs.Errors.{in_line, resumed, with_err, raised_by}
 use Rattle.vb_meaning.specs.State.{State, lifted}
-use Rattle.vb_meaning.specs.Step.{Step, Gives, Ends, Run, and_then}
+use Rattle.vb_meaning.specs.Step.{Step, Returns, Ends, Run, and_then}
 use Rattle.vb_meaning.specs.Stops.{ask_stop}
 use Rattle.act_laws.specs.Objects.{Account, AddsUp, Goes, Kept, Settled, account_at, account_of}
 use Rattle.act_laws.proofs.Accounts.{onward_still, onward_then, settled_still, settled_then}
@@ -33,7 +33,7 @@ goes_from before stop.Memory c goes = onward_then before.onward goes
 -- what was settled before a step
 pub kept_from : {S A : Type 0} (of : S → Account) {a b : Account} → Settled a b → (step : Step S A) → Kept of b step
     → Kept of a step
-kept_from of before (Gives value s) kept = settled_then before kept
+kept_from of before (Returns value s) kept = settled_then before kept
 kept_from of before (Ends why s) kept = goes_from before why (of s) kept
 
 pub goes_settled : {a b : Account} (why : Stop) → Settled a b → Goes why a b
@@ -45,20 +45,20 @@ goes_settled stop.Memory settled = settled.onward
 
 -- the state after a step
 abbrev pub state_of : {S A : Type 0} → Step S A → S
-state_of (Gives value s) = s
+state_of (Returns value s) = s
 state_of (Ends why s) = s
 
 -- one after the other
 pub next_keeps : {S A B : Type 0} (of : S → Account) (next : A → Run S B) → ((value : A) → Keeps of (next value))
     → (a : Account) (step : Step S A) → Kept of a step → Kept of a (and_then step next)
-next_keeps of next keeps a (Gives value s) kept =
+next_keeps of next keeps a (Returns value s) kept =
     kept_from of kept (next value s) (keeps value s kept.onward.adds_up)
 next_keeps of next keeps a (Ends why s) kept = kept
 
 -- a line
 pub line_keeps : {S A : Type 0} (of : S → Account) (line : ℕ) (a : Account) (step : Step S A) → Kept of a step
     → Kept of a (in_line line step)
-line_keeps of line a (Gives value s) kept = kept
+line_keeps of line a (Returns value s) kept = kept
 line_keeps of line a (Ends (stop.Error what None) s) kept = kept
 line_keeps of line a (Ends (stop.Error what (Some at)) s) kept = kept
 line_keeps of line a (Ends (stop.Limit kind None) s) kept = kept
@@ -70,14 +70,14 @@ line_keeps of line a (Ends stop.Memory s) kept = kept
 -- On Error
 resumed_error : {E A : Type 0} (instead : A) (a : Account) (what : Cause) (line : Option ℕ) (s : State E)
     (resumes : Bool) → Settled a (account_at s) → Kept {S = State E} {A = A} account_at a
-    (if resumes then Gives instead (record s { world = with_err (raised_by what) s.world })
+    (if resumes then Returns instead (record s { world = with_err (raised_by what) s.world })
     else Ends (stop.Error what line) s)
 resumed_error instead a what line s true kept = kept
 resumed_error instead a what line s false kept = kept
 
 pub resumed_keeps : {E A : Type 0} (instead : A) (a : Account) (step : Step (State E) A) → Kept account_at a step
     → Kept account_at a (resumed instead step)
-resumed_keeps instead a (Gives value s) kept = kept
+resumed_keeps instead a (Returns value s) kept = kept
 resumed_keeps instead a (Ends (stop.Error what line) s) kept =
     resumed_error instead a what line s s.world.frame.resumes kept
 resumed_keeps instead a (Ends (stop.Limit kind line) s) kept = kept
@@ -88,12 +88,12 @@ resumed_keeps instead a (Ends stop.Memory s) kept = kept
 -- a step of the world, in a state
 pub lifted_keeps : {E A : Type 0} (env : E) (replies : List AppReply) (a : Account) (step : Step World A)
     → Kept account_of a step → Kept account_at a (lifted env replies step)
-lifted_keeps env replies a (Gives value world) kept = kept
+lifted_keeps env replies a (Returns value world) kept = kept
 lifted_keeps env replies a (Ends why world) kept = kept
 
 -- ---- what is done
 
-pub still_gives : {S A : Type 0} (of : S → Account) (value : A) → Keeps of (λ s. Gives value s)
+pub still_gives : {S A : Type 0} (of : S → Account) (value : A) → Keeps of (λ s. Returns value s)
 still_gives of value s right = settled_still (of s) right
 
 pub still_ends : {S : Type 0} (A : Type 0) (of : S → Account) (why : Stop) → Keeps {A = A} of (λ s. Ends why s)

@@ -8,7 +8,7 @@ use Rattle.vb_meaning.specs.Inner.{Inner, Owner}
 use Rattle.vb_meaning.specs.Meaning.{inside}
 use Rattle.vb_meaning.specs.Releases.{end_all, settle, settle_last, terminate}
 use Rattle.vb_meaning.specs.State.{State, with_heap}
-use Rattle.vb_meaning.specs.Step.{Step, Gives, Ends, ◌>>◌}
+use Rattle.vb_meaning.specs.Step.{Step, Returns, Ends, ◌>>◌}
 use Rattle.act_laws.specs.Laws.{TerminatorsRunOnce}
 use Rattle.act_laws.specs.Objects.{Account, AddsUp, HasBegun, HasEnded, IsEnding, IsLive, account_at, account_of}
 use Rattle.act_laws.specs.Terminators.{AllEnded, ComesOut, NoneLoose, RunsEach}
@@ -37,7 +37,7 @@ has_begun object account right ends = (
 
 comes_out : {E : Type 0} (object : ℕ) (before : Account) → AddsUp before → IsEnding object before
     → (step : Step (State E) (Unit {0})) → Outcome object before step → ComesOut object step
-comes_out object before right ends (Gives done s) out = ran_ended object before (account_at s) ends out
+comes_out object before right ends (Returns done s) out = ran_ended object before (account_at s) ends out
 comes_out object before right ends (Ends stop.Page s) out = ran_ended object before (account_at s) ends out
 comes_out object before right ends (Ends (stop.Error what line) s) out = out
 comes_out object before right ends (Ends (stop.Limit kind line) s) out =
@@ -49,13 +49,13 @@ comes_out object before right ends (Ends stop.Memory s) out =
 
 all_ended : {E : Type 0} (before : Account) → ((number : ℕ) → IsEnding number before → ⊥)
     → (step : Step (State E) (Unit {0})) → Comes ⊥ IsEmptied before step → AllEnded step
-all_ended before none (Gives done s) comes =
+all_ended before none (Returns done s) comes =
     ended_all (account_at s) (comes.1 (λ other ends. none other (comes.0.stood other ends)))
 all_ended before none (Ends why s) comes = tt
 
 leaves_none : {E : Type 0} (stops : Type 0) (before : Account) (step : Step (State E) (Unit {0}))
     → Comes stops HasNoneLoose before step → NoneLoose step
-leaves_none stops before (Gives done s) comes = comes.1
+leaves_none stops before (Returns done s) comes = comes.1
 leaves_none stops before (Ends why s) comes = tt
 
 begins : {E : Type 0} (s : State E) (object : ℕ) → AddsUp (account_at s) → IsLive object (account_at s)

@@ -14,7 +14,7 @@ use Rattle.vb_meaning.specs.Objects.{class_at}
 use Rattle.vb_meaning.specs.Places.{let_go}
 use Rattle.vb_meaning.specs.Releases as releases
 use Rattle.vb_meaning.specs.State.{State, Does, with_heap}
-use Rattle.vb_meaning.specs.Step.{Step, Gives, Ends, and_then, ◌>>◌, pure, ends as step_ends}
+use Rattle.vb_meaning.specs.Step.{Step, Returns, Ends, and_then, ◌>>◌, pure, ends as step_ends}
 use Rattle.act_laws.proofs.Inside.{Inners, one, two, Same}
 use Rattle.act_laws.specs.Objects.{Account, Kept, account_at}
 use Rattle.act_laws.proofs.Ending.{settle_keeps}
@@ -82,7 +82,7 @@ module _ (l : Link) (i : Inners l) where
     where
       goes_on : (call : AppCall) (second : Step (State l.F) A) → Past l call second
           → Past l call (releases.release l.F (two i) mark second)
-      goes_on call (Gives value s) past = (then_fits settle_fits (λ done. value_fits l value)).joined.goes_on
+      goes_on call (Returns value s) past = (then_fits settle_fits (λ done. value_fits l value)).joined.goes_on
           call (let_go mark s.world) s.env s.replies past
       goes_on call (Ends (stop.Error what line) s) past =
           (then_fits settle_fits (λ done. error_fits {A = A} l what line)).joined.goes_on
@@ -117,7 +117,7 @@ module _ (l : Link) (i : Inners l) where
     where
       keeps : (before : Account) (step : Step (State l.F) A) → Kept account_at before step
           → Kept account_at before (releases.release l.F (two i) mark step)
-      keeps before (Gives value s) kept =
+      keeps before (Returns value s) kept =
           let t = releases.in_world l.F (let_go mark s.world) s in
           kept_from account_at kept ((releases.settle l.F (two i) >> pure value) t)
           ((then_fits settle_fits (λ done. value_fits l value)).keeps t kept.onward.adds_up)

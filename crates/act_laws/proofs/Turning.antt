@@ -11,7 +11,7 @@ use Rattle.vb_meaning.specs.Inner.{Inner}
 use Rattle.vb_meaning.specs.Releases.{terminated, ended, without_page_stop}
 use Rattle.vb_meaning.specs.State.{State}
 use Rattle.vb_meaning.specs.Statements.{out_of_with, with_subjects}
-use Rattle.vb_meaning.specs.Step.{Step, Gives, Ends}
+use Rattle.vb_meaning.specs.Step.{Step, Returns, Ends}
 use Rattle.act_laws.proofs.Joined.{Link, Alike, gives, ends, gone, Past, JoinedTurn}
 use Rattle.act_laws.proofs.Keeping.{line_keeps, resumed_keeps}
 use Rattle.act_laws.proofs.Linked.{Turns}
@@ -22,7 +22,7 @@ pub line_joined : {A : Type 0} (l : Link) (line : ℕ) → JoinedTurn {A = A} l 
 line_joined {A} l line = record { alike = alike; goes_on = goes_on }
   where
     goes_on : (call : AppCall) (second : Step (State l.F) A) → Past l call second → Past l call (in_line line second)
-    goes_on call (Gives value s) past = past
+    goes_on call (Returns value s) past = past
     goes_on call (Ends why s) past = past
 
     alike : (first : Step (State l.E) A) (second : Step (State l.F) A) → Alike l first second
@@ -53,14 +53,14 @@ resumed_joined {A} l instead = record { alike = alike; goes_on = goes_on }
   where
     past_error : (call : AppCall) (what : Cause) (line : Option ℕ) (s : State l.F) (resumes : Bool)
         → l.past call s.env s.replies
-        → Past l call (if resumes then Gives instead (record s { world = with_err (raised_by what) s.world })
+        → Past l call (if resumes then Returns instead (record s { world = with_err (raised_by what) s.world })
         else Ends (stop.Error what line) s)
     past_error call what line s true past = past
     past_error call what line s false past = past
 
     goes_on : (call : AppCall) (second : Step (State l.F) A) → Past l call second
         → Past l call (resumed instead second)
-    goes_on call (Gives value s) past = past
+    goes_on call (Returns value s) past = past
     goes_on call (Ends (stop.Error what line) s) past = past_error call what line s s.world.frame.resumes past
     goes_on call (Ends (stop.Limit kind line) s) past = past
     goes_on call (Ends stop.Page s) past = past
@@ -71,10 +71,10 @@ resumed_joined {A} l instead = record { alike = alike; goes_on = goes_on }
         (others : List AppReply) (resumes : Bool) → l.now env replies other_env others
         → Alike l
         (if resumes
-        then Gives instead (record { world = with_err (raised_by what) world; env = env; replies = replies })
+        then Returns instead (record { world = with_err (raised_by what) world; env = env; replies = replies })
         else Ends (stop.Error what line) (record { world = world; env = env; replies = replies }))
         (if resumes
-        then Gives instead (record { world = with_err (raised_by what) world; env = other_env; replies = others })
+        then Returns instead (record { world = with_err (raised_by what) world; env = other_env; replies = others })
         else Ends (stop.Error what line) (record { world = world; env = other_env; replies = others }))
     errs what line world env replies other_env others true now =
         gives instead (with_err (raised_by what) world) env replies other_env others now
@@ -106,7 +106,7 @@ terminated_joined l object before = record { alike = alike; goes_on = goes_on }
   where
     goes_on : (call : AppCall) (second : Step (State l.F) Value) → Past l call second
         → Past l call (terminated l.F object before second)
-    goes_on call (Gives value s) past = past
+    goes_on call (Returns value s) past = past
     goes_on call (Ends (stop.Error what line) s) past = past
     goes_on call (Ends (stop.Limit kind line) s) past = past
     goes_on call (Ends stop.Page s) past = past
@@ -136,7 +136,7 @@ without_stop_joined l = record { alike = alike; goes_on = goes_on }
   where
     goes_on : (call : AppCall) (second : Step (State l.F) (Unit {0})) → Past l call second
         → Past l call (without_page_stop l.F second)
-    goes_on call (Gives value s) past = past
+    goes_on call (Returns value s) past = past
     goes_on call (Ends (stop.Error what line) s) past = past
     goes_on call (Ends (stop.Limit kind line) s) past = past
     goes_on call (Ends stop.Page s) past = past
@@ -164,7 +164,7 @@ with_joined {A} l m other subjects = record { alike = alike; goes_on = goes_on }
   where
     goes_on : (call : AppCall) (second : Step (State l.F) A) → Past l call second
         → Past l call (out_of_with l.F other subjects second)
-    goes_on call (Gives value s) past = past
+    goes_on call (Returns value s) past = past
     goes_on call (Ends why s) past = past
 
     alike : (first : Step (State l.E) A) (second : Step (State l.F) A) → Alike l first second
@@ -182,5 +182,5 @@ with_turns {A} l m other subjects = record { joined = with_joined l m other subj
   where
     keeps : (before : Account) (step : Step (State l.F) A) → Kept account_at before step
         → Kept account_at before (out_of_with l.F other subjects step)
-    keeps before (Gives value s) kept = kept
+    keeps before (Returns value s) kept = kept
     keeps before (Ends why s) kept = kept

@@ -15,7 +15,7 @@ use Rattle.vb_meaning.specs.declared.world.World.{World}
 use Rattle.vb_meaning.specs.Calling.{in_frame}
 use Rattle.vb_meaning.specs.Errors.{in_line, tick, too_deep, depth_stop}
 use Rattle.vb_meaning.specs.State.{on_heap, heap_answer, with_frame, with_heap}
-use Rattle.vb_meaning.specs.Step.{Step, Gives, Ends, Run, and_then, ◌>>=◌, pure, given, ends, fails}
+use Rattle.vb_meaning.specs.Step.{Step, Returns, Ends, Run, and_then, ◌>>=◌, pure, given, ends, fails}
 use Rattle.vb_meaning.specs.Stops.{heap_stop}
 use Rattle.act_laws.specs.Objects.{AddsUp, Kept, Settled, account_of}
 use Rattle.act_laws.proofs.Accounts.{onward_still, settled_still}
@@ -25,7 +25,7 @@ use Rattle.act_laws.proofs.Marks.{account_in}
 
 -- a step that no call stopped
 abbrev pub NoWant : {S A : Type 0} → Step S A → Type 0
-NoWant (Gives value s) = Unit {0}
+NoWant (Returns value s) = Unit {0}
 NoWant (Ends (stop.Wants call) s) = ⊥
 NoWant (Ends (stop.Error what line) s) = Unit {0}
 NoWant (Ends (stop.Limit kind line) s) = Unit {0}
@@ -47,7 +47,7 @@ then_wantless {A} {B} {first} {next} one other = record {
 }
   where
     go : (step : Step World A) → NoWant step → NoWant (and_then step next)
-    go (Gives value world) none = (other value).no_want world
+    go (Returns value world) none = (other value).no_want world
     go (Ends (stop.Wants call) world) none = none
     go (Ends (stop.Error what line) world) none = tt
     go (Ends (stop.Limit kind line) world) none = tt
@@ -88,7 +88,7 @@ changing_wantless change same {run} one = record {
 
 -- a value, and a changed world, whose account of objects is the same
 pub change_wantless : {A : Type 0} (value : A) (change : World → World)
-    → ((world : World) → account_of (change world) ≡ account_of world) → Wantless (λ world. Gives value (change world))
+    → ((world : World) → account_of (change world) ≡ account_of world) → Wantless (λ world. Returns value (change world))
 change_wantless value change same = changing_wantless change same (pure_wantless value)
 
 heap_no_want : {A : Type 0} (world changed : World) (found : Result A HeapStop)
@@ -136,7 +136,7 @@ line_wantless {A} line {run} one = record {
 }
   where
     go : (step : Step World A) → NoWant step → NoWant (in_line line step)
-    go (Gives value world) none = tt
+    go (Returns value world) none = tt
     go (Ends (stop.Wants call) world) none = none
     go (Ends (stop.Error what None) world) none = tt
     go (Ends (stop.Error what (Some at)) world) none = tt
@@ -161,13 +161,13 @@ tick_wantless = record {
 }
   where
     go : (world : World) (left : Bool) → NoWant {S = World} {A = Unit {0}}
-        (if left then Gives tt (record world { ticks = world.ticks - 1 })
+        (if left then Returns tt (record world { ticks = world.ticks - 1 })
         else Ends (stop.Limit Ticks None) world)
     go world true = tt
     go world false = tt
 
     kept : (world : World) → AddsUp (account_of world) → (left : Bool) → Kept {S = World} {A = Unit {0}} account_of
-        (account_of world) (if left then Gives tt (record world { ticks = world.ticks - 1 })
+        (account_of world) (if left then Returns tt (record world { ticks = world.ticks - 1 })
         else Ends (stop.Limit Ticks None) world)
     kept world right true = settled_still (account_of world) right
     kept world right false = onward_still (account_of world) right

@@ -10,7 +10,7 @@ use Rattle.vb_meaning.specs.declared.stop.Stop.{Stop}
 use Rattle.vb_meaning.specs.declared.stop.Stop.TheVariants as stop
 use Rattle.vb_meaning.specs.declared.world.World.{World}
 use Rattle.vb_meaning.specs.State.{State}
-use Rattle.vb_meaning.specs.Step.{Step, Gives, Ends}
+use Rattle.vb_meaning.specs.Step.{Step, Returns, Ends}
 
 -- what a world says of the objects of its act
 pub record Account : Type 0 where
@@ -98,7 +98,7 @@ Goes stop.Memory before after = Onward before after
 
 -- how it goes on where a step left its state
 abbrev pub Kept : {S A : Type 0} → (S → Account) → Account → Step S A → Type 0
-Kept of before (Gives value s) = Settled before (of s)
+Kept of before (Returns value s) = Settled before (of s)
 Kept of before (Ends why s) = Goes why before (of s)
 
 -- the account of a state

@@ -14,7 +14,7 @@ use Rattle.vb_meaning.specs.declared.stop.Stop.TheVariants as stop
 use Rattle.vb_meaning.specs.Inner.{Inner, Owner}
 use Rattle.vb_meaning.specs.Releases.{end_all, settle, settle_last, terminate}
 use Rattle.vb_meaning.specs.State.{Does, State, with_heap}
-use Rattle.vb_meaning.specs.Step.{Step, Gives, Ends, ◌>>◌}
+use Rattle.vb_meaning.specs.Step.{Step, Returns, Ends, ◌>>◌}
 use Rattle.act_laws.specs.Objects.{HasBegun, HasEnded, IsEnding, IsLive, Kept, account_at, account_of, ended_objects}
 use Rattle.act_laws.specs.Objects.{numbers_below}
 
@@ -32,7 +32,7 @@ KeepsIt s run = Kept account_at (account_at s) (run s)
 -- A terminator comes out so: its object has ended, and a page stop may go on. An error does not go on. Where a limit or
 -- a call that is wanted stops it, its object is not live.
 abbrev pub ComesOut : {E : Type 0} → ℕ → Step (State E) (Unit {0}) → Type 0
-ComesOut object (Gives done s) = HasEnded object (account_at s)
+ComesOut object (Returns done s) = HasEnded object (account_at s)
 ComesOut object (Ends stop.Page s) = HasEnded object (account_at s)
 ComesOut object (Ends (stop.Error what line) s) = ⊥
 ComesOut object (Ends (stop.Limit kind line) s) = HasBegun object (account_at s)
@@ -41,12 +41,12 @@ ComesOut object (Ends stop.Memory s) = HasBegun object (account_at s)
 
 -- where a release point comes to its end, no live object is without references
 abbrev pub NoneLoose : {E : Type 0} → Step (State E) (Unit {0}) → Type 0
-NoneLoose (Gives done s) = oldest_loose s.world.heap ≡ None
+NoneLoose (Returns done s) = oldest_loose s.world.heap ≡ None
 NoneLoose (Ends why s) = Unit {0}
 
 -- where the page's end comes to its end, each object that was made has ended
 abbrev pub AllEnded : {E : Type 0} → Step (State E) (Unit {0}) → Type 0
-AllEnded (Gives done s) = ended_objects (account_at s) ≡ numbers_below s.world.heap.objects_made
+AllEnded (Returns done s) = ended_objects (account_at s) ≡ numbers_below s.world.heap.objects_made
 AllEnded (Ends why s) = Unit {0}
 
 -- From a state, terminators are run so: an object whose terminator is to begin is live, and is live no more when it has

@@ -26,7 +26,7 @@ abbrev pub site_rules : Site → Rules
 site_rules site = rules_by (meaning_of site) zero_seed
 
 -- The files that are told are a site, and on a host of it the request for the path with the query has this answer.
-pub record Answers (path query : List ℕ) (files : Option (List SiteFile)) (answer : Answer) : Type 0 where
+pub record IsAnswer (path query : List ℕ) (files : Option (List SiteFile)) (answer : Answer) : Type 0 where
   pub site : Site
   pub accepted : IfSome files (λ all. IsAccepted all site)
   pub answered : HasAnswered (site_rules site) (job_of path query) answer
@@ -46,9 +46,9 @@ pub record IsFull (path query : List ℕ) (files : Option (List SiteFile)) (entr
 -- what `get` ran and wrote, by its status
 abbrev pub GetWrites : List ℕ → List ℕ → Option (List SiteFile) → Change → Status → Type 0
 GetWrites path query files sink Ok =
-    (answer : Answer) × Answers path query files answer × (sink.after ≡ with_bytes sink.before answer.body)
+    (answer : Answer) × IsAnswer path query files answer × (sink.after ≡ with_bytes sink.before answer.body)
 GetWrites path query files sink WriteFault =
-    (answer : Answer) × Answers path query files answer × AddsPart sink.before sink.after answer.body
+    (answer : Answer) × IsAnswer path query files answer × AddsPart sink.before sink.after answer.body
 GetWrites path query files sink (SiteRefused fault) = IfSome files (λ all. IsFolderFault all fault) × IsLeft sink
 GetWrites path query files sink (StartFailed fail) = FailsToBegin files fail × IsLeft sink
 GetWrites path query files sink (JournalFull entries weight) =

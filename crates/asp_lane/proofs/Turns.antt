@@ -23,7 +23,7 @@ use Rattle.asp_core.specs.Kernel.{StandsAt, blocker, called, grown, past_of, rul
 use Rattle.asp_journal.proofs.Past.{past_push}
 use Rattle.asp_lane.specs.declared.turn.Turn.{Turn}
 use Rattle.asp_lane.specs.declared.turn.Turn.TheVariants as turn
-use Rattle.asp_lane.specs.Turns.{Adds, IsAlone, IsTurn, turn_of}
+use Rattle.asp_lane.specs.Turns.{AddsTurn, IsAlone, IsTurn, turn_of}
 use Rattle.asp_lane.proofs.Unfinished.{begun_alone, ended_none, never_blocked}
 
 -- ---- cores
@@ -105,7 +105,7 @@ module _ {R Site State : Type 0} (meaning : R → Site → Meaning) (stands : R 
 
   -- nothing was added
   pub none_turn : (lane : ℕ) (old new : CoreView R Site) (turn : Turn) → unfinished (past_of old) ≡ []
-      → new ≡ old → Adds {State = State} (rules_of meaning old) (past_of old) lane None [] turn
+      → new ≡ old → AddsTurn {State = State} (rules_of meaning old) (past_of old) lane None [] turn
       → IsTurn meaning stands lane old None new None turn
   none_turn lane old new turn none same adds = record {
     entries = [];
@@ -182,7 +182,7 @@ module _ {R Site State : Type 0} (meaning : R → Site → Meaning) (stands : R 
   ended_turn : (lane : ℕ) (old new : CoreView R Site) (run : RunView State) (kind : EndKind) (turn : Turn)
       → AreRight (rules_of meaning old) (past_of old) → IsAlone meaning stands old lane run
       → new ≡ grown old (end_entry (rules_of meaning old) (past_of old) lane run.number kind ∷ [])
-      → Adds (rules_of meaning old) (past_of old) lane (Some run)
+      → AddsTurn (rules_of meaning old) (past_of old) lane (Some run)
       (end_entry (rules_of meaning old) (past_of old) lane run.number kind ∷ []) turn
       → IsTurn meaning stands lane old (Some run) new None turn
   ended_turn lane old new run kind turn right alone new_is adds =

@@ -85,9 +85,9 @@ AddsStep rules past lane run entries (turn.JournalFull count weight) =
 AddsStep rules past lane run entries turn.Memory = ⊥
 
 -- the entries of a turn, oldest first, where this run is in hand
-abbrev pub Adds : {State : Type 0} → Rules → List Entry → ℕ → Option (RunView State) → List Entry → Turn → Type 0
-Adds rules past lane None entries turn = AddsBegin rules past lane entries turn
-Adds rules past lane (Some run) entries turn = AddsStep rules past lane run.number entries turn
+abbrev pub AddsTurn : {State : Type 0} → Rules → List Entry → ℕ → Option (RunView State) → List Entry → Turn → Type 0
+AddsTurn rules past lane None entries turn = AddsBegin rules past lane entries turn
+AddsTurn rules past lane (Some run) entries turn = AddsStep rules past lane run.number entries turn
 
 -- The new core is the old one with the entries of the turn, and what is in hand then fits it.
 pub record IsTurn {R Site State : Type 0} (meaning : R → Site → Meaning)
@@ -96,5 +96,5 @@ pub record IsTurn {R Site State : Type 0} (meaning : R → Site → Meaning)
     Type 0 where
   pub entries : List Entry
   pub new_is : new ≡ grown old entries
-  pub adds : Adds (rules_of meaning old) (past_of old) lane in_hand entries turn
+  pub adds : AddsTurn (rules_of meaning old) (past_of old) lane in_hand entries turn
   pub fits : Fits meaning stands new lane then_in_hand

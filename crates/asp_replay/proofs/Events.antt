@@ -29,7 +29,7 @@ use Rattle.asp_record.specs.declared.recording.Item.TheVariants as item
 use Rattle.asp_record.specs.Recorded as recorded
 use Rattle.asp_replay.specs.Feeding.{AreCalm, AreItems, CameFrom, Clients, HasCome, IsCalmBefore, IsFed, IsJobOf}
 use Rattle.asp_replay.specs.Feeding.{asked_by, clients_after, comes, events_of, is_calm, moment_by, tick_to}
-use Rattle.asp_replay.specs.Sequential.{Adds, hand_outs, may_come}
+use Rattle.asp_replay.specs.Sequential.{AddsItem, hand_outs, may_come}
 
 -- ---- entries that do not come from outside
 
@@ -335,7 +335,7 @@ time_may past moment may =
 pub item_came : (rules : Rules) (done : List Item) (past : List Entry) (clients then_clients : Clients) (next : Item)
     (entries : List Entry) → HasCome done past clients → moment_of past ≡ moment_by done
     → may_come past (recorded.moment_of next) ≡ true → moment_by done ≤ recorded.moment_of next
-    → Adds rules past clients next entries then_clients
+    → AddsItem rules past clients next entries then_clients
     → HasItem (next ∷ done) past (past_after past entries) then_clients
 item_came rules done past clients then_clients (item.Tick moment) entries came now may rises adds =
     let is : HasItem (item.Tick moment ∷ done) past (past_after past (tick_entries rules past 0 moment)) clients =

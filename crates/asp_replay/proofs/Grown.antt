@@ -25,7 +25,7 @@ use Rattle.asp_replay.specs.declared.stop.FeedStop.{FeedStop}
 use Rattle.asp_replay.specs.declared.stop.FeedStop.TheVariants as stop
 use Rattle.asp_replay.specs.Feed.{HasCause}
 use Rattle.asp_replay.specs.Feeding.{Clients, HasCome, IsFedPart, comes, is_calm, moment_by}
-use Rattle.asp_replay.specs.Sequential.{Adds, HasInHand, IsBusy, hand_outs, handed_out, may_come}
+use Rattle.asp_replay.specs.Sequential.{AddsItem, HasInHand, IsBusy, hand_outs, handed_out, may_come}
 use Rattle.asp_replay.specs.Shown.{AreRecords, Shown, shown_of}
 use Rattle.asp_replay.specs.Underway.{After, AreTurnsTo, EndsSo, HandsOut, IsOfOneLane, IsOfWriting}
 use Rattle.asp_replay.specs.Underway.{IsUnderWay, StandsAt, WorkAdds, stamped}
@@ -208,14 +208,14 @@ calm_where past moment may later =
     (and_right ended calm (and_left (ended && calm) few may)) (not_yet (moment_of past) moment later)
 
 pub item_stays : (m : Rules) (past entries : List Entry) (clients then_clients : Clients) (next : Item)
-    → Adds m past clients next entries then_clients → Stays past → Stays (past_after past entries)
+    → AddsItem m past clients next entries then_clients → Stays past → Stays (past_after past entries)
 item_stays m past entries clients then_clients (item.Tick moment) adds stays =
     rw adds.0 (stays_plain past (tick_entries m past 0 moment) (plain_ticked m past moment) stays)
 item_stays m past entries clients then_clients (item.Request client moment bytes) adds stays =
     rw adds.2 (stays_plain past (admit_entries m past 0 adds.0) (plain_admitted m past adds.0) stays)
 
 pub item_aside : (m : Rules) (past entries : List Entry) (clients then_clients : Clients) (next : Item)
-    → Adds m past clients next entries then_clients → AreAside entries
+    → AddsItem m past clients next entries then_clients → AreAside entries
 item_aside m past entries clients then_clients (item.Tick moment) adds = rw adds.0 (aside_ticked m past 0 moment)
 item_aside m past entries clients then_clients (item.Request client moment bytes) adds =
     rw adds.2 (aside_admitted m past 0 adds.0)
@@ -223,7 +223,7 @@ item_aside m past entries clients then_clients (item.Request client moment bytes
 item_shows : (m : Rules) (past entries : List Entry) (clients then_clients : Clients) (next : Item) (done : List Shown)
     → AreRight m (past_after past entries) → IsAnswered m (past_after past entries)
     → may_come past (recorded.moment_of next) ≡ true → ready m past ≡ []
-    → Adds m past clients next entries then_clients → Shows m past done → Shows m (past_after past entries) done
+    → AddsItem m past clients next entries then_clients → Shows m past done → Shows m (past_after past entries) done
 item_shows m past entries clients then_clients (item.Tick moment) done right answered may none adds shows =
     let right_then = subst (λ some. AreRight m (past_after past some)) adds.0 right in
     let answered_then = subst (λ some. IsAnswered m (past_after past some)) adds.0 answered in
@@ -240,7 +240,7 @@ item_shows m past entries clients then_clients (item.Request client moment bytes
 -- an item more has come
 come_stands : (m : Rules) (items : List Item) (past entries : List Entry) (clients then_clients : Clients) (next : Item)
     (left : List Item) → may_come past (recorded.moment_of next) ≡ true
-    → Adds m past clients next entries then_clients → StandsAt items past clients (next ∷ left)
+    → AddsItem m past clients next entries then_clients → StandsAt items past clients (next ∷ left)
     → StandsAt items (past_after past entries) then_clients left
 come_stands m items past entries clients then_clients next left may adds (inl feeding) =
     let done = feeding.done in
@@ -263,7 +263,7 @@ pub come_grown : (m : Rules) (items : List Item) (past entries : List Entry) (cl
     (next : Item) (left : List Item) (before held : Option (List ℕ))
     → IsUnderWay m items past clients (next ∷ left) before held
     → AreRight m (past_after past entries) → IsAnswered m (past_after past entries)
-    → may_come past (recorded.moment_of next) ≡ true → Adds m past clients next entries then_clients
+    → may_come past (recorded.moment_of next) ≡ true → AddsItem m past clients next entries then_clients
     → IsGrown m items (past_after past entries) then_clients left before held
 come_grown m items past entries clients then_clients next left before held is right answered may adds =
     let shows : Shows m past (shown_of m past) = shows_all m past is.lane in

@@ -11,7 +11,7 @@ use Rattle.asp_lane.specs.Turns.{IsStep}
 use Rattle.asp_record.specs.declared.recording.Item.{Item}
 use Rattle.asp_record.specs.Recorded as recorded
 use Rattle.asp_replay.specs.Feeding.{Clients, is_calm}
-use Rattle.asp_replay.specs.Sequential.{Adds, IsBusy, IsNextStep, hand_outs, handed_out, is_memory_end, may_come}
+use Rattle.asp_replay.specs.Sequential.{AddsItem, IsBusy, IsNextStep, hand_outs, handed_out, is_memory_end, may_come}
 use Rattle.asp_replay.specs.Underway.{AreTurnsTo, WorkAdds}
 
 none_before : (test : What → Bool) (past entries : List Entry) → NoneIs test (past_after past entries)
@@ -23,7 +23,7 @@ none_before test past (entry ∷ entries) none = (none_before test (entry ∷ pa
 pub come_turned : (m : Rules) (items : List Item) (past entries : List Entry) (clients then_clients : Clients) (next :
     Item)
     (left : List Item) → AreTurnsTo m items past clients (next ∷ left)
-    → may_come past (recorded.moment_of next) ≡ true → Adds m past clients next entries then_clients
+    → may_come past (recorded.moment_of next) ≡ true → AddsItem m past clients next entries then_clients
     → AreTurnsTo m items (handed_out m (past_after past entries)) then_clients left
 come_turned m items past entries clients then_clients next left turns may adds = λ none.
     let mid = past_after past entries in

@@ -20,7 +20,7 @@ use Rattle.asp_replay.specs.declared.stop.FeedStop.TheVariants as stop
 use Rattle.asp_replay.specs.Feed.{HasAllCome, HasCause, IsNext}
 use Rattle.asp_replay.specs.Feed.IsTooMuchNext.{OfItem, OfStop}
 use Rattle.asp_replay.specs.Feeding.{Clients, is_calm}
-use Rattle.asp_replay.specs.Sequential.{Adds, IsBusy, hand_outs, may_come}
+use Rattle.asp_replay.specs.Sequential.{AddsItem, IsBusy, hand_outs, may_come}
 use Rattle.asp_replay.specs.Underway.{After, AreOfLane, EndsSo, HandsOut, IsItemTooMuch, IsOfOneLane, IsOfWriting}
 use Rattle.asp_replay.specs.Underway.{IsUnderWay, StandsAt, WorkAdds, Works, turn_stop}
 use Rattle.asp_replay.proofs.Aside.{AreAside, aside_handed, fits_still}
@@ -123,7 +123,7 @@ module _ {R Site : Type 0} (meaning : R → Site → Meaning) where
   -- ---- an item comes
 
   pub come_lanes : (old mid : CoreView R Site) (entries : List Entry) (clients then_clients : Clients) (next : Item)
-      → mid ≡ grown old entries → Adds (rules_of meaning old) (past_of old) clients next entries then_clients
+      → mid ≡ grown old entries → AddsItem (rules_of meaning old) (past_of old) clients next entries then_clients
       → IsOfOneLane (rules_of meaning old) (past_of old) → AreOfLane (past_of mid)
   come_lanes old mid entries clients then_clients next mid_is adds lane =
       subst AreOfLane (sym (ap past_of mid_is ∙ past_of_more old.journal entries))
@@ -132,7 +132,7 @@ module _ {R Site : Type 0} (meaning : R → Site → Meaning) where
 
   pub come_after : {T : Type 0} → (result : Result T FeedStop) (old mid new : CoreView R Site) (entries : List Entry)
       (items left : List Item) (clients then_clients : Clients) (next : Item) (before held after : Option (List ℕ))
-      → mid ≡ grown old entries → Adds (rules_of meaning old) (past_of old) clients next entries then_clients
+      → mid ≡ grown old entries → AddsItem (rules_of meaning old) (past_of old) clients next entries then_clients
       → may_come (past_of old) (recorded.moment_of next) ≡ true
       → AreRight (rules_of meaning mid) (past_of mid) → IsAnswered (rules_of meaning mid) (past_of mid)
       → IsOfWriting result → HandsOut meaning result mid new held after

@@ -17,7 +17,7 @@ use Rattle.asp_job.specs.Told.{Meaning, Told}
 use Rattle.asp_lane.specs.declared.turn.Turn.{Turn}
 use Rattle.asp_lane.specs.declared.turn.Turn.TheVariants as turn
 use Rattle.asp_lane.specs.Rest.{HasTurned, Turned}
-use Rattle.asp_lane.specs.Turns.{Adds, Fits, IsStep, IsTurn}
+use Rattle.asp_lane.specs.Turns.{AddsTurn, Fits, IsStep, IsTurn}
 use Rattle.asp_record.specs.declared.recording.Item.{Item}
 use Rattle.asp_replay.specs.declared.stop.FeedStop.{FeedStop}
 use Rattle.asp_replay.specs.declared.stop.FeedStop.TheVariants as stop
@@ -61,7 +61,7 @@ step_quiet m past lane run entry (inr (inl ended)) = rw ended.1 (refl, tt)
 step_quiet m past lane run entry (inr (inr died)) = rw died (refl, tt)
 
 adds_quiet : {State : Type 0} → (m : Rules) (past : List Entry) (lane : ℕ) (in_hand : Option (RunView State))
-    (entries : List Entry) (t : Turn) → Adds m past lane in_hand entries t → NoneIs comes entries
+    (entries : List Entry) (t : Turn) → AddsTurn m past lane in_hand entries t → NoneIs comes entries
 adds_quiet m past lane None entries turn.Done adds = rw adds.2 (refl, tt)
 adds_quiet m past lane None entries turn.More adds = absurd adds
 adds_quiet m past lane None entries turn.Idle adds = rw adds.1 tt

@@ -21,7 +21,7 @@ use Rattle.asp_record.specs.Recorded.{moment_of}
 use Rattle.asp_replay.specs.declared.stop.FeedStop.{FeedStop}
 use Rattle.asp_replay.specs.declared.stop.FeedStop.TheVariants as stop
 use Rattle.asp_replay.specs.Feeding.{Clients, HasCome, IsFed, IsFedPart, events_of, is_calm}
-use Rattle.asp_replay.specs.Sequential.{Adds, IsSequential, is_memory_end, may_come}
+use Rattle.asp_replay.specs.Sequential.{AddsItem, IsSequential, is_memory_end, may_come}
 use Rattle.asp_replay.specs.Shown.{AreRecords, Shown, shown_of}
 
 -- ---- records
@@ -83,7 +83,7 @@ pub record HasAllCome (items : List Item) (past : List Entry) : Type 0 where
 -- many or too heavy
 pub data IsTooMuchNext (rules : Rules) (items : List Item) (past : List Entry) (entries weight : ℕ) : Type 0 where
   OfItem : (clients then_clients : Clients) (next : Item) (added : List Entry) → IsNext items past clients next
-      → Adds rules past clients next added then_clients
+      → AddsItem rules past clients next added then_clients
       → IsTooMuch (past_after past added) entries weight → IsTooMuchNext rules items past entries weight
   OfStop : HasAllCome items past → IsTooMuch (past_after past (stop_entries rules past 0)) entries weight
       → IsTooMuchNext rules items past entries weight

@@ -41,10 +41,10 @@ may_come past moment = is_some (end_kind past 1) && (nat_le moment (moment_of pa
     && nat_lt (length (waiting_pages past)) MOST_WAITING
 
 -- an item adds these entries, and leaves the clients so
-abbrev pub Adds : Rules → List Entry → Clients → Item → List Entry → Clients → Type 0
-Adds rules past clients (item.Tick moment) entries then_clients =
+abbrev pub AddsItem : Rules → List Entry → Clients → Item → List Entry → Clients → Type 0
+AddsItem rules past clients (item.Tick moment) entries then_clients =
     (entries ≡ tick_entries rules past 0 moment) × (then_clients ≡ clients)
-Adds rules past clients (item.Request client moment bytes) entries then_clients =
+AddsItem rules past clients (item.Request client moment bytes) entries then_clients =
     (job : Job) × IsJobOf clients client moment bytes job × (entries ≡ admit_entries rules past 0 job)
     × (then_clients ≡ clients_after clients client (entry_then rules past 0 job).what)
 
@@ -88,7 +88,7 @@ pub record IsComing (rules : Rules) (from to : Place) : Type 0 where
   pub entries : List Entry
   pub items_are : from.items ≡ next ∷ to.items
   pub may : may_come from.past (recorded.moment_of next) ≡ true
-  pub adds : Adds rules from.past from.clients next entries to.clients
+  pub adds : AddsItem rules from.past from.clients next entries to.clients
   pub past_is : to.past ≡ handed_out rules (past_after from.past entries)
 
 -- the host stops, once all items came and nothing is under way

@@ -30,7 +30,7 @@ use Rattle.asp_replay.specs.declared.stop.FeedStop.{FeedStop}
 use Rattle.asp_replay.specs.declared.stop.FeedStop.TheVariants as stop
 use Rattle.asp_replay.specs.Feed.{ArePartWritten, AreWritten, HasCause, HasFed, is_full_end}
 use Rattle.asp_replay.specs.Feeding.{Clients, HasCome, IsFed, IsFedPart, comes, is_calm, moment_by}
-use Rattle.asp_replay.specs.Sequential.{Adds, AreTurns, HasInHand, first_place, hand_outs, is_memory_end}
+use Rattle.asp_replay.specs.Sequential.{AddsItem, AreTurns, HasInHand, first_place, hand_outs, is_memory_end}
 use Rattle.asp_replay.specs.Shown.{AreRecords, IsRecord, Shown}
 
 -- ---- stops
@@ -63,12 +63,12 @@ turn_stop _ = None
 abbrev pub HasGrown : {R Site : Type 0} → (R → Site → Meaning) → CoreView R Site → Clients → Item → CoreView R Site →
     Clients → Type 0
 HasGrown meaning old clients item new then_clients = (entries : List Entry)
-    × Adds (rules_of meaning old) (past_of old) clients item entries then_clients × (new ≡ grown old entries)
+    × AddsItem (rules_of meaning old) (past_of old) clients item entries then_clients × (new ≡ grown old entries)
 
 -- the entries that an item would add are too many or too heavy
 abbrev pub IsItemTooMuch : Rules → List Entry → Clients → Item → ℕ → ℕ → Type 0
 IsItemTooMuch rules past clients item entries weight = (added : List Entry) × (then_clients : Clients)
-    × Adds rules past clients item added then_clients × IsTooMuch (past_after past added) entries weight
+    × AddsItem rules past clients item added then_clients × IsTooMuch (past_after past added) entries weight
 
 -- ---- what a step adds
 

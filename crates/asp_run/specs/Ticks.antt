@@ -9,7 +9,7 @@ use Rattle.vb_meaning.specs.Inner.{Inner}
 use Rattle.vb_meaning.specs.Meaning.{inside, most_levels}
 use Rattle.vb_meaning.specs.Releases.{settle_last, end_all, in_world}
 use Rattle.vb_meaning.specs.State.{State, on_world}
-use Rattle.vb_meaning.specs.Step.{Step, Gives, Ends, ◌>>◌}
+use Rattle.vb_meaning.specs.Step.{Step, Returns, Ends, ◌>>◌}
 use Rattle.vb_world.specs.Seen.{host}
 use Rattle.asp_job.specs.declared.job.Work.{Work}
 use Rattle.asp_job.specs.declared.job.Work.TheVariants as work
@@ -30,7 +30,7 @@ use Rattle.asp_run.specs.Pages.{page_takes, page_begins as course_of_page}
 
 -- the state that a step leaves
 abbrev pub left_by : {E : Type 0} → Step (State E) (Unit {0}) → State E
-left_by (Gives done s) = s
+left_by (Returns done s) = s
 left_by (Ends why s) = s
 
 module _ (E : Type 0) (m : Inner E) where
@@ -40,7 +40,7 @@ module _ (E : Type 0) (m : Inner E) where
 
   -- the state at the end of an act: one that a limit stopped, or that wants a call, ends no more objects
   abbrev pub act_end : Step (State E) (Unit {0}) → State E
-  act_end (Gives done s) = page_end s
+  act_end (Returns done s) = page_end s
   act_end (Ends stop.Page s) = page_end s
   act_end (Ends (stop.Error what line) s) = page_end s
   act_end (Ends why s) = s

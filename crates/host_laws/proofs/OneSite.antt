@@ -17,7 +17,7 @@ use Rattle.page_build.specs.Words.{no_words}
 use Rattle.page_build.proofs.OneAnswer.{OneProgram, OneUnit}
 use Rattle.page_build.proofs.OneWords.{OneTokens, one_words}
 use Rattle.host_laws.proofs.OneFolder.{one_folder}
-use Rattle.site_load.specs.Accepted.{Adds, AreRuns, IsAccepted, IsBuilt, IsSite, role_of}
+use Rattle.site_load.specs.Accepted.{AddsFile, AreRuns, IsAccepted, IsBuilt, IsSite, role_of}
 use Rattle.site_load.specs.declared.building.Role.{Role}
 use Rattle.site_load.specs.declared.building.Role.TheVariants as role
 use Rattle.site_load.specs.declared.building.Runs.{Runs}
@@ -92,7 +92,7 @@ module _ (outcomes : OneOutcome) (tokens : OneTokens) (units : OneUnit) (program
 
   -- a file adds one thing
   one_adds : (files : List SiteFile) (file : SiteFile) (is : Role) (later runs other : Runs)
-      → Adds files file is later runs → Adds files file is later other → runs ≡ other
+      → AddsFile files file is later runs → AddsFile files file is later other → runs ≡ other
   one_adds files file role.Page later runs other adds also =
       adds.2
       ∙ ap (λ page. record later { pages = page ∷ later.pages })
@@ -111,7 +111,7 @@ module _ (outcomes : OneOutcome) (tokens : OneTokens) (units : OneUnit) (program
   one_runs files (file ∷ rest) runs other is also =
       let later : is.0 ≡ also.0 = one_runs files rest is.0 also.0 is.1 also.1 in
       one_adds files file (role_of file.path) also.0 runs other
-      (subst (λ later. Adds files file (role_of file.path) later runs) later is.2) also.2
+      (subst (λ later. AddsFile files file (role_of file.path) later runs) later is.2) also.2
 
   one_site_of : (files : List SiteFile) (site other : Site) → IsSite files site → IsSite files other → site ≡ other
   one_site_of files site other is also =

@@ -10,7 +10,7 @@ use Rattle.asp_record.specs.declared.recording.Item.{Item}
 use Rattle.asp_record.specs.declared.recording.Item.TheVariants as item
 use Rattle.asp_record.specs.Recorded as recorded
 use Rattle.asp_replay.specs.Feeding.{Clients, clients_after, is_calm}
-use Rattle.asp_replay.specs.Sequential.{Adds, IsBusy, IsComing, IsStopping, IsTurn, IsWorking, Place, handed_out}
+use Rattle.asp_replay.specs.Sequential.{AddsItem, IsBusy, IsComing, IsStopping, IsTurn, IsWorking, Place, handed_out}
 use Rattle.asp_replay.specs.Sequential.{may_come}
 use Rattle.replay_laws.proofs.OneJob.{OneFront, one_job}
 use Rattle.replay_laws.proofs.OneWork.{one_work}
@@ -44,7 +44,7 @@ no_stop_works rules from to other stops works =
 module _ (fronts : OneFront) (rules : Rules) where
   -- an item adds one thing
   one_adds : (past : List Entry) (clients : Clients) (next : Item) (entries others : List Entry) (left last : Clients)
-      → Adds rules past clients next entries left → Adds rules past clients next others last
+      → AddsItem rules past clients next entries left → AddsItem rules past clients next others last
       → (entries ≡ others) × (left ≡ last)
   one_adds past clients (item.Tick moment) entries others left last is also =
       (is.0 ∙ sym also.0, is.1 ∙ sym also.1)
@@ -59,8 +59,8 @@ module _ (fronts : OneFront) (rules : Rules) where
       let items : is.next ∷ to.items ≡ also.next ∷ other.items = sym is.items_are ∙ also.items_are in
       let next : is.next ≡ also.next = cc in
       let left : to.items ≡ other.items = cc in
-      let turned : Adds rules from.past from.clients also.next is.entries to.clients =
-      subst (λ some. Adds rules from.past from.clients some is.entries to.clients) next is.adds in
+      let turned : AddsItem rules from.past from.clients also.next is.entries to.clients =
+      subst (λ some. AddsItem rules from.past from.clients some is.entries to.clients) next is.adds in
       let added = one_adds from.past from.clients also.next is.entries also.entries to.clients other.clients turned
       also.adds in
       let past : to.past ≡ other.past =

@@ -12,7 +12,7 @@ use Rattle.page_read.specs.declared.located.Located.{Located}
 use Rattle.asp_site.specs.declared.site.Page.{Page}
 use Rattle.asp_site.specs.declared.site.Site.{Site}
 use Rattle.page_build.specs.Building.{HasPageFault, IsPageOf}
-use Rattle.site_load.specs.Accepted.{Adds, AreRuns, HasFault, IsAccepted, IsBuilt, IsFileFault, IsFirstFault}
+use Rattle.site_load.specs.Accepted.{AddsFile, AreRuns, HasFault, IsAccepted, IsBuilt, IsFileFault, IsFirstFault}
 use Rattle.site_load.specs.Accepted.{IsFolderFault, IsSite, role_of}
 use Rattle.site_load.specs.Files.{AreSmall, IsSiteOf, IsTooLargeAt, most_of_file, size_of}
 use Rattle.site_load.specs.declared.building.Role.{Role}
@@ -48,7 +48,7 @@ module _ (one_outcome : OneOutcome) (page_or_fault : PageOrFault) where
 
   -- a file that adds its page has no fault
   adds_faultless : (files : List SiteFile) (file : SiteFile) (is : Role) (later runs : Runs) (fault : SiteFault)
-      → Adds files file is later runs → IsFileFault files file is fault → ⊥
+      → AddsFile files file is later runs → IsFileFault files file is fault → ⊥
   adds_faultless files file role.Page later runs fault adds faulty =
       built_faultless files file.path false adds.0 fault adds.1 faulty
   adds_faultless files file role.Events later runs fault adds faulty =

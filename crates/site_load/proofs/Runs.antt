@@ -10,7 +10,7 @@ use Rattle.asp_site.specs.declared.site.Page.{Page}
 use Rattle.page_read.specs.Reading.{OnSiteFault}
 use Rattle.page_read.specs.declared.located.SiteStop.{SiteStop}
 use Rattle.page_read.specs.declared.located.SiteStop.TheVariants as stops
-use Rattle.site_load.specs.Accepted.{Adds, AreRuns, IsFileFault, IsFirstFault, no_runs, role_of}
+use Rattle.site_load.specs.Accepted.{AddsFile, AreRuns, IsFileFault, IsFirstFault, no_runs, role_of}
 use Rattle.site_load.specs.Stopping.{joined}
 use Rattle.site_load.specs.declared.building.Role.{Role}
 use Rattle.site_load.specs.declared.building.Role.TheVariants as role
@@ -28,7 +28,7 @@ joined_none runs = ap (λ (pages : List Page). record { pages = pages; events = 
 
 -- what a file adds before some, it adds before those and more
 adds_before : (files : List SiteFile) (file : SiteFile) (is : Role) (later runs more : Runs)
-    → Adds files file is later runs → Adds files file is (joined later more) (joined runs more)
+    → AddsFile files file is later runs → AddsFile files file is (joined later more) (joined runs more)
 adds_before files file role.Page later runs more adds =
     (adds.0, adds.1, ap (λ (one : Runs). joined one more) adds.2)
 adds_before files file role.Events later runs more adds =
@@ -96,6 +96,6 @@ file_stops files at file runs stops.Memory within is so_far faulty = tt
 
 -- the pages and events of a file of this role
 pub of_role : (files : List SiteFile) (file : SiteFile) (is : Role) (runs : Runs) → is ≡ role_of file.path
-    → Adds files file is no_runs runs → AreRuns files (file ∷ []) runs
+    → AddsFile files file is no_runs runs → AreRuns files (file ∷ []) runs
 of_role files file is runs same adds =
-    (no_runs, refl, subst (λ (one : Role). Adds files file one no_runs runs) same adds)
+    (no_runs, refl, subst (λ (one : Role). AddsFile files file one no_runs runs) same adds)

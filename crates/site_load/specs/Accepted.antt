@@ -38,18 +38,18 @@ abbrev pub no_runs : Runs
 no_runs = record { pages = []; events = None }
 
 -- what a file of the site adds to those of the files behind it
-abbrev pub Adds : List SiteFile → SiteFile → Role → Runs → Runs → Type 0
-Adds files file role.Page later runs = (page : Page) × IsBuilt files file.path false page
+abbrev pub AddsFile : List SiteFile → SiteFile → Role → Runs → Runs → Type 0
+AddsFile files file role.Page later runs = (page : Page) × IsBuilt files file.path false page
     × (runs ≡ record later { pages = page ∷ later.pages })
-Adds files file role.Events later runs = (page : Page) × IsBuilt files file.path true page
+AddsFile files file role.Events later runs = (page : Page) × IsBuilt files file.path true page
     × (runs ≡ record later { events = Some page })
-Adds files file role.Other later runs = runs ≡ later
+AddsFile files file role.Other later runs = runs ≡ later
 
 -- the pages and events of some files of the site
 abbrev pub AreRuns : List SiteFile → List SiteFile → Runs → Type 0
 AreRuns files [] runs = runs ≡ no_runs
 AreRuns files (file ∷ rest) runs =
-    (later : Runs) × AreRuns files rest later × Adds files file (role_of file.path) later runs
+    (later : Runs) × AreRuns files rest later × AddsFile files file (role_of file.path) later runs
 
 -- ---- sites
 

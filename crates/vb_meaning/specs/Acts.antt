@@ -25,7 +25,7 @@ use Rattle.vb_meaning.specs.Meaning.{inside, most_levels}
 use Rattle.vb_meaning.specs.Places.{cells_dropped, let_go}
 use Rattle.vb_meaning.specs.Releases.{settle_last, end_all, in_world}
 use Rattle.vb_meaning.specs.State.{State, Does, on_world, with_heap}
-use Rattle.vb_meaning.specs.Step.{Step, Gives, Ends, Run, ◌>>=◌, ◌>>◌, pure, fails}
+use Rattle.vb_meaning.specs.Step.{Step, Returns, Ends, Run, ◌>>=◌, ◌>>◌, pure, fails}
 
 -- how many ticks an act has
 abbrev pub most_ticks : ℕ
@@ -79,7 +79,7 @@ module _ (E : Type 0) (m : Inner E) where
 
   -- how an act ends that came to the page's end with this end: a limit on the way is its end
   abbrev pub closed : ActEnd → Step (State E) (Unit {0}) → Option PlainEnd × E
-  closed how (Gives done_with s) = (Some (done how s.world), s.env)
+  closed how (Returns done_with s) = (Some (done how s.world), s.env)
   closed how (Ends (stop.Limit kind line) s) = (Some (done (end.Limit kind (line_or_none line)) s.world), s.env)
   closed how (Ends (stop.Error what line) s) =
       (Some (done (error_end (raised_by what) (line_or_none line)) s.world), s.env)
@@ -93,7 +93,7 @@ module _ (E : Type 0) (m : Inner E) where
 
   -- How an act ends. One that a limit stopped ends no more objects, and neither does one that wants a call.
   abbrev pub ends_act : Step (State E) (Unit {0}) → Option PlainEnd × E
-  ends_act (Gives done_with s) = page_ends end.Done s
+  ends_act (Returns done_with s) = page_ends end.Done s
   ends_act (Ends stop.Page s) = page_ends end.Stopped s
   ends_act (Ends (stop.Error what line) s) = page_ends (error_end (raised_by what) (line_or_none line)) s
   ends_act (Ends (stop.Limit kind line) s) = (Some (done (end.Limit kind (line_or_none line)) s.world), s.env)

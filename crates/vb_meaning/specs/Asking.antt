@@ -11,7 +11,7 @@ use Rattle.vb_meaning.specs.declared.stop.Stop.TheVariants as stop
 use Rattle.vb_meaning.specs.declared.world.World.{World}
 use Rattle.vb_meaning.specs.State.{State, Does}
 use Rattle.vb_meaning.specs.Stops.{ask_stop}
-use Rattle.vb_meaning.specs.Step.{Step, Gives, Ends}
+use Rattle.vb_meaning.specs.Step.{Step, Returns, Ends}
 
 -- what an environment says to one question: what it gives or why it stops, and what it is then
 abbrev pub Said : Type 0 → Type 0
@@ -30,9 +30,9 @@ name_values names = map Str names
 -- without one the act wants that call.
 abbrev pub heard : {E : Type 0} → Host E → Member → List Value → World → List AppReply → Said E → Step (State E) Value
 heard host member arguments world replies (Ok (given.Value value, env)) =
-    Gives value (record { world = world; env = env; replies = replies })
+    Returns value (record { world = world; env = env; replies = replies })
 heard host member arguments world replies (Ok (given.Names names, env)) =
-    Gives (array_of (name_values names)) (record { world = world; env = env; replies = replies })
+    Returns (array_of (name_values names)) (record { world = world; env = env; replies = replies })
 heard host member arguments world [] (Ok (given.Call call, env)) =
     Ends (stop.Wants call) (record { world = world; env = env; replies = [] })
 heard host member arguments world (reply ∷ replies) (Ok (given.Call call, env)) =

@@ -23,7 +23,7 @@ use Rattle.vb_meaning.specs.declared.reached.Argument.TheVariants.{Place as OfPl
 use Rattle.vb_meaning.specs.Places.{new_cell, read_place, cell_place, cells_dropped, hold}
 use Rattle.vb_meaning.specs.Releases.{settle, in_world}
 use Rattle.vb_meaning.specs.State.{State, Does, on_world, with_frame, with_heap}
-use Rattle.vb_meaning.specs.Step.{Step, Gives, Ends, Run, ◌>>=◌, ◌>>◌, pure, fails}
+use Rattle.vb_meaning.specs.Step.{Step, Returns, Ends, Run, ◌>>=◌, ◌>>◌, pure, fails}
 
 -- how many procedures may be open
 abbrev pub most_calls : ℕ
@@ -51,7 +51,7 @@ with_place place frame = record frame { places = frame.places ++ place ∷ [] }
 
 -- the world with the names of the procedure changed
 abbrev pub in_frame : (Frame → Frame) → Run World (Unit {0})
-in_frame change world = Gives tt (with_frame change world)
+in_frame change world = Returns tt (with_frame change world)
 
 -- a variable more, of this value
 abbrev pub own_variable : Value → Run World (Unit {0})
@@ -114,7 +114,7 @@ left caller world = record (with_heap (cells_dropped (world.frame.own ++ cell_of
 module _ (E : Type 0) (m : Inner E) where
   -- a procedure's names go, and the caller's are there again
   abbrev pub leaves : World → Does E (Unit {0})
-  leaves caller s = Gives tt (in_world E (left caller s.world) s)
+  leaves caller s = Returns tt (in_world E (left caller s.world) s)
 
   -- a procedure that came to its end or was left by an Exit: its value is held, its names go, and objects end
   abbrev pub returned : World → Does E Value
@@ -123,7 +123,7 @@ module _ (E : Type 0) (m : Inner E) where
 
   -- a procedure with an error in it: its names go, objects end, and the error is one of the caller's statement
   abbrev pub abandoned : World → Step (State E) Exit → Step (State E) Value
-  abandoned caller (Gives exit s) = returned caller s
+  abandoned caller (Returns exit s) = returned caller s
   abandoned caller (Ends (stop.Error what line) s) =
       (settle E m >> Ends (stop.Error what line)) (in_world E (left caller s.world) s)
   abandoned caller (Ends stop.Page s) = Ends stop.Page (in_world E (left caller s.world) s)

@@ -13,7 +13,7 @@ use Rattle.vb_meaning.specs.declared.cause.Raised.{Raised}
 use Rattle.vb_meaning.specs.declared.stop.Stop.TheVariants as stop
 use Rattle.vb_meaning.specs.declared.world.World.{World}
 use Rattle.vb_meaning.specs.Errors.{cleared, with_err, language_source}
-use Rattle.vb_meaning.specs.Step.{Gives, Ends, Run, ◌>>=◌, given, fails}
+use Rattle.vb_meaning.specs.Step.{Returns, Ends, Run, ◌>>=◌, given, fails}
 
 -- a text, or another one where it is left out
 abbrev pub text_or : List ℕ → Option Value → Result (List ℕ) VbError
@@ -40,10 +40,10 @@ raise arguments = given (raise_of arguments) >>= (λ error world. Ends (stop.Err
 
 -- what Err says where a member of it is read or called; Raise and another name are elsewhere
 unfoldable pub err_value : ErrMember → List Value → Run World Value
-err_value err.Number [] world = Gives (Long world.err.number) world
-err_value err.Description [] world = Gives (Str world.err.description) world
-err_value err.Source [] world = Gives (Str world.err.source) world
-err_value err.Clear [] world = Gives Empty (cleared world)
+err_value err.Number [] world = Returns (Long world.err.number) world
+err_value err.Description [] world = Returns (Str world.err.description) world
+err_value err.Source [] world = Returns (Str world.err.source) world
+err_value err.Clear [] world = Returns Empty (cleared world)
 err_value err.Raise arguments world = raise arguments world
 err_value err.Absent arguments world = fails unsupported world
 err_value _ arguments world = fails wrong_number world
@@ -51,9 +51,9 @@ err_value _ arguments world = fails wrong_number world
 -- a member of Err that is assigned to
 unfoldable pub set_err : ErrMember → Value → Run World (Unit {0})
 set_err err.Number value world = (given (to_long_of value) >>= (λ number w.
-    Gives tt (with_err (record w.err { number = number }) w))) world
+    Returns tt (with_err (record w.err { number = number }) w))) world
 set_err err.Description value world = (given (to_str_of value) >>= (λ text w.
-    Gives tt (with_err (record w.err { description = text }) w))) world
+    Returns tt (with_err (record w.err { description = text }) w))) world
 set_err err.Source value world = (given (to_str_of value) >>= (λ text w.
-    Gives tt (with_err (record w.err { source = text }) w))) world
+    Returns tt (with_err (record w.err { source = text }) w))) world
 set_err _ value world = fails unsupported world

@@ -10,7 +10,7 @@ use Rattle.vb_meaning.specs.declared.stop.Stop.{Stop}
 use Rattle.vb_meaning.specs.declared.stop.Stop.TheVariants as stop
 use Rattle.vb_meaning.specs.declared.world.World.{World}
 use Rattle.vb_meaning.specs.State.{State, with_frame}
-use Rattle.vb_meaning.specs.Step.{Step, Gives, Ends, Run}
+use Rattle.vb_meaning.specs.Step.{Step, Returns, Ends, Run}
 
 -- where the language's own errors come from
 abbrev pub language_source : List ℕ
@@ -50,14 +50,14 @@ stop_in line stop.Memory = stop.Memory
 
 -- a step in a line
 abbrev pub in_line : {S A : Type 0} → ℕ → Step S A → Step S A
-in_line line (Gives value s) = Gives value s
+in_line line (Returns value s) = Returns value s
 in_line line (Ends why s) = Ends (stop_in line why) s
 
 -- Under On Error Resume Next an error only changes Err, and what `instead` says is given. Else it stays.
 abbrev pub resumed : {E A : Type 0} → A → Step (State E) A → Step (State E) A
-resumed instead (Gives value s) = Gives value s
+resumed instead (Returns value s) = Returns value s
 resumed instead (Ends (stop.Error what line) s) =
-    if s.world.frame.resumes then Gives instead (record s { world = with_err (raised_by what) s.world })
+    if s.world.frame.resumes then Returns instead (record s { world = with_err (raised_by what) s.world })
     else Ends (stop.Error what line) s
 resumed instead (Ends (stop.Limit kind line) s) = Ends (stop.Limit kind line) s
 resumed instead (Ends stop.Page s) = Ends stop.Page s
@@ -70,7 +70,7 @@ on_error resumes world = cleared (with_frame (λ frame. record frame { resumes =
 
 -- one tick: a statement, a loop's turn or a procedure begins
 unfoldable pub tick : Run World (Unit {0})
-tick world = if nat_lt 0 world.ticks then Gives tt (record world { ticks = world.ticks - 1 })
+tick world = if nat_lt 0 world.ticks then Returns tt (record world { ticks = world.ticks - 1 })
     else Ends (stop.Limit Ticks None) world
 
 -- why one construct more is too many: Out of stack space, and the limit Depth while a terminator runs

@@ -17,7 +17,7 @@ use Rattle.vb_meaning.specs.Inner.{Inner}
 use Rattle.vb_meaning.specs.Objects.{class_at}
 use Rattle.vb_meaning.specs.Places.{let_go}
 use Rattle.vb_meaning.specs.State.{State, Does, with_heap}
-use Rattle.vb_meaning.specs.Step.{Step, Gives, Ends, and_then, ◌>>◌, pure}
+use Rattle.vb_meaning.specs.Step.{Step, Returns, Ends, and_then, ◌>>◌, pure}
 
 -- the world in which a terminator begins: Err holds no error
 abbrev pub terminating : World → World
@@ -49,8 +49,8 @@ module _ (E : Type 0) where
 
   -- How a terminator came to its end: an error ends it alone. A page stop goes on once its object has ended.
   abbrev pub terminated : ℕ → World → Step (State E) Value → Step (State E) (Unit {0})
-  terminated object before (Gives value s) = Gives tt (in_world (ended object before s.world) s)
-  terminated object before (Ends (stop.Error what line) s) = Gives tt (in_world (ended object before s.world) s)
+  terminated object before (Returns value s) = Returns tt (in_world (ended object before s.world) s)
+  terminated object before (Ends (stop.Error what line) s) = Returns tt (in_world (ended object before s.world) s)
   terminated object before (Ends stop.Page s) = Ends stop.Page (in_world (ended object before s.world) s)
   terminated object before (Ends (stop.Limit kind line) s) = Ends (stop.Limit kind line) s
   terminated object before (Ends (stop.Wants call) s) = Ends (stop.Wants call) s
@@ -58,8 +58,8 @@ module _ (E : Type 0) where
 
   -- a page stop that goes no further
   abbrev pub without_page_stop : Step (State E) (Unit {0}) → Step (State E) (Unit {0})
-  without_page_stop (Ends stop.Page s) = Gives tt s
-  without_page_stop (Gives done s) = Gives done s
+  without_page_stop (Ends stop.Page s) = Returns tt s
+  without_page_stop (Returns done s) = Returns done s
   without_page_stop (Ends (stop.Error what line) s) = Ends (stop.Error what line) s
   without_page_stop (Ends (stop.Limit kind line) s) = Ends (stop.Limit kind line) s
   without_page_stop (Ends (stop.Wants call) s) = Ends (stop.Wants call) s
@@ -84,11 +84,11 @@ module _ (E : Type 0) (m : Inner E) where
   abbrev pub released_one : Does E (Unit {0}) → Option ℕ → Does E (Unit {0})
   released_one more (Some object) s =
       (terminate object >> more) (in_world E (with_heap (with_ending (Some object)) s.world) s)
-  released_one more None s = Gives tt s
+  released_one more None s = Returns tt s
 
   -- While some live object has no reference, the oldest such ends, at most so many times.
   abbrev pub settle_times : ℕ → Does E (Unit {0})
-  settle_times zero s = Gives tt s
+  settle_times zero s = Returns tt s
   settle_times (suc more) s = released_one (settle_times more) (oldest_loose s.world.heap) s
 
   -- no object ends twice
@@ -97,7 +97,7 @@ module _ (E : Type 0) (m : Inner E) where
 
   -- The end of a statement or of a head: what it held is held no more, and objects end. An error goes on behind it.
   abbrev pub release : {A : Type 0} → ℕ → Step (State E) A → Step (State E) A
-  release mark (Gives value s) = (settle >> pure value) (in_world E (let_go mark s.world) s)
+  release mark (Returns value s) = (settle >> pure value) (in_world E (let_go mark s.world) s)
   release mark (Ends (stop.Error what line) s) =
       (settle >> Ends (stop.Error what line)) (in_world E (let_go mark s.world) s)
   release mark (Ends stop.Page s) = Ends stop.Page s
@@ -122,11 +122,11 @@ module _ (E : Type 0) (m : Inner E) where
   abbrev pub end_one : Does E (Unit {0}) → Option ℕ → Does E (Unit {0})
   end_one more (Some object) s = and_then (in_line (line_of object s.world) (without_page_stop E (terminate object
       (in_world E (with_heap (with_ending (Some object)) s.world) s)))) (λ _. more)
-  end_one more None s = Gives tt s
+  end_one more None s = Returns tt s
 
   -- while some live object has no reference, as above
   abbrev pub settle_last_times : ℕ → Does E (Unit {0})
-  settle_last_times zero s = Gives tt s
+  settle_last_times zero s = Returns tt s
   settle_last_times (suc more) s = end_one (settle_last_times more) (oldest_loose s.world.heap) s
 
   unfoldable pub settle_last : Does E (Unit {0})
@@ -134,7 +134,7 @@ module _ (E : Type 0) (m : Inner E) where
 
   -- each object that is left ends in the order of creation, and after each what it leaves without references
   abbrev pub end_times : ℕ → Does E (Unit {0})
-  end_times zero s = Gives tt s
+  end_times zero s = Returns tt s
   end_times (suc more) s = end_one (settle_last >> end_times more) (oldest_live s.world.heap) s
 
   unfoldable pub end_all : Does E (Unit {0})

@@ -6,7 +6,7 @@ use Rattle.vb_heap.specs.Store.{Store}
 use Rattle.vb_meaning.specs.declared.world.Frame.{Frame}
 use Rattle.vb_meaning.specs.declared.world.World.{World}
 use Rattle.vb_meaning.specs.Stops.{heap_stop}
-use Rattle.vb_meaning.specs.Step.{Step, Gives, Ends, Run}
+use Rattle.vb_meaning.specs.Step.{Step, Returns, Ends, Run}
 
 -- the state of an act in an environment of type E
 pub record State (E : Type 0) : Type 0 where
@@ -21,7 +21,7 @@ Does E A = Run (State E) A
 
 -- a step of the world, in a state
 abbrev pub lifted : {E A : Type 0} → E → List AppReply → Step World A → Step (State E) A
-lifted env replies (Gives value world) = Gives value (record { world = world; env = env; replies = replies })
+lifted env replies (Returns value world) = Returns value (record { world = world; env = env; replies = replies })
 lifted env replies (Ends why world) = Ends why (record { world = world; env = env; replies = replies })
 
 -- a change of the world alone
@@ -30,7 +30,7 @@ on_world change s = lifted s.env s.replies (change s.world)
 
 -- a look at the world
 abbrev pub looking : {E A : Type 0} → (World → A) → Does E A
-looking at s = Gives (at s.world) s
+looking at s = Returns (at s.world) s
 
 -- the procedure that runs
 abbrev pub with_frame : (Frame → Frame) → World → World
@@ -42,7 +42,7 @@ with_heap change world = record world { heap = change world.heap }
 
 -- what a call on the data of the page answers, and the world that it leaves where it is not refused
 abbrev pub heap_answer : {A : Type 0} → Result A HeapStop → World → World → Step World A
-heap_answer (Ok value) changed world = Gives value changed
+heap_answer (Ok value) changed world = Returns value changed
 heap_answer (Err why) changed world = Ends (heap_stop why) world
 
 -- a call on the data of the page

@@ -44,7 +44,7 @@ use Rattle.vb_meaning.specs.Places.{variable, target_variable, held_at, held_so_
 use Rattle.vb_meaning.specs.Reading.{values, from_head}
 use Rattle.vb_meaning.specs.Releases.{release}
 use Rattle.vb_meaning.specs.State.{State, Does, on_world, on_heap, with_frame}
-use Rattle.vb_meaning.specs.Step.{Step, Gives, Ends, Run, ◌>>=◌, ◌>>◌, pure, given, fails}
+use Rattle.vb_meaning.specs.Step.{Step, Returns, Ends, Run, ◌>>=◌, ◌>>◌, pure, given, fails}
 use Rattle.vb_meaning.specs.Values.{empty_array, is_bad_bound}
 
 -- ---- arrays
@@ -128,7 +128,7 @@ clears_err _ = false
 
 -- an Exit
 abbrev pub leave : ExitKind → Run World Exit
-leave kind world = Gives (Leave kind) (if clears_err kind then cleared world else world)
+leave kind world = Returns (Leave kind) (if clears_err kind then cleared world else world)
 
 module _ (E : Type 0) (m : Inner E) where
   -- The head of a statement is a statement for what it holds: at its end that is let go, and objects end.
@@ -196,7 +196,7 @@ module _ (E : Type 0) (m : Inner E) where
 
   -- what a With leaves behind: the Withs around it, however its block ended
   abbrev pub out_of_with : {A : Type 0} → List Value → Step (State E) A → Step (State E) A
-  out_of_with subjects (Gives value s) = Gives value (record s { world = with_subjects subjects s.world })
+  out_of_with subjects (Returns value s) = Returns value (record s { world = with_subjects subjects s.world })
   out_of_with subjects (Ends why s) = Ends why (record s { world = with_subjects subjects s.world })
 
   -- the subject stays held to the end of the whole statement
@@ -242,4 +242,4 @@ module _ (E : Type 0) (m : Inner E) where
 
   -- the state after On Error
   abbrev pub handles : Bool → Does E Exit
-  handles resumes = on_world (λ world. Gives Next (on_error resumes world))
+  handles resumes = on_world (λ world. Returns Next (on_error resumes world))

@@ -7,7 +7,7 @@ use Rattle.vb_meaning.specs.declared.stop.Stop.TheVariants as stop
 
 -- a value with the state that is left, or why there is none with the state that is left
 pub data Step (S A : Type 0) : Type 0 where
-  Gives : A → S → Step S A
+  Returns : A → S → Step S A
   Ends : Stop → S → Step S A
 
 -- something that may be done in a state
@@ -16,7 +16,7 @@ Run S A = S → Step S A
 
 -- what is done with the value of a step, if it has one
 abbrev pub and_then : {S A B : Type 0} → Step S A → (A → Run S B) → Step S B
-and_then (Gives value s) next = next value s
+and_then (Returns value s) next = next value s
 and_then (Ends why s) next = Ends why s
 
 -- one after the other, where the second needs the value of the first
@@ -31,7 +31,7 @@ first >> second = first >>= (λ _. second)
 
 -- a value, and no change
 abbrev pub pure : {S A : Type 0} → A → Run S A
-pure value = Gives value
+pure value = Returns value
 
 -- an end, and no change
 abbrev pub ends : {S A : Type 0} → Stop → Run S A
@@ -52,7 +52,7 @@ raising (Err error) = Err (error_stop error)
 
 -- an answer as a step that changes nothing
 abbrev pub came : {S A : Type 0} → Result A Stop → Run S A
-came (Ok value) = Gives value
+came (Ok value) = Returns value
 came (Err why) = Ends why
 
 -- what an operator, a conversion or a function answers
@@ -62,5 +62,5 @@ given answer = came (raising answer)
 -- How a call shows a step: what it answers and the state that it leaves are that step's. Nothing is said of a call
 -- that ran out of memory.
 abbrev pub Ran : {S A : Type 0} → Step S A → Result A Stop → S → Type 0
-Ran step (Ok value) new = step ≡ Gives value new
+Ran step (Ok value) new = step ≡ Returns value new
 Ran step (Err why) new = why ≢ stop.Memory → step ≡ Ends why new

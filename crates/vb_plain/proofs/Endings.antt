@@ -12,7 +12,7 @@ use Rattle.vb_meaning.specs.Releases.{class_number, line_of, in_world, terminato
 use Rattle.vb_meaning.specs.Releases.{terminator_in}
 use Rattle.vb_meaning.specs.Objects.{class_at}
 use Rattle.vb_meaning.specs.State.{State, Does, with_heap}
-use Rattle.vb_meaning.specs.Step.{Gives, and_then, ◌>>◌}
+use Rattle.vb_meaning.specs.Step.{Returns, and_then, ◌>>◌}
 use Rattle.vb_plain.specs.Ends.{ends_last}
 
 pub deeper : {X : Type 0} (f : ℕ → X) (n : ℕ) → 0 < n → f n ≡ f (suc (n - 1))
@@ -38,7 +38,7 @@ module _ (E : Type 0) (m : Inner E) where
       ap (λ class. terminator_line E m (terminator_in (class_at m.program class)))
       (class_kept object s.world.heap.objects (numbered object s.world.heap.objects) refl)
 
-  pub settle_none : (n : ℕ) (s : State E) → n ≡ 0 → settle_times E m n s ≡ Gives tt s
+  pub settle_none : (n : ℕ) (s : State E) → n ≡ 0 → settle_times E m n s ≡ Returns tt s
   settle_none n s none = ap (λ n. settle_times E m n s) none
 
   pub settle_more : (n : ℕ) (s : State E) → 0 < n
@@ -51,7 +51,7 @@ module _ (E : Type 0) (m : Inner E) where
 
   abbrev pub goes_if : Does E (Unit {0}) → Option ℕ → Does E (Unit {0})
   goes_if more (Some object) s = goes more object (in_world E (with_heap (with_ending (Some object)) s.world) s)
-  goes_if more None s = Gives tt s
+  goes_if more None s = Returns tt s
 
   end_found : (more : Does E (Unit {0})) (found : Option ℕ) (s : State E)
       → end_one E m more found s ≡ goes_if more found s
@@ -59,7 +59,7 @@ module _ (E : Type 0) (m : Inner E) where
   end_found more (Some object) s = rw (line_kept object s) refl
   end_found more None s = refl
 
-  pub settle_last_none : (n : ℕ) (s : State E) → n ≡ 0 → settle_last_times E m n s ≡ Gives tt s
+  pub settle_last_none : (n : ℕ) (s : State E) → n ≡ 0 → settle_last_times E m n s ≡ Returns tt s
   settle_last_none n s none = ap (λ n. settle_last_times E m n s) none
 
   pub settle_last_more : (n : ℕ) (s : State E) → 0 < n
@@ -67,7 +67,7 @@ module _ (E : Type 0) (m : Inner E) where
   settle_last_more n s some = deeper (λ n. settle_last_times E m n s) n some
       ∙ end_found (settle_last_times E m (n - 1)) (oldest_loose s.world.heap) s
 
-  pub end_none : (n : ℕ) (s : State E) → n ≡ 0 → end_times E m n s ≡ Gives tt s
+  pub end_none : (n : ℕ) (s : State E) → n ≡ 0 → end_times E m n s ≡ Returns tt s
   end_none n s none = ap (λ n. end_times E m n s) none
 
   pub end_more : (n : ℕ) (s : State E) → 0 < n → end_times E m n s

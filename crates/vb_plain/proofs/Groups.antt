@@ -6,12 +6,12 @@ use Rattle.vb_meaning.specs.Accesses.{Access, Group, Member}
 use Rattle.vb_meaning.specs.Inner.{Inner}
 use Rattle.vb_meaning.specs.Reading.{values, group_values}
 use Rattle.vb_meaning.specs.State.{State}
-use Rattle.vb_meaning.specs.Step.{Gives, and_then}
+use Rattle.vb_meaning.specs.Step.{Returns, and_then}
 use Rattle.vb_world.specs.Steps.{next_group}
 
 -- the values in groups end where no group is left
 pub groups_end : (E : Type 0) (m : Inner E) (groups : ℕ) (done : List Value) (more : List Access) (s : State E)
-    → next_group groups more ≡ None → group_values E m groups done more s ≡ Gives (done, more) s
+    → next_group groups more ≡ None → group_values E m groups done more s ≡ Returns (done, more) s
 groups_end E m zero done more s none = refl
 groups_end E m (suc groups) done [] s none = refl
 groups_end E m (suc groups) done (Group supplied ∷ more) s none = cc

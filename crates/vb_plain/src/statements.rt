@@ -2,7 +2,7 @@
 ghost use Rattle.std.specs.Prelude.{◌≡◌};
 ghost use Rattle.vb_meaning.specs.Meaning.{assign, inside};
 ghost use Rattle.vb_meaning.specs.Statements as spec;
-ghost use Rattle.vb_meaning.specs.Step.{Gives, Ran};
+ghost use Rattle.vb_meaning.specs.Step.{Returns, Ran};
 ghost use Rattle.vb_plain.specs.Nests.{Assigns, Evaluates, Executes};
 ghost use Rattle.vb_world.specs.Seen.{seen, host};
 
@@ -182,7 +182,7 @@ impl<I: Intrinsics, V, A, S, C, T, N> Rules<I, V, A, S, C, T, N> {
     /// On Error Resume Next, and On Error GoTo 0.
     pub fn handles(&self, p: &Program, playing: &mut Playing<'_>, env: &I, resumes: bool) -> Exit
         ensures { spec.handles I (inside I (host I.asked I.answered) p.now self.now.levels) resumes
-            (seen playing.old env.now) ≡ Gives result (seen playing.new env.now) }
+            (seen playing.old env.now) ≡ Returns result (seen playing.new env.now) }
     {
         on_error(self.alloc, &mut playing.world, resumes);
         Exit::Next

@@ -18,7 +18,7 @@ use Rattle.vb_meaning.specs.Declaring.{Faulty, fault_or, declared_cell}
 use Rattle.vb_meaning.specs.Errors.{in_line}
 use Rattle.vb_meaning.specs.Places.{new_cell}
 use Rattle.vb_meaning.specs.State.{heap_answer, with_heap}
-use Rattle.vb_meaning.specs.Step.{Step, Gives, Ends, Run, and_then, given, fails}
+use Rattle.vb_meaning.specs.Step.{Step, Returns, Ends, Run, and_then, given, fails}
 use Rattle.vb_meaning.specs.Values.{is_bad_bound, declared_array, empty_array}
 use Rattle.vb_heap.specs.Cells.{with_new_cell}
 use Rattle.vb_world.proofs.EmptyArrays.{no_room}
@@ -37,7 +37,7 @@ first_fault_stays line (Err error) later fault some = sym some
 
 in_line_both : (line : ℕ) (step : Step World Value) (next : Value → Run World CellNo)
     → and_then (in_line line step) (λ value world. in_line line (next value world)) ≡ in_line line (and_then step next)
-in_line_both line (Gives value world) next = refl
+in_line_both line (Returns value world) next = refl
 in_line_both line (Ends why world) next = refl
 
 -- a fault of a declared array, or of the cell for it, is in the line of the declaration

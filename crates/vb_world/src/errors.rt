@@ -3,7 +3,7 @@ ghost use Rattle.std.specs.Prelude.{◌≡◌};
 ghost use Rattle.vb_value.specs.Outcome.{Gives};
 ghost use Rattle.vb_meaning.specs.Errors as spec;
 ghost use Rattle.vb_meaning.specs.Statements as statements;
-ghost use Rattle.vb_meaning.specs.Step.{Gives as GivesIn};
+ghost use Rattle.vb_meaning.specs.Step.{Returns};
 
 use std::alloc::Global;
 use vb_meaning::{Cause, Exit, Raised, World};
@@ -84,7 +84,7 @@ fn clears_err(kind: ExitKind) -> bool
 
 /// Exit, which clears Err where it leaves a procedure.
 pub fn leave(alloc: Global, world: &mut World, kind: ExitKind) -> Exit
-    ensures { statements.leave kind world.old ≡ GivesIn result world.new }
+    ensures { statements.leave kind world.old ≡ Returns result world.new }
 {
     if clears_err(kind) {
         clear(alloc, world);

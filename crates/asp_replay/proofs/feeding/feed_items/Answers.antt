@@ -93,7 +93,8 @@ loop-preserved g c =
           (g.K.Sink.held c.loop.sink) (sym same) (c.loop.invariant.under before is) in
           under_rules (rules_of meaning c.loop.core) (rules_of meaning c.args.core.now) c.args.recording.now.items
           c.in-Ok.left.now (past_of c.turn-next.new.core) c.turn-next.new.clients.entries before
-          (g.K.Sink.held c.turn-next.new.sink) same (subst (λ came. AfterTurn came (rules_of meaning c.loop.core) c.args.recording.now.items
+          (g.K.Sink.held c.turn-next.new.sink) same
+          (subst (λ came. AfterTurn came (rules_of meaning c.loop.core) c.args.recording.now.items
           (past_of c.turn-next.new.core) c.turn-next.new.clients.entries before (g.K.Sink.held c.turn-next.new.sink))
           c.in-Ok.is (c.turn-next.ensures.after c.args.recording.now.items before now));
       later = omega (arith, later, cause.later);

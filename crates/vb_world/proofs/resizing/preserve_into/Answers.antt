@@ -6,7 +6,7 @@ use Rattle.vb_value.specs.declared.value.Value.TheViews.{Arr, outs-Arr}
 use Rattle.vb_meaning.specs.Places.{held_at}
 use Rattle.vb_meaning.specs.State.{on_heap}
 use Rattle.vb_meaning.specs.Statements as spec
-use Rattle.vb_meaning.specs.Step.{Gives, Ran, and_then, given}
+use Rattle.vb_meaning.specs.Step.{Returns, Ran, and_then, given}
 use Rattle.vb_world.specs.Kept.{kept, most_kept}
 use Rattle.vb_world.proofs.Resized.{kept_shown}
 use Rattle.vb_world.proofs.resizing.preserve_into.Goals as goal
@@ -20,7 +20,7 @@ returns-in_ok-kept-in-Arr c =
     ap out-Value c.in-Arr.is ∙ outs-Arr c.in-Arr.array in
     let some : (length c.in-Arr.array.bounds == 0) ≡ false = search rules in
     let may : spec.may_preserve c.in-Arr.array.bounds c.args.bounds ≡ true = search rules in
-    let held : held_at c.args.place.now c.args.world.now ≡ Gives c.in_ok-array.field-0.now c.args.world.now =
+    let held : held_at c.args.place.now c.args.world.now ≡ Returns c.in_ok-array.field-0.now c.args.world.now =
     rw there refl in
     let whole : and_then (held_at c.args.place.now c.args.world.now) (λ old w. and_then
     (given (spec.resized_array true (out-Value old) c.args.bounds) w) (λ array. on_heap

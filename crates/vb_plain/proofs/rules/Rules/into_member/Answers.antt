@@ -4,7 +4,7 @@ use Rattle.vb_heap.specs.Objects.{class_of}
 use Rattle.vb_heap.specs.Store.{numbered}
 use Rattle.vb_meaning.specs.Meaning.{inside}
 use Rattle.vb_meaning.specs.Places.{hold}
-use Rattle.vb_meaning.specs.Step.{Gives}
+use Rattle.vb_meaning.specs.Step.{Returns}
 use Rattle.vb_meaning.specs.Values.{object_in}
 use Rattle.vb_world.specs.Seen.{seen, host}
 use Rattle.vb_plain.proofs.AssignSteps.{member_taken}
@@ -12,7 +12,7 @@ use Rattle.vb_plain.proofs.rules.Rules.into_member.Goals as goal
 
 pub returns : goal.returns
 returns g c =
-    let held : hold c.args.whole.now c.args.playing.now.world ≡ Gives tt c.hold.new.world = search rules in
+    let held : hold c.args.whole.now c.args.playing.now.world ≡ Returns tt c.hold.new.world = search rules in
     let object : object_in c.args.whole.now ≡ Ok c.in_ok-object.object = search rules in
     let class : class_of (numbered c.in_ok-object.object.0 c.hold.new.world.heap.objects) ≡ Ok c.in_ok-class.class
     = search rules in
