@@ -23,7 +23,7 @@ const QUANTUM: u32 = 10_000;
 const TURNS: usize = 3_000_000;
 
 /// The run of each lane.
-type Runs<R> = Vec<Option<Run<R>>>;
+type LaneRuns<R> = Vec<Option<Run<R>>>;
 
 /// A core, what it is given, and the runs that lanes have under way.
 #[derive(Drop)]
@@ -32,7 +32,7 @@ pub struct Desk<R: Runner> {
     core: Core<R>,
     runner: R,
     site: R::Site,
-    runs: Runs<R>,
+    runs: LaneRuns<R>,
 }
 
 impl<R: Runner> Model for Desk<R> {
@@ -50,7 +50,7 @@ impl<R: Runner> Model for Desk<R> {
     ghost invariant = { λ d. IsDesk R.meaning R.stands d.core d.runner d.site d.runs.items };
 }
 
-fn no_runs<R: Runner>(alloc: Global) -> Result<Runs<R>, CaseStop>
+fn no_runs<R: Runner>(alloc: Global) -> Result<LaneRuns<R>, CaseStop>
 where
     R::State: Drop,
     ensures { IfOk result (λ runs. spec.AreNone runs.items) }
@@ -71,7 +71,7 @@ fn is_free<R: Runner>(runs: &[Option<Run<R>>], lane: u32) -> bool
 }
 
 /// Takes the run of a lane that has one.
-fn take_run<R: Runner>(runs: &mut Runs<R>, lane: u32) -> Result<Run<R>, CaseStop>
+fn take_run<R: Runner>(runs: &mut LaneRuns<R>, lane: u32) -> Result<Run<R>, CaseStop>
     ensures ok { IfOk result (λ run. spec.IsTaken runs.old.items runs.new.items lane run) }
     ensures err { OnErr result (runs.new.items ≡ runs.old.items) }
 {
@@ -86,7 +86,7 @@ fn take_run<R: Runner>(runs: &mut Runs<R>, lane: u32) -> Result<Run<R>, CaseStop
 }
 
 /// Puts a run into a lane that has none.
-fn put_run<R: Runner>(runs: &mut Runs<R>, lane: u32, run: Run<R>)
+fn put_run<R: Runner>(runs: &mut LaneRuns<R>, lane: u32, run: Run<R>)
 where
     R::State: Drop,
     requires { lane < length runs.old.items }

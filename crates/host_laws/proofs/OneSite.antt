@@ -20,7 +20,7 @@ use Rattle.host_laws.proofs.OneFolder.{one_folder}
 use Rattle.site_load.specs.Accepted.{AddsFile, AreRuns, IsAccepted, IsBuilt, IsSite, role_of}
 use Rattle.site_load.specs.declared.building.Role.{Role}
 use Rattle.site_load.specs.declared.building.Role.TheVariants as role
-use Rattle.site_load.specs.declared.building.Runs.{Runs}
+use Rattle.site_load.specs.declared.building.RunPages.{RunPages}
 
 -- ---- programs
 
@@ -91,7 +91,7 @@ module _ (outcomes : OneOutcome) (tokens : OneTokens) (units : OneUnit) (program
   -- ---- sites
 
   -- a file adds one thing
-  one_adds : (files : List SiteFile) (file : SiteFile) (is : Role) (later runs other : Runs)
+  one_adds : (files : List SiteFile) (file : SiteFile) (is : Role) (later runs other : RunPages)
       → AddsFile files file is later runs → AddsFile files file is later other → runs ≡ other
   one_adds files file role.Page later runs other adds also =
       adds.2
@@ -105,7 +105,7 @@ module _ (outcomes : OneOutcome) (tokens : OneTokens) (units : OneUnit) (program
   one_adds files file role.Other later runs other adds also = adds ∙ sym also
 
   -- files have one list of pages
-  one_runs : (files some : List SiteFile) (runs other : Runs) → AreRuns files some runs → AreRuns files some other
+  one_runs : (files some : List SiteFile) (runs other : RunPages) → AreRuns files some runs → AreRuns files some other
       → runs ≡ other
   one_runs files [] runs other is also = is ∙ sym also
   one_runs files (file ∷ rest) runs other is also =

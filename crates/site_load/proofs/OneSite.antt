@@ -17,7 +17,7 @@ use Rattle.site_load.specs.Accepted.{IsFolderFault, IsSite, role_of}
 use Rattle.site_load.specs.Files.{AreSmall, IsSiteOf, IsTooLargeAt, most_of_file, size_of}
 use Rattle.site_load.specs.declared.building.Role.{Role}
 use Rattle.site_load.specs.declared.building.Role.TheVariants as role
-use Rattle.site_load.specs.declared.building.Runs.{Runs}
+use Rattle.site_load.specs.declared.building.RunPages.{RunPages}
 use Rattle.site_load.proofs.SameFiles.{same_file, same_files, same_paths}
 
 -- ---- the laws of the steps
@@ -47,7 +47,7 @@ module _ (one_outcome : OneOutcome) (page_or_fault : PageOrFault) where
       (subst (λ (all : List Located). HasPageFault path all global fault) parts_same faulty)
 
   -- a file that adds its page has no fault
-  adds_faultless : (files : List SiteFile) (file : SiteFile) (is : Role) (later runs : Runs) (fault : SiteFault)
+  adds_faultless : (files : List SiteFile) (file : SiteFile) (is : Role) (later runs : RunPages) (fault : SiteFault)
       → AddsFile files file is later runs → IsFileFault files file is fault → ⊥
   adds_faultless files file role.Page later runs fault adds faulty =
       built_faultless files file.path false adds.0 fault adds.1 faulty
@@ -56,7 +56,7 @@ module _ (one_outcome : OneOutcome) (page_or_fault : PageOrFault) where
   adds_faultless files file role.Other later runs fault adds faulty = faulty
 
   -- none of the files that have come to pages has a fault
-  runs_faultless : (files before : List SiteFile) (file : SiteFile) (after : List SiteFile) (runs : Runs)
+  runs_faultless : (files before : List SiteFile) (file : SiteFile) (after : List SiteFile) (runs : RunPages)
       (fault : SiteFault) → AreRuns files (before ++ file ∷ after) runs
       → IsFileFault files file (role_of file.path) fault → ⊥
   runs_faultless files [] file after runs fault is faulty =

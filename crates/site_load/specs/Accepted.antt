@@ -12,7 +12,7 @@ use Rattle.asp_site.specs.declared.site.Site.{Site}
 use Rattle.page_build.specs.Building.{HasPageFault, IsPageOf}
 use Rattle.site_load.specs.declared.building.Role.{Role}
 use Rattle.site_load.specs.declared.building.Role.TheVariants as role
-use Rattle.site_load.specs.declared.building.Runs.{Runs}
+use Rattle.site_load.specs.declared.building.RunPages.{RunPages}
 use Rattle.site_load.specs.Files.{IsSiteOf}
 use Rattle.site_load.specs.Reading.{IsTooLargeFault}
 
@@ -34,11 +34,11 @@ HasFault files path global fault = HasExpansionFault files path fault
 -- ---- the pages of a site
 
 -- no page
-abbrev pub no_runs : Runs
+abbrev pub no_runs : RunPages
 no_runs = record { pages = []; events = None }
 
 -- what a file of the site adds to those of the files behind it
-abbrev pub AddsFile : List SiteFile → SiteFile → Role → Runs → Runs → Type 0
+abbrev pub AddsFile : List SiteFile → SiteFile → Role → RunPages → RunPages → Type 0
 AddsFile files file role.Page later runs = (page : Page) × IsBuilt files file.path false page
     × (runs ≡ record later { pages = page ∷ later.pages })
 AddsFile files file role.Events later runs = (page : Page) × IsBuilt files file.path true page
@@ -46,10 +46,10 @@ AddsFile files file role.Events later runs = (page : Page) × IsBuilt files file
 AddsFile files file role.Other later runs = runs ≡ later
 
 -- the pages and events of some files of the site
-abbrev pub AreRuns : List SiteFile → List SiteFile → Runs → Type 0
+abbrev pub AreRuns : List SiteFile → List SiteFile → RunPages → Type 0
 AreRuns files [] runs = runs ≡ no_runs
 AreRuns files (file ∷ rest) runs =
-    (later : Runs) × AreRuns files rest later × AddsFile files file (role_of file.path) later runs
+    (later : RunPages) × AreRuns files rest later × AddsFile files file (role_of file.path) later runs
 
 -- ---- sites
 
@@ -70,7 +70,7 @@ pub record IsFirstFault (files : List SiteFile) (fault : SiteFault) : Type 0 whe
   pub file : SiteFile
   pub after : List SiteFile
   pub cut : files ≡ before ++ file ∷ after
-  pub runs : Runs
+  pub runs : RunPages
   pub faultless : AreRuns files before runs
   pub at_file : IsFileFault files file (role_of file.path) fault
 

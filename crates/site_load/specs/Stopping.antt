@@ -5,7 +5,7 @@ use Rattle.vb_value.specs.declared.site_file.SiteFile.{SiteFile}
 use Rattle.page_read.specs.declared.located.SiteStop.{SiteStop}
 use Rattle.page_read.specs.declared.located.SiteStop.TheVariants as site
 use Rattle.site_load.specs.Accepted.{IsFolderFault}
-use Rattle.site_load.specs.declared.building.Runs.{Runs}
+use Rattle.site_load.specs.declared.building.RunPages.{RunPages}
 use Rattle.site_load.specs.declared.stop.LoadStop.{LoadStop}
 use Rattle.site_load.specs.declared.stop.LoadStop.TheVariants as load
 
@@ -23,5 +23,5 @@ Refuses given load.Memory = Unit {0}
 -- ---- pages and events, file by file
 
 -- those of some files, and those of the files behind them
-abbrev pub joined : Runs → Runs → Runs
+abbrev pub joined : RunPages → RunPages → RunPages
 joined runs later = record { pages = runs.pages ++ later.pages; events = option_or runs.events later.events }

@@ -26,7 +26,7 @@ pub enum Role {
 
 /// The pages of a site, and the page of its events.
 #[derive(Debug, Drop)]
-pub struct Runs {
+pub struct RunPages {
     /// The pages, in the order of their files.
     pub pages: List<Page>,
     /// The page of the events, if the site has one.
@@ -91,7 +91,7 @@ fn statics(alloc: Global, files: List<SiteFile>) -> Result<List<SiteFile>, Memor
 }
 
 /// The pages and the events among the files.
-fn site_runs(alloc: Global, files: &List<SiteFile>) -> Result<Runs, SiteStop>
+fn site_runs(alloc: Global, files: &List<SiteFile>) -> Result<RunPages, SiteStop>
     requires { All IsShort files.now }
     ensures ok { IfOk result (spec.AreRuns files.now files.now) }
     ensures fault { OnSiteFault result (spec.IsFirstFault files.now) }
@@ -108,17 +108,17 @@ fn site_runs(alloc: Global, files: &List<SiteFile>) -> Result<Runs, SiteStop>
 }
 
 /// No pages.
-fn no_runs(alloc: Global) -> Runs
+fn no_runs(alloc: Global) -> RunPages
     ensures { result ≡ spec.no_runs }
 {
-    Runs {
+    RunPages {
         pages: List::new(alloc),
         events: None,
     }
 }
 
 /// Adds those of a file behind.
-fn add(runs: &mut Runs, more: Runs) -> Result<(), Memory>
+fn add(runs: &mut RunPages, more: RunPages) -> Result<(), Memory>
     ensures { Changes result runs.old runs.new (joined runs.old more) }
 {
     runs.pages.append(more.pages)?;
@@ -129,29 +129,29 @@ fn add(runs: &mut Runs, more: Runs) -> Result<(), Memory>
 }
 
 /// One page alone.
-fn of_page(alloc: Global, page: Page) -> Result<Runs, Memory>
+fn of_page(alloc: Global, page: Page) -> Result<RunPages, Memory>
     ensures { Gives result (record { pages = page ∷ []; events = None }) }
 {
     let mut pages = List::with_capacity(alloc, 1)?;
     pages.push(page)?;
-    Ok(Runs {
+    Ok(RunPages {
         pages,
         events: None,
     })
 }
 
 /// The events alone.
-fn of_events(alloc: Global, page: Page) -> Runs
+fn of_events(alloc: Global, page: Page) -> RunPages
     ensures { result ≡ record { pages = []; events = Some page } }
 {
-    Runs {
+    RunPages {
         pages: List::new(alloc),
         events: Some(page),
     }
 }
 
 /// The file as one of the pages or the events, if it is one.
-fn run_of(alloc: Global, files: &List<SiteFile>, file: &SiteFile) -> Result<Runs, SiteStop>
+fn run_of(alloc: Global, files: &List<SiteFile>, file: &SiteFile) -> Result<RunPages, SiteStop>
     requires { All IsShort files.now }
     ensures ok { IfOk result (spec.AreRuns files.now (file.now ∷ [])) }
     ensures fault { OnSiteFault result (spec.IsFileFault files.now file.now (spec.role_of file.now.path)) }

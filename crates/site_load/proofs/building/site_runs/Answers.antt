@@ -1,7 +1,7 @@
 use Rattle.std.proofs.Common.{◌≡◌, ◌+◌, ◌<◌, ◌≤◌, List, get_or, length, take, subst, sym}
 use Rattle.vb_value.specs.declared.site_file.SiteFile.{SiteFile}
 use Rattle.site_load.specs.Accepted.{AreRuns}
-use Rattle.site_load.specs.declared.building.Runs.{Runs}
+use Rattle.site_load.specs.declared.building.RunPages.{RunPages}
 use Rattle.site_load.proofs.Runs.{all_runs, file_stops, one_more}
 use Rattle.site_load.proofs.building.site_runs.Goals as goal
 
@@ -25,7 +25,7 @@ loop-file-preserved c =
     let within = subst (λ (all : List SiteFile). at < length all) c.as_slice-all.ensures c.loop-file-test.true in
     let is = subst (λ (all : List SiteFile). file ≡ get_or all at file) c.as_slice-all.ensures c.file-item.is in
     record {
-      so_far = subst (λ (runs : Runs). AreRuns files (take (at + 1) files) runs) (sym c.in_ok-add-in-Ok.ensures)
+      so_far = subst (λ (runs : RunPages). AreRuns files (take (at + 1) files) runs) (sym c.in_ok-add-in-Ok.ensures)
           (one_more files at file c.loop-file.runs c.in-Ok.more within is c.loop-file.invariant.so_far c.in-Ok.ensures.ok);
     }
 
