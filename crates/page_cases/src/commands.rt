@@ -1,6 +1,7 @@
 //! What the host's commands do.
 
-use crate::sites::read_site;
+use crate::outside::{Outside, SURE, read_outside};
+use crate::sites::read_failing_site;
 use asp_host::{Command, Status, WordStop, read_words, run_host, status_code, status_text};
 use asp_io::{MemClock, MemFolder, MemSink, SureSource, SureWire};
 use case_files::{CaseStop, Subject, Trial};
@@ -10,9 +11,6 @@ use std::sync::Wait;
 use std::thread::Threads;
 use std::{fs, io};
 use vb_value::{Bytes, List, Memory, Text};
-
-/// How many bytes an output may have.
-const ROOM: usize = 100_000;
 
 /// The words of a command line, each with the command that they say.
 pub struct CommandWords;
@@ -73,39 +71,52 @@ fn lines_asked(journal: bool) -> &'static str {
 }
 
 /// Tries the cases of a file, each the words of a command line and the files of a site, with the exit status, what is
-/// said of the end, and the output. Whether all passed.
+/// said of the end, and the output. Where the outside may fail, each begins with what of it does. Whether all passed.
 pub fn try_commands<R: Files + AllocGlobal + Print + Threads + Wait + Sync>(
     rt: &R,
     name: &str,
+    may_fail: bool,
 ) -> io::Result<bool> {
     let text = fs::read_to_string(rt, name)?;
     let mut trial = Trial::new(rt.alloc(), name)?;
     for line in text.as_str().lines() {
         if let Some((case, wanted)) = trial.case(rt, line)? {
-            let answer = ended(rt, rt.alloc(), case);
+            let answer = ended(rt, rt.alloc(), case, may_fail);
             trial.answer(rt, line, wanted, answer)?;
         }
     }
     trial.end(rt)
 }
 
-/// How a command ends over a site.
-fn ended<R: Threads + Wait + Sync>(rt: &R, alloc: Global, case: &str) -> Result<String, CaseStop> {
-    let (words, _) = case.split_once(" ## ").unwrap_or((case, ""));
-    let words = words_of(alloc, words)?;
-    let mut folder = read_site(alloc, case)?;
-    ended_over(rt, alloc, words.as_slice(), &mut folder)
+/// How the command of a case ends.
+fn ended<R: Threads + Wait + Sync>(
+    rt: &R,
+    alloc: Global,
+    case: &str,
+    may_fail: bool,
+) -> Result<String, CaseStop> {
+    if !may_fail {
+        return ended_over(rt, alloc, SURE, case);
+    }
+    match read_outside(case) {
+        Some((outside, case)) => ended_over(rt, alloc, outside, case),
+        None => Err(CaseStop::Unreadable),
+    }
 }
 
-/// How the command of the words ends over a folder.
+/// How a command ends over a site, with an outside of which so much fails.
 fn ended_over<R: Threads + Wait + Sync>(
     rt: &R,
     alloc: Global,
-    words: &[String],
-    folder: &mut MemFolder,
+    outside: Outside,
+    case: &str,
 ) -> Result<String, CaseStop> {
-    let mut sink = MemSink::new(alloc, ROOM, List::new(alloc))?;
-    let status = run(rt, alloc, words, folder, &mut sink);
+    let (words, _) = case.split_once(" ## ").unwrap_or((case, ""));
+    let words = words_of(alloc, words)?;
+    let mut folder = read_failing_site(alloc, case, outside.folder_fails)?;
+    let fails = List::from_slice(alloc, &[outside.sink_fails])?;
+    let mut sink = MemSink::new(alloc, outside.room, fails)?;
+    let status = run(rt, alloc, words.as_slice(), &mut folder, &mut sink);
     ended_text(alloc, &status, sink.held())
 }
 

@@ -6,6 +6,7 @@ mod commands;
 mod folders;
 mod hexadecimal;
 mod includes;
+mod outside;
 mod pages;
 mod sites;
 mod web;
@@ -26,11 +27,22 @@ fn main(rt: HostRuntime) -> io::Result<()> {
     let includes = try_file(&rt, "includes.txt", &Includes)?;
     let builds = try_file(&rt, "builds.txt", &Builds)?;
     let words = try_file(&rt, "words.txt", &CommandWords)?;
-    let sites = try_commands(&rt, "sites.txt")?;
-    let members = try_commands(&rt, "members.txt")?;
+    let sites = try_commands(&rt, "sites.txt", false)?;
+    let members = try_commands(&rt, "members.txt", false)?;
+    let faults = try_commands(&rt, "faults.txt", true)?;
     let folders = try_file(&rt, "folders.txt", &Folders)?;
     let web = try_file(&rt, "web.txt", &Web)?;
-    if pages && bytes && includes && builds && words && sites && members && folders && web {
+    if pages
+        && bytes
+        && includes
+        && builds
+        && words
+        && sites
+        && members
+        && faults
+        && folders
+        && web
+    {
         Ok(())
     } else {
         Err(ErrorKind::InvalidData.into())

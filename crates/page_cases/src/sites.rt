@@ -8,8 +8,14 @@ use vb_value::{Bytes, List, SiteFile, Text};
 
 /// The site of a case, as [`read_files`] reads its files.
 pub fn read_site(alloc: Global, case: &str) -> Result<MemFolder, CaseStop> {
+    read_failing_site(alloc, case, 0)
+}
+
+/// The same, where the call of the folder with this number fails, or none at 0.
+pub fn read_failing_site(alloc: Global, case: &str, fails: u64) -> Result<MemFolder, CaseStop> {
+    let fails = List::from_slice(alloc, &[fails])?;
     match SureFolder::new(read_files(alloc, case)?) {
-        Some(folder) => Ok(MemFolder::new(folder, List::new(alloc))),
+        Some(folder) => Ok(MemFolder::new(folder, fails)),
         None => Err(CaseStop::Unreadable),
     }
 }

@@ -1,30 +1,54 @@
 //! Lists, boxes, tables of names and stops.
 
+use std::alloc::Global;
 use std::test::Fail;
 use vb_value::{Boxed, Copied, List, Memory, Stop, Text, among};
 
-#[test]
-fn lists_keep_their_items(rt: HostRuntime) -> Result<(), Memory> {
-    let alloc = rt.alloc();
+/// The numbers from 0 on, so many.
+fn numbers(alloc: Global, count: u32) -> Result<List<u32>, Memory> {
     let mut list = List::with_capacity(alloc, 1)?;
-    for n in 0..5u32 {
+    for n in 0..count {
         list.push(n)?;
     }
+    Ok(list)
+}
+
+#[test]
+fn lists_take_items(rt: HostRuntime) -> Result<(), Memory> {
+    let mut list = numbers(rt.alloc(), 2)?;
     list.reserve(100)?;
-    let mut more = List::from_slice(alloc, &[5u32, 6])?;
-    more.append_slice(&[7])?;
-    list.append(more.copy()?)?;
-    if list.len() > 7 {
+    list.append_slice(&[7])?;
+    list.append(list.copy()?)?;
+    assert_eq!(rt; list.as_slice(), [0, 1, 7, 0, 1, 7].as_slice());
+    Ok(())
+}
+
+#[test]
+fn lists_lose_items(rt: HostRuntime) -> Result<(), Memory> {
+    let mut list = numbers(rt.alloc(), 5)?;
+    if list.len() > 3 {
         list.set(0, 9);
-        list.truncate(7);
+        list.truncate(3);
     }
-    assert_eq!(rt; list.as_slice(), [9, 1, 2, 3, 4, 5, 6].as_slice());
-    assert_eq!(rt; list.pop(), Some(6));
-    assert_eq!(rt; list.get(5).copied(), Some(5));
-    assert!(rt; list.get(6).is_none() && !list.is_empty());
-    assert_eq!(rt; list.iter().count(), 6);
+    assert_eq!(rt; list.pop(), Some(2));
+    assert_eq!(rt; list.as_slice(), [9, 1].as_slice());
+    Ok(())
+}
+
+#[test]
+fn lists_show_their_items(rt: HostRuntime) -> Result<(), Memory> {
+    let list = numbers(rt.alloc(), 2)?;
+    assert_eq!(rt; list.get(1).copied(), Some(1));
+    assert!(rt; list.get(2).is_none() && !list.is_empty());
+    assert_eq!(rt; list.iter().count(), 2);
+    Ok(())
+}
+
+#[test]
+fn lists_are_compared(rt: HostRuntime) -> Result<(), Memory> {
+    let (list, more) = (numbers(rt.alloc(), 2)?, numbers(rt.alloc(), 3)?);
     assert!(rt; list == List::from_vec(list.copy()?.into_vec()));
-    assert!(rt; more < list && list > more && list != more);
+    assert!(rt; list < more && more > list && list != more);
     Ok(())
 }
 

@@ -1,9 +1,7 @@
 //! Tests of what no line of a file of cases can say, over public items alone: containers, the longest values, streams and
-//! folders that fail in the middle, the real ones, and commands whose outside fails.
+//! folders that fail in the middle, and the real ones.
 #![tactic(auto)]
 
-#[cfg(test)]
-mod commands;
 #[cfg(test)]
 mod containers;
 #[cfg(test)]
