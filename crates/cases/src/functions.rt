@@ -8,54 +8,6 @@ use vb_funcs::{call_func, type_name};
 use vb_strings::call_string;
 use vb_value::{PlainFn, StrFn, Value, VbFault};
 
-const PLAIN: [(&str, PlainFn); 20] = [
-    ("Abs", PlainFn::Abs),
-    ("Int", PlainFn::Int),
-    ("Fix", PlainFn::Fix),
-    ("Sgn", PlainFn::Sgn),
-    ("CBool", PlainFn::CBool),
-    ("CCur", PlainFn::CCur),
-    ("CInt", PlainFn::CInt),
-    ("CLng", PlainFn::CLng),
-    ("CStr", PlainFn::CStr),
-    ("Hex", PlainFn::Hex),
-    ("Oct", PlainFn::Oct),
-    ("IsArray", PlainFn::IsArray),
-    ("IsEmpty", PlainFn::IsEmpty),
-    ("IsNull", PlainFn::IsNull),
-    ("IsObject", PlainFn::IsObject),
-    ("IsNumeric", PlainFn::IsNumeric),
-    ("VarType", PlainFn::VarType),
-    ("Array", PlainFn::Array),
-    ("UBound", PlainFn::UBound),
-    ("LBound", PlainFn::LBound),
-];
-
-const TEXTS: [(&str, StrFn); 22] = [
-    ("Len", StrFn::Len),
-    ("Left", StrFn::Left),
-    ("Right", StrFn::Right),
-    ("Mid", StrFn::Mid),
-    ("InStr", StrFn::InStr),
-    ("InStrRev", StrFn::InStrRev),
-    ("LCase", StrFn::LCase),
-    ("UCase", StrFn::UCase),
-    ("Trim", StrFn::Trim),
-    ("LTrim", StrFn::LTrim),
-    ("RTrim", StrFn::RTrim),
-    ("Replace", StrFn::Replace),
-    ("Split", StrFn::Split),
-    ("Join", StrFn::Join),
-    ("StrReverse", StrFn::StrReverse),
-    ("Space", StrFn::Space),
-    ("String", StrFn::String),
-    ("StrComp", StrFn::StrComp),
-    ("Asc", StrFn::Asc),
-    ("AscW", StrFn::AscW),
-    ("Chr", StrFn::Chr),
-    ("ChrW", StrFn::ChrW),
-];
-
 /// What a function gives, if there is one of that name.
 pub fn function_answer(
     alloc: Global,
@@ -71,18 +23,68 @@ pub fn function_answer(
     }
 }
 
+fn plain_named(name: &str) -> Option<PlainFn> {
+    match name {
+        "Abs" => Some(PlainFn::Abs),
+        "Int" => Some(PlainFn::Int),
+        "Fix" => Some(PlainFn::Fix),
+        "Sgn" => Some(PlainFn::Sgn),
+        "CBool" => Some(PlainFn::CBool),
+        "CCur" => Some(PlainFn::CCur),
+        "CInt" => Some(PlainFn::CInt),
+        "CLng" => Some(PlainFn::CLng),
+        "CStr" => Some(PlainFn::CStr),
+        "Hex" => Some(PlainFn::Hex),
+        "Oct" => Some(PlainFn::Oct),
+        "IsArray" => Some(PlainFn::IsArray),
+        "IsEmpty" => Some(PlainFn::IsEmpty),
+        "IsNull" => Some(PlainFn::IsNull),
+        "IsObject" => Some(PlainFn::IsObject),
+        "IsNumeric" => Some(PlainFn::IsNumeric),
+        "VarType" => Some(PlainFn::VarType),
+        "Array" => Some(PlainFn::Array),
+        "UBound" => Some(PlainFn::UBound),
+        "LBound" => Some(PlainFn::LBound),
+        _ => None,
+    }
+}
+
+fn text_named(name: &str) -> Option<StrFn> {
+    match name {
+        "Len" => Some(StrFn::Len),
+        "Left" => Some(StrFn::Left),
+        "Right" => Some(StrFn::Right),
+        "Mid" => Some(StrFn::Mid),
+        "InStr" => Some(StrFn::InStr),
+        "InStrRev" => Some(StrFn::InStrRev),
+        "LCase" => Some(StrFn::LCase),
+        "UCase" => Some(StrFn::UCase),
+        "Trim" => Some(StrFn::Trim),
+        "LTrim" => Some(StrFn::LTrim),
+        "RTrim" => Some(StrFn::RTrim),
+        "Replace" => Some(StrFn::Replace),
+        "Split" => Some(StrFn::Split),
+        "Join" => Some(StrFn::Join),
+        "StrReverse" => Some(StrFn::StrReverse),
+        "Space" => Some(StrFn::Space),
+        "String" => Some(StrFn::String),
+        "StrComp" => Some(StrFn::StrComp),
+        "Asc" => Some(StrFn::Asc),
+        "AscW" => Some(StrFn::AscW),
+        "Chr" => Some(StrFn::Chr),
+        "ChrW" => Some(StrFn::ChrW),
+        _ => None,
+    }
+}
+
 fn called(alloc: Global, name: &str, values: &[Value]) -> Option<Result<Value, VbFault>>
     requires { length values.now ≤ 255 }
 {
-    for (written, f) in PLAIN {
-        if written == name {
-            return Some(call_func(alloc, f, values));
-        }
+    if let Some(f) = plain_named(name) {
+        return Some(call_func(alloc, f, values));
     }
-    for (written, f) in TEXTS {
-        if written == name {
-            return Some(call_string(alloc, f, values));
-        }
+    if let Some(f) = text_named(name) {
+        return Some(call_string(alloc, f, values));
     }
     match (name, values) {
         ("TypeName", [value, Value::Str(class)]) => {

@@ -6,35 +6,29 @@ use std::alloc::Global;
 use vb_ops::{apply1, apply2};
 use vb_value::{Op1, Op2, Value};
 
-const BETWEEN: [(&str, Op2); 18] = [
-    ("*", Op2::Multiply),
-    ("\\", Op2::Divide),
-    ("Mod", Op2::Modulo),
-    ("+", Op2::Add),
-    ("-", Op2::Subtract),
-    ("&", Op2::Join),
-    ("=", Op2::Equal),
-    ("<>", Op2::Unequal),
-    ("<", Op2::Less),
-    (">", Op2::Greater),
-    ("<=", Op2::AtMost),
-    (">=", Op2::AtLeast),
-    ("Is", Op2::Is),
-    ("And", Op2::And),
-    ("Or", Op2::Or),
-    ("Xor", Op2::Xor),
-    ("Eqv", Op2::Eqv),
-    ("Imp", Op2::Imp),
-];
-
 /// The operator on two values that is written so, if one is.
 pub fn operator(sign: &str) -> Option<Op2> {
-    for (written, op) in BETWEEN {
-        if written == sign {
-            return Some(op);
-        }
+    match sign {
+        "*" => Some(Op2::Multiply),
+        "\\" => Some(Op2::Divide),
+        "Mod" => Some(Op2::Modulo),
+        "+" => Some(Op2::Add),
+        "-" => Some(Op2::Subtract),
+        "&" => Some(Op2::Join),
+        "=" => Some(Op2::Equal),
+        "<>" => Some(Op2::Unequal),
+        "<" => Some(Op2::Less),
+        ">" => Some(Op2::Greater),
+        "<=" => Some(Op2::AtMost),
+        ">=" => Some(Op2::AtLeast),
+        "Is" => Some(Op2::Is),
+        "And" => Some(Op2::And),
+        "Or" => Some(Op2::Or),
+        "Xor" => Some(Op2::Xor),
+        "Eqv" => Some(Op2::Eqv),
+        "Imp" => Some(Op2::Imp),
+        _ => None,
     }
-    None
 }
 
 /// What an operator gives.
