@@ -1,15 +1,14 @@
 //! The trial of a whole file.
 
-use crate::stop::CaseStop;
+use crate::answer::Answer;
 use crate::trial::Trial;
-use std::alloc::Global;
 use std::rt::Files;
 use std::{fs, io};
 
 /// What the cases of a file are tried on.
 pub trait Subject {
-    /// What a case gives, in the words of its file.
-    fn answer(&self, alloc: Global, case: &str) -> Result<String, CaseStop>;
+    /// Writes what a case gives, in the words of its file.
+    fn answer(&self, case: &str, out: &mut Answer);
 }
 
 /// Tries each case of a file, prints of each topic how many cases it has and how many passed, and before it each
@@ -23,7 +22,8 @@ pub fn try_file<R: Files + AllocGlobal + Print, S: Subject>(
     let mut trial = Trial::new(rt.alloc(), name)?;
     for line in text.as_str().lines() {
         if let Some((case, wanted)) = trial.case(rt, line)? {
-            let answer = subject.answer(rt.alloc(), case);
+            let mut answer = Answer::new(rt.alloc());
+            subject.answer(case, &mut answer);
             trial.answer(rt, line, wanted, answer)?;
         }
     }

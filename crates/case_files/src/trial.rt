@@ -1,5 +1,6 @@
 //! The trial of a file's cases, line by line.
 
+use crate::answer::Answer;
 use crate::stop::CaseStop;
 use crate::text::read_text;
 use std::alloc::{AllocError, Global};
@@ -65,9 +66,9 @@ impl Trial {
         rt: &R,
         line: &str,
         wanted: &str,
-        answer: Result<String, CaseStop>,
+        answer: Answer,
     ) -> io::Result<()> {
-        match compared(rt.alloc(), wanted, answer) {
+        match compared(rt.alloc(), wanted, answer.end()) {
             Ok(None) => {
                 self.cases = self.cases.saturating_add(1);
                 self.passed = self.passed.saturating_add(1);

@@ -1,25 +1,25 @@
 //! Functions of the language, by their names.
 ghost use Rattle.std.specs.Prelude.{◌≤◌, length};
 
-use crate::notation::outcome_text;
-use case_files::CaseStop;
+use crate::notation::write_outcome;
+use case_files::{Answer, CaseStop};
 use std::alloc::Global;
 use vb_funcs::{call_func, type_name};
 use vb_strings::call_string;
 use vb_value::{PlainFn, StrFn, Value, VbFault};
 
-/// What a function gives, if there is one of that name.
-pub fn function_answer(
-    alloc: Global,
-    name: &str,
-    values: &[Value],
-) -> Result<Option<String>, CaseStop> {
+/// Writes what a function gives. Whether there is one of that name.
+pub fn write_of_function(out: &mut Answer, name: &str, values: &[Value]) -> bool {
     if values.len() > 255 {
-        return Err(CaseStop::Unreadable);
+        out.stop(CaseStop::Unreadable);
+        return true;
     }
-    match called(alloc, name, values) {
-        Some(outcome) => Ok(Some(outcome_text(alloc, &outcome)?)),
-        None => Ok(None),
+    match called(out.alloc(), name, values) {
+        Some(outcome) => {
+            write_outcome(out, &outcome);
+            true
+        }
+        None => false,
     }
 }
 

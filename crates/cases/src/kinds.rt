@@ -2,8 +2,7 @@
 
 use crate::arguments::read_call;
 use crate::operators::operator;
-use case_files::CaseStop;
-use std::alloc::Global;
+use case_files::{Answer, CaseStop};
 use vb_ops::apply2;
 use vb_value::{Value, VbFault};
 
@@ -11,34 +10,28 @@ use vb_value::{Value, VbFault};
 /// quotient of two of them is out of range.
 const EACH: &str = "each empty null true 2 40000& 2.5000@ \"3\" \"True\" \"abc\" [] obj1 nothing";
 
-/// The kinds of what an operator gives for a value and each of [`EACH`], with blanks between them.
-pub fn kinds_answer(alloc: Global, sign: &str, left: &Value) -> Result<String, CaseStop> {
-    let Some(op) = operator(sign) else {
-        return Err(CaseStop::Unreadable);
-    };
-    let each = read_call(alloc, EACH)?;
-    let mut kinds = String::new(alloc);
-    for right in each.values.as_slice() {
-        if !kinds.is_empty() {
-            kinds.push(' ')?;
+/// Writes the kinds of what an operator gives for a value and each of [`EACH`], with blanks between them.
+pub fn write_kinds(out: &mut Answer, sign: &str, left: &Value) {
+    match (operator(sign), read_call(out.alloc(), EACH)) {
+        (Some(op), Ok(each)) => {
+            for right in each.values.as_slice() {
+                if !out.is_empty() {
+                    out.put(" ");
+                }
+                let outcome = apply2(out.alloc(), op, left, right);
+                write_kind(out, &outcome);
+            }
         }
-        push_kind(&mut kinds, alloc, &apply2(alloc, op, left, right))?;
+        _ => out.stop(CaseStop::Unreadable),
     }
-    Ok(kinds)
 }
 
 /// Adds the kind of a value, or the number of an error.
-fn push_kind(
-    kinds: &mut String,
-    alloc: Global,
-    outcome: &Result<Value, VbFault>,
-) -> Result<(), CaseStop> {
+fn write_kind(out: &mut Answer, outcome: &Result<Value, VbFault>) {
     match outcome {
-        Ok(value) => Ok(kinds.push_str(kind(value))?),
-        Err(VbFault::Error(number)) => {
-            Ok(kinds.push_str(format!(in alloc; "{number}")?.as_str())?)
-        }
-        Err(VbFault::Memory) => Err(CaseStop::Memory),
+        Ok(value) => out.put(kind(value)),
+        Err(VbFault::Error(number)) => out.show(number),
+        Err(VbFault::Memory) => out.stop(CaseStop::Memory),
     }
 }
 

@@ -1,8 +1,9 @@
 //! Values as cases write them: `empty`, `null`, `true`, `false`, `nothing`, an object `obj1`, an Integer `5`, a Long
 //! `5&`, a Currency with its four decimals `2.5000@`, a text in quotes, the items of an array in brackets.
 
+use case_files::{Answer, CaseStop};
 use std::alloc::{AllocError, Global};
-use vb_value::{Array, Memory, ObjNo, Text, Value, VbFault};
+use vb_value::{Array, ObjNo, Text, Value, VbFault};
 
 /// The value, neither text nor array, that is written so, if one is.
 pub fn value_named(alloc: Global, word: &str) -> Result<Option<Value>, AllocError> {
@@ -39,87 +40,102 @@ fn currency(alloc: Global, amount: &str) -> Result<Option<Value>, AllocError> {
     }
 }
 
-/// What a call gave: a value, or `error` and its number.
-pub fn outcome_text(alloc: Global, outcome: &Result<Value, VbFault>) -> Result<String, Memory> {
+/// Writes what a call gave: a value, or `error` and its number.
+pub fn write_outcome(out: &mut Answer, outcome: &Result<Value, VbFault>) {
     match outcome {
-        Ok(value) => value_text(alloc, value),
-        Err(VbFault::Error(number)) => Ok(format!(in alloc; "error {number}")?),
-        Err(VbFault::Memory) => Err(Memory),
+        Ok(value) => write_value(out, value),
+        Err(VbFault::Error(number)) => write_error(out, *number),
+        Err(VbFault::Memory) => out.stop(CaseStop::Memory),
     }
 }
 
-/// A value as cases write it.
-pub fn value_text(alloc: Global, value: &Value) -> Result<String, Memory> {
-    let mut out = String::new(alloc);
-    push_value(&mut out, alloc, value)?;
-    Ok(out)
+/// Writes an error by its number.
+pub fn write_error(out: &mut Answer, number: i32) {
+    out.put("error ");
+    out.show(&number);
 }
 
+/// Writes a value as cases have it.
 #[cycle(values)]
-fn push_value(out: &mut String, alloc: Global, value: &Value) -> Result<(), Memory> {
+pub fn write_value(out: &mut Answer, value: &Value) {
     match value {
-        Value::Arr(array) => push_array(out, alloc, array),
-        _ => push_scalar(out, alloc, value),
+        Value::Arr(array) => write_array(out, array),
+        _ => write_scalar(out, value),
     }
 }
 
 #[cycle(values)]
-fn push_array(out: &mut String, alloc: Global, array: &Array) -> Result<(), Memory> {
-    out.push('[')?;
+fn write_array(out: &mut Answer, array: &Array) {
+    out.put("[");
     if array.fixed {
-        push_bounds(out, alloc, array.bounds.as_slice())?;
+        write_bounds(out, array.bounds.as_slice());
     }
     for (i, item) in array.items.as_slice().iter().enumerate() {
         if i > 0 {
-            out.push_str(", ")?;
+            out.put(", ");
         }
-        push_value(out, alloc, item)?;
+        write_value(out, item);
     }
-    Ok(out.push(']')?)
+    out.put("]");
 }
 
-fn push_bounds(out: &mut String, alloc: Global, bounds: &[i32]) -> Result<(), Memory> {
+fn write_bounds(out: &mut Answer, bounds: &[i32]) {
     for (i, bound) in bounds.iter().enumerate() {
         if i > 0 {
-            out.push('x')?;
+            out.put("x");
         }
-        out.push_str(format!(in alloc; "{bound}")?.as_str())?;
+        out.show(bound);
     }
-    Ok(out.push_str(": ")?)
+    out.put(": ");
 }
 
-fn push_scalar(out: &mut String, alloc: Global, value: &Value) -> Result<(), Memory> {
+fn write_scalar(out: &mut Answer, value: &Value) {
     match value {
-        Value::Empty => Ok(out.push_str("empty")?),
-        Value::Null => Ok(out.push_str("null")?),
-        Value::Nothing => Ok(out.push_str("nothing")?),
-        Value::Bool(true) => Ok(out.push_str("true")?),
-        Value::Bool(false) => Ok(out.push_str("false")?),
-        Value::Str(text) => push_quoted(out, text),
-        _ => Ok(out.push_str(number_text(alloc, value)?.as_str())?),
+        Value::Empty => out.put("empty"),
+        Value::Null => out.put("null"),
+        Value::Nothing => out.put("nothing"),
+        Value::Bool(true) => out.put("true"),
+        Value::Bool(false) => out.put("false"),
+        Value::Str(text) => write_quoted(out, text),
+        _ => write_number(out, value),
     }
 }
 
-fn push_quoted(out: &mut String, text: &Text) -> Result<(), Memory> {
-    out.push('"')?;
-    for c in text.as_slice() {
-        out.push(*c)?;
-    }
-    Ok(out.push('"')?)
+/// Writes a text in quotes.
+pub fn write_quoted(out: &mut Answer, text: &Text) {
+    out.put("\"");
+    out.text(text.as_slice());
+    out.put("\"");
 }
 
-/// A number or an object as cases write it. A Currency is written by hand, so that no fault of `to_str` hides here.
-fn number_text(alloc: Global, value: &Value) -> Result<String, Memory> {
+/// Writes a number or an object as cases have it.
+fn write_number(out: &mut Answer, value: &Value) {
     match value {
-        Value::Int(number) => Ok(format!(in alloc; "{number}")?),
-        Value::Long(number) => Ok(format!(in alloc; "{number}&")?),
-        Value::Obj(number) => Ok(format!(in alloc; "obj{}", number.0)?),
-        Value::Cur(amount) => {
-            let sign = if *amount < 0 { "-" } else { "" };
-            let size = amount.unsigned_abs();
-            let (whole, decimals) = (size / 10_000, size % 10_000);
-            Ok(format!(in alloc; "{sign}{whole}.{decimals:04}@")?)
+        Value::Int(number) => out.show(number),
+        Value::Long(number) => {
+            out.show(number);
+            out.put("&");
         }
-        _ => Ok(String::new(alloc)),
+        Value::Obj(number) => {
+            out.put("obj");
+            out.show(&number.0);
+        }
+        Value::Cur(amount) => write_currency(out, *amount),
+        _ => (),
     }
+}
+
+/// Writes a Currency as cases have it, by hand, so that no fault of `to_str` hides here.
+pub fn write_currency(out: &mut Answer, amount: i64) {
+    let size = amount.unsigned_abs();
+    let (whole, decimals) = (size / 10_000, size % 10_000);
+    if amount < 0 {
+        out.put("-");
+    }
+    out.show(&whole);
+    out.put(".");
+    for place in [1_000, 100, 10, 1] {
+        out.show(&(decimals / place % 10));
+    }
+    out.put("@");
 }

@@ -1,8 +1,7 @@
 //! Operators as cases write them.
 
-use crate::notation::outcome_text;
-use case_files::CaseStop;
-use std::alloc::Global;
+use crate::notation::write_outcome;
+use case_files::{Answer, CaseStop};
 use vb_ops::{apply1, apply2};
 use vb_value::{Op1, Op2, Value};
 
@@ -31,13 +30,15 @@ pub fn operator(sign: &str) -> Option<Op2> {
     }
 }
 
-/// What an operator gives.
-pub fn operator_answer(alloc: Global, sign: &str, values: &[Value]) -> Result<String, CaseStop> {
-    let outcome = match (sign, values, operator(sign)) {
-        ("-", [value], _) => apply1(Op1::Minus, value),
-        ("Not", [value], _) => apply1(Op1::Not, value),
-        (_, [a, b], Some(op)) => apply2(alloc, op, a, b),
-        _ => return Err(CaseStop::Unreadable),
-    };
-    Ok(outcome_text(alloc, &outcome)?)
+/// Writes what an operator gives.
+pub fn write_of_operator(out: &mut Answer, sign: &str, values: &[Value]) {
+    match (sign, values, operator(sign)) {
+        ("-", [value], _) => write_outcome(out, &apply1(Op1::Minus, value)),
+        ("Not", [value], _) => write_outcome(out, &apply1(Op1::Not, value)),
+        (_, [a, b], Some(op)) => {
+            let outcome = apply2(out.alloc(), op, a, b);
+            write_outcome(out, &outcome);
+        }
+        _ => out.stop(CaseStop::Unreadable),
+    }
 }

@@ -1,7 +1,7 @@
 //! Conversions and comparisons of values, and what else is told of one, by the names of their calls.
 
-use crate::notation::{outcome_text, value_text};
-use case_files::CaseStop;
+use crate::notation::{write_error, write_outcome, write_value};
+use case_files::Answer;
 use std::alloc::Global;
 use std::cmp::Ordering;
 use vb_ops::{compare, truth};
@@ -11,42 +11,48 @@ use vb_value::{
     to_cur, to_int, to_long, to_number, to_str, weight, whole_of_amount,
 };
 
-/// What a call gives, if there is one of that name.
-pub fn value_answer(
-    alloc: Global,
-    name: &str,
-    values: &[Value],
-) -> Result<Option<String>, CaseStop> {
+/// Writes what a call gives. Whether there is one of that name.
+pub fn write_of_values(out: &mut Answer, name: &str, values: &[Value]) -> bool {
     match values {
-        _ if name == "the_argument" => Ok(Some(argument_text(alloc, values)?)),
-        [value] => one_answer(alloc, name, value),
-        [a, b] if name == "compare" => Ok(Some(comparison_text(alloc, compare(a, b))?)),
-        _ => Ok(None),
+        _ if name == "the_argument" => {
+            write_argument(out, values);
+            true
+        }
+        [value] => write_of_one(out, name, value),
+        [a, b] if name == "compare" => {
+            write_comparison(out, compare(a, b));
+            true
+        }
+        _ => false,
     }
 }
 
-/// What a call on one value gives.
-fn one_answer(alloc: Global, name: &str, value: &Value) -> Result<Option<String>, CaseStop> {
-    match converted(alloc, name, value) {
-        Some(outcome) => Ok(Some(outcome_text(alloc, &outcome)?)),
-        None => told_answer(alloc, name, value),
+/// Writes what a call on one value gives. Whether there is one of that name.
+fn write_of_one(out: &mut Answer, name: &str, value: &Value) -> bool {
+    match converted(out.alloc(), name, value) {
+        Some(outcome) => {
+            write_outcome(out, &outcome);
+            true
+        }
+        None => write_told(out, name, value),
     }
 }
 
-/// What a call that gives no value says of one.
-fn told_answer(alloc: Global, name: &str, value: &Value) -> Result<Option<String>, CaseStop> {
+/// Writes what a call that gives no value says of one. Whether there is one of that name.
+fn write_told(out: &mut Answer, name: &str, value: &Value) -> bool {
     match name {
-        "check" => Ok(Some(checked_text(alloc, check(value))?)),
-        "is_empty" => Ok(Some(format!(in alloc; "{}", is_empty(value))?)),
-        "is_null" => Ok(Some(format!(in alloc; "{}", is_null(value))?)),
-        "is_plain" => Ok(Some(format!(in alloc; "{}", is_plain(value))?)),
-        "weight" => Ok(Some(format!(in alloc; "{}", weight(value))?)),
+        "check" => write_checked(out, check(value)),
+        "is_empty" => out.show(&is_empty(value)),
+        "is_null" => out.show(&is_null(value)),
+        "is_plain" => out.show(&is_plain(value)),
+        "weight" => out.show(&weight(value)),
         "whole_of_amount" => match number(value) {
-            Some(amount) => Ok(Some(format!(in alloc; "{}", whole_of_amount(amount))?)),
-            None => Ok(None),
+            Some(amount) => out.show(&whole_of_amount(amount)),
+            None => return false,
         },
-        _ => Ok(None),
+        _ => return false,
     }
+    true
 }
 
 /// What a call that gives a value gives.
@@ -124,29 +130,26 @@ fn limited_copy(text: &Text) -> Result<Value, VbFault> {
     Ok(limited(text.copy()?)?)
 }
 
-fn checked_text(alloc: Global, checked: Result<(), VbError>) -> Result<String, Memory> {
+fn write_checked(out: &mut Answer, checked: Result<(), VbError>) {
     match checked {
-        Ok(()) => Ok(String::from_str(alloc, "ok")?),
-        Err(error) => Ok(format!(in alloc; "error {}", error.number)?),
+        Ok(()) => out.put("ok"),
+        Err(error) => write_error(out, error.number),
     }
 }
 
-fn argument_text(alloc: Global, values: &[Value]) -> Result<String, Memory> {
+fn write_argument(out: &mut Answer, values: &[Value]) {
     match the_argument(values) {
-        Ok(value) => value_text(alloc, value),
-        Err(error) => Ok(format!(in alloc; "error {}", error.number)?),
+        Ok(value) => write_value(out, value),
+        Err(error) => write_error(out, error.number),
     }
 }
 
-fn comparison_text(
-    alloc: Global,
-    comparison: Result<Option<Ordering>, VbError>,
-) -> Result<String, Memory> {
+fn write_comparison(out: &mut Answer, comparison: Result<Option<Ordering>, VbError>) {
     match comparison {
-        Ok(None) => Ok(String::from_str(alloc, "null")?),
-        Ok(Some(Ordering::Less)) => Ok(String::from_str(alloc, "less")?),
-        Ok(Some(Ordering::Equal)) => Ok(String::from_str(alloc, "equal")?),
-        Ok(Some(Ordering::Greater)) => Ok(String::from_str(alloc, "greater")?),
-        Err(error) => Ok(format!(in alloc; "error {}", error.number)?),
+        Ok(None) => out.put("null"),
+        Ok(Some(Ordering::Less)) => out.put("less"),
+        Ok(Some(Ordering::Equal)) => out.put("equal"),
+        Ok(Some(Ordering::Greater)) => out.put("greater"),
+        Err(error) => write_error(out, error.number),
     }
 }

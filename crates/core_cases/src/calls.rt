@@ -5,159 +5,205 @@ ghost use Rattle.asp_job.specs.Size.{IsSmall};
 
 use crate::desk::Desk;
 use crate::jobs::read_job;
+use crate::reading::{next, next_moment, next_number};
 use crate::runner::{AllWords, WordRunner};
-use crate::said::{Said, moment, number};
+use crate::said::line_of;
 use crate::shown;
-use asp_job::Job;
-use asp_record::entry_line;
-use case_files::{CaseStop, Subject, read_text};
-use std::alloc::Global;
+use asp_core::Core;
+use asp_job::{Entry, Job};
+use case_files::{Answer, CaseStop, Subject, read_text};
 use std::str::Split;
 
 /// Calls of a new core with a seed of noughts, with `; ` between them.
 pub struct Calls;
 
-/// The lines of the journal, with ` / ` between them.
-fn journal(desk: &Desk<WordRunner>) -> Result<String, CaseStop> {
-    let alloc = desk.alloc();
-    let mut all = String::new(alloc);
-    for entry in desk.core().journal() {
-        let line = entry_line(alloc, entry)?;
-        let text = String::from_utf8_lossy(alloc, line.as_slice())?;
-        if !all.is_empty() && !text.as_str().is_empty() {
-            all.push_str(" / ")?;
+/// Writes a line without its end.
+fn write_line(out: &mut Answer, line: &[u8]) {
+    match String::from_utf8_lossy(out.alloc(), line) {
+        Ok(text) => out.put(text.as_str().trim_end()),
+        Err(_) => out.stop(CaseStop::Memory),
+    }
+}
+
+/// Writes the lines of a journal, with ` / ` between them.
+fn write_journal(out: &mut Answer, journal: &[Entry]) {
+    let mut between = "";
+    for entry in journal {
+        let line = line_of(out, entry);
+        if !line.is_empty() {
+            out.put(between);
+            write_line(out, line.as_slice());
+            between = " / ";
         }
-        all.push_str(text.as_str().trim_end())?;
     }
-    Ok(all)
 }
 
-/// What the core tells of itself.
-fn tell(desk: &Desk<WordRunner>, word: &str) -> Result<String, CaseStop> {
-    let core = desk.core();
-    let alloc = desk.alloc();
+/// Writes what the core tells of itself.
+fn write_of_core(out: &mut Answer, core: &Core<WordRunner>, word: &str) {
     match word {
-        "journal" => journal(desk),
-        "moment" => Ok(format!(in alloc; "{}", core.moment())?),
-        "started" => shown::started(alloc, core.start_kind()),
-        "waiting" => Ok(format!(in alloc; "{}", core.waiting())?),
-        "admitted" => Ok(format!(in alloc; "{}", core.admitted())?),
-        "entries" => Ok(format!(in alloc; "{}", core.entries())?),
-        "unfinished" => Ok(format!(in alloc; "{}", core.unfinished())?),
-        "stopping" => Ok(format!(in alloc; "{}", core.stopping())?),
-        "halted" => Ok(format!(in alloc; "{}", core.halted())?),
-        _ => Err(CaseStop::Unreadable),
+        "journal" => write_journal(out, core.journal()),
+        "moment" => out.show(&core.moment()),
+        "started" => shown::write_started(out, core.start_kind()),
+        "waiting" => out.show(&core.waiting()),
+        "admitted" => out.show(&core.admitted()),
+        "entries" => out.show(&core.entries()),
+        "unfinished" => out.show(&core.unfinished()),
+        "stopping" => out.show(&core.stopping()),
+        "halted" => out.show(&core.halted()),
+        _ => out.stop(CaseStop::Unreadable),
     }
 }
 
-fn admit(
+/// The same job comes so many times; what is told of the last is written.
+fn write_many(
+    out: &mut Answer,
     desk: &mut Desk<WordRunner>,
     lane: u32,
     words: &mut Split<'_, char>,
-) -> Result<String, CaseStop> {
-    let job = read_job(desk.alloc(), words)?;
-    desk.admit(lane, &job)
-}
-
-/// The same job comes so many times.
-fn admit_many(
-    desk: &mut Desk<WordRunner>,
-    lane: u32,
-    words: &mut Split<'_, char>,
-) -> Result<String, CaseStop> {
-    for _ in 1..number(words.next())? {
-        let _ = admit(desk, lane, &mut words.clone()?)?;
+) {
+    let count = next_number(out, words);
+    let job = read_job(out, words);
+    let mut before = Answer::new(out.alloc());
+    for _ in 1..count {
+        shown::write_admitted(&mut before, desk.admit(lane, &job));
     }
-    admit(desk, lane, words)
+    match before.end() {
+        Ok(_) => shown::write_admitted(out, desk.admit(lane, &job)),
+        Err(stop) => out.stop(stop),
+    }
 }
 
 /// A step of a lane that lets a job go all its way: it is admitted, begun, ended and handed out.
-fn step(desk: &mut Desk<WordRunner>, lane: u32, step: u32, job: &Job) -> Result<String, CaseStop>
+fn write_step(out: &mut Answer, desk: &mut Desk<WordRunner>, lane: u32, step: u32, job: &Job)
     requires page { is_page job.now.work ≡ true }
     requires small { IsSmall job.now }
 {
     match step {
-        0 => desk.admit(lane, job),
-        1 => desk.begin(lane),
-        2 => desk.run(lane),
-        _ => desk.collect_first(lane),
+        0 => shown::write_admitted(out, desk.admit(lane, job)),
+        1 => shown::write_begun(out, desk.begin(lane)),
+        2 => shown::write_ran(out, desk.run(lane)),
+        _ => shown::write_first(out, &desk.collect_first(lane)),
     }
 }
 
 /// The same job goes all its way on so many lanes, step by step.
-fn round(desk: &mut Desk<WordRunner>, lane: u32, count: u32, job: &Job) -> Result<(), CaseStop>
+fn write_round(out: &mut Answer, desk: &mut Desk<WordRunner>, lane: u32, count: u32, job: &Job)
     requires page { is_page job.now.work ≡ true }
     requires small { IsSmall job.now }
 {
-    for part in 0..4 {
+    for step in 0..4 {
         for more in 0..count {
-            let _ = step(desk, lane.saturating_add(more), part, job)?;
+            write_step(out, desk, lane.saturating_add(more), step, job);
         }
     }
-    Ok(())
 }
 
-/// The same job goes all its way so many times, on so many lanes at a time.
-fn cycle(
+/// The same job goes all its way so many times, on so many lanes at a time; the number of entries then is written.
+fn write_cycle(
+    out: &mut Answer,
     desk: &mut Desk<WordRunner>,
     lane: u32,
     words: &mut Split<'_, char>,
-) -> Result<String, CaseStop> {
-    let count = number(words.next())?;
-    let lanes = number(words.next())?.max(1);
-    let job = read_job(desk.alloc(), words)?;
+) {
+    let count = next_number(out, words);
+    let lanes = next_number(out, words).max(1);
+    let job = read_job(out, words);
+    let mut rounds = Answer::new(out.alloc());
     for _ in 0..count / lanes {
-        round(desk, lane, lanes, &job)?;
+        write_round(&mut rounds, desk, lane, lanes, &job);
     }
-    tell(desk, "entries")
+    match rounds.end() {
+        Ok(_) => out.show(&desk.core().entries()),
+        Err(stop) => out.stop(stop),
+    }
 }
 
-/// A call of a lane.
-fn of_lane(
+/// Lets the run of a lane go on, and writes how far it came.
+fn write_gone(out: &mut Answer, desk: &mut Desk<WordRunner>, lane: u32) {
+    match desk.go(lane) {
+        Ok(()) => shown::write_progress(out, desk.progress(lane)),
+        Err(stop) => out.stop(stop),
+    }
+}
+
+/// Makes a call of a lane that has more words, and writes what it tells.
+fn write_of_words(
+    out: &mut Answer,
     desk: &mut Desk<WordRunner>,
     lane: u32,
     word: &str,
     words: &mut Split<'_, char>,
-) -> Result<String, CaseStop> {
+) {
     match word {
-        "admit" => admit(desk, lane, words),
-        "many" => admit_many(desk, lane, words),
-        "cycle" => cycle(desk, lane, words),
-        "tick" => desk.tick(lane, moment(words.next())?),
-        "stop" => desk.stop(lane),
-        "halt" => desk.halt(lane),
-        "collect" => desk.collect(lane, number(words.next())?),
-        "first" => desk.collect_first(lane),
-        "begin" => desk.begin(lane),
-        "go" => desk.go(lane),
-        "call" => desk.call(lane),
-        "end" => desk.end(lane),
-        "run" => desk.run(lane),
-        _ => Err(CaseStop::Unreadable),
+        "admit" => {
+            let job = read_job(out, words);
+            shown::write_admitted(out, desk.admit(lane, &job));
+        }
+        "many" => write_many(out, desk, lane, words),
+        "cycle" => write_cycle(out, desk, lane, words),
+        "tick" => {
+            let moment = next_moment(out, words);
+            shown::write_ticked(out, desk.tick(lane, moment));
+        }
+        "collect" => {
+            let run = next_number(out, words);
+            shown::write_collected(out, &desk.collect(lane, run));
+        }
+        _ => out.stop(CaseStop::Unreadable),
     }
 }
 
-fn call(desk: &mut Desk<WordRunner>, written: &str) -> Result<String, CaseStop> {
+/// Makes a call of a lane, and writes what it tells.
+fn write_of_lane(
+    out: &mut Answer,
+    desk: &mut Desk<WordRunner>,
+    lane: u32,
+    words: &mut Split<'_, char>,
+) {
+    let word = next(words);
+    match word {
+        "stop" => shown::write_event(out, desk.stop(lane)),
+        "halt" => shown::write_halted(out, desk.halt(lane)),
+        "first" => shown::write_first(out, &desk.collect_first(lane)),
+        "begin" => shown::write_begun(out, desk.begin(lane)),
+        "go" => write_gone(out, desk, lane),
+        "call" => shown::write_called(out, desk.call(lane)),
+        "end" => shown::write_ended(out, desk.end(lane)),
+        "run" => shown::write_ran(out, desk.run(lane)),
+        _ => write_of_words(out, desk, lane, word, words),
+    }
+}
+
+/// Makes a call, and writes what it tells behind what those before it told.
+fn write_call(out: &mut Answer, desk: &mut Desk<WordRunner>, written: &str) {
+    if !out.is_empty() {
+        out.put(", ");
+    }
     let mut words = written.split(' ');
-    let first = words.next().unwrap_or("");
+    let first = next(&mut words);
     match first.parse() {
-        Ok(lane) => {
-            let word = words.next().unwrap_or("");
-            of_lane(desk, lane, word, &mut words)
+        Ok(lane) => write_of_lane(out, desk, lane, &mut words),
+        Err(_) => write_of_core(out, desk.core(), first),
+    }
+}
+
+fn write_calls(out: &mut Answer, calls: &str) {
+    let alloc = out.alloc();
+    match Desk::new(alloc, WordRunner { alloc }, AllWords) {
+        Ok(mut desk) => {
+            for written in calls.split("; ") {
+                write_call(out, &mut desk, written);
+            }
         }
-        Err(_) => tell(desk, first),
+        Err(stop) => out.stop(stop),
     }
 }
 
 impl Subject for Calls {
-    fn answer(&self, alloc: Global, case: &str) -> Result<String, CaseStop> {
-        let calls = read_text(alloc, case)?;
-        let mut desk = Desk::new(alloc, WordRunner { alloc }, AllWords)?;
-        let mut said = Said::new(alloc);
-        for written in calls.as_str().split("; ") {
-            let told = call(&mut desk, written)?;
-            said.word(told.as_str())?;
+    fn answer(&self, case: &str, out: &mut Answer) {
+        match read_text(out.alloc(), case) {
+            Ok(calls) => write_calls(out, calls.as_str()),
+            Err(stop) => out.stop(stop),
         }
-        Ok(said.into_text())
     }
 }

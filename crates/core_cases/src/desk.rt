@@ -5,9 +5,10 @@ ghost use Rattle.asp_job.specs.Running.{is_page};
 ghost use Rattle.asp_job.specs.Size.{IsSmall};
 ghost use Rattle.core_cases.specs.Lanes as spec;
 
-use crate::shown;
-use asp_core::{AppStepStop, Core, Progress, Run};
-use asp_job::{EndKind, Job, Runner};
+use asp_core::{
+    AdmitStop, Admitted, AppStepStop, BeginStop, CollectStop, Core, EventStop, Progress, Run,
+};
+use asp_job::{Answer, EndKind, Job, Runner};
 use case_files::CaseStop;
 use std::alloc::Global;
 use std::marker::Model;
@@ -25,10 +26,12 @@ const TURNS: usize = 3_000_000;
 /// The run of each lane.
 type LaneRuns<R> = Vec<Option<Run<R>>>;
 
+/// What a call of a lane tells. One that the lane may not make is unreadable.
+pub type Told<T> = Result<T, CaseStop>;
+
 /// A core, what it is given, and the runs that lanes have under way.
 #[derive(Drop)]
 pub struct Desk<R: Runner> {
-    alloc: Global,
     core: Core<R>,
     runner: R,
     site: R::Site,
@@ -95,20 +98,15 @@ where
     runs[lane as usize] = Some(run);
 }
 
-/// Lets a run go on, and tells how far it came. One that may not is unreadable.
-fn go_on<R: Runner>(
-    alloc: Global,
-    run: &mut Run<R>,
-    runner: &R,
-    site: &R::Site,
-) -> Result<String, CaseStop>
+/// Lets a run go on. One that may not is unreadable.
+fn go_on<R: Runner>(run: &mut Run<R>, runner: &R, site: &R::Site) -> Result<(), CaseStop>
     ensures { spec.HasGone (R.stands runner.now site.now) (R.meaning runner.now site.now) run.old run.new }
 {
     if !matches!(run.progress(), Progress::Going) {
         return Err(CaseStop::Unreadable);
     }
     match run.go(runner, site, QUANTUM) {
-        Ok(_) => shown::progress(alloc, run.progress()),
+        Ok(_) => Ok(()),
         Err(_) => Err(CaseStop::Memory),
     }
 }
@@ -135,17 +133,11 @@ where
         let runs = no_runs(alloc)?;
         let core = Core::new(alloc, 0, &runner, &site, [0; 32])?;
         Ok(Desk {
-            alloc,
             core,
             runner,
             site,
             runs,
         })
-    }
-
-    /// What memory is taken from.
-    pub fn alloc(&self) -> Global {
-        self.alloc
     }
 
     /// The core.
@@ -154,7 +146,7 @@ where
     }
 
     /// A job comes.
-    pub fn admit(&mut self, lane: u32, job: &Job) -> Result<String, CaseStop>
+    pub fn admit(&mut self, lane: u32, job: &Job) -> Told<Result<Admitted, AdmitStop>>
         requires page { is_page job.now.work ≡ true }
         requires small { IsSmall job.now }
     {
@@ -163,61 +155,61 @@ where
         }
         let told = self.core.admit(lane, &self.runner, &self.site, job);
         let _ = self.core.journal();
-        shown::admitted(self.alloc, told)
+        Ok(told)
     }
 
     /// Time goes on.
-    pub fn tick(&mut self, lane: u32, moment: u64) -> Result<String, CaseStop> {
+    pub fn tick(&mut self, lane: u32, moment: u64) -> Told<Result<u32, EventStop>> {
         if !is_free(self.runs.as_slice(), lane) {
             return Err(CaseStop::Unreadable);
         }
         let told = self.core.tick(lane, moment);
         let _ = self.core.journal();
-        shown::ticked(self.alloc, told)
+        Ok(told)
     }
 
     /// No job is admitted from now on.
-    pub fn stop(&mut self, lane: u32) -> Result<String, CaseStop> {
+    pub fn stop(&mut self, lane: u32) -> Told<Result<(), EventStop>> {
         if !is_free(self.runs.as_slice(), lane) {
             return Err(CaseStop::Unreadable);
         }
         let told = self.core.stop(lane);
         let _ = self.core.journal();
-        shown::event(self.alloc, told)
+        Ok(told)
     }
 
     /// No run begins from now on.
-    pub fn halt(&mut self, lane: u32) -> Result<String, CaseStop> {
+    pub fn halt(&mut self, lane: u32) -> Told<()> {
         if !is_free(self.runs.as_slice(), lane) {
             return Err(CaseStop::Unreadable);
         }
         self.core.halt(lane);
         let _ = self.core.journal();
-        shown::word(self.alloc, "done")
+        Ok(())
     }
 
     /// Hands the answer of a run out.
-    pub fn collect(&mut self, lane: u32, run: u32) -> Result<String, CaseStop> {
+    pub fn collect(&mut self, lane: u32, run: u32) -> Told<Result<Answer, CollectStop>> {
         if !is_free(self.runs.as_slice(), lane) {
             return Err(CaseStop::Unreadable);
         }
         let told = self.core.collect(lane, run);
         let _ = self.core.journal();
-        shown::collected(self.alloc, told)
+        Ok(told)
     }
 
     /// Hands the first answer out that waits for the lane.
-    pub fn collect_first(&mut self, lane: u32) -> Result<String, CaseStop> {
+    pub fn collect_first(&mut self, lane: u32) -> Told<Option<(u32, Answer)>> {
         if !is_free(self.runs.as_slice(), lane) {
             return Err(CaseStop::Unreadable);
         }
         let told = self.core.collect_first(lane);
         let _ = self.core.journal();
-        shown::first(self.alloc, told)
+        Ok(told)
     }
 
     /// Begins a run in a lane that has none.
-    pub fn begin(&mut self, lane: u32) -> Result<String, CaseStop> {
+    pub fn begin(&mut self, lane: u32) -> Told<Result<u32, BeginStop>> {
         if !is_free(self.runs.as_slice(), lane) {
             return Err(CaseStop::Unreadable);
         }
@@ -228,38 +220,30 @@ where
             Ok(run) => {
                 let number = run.number();
                 put_run(&mut self.runs, lane, run);
-                shown::number(self.alloc, number)
+                Ok(Ok(number))
             }
-            Err((_, stop)) => shown::begin_stop(self.alloc, stop),
+            Err((_, stop)) => Ok(Err(stop)),
         }
     }
 
-    /// Whether the run of a lane may go on.
-    fn is_going(&self, lane: u32) -> bool {
+    /// What the last step of the run of a lane was, if the lane has one.
+    pub fn progress(&self, lane: u32) -> Option<&Progress> {
         match self.runs.get(lane as usize) {
-            Some(Some(run)) => matches!(run.progress(), Progress::Going),
-            _ => false,
+            Some(Some(run)) => Some(run.progress()),
+            _ => None,
         }
     }
 
     /// Lets the run of a lane go on.
-    pub fn go(&mut self, lane: u32) -> Result<String, CaseStop> {
+    pub fn go(&mut self, lane: u32) -> Told<()> {
         let mut run = take_run(&mut self.runs, lane)?;
-        let told = go_on(self.alloc, &mut run, &self.runner, &self.site);
+        let told = go_on(&mut run, &self.runner, &self.site);
         put_run(&mut self.runs, lane, run);
         told
     }
 
-    /// Whether the run of a lane waits for the reply to a call.
-    fn is_wanting(&self, lane: u32) -> bool {
-        match self.runs.get(lane as usize) {
-            Some(Some(run)) => matches!(run.progress(), Progress::Wants(_)),
-            _ => false,
-        }
-    }
-
     /// Makes the call that the run of a lane wants. A run whose call does not fit is ended.
-    pub fn call(&mut self, lane: u32) -> Result<String, CaseStop> {
+    pub fn call(&mut self, lane: u32) -> Told<Result<(), AppStepStop>> {
         let mut run = take_run(&mut self.runs, lane)?;
         if !matches!(run.progress(), Progress::Wants(_)) {
             return Err(CaseStop::Unreadable);
@@ -270,36 +254,35 @@ where
             Err(AppStepStop::JournalFull { entries, weight }) => {
                 let _ = self.core.end(lane, &self.runner, run, EndKind::JournalFull);
                 let _ = self.core.journal();
-                shown::full(self.alloc, entries, weight)
+                Ok(Err(AppStepStop::JournalFull { entries, weight }))
             }
             told => {
                 put_run(&mut self.runs, lane, run);
-                shown::called(self.alloc, told)
+                Ok(told)
             }
         }
     }
 
     /// Ends the run of a lane.
-    pub fn end(&mut self, lane: u32) -> Result<String, CaseStop> {
+    pub fn end(&mut self, lane: u32) -> Told<EndKind> {
         let run = take_run(&mut self.runs, lane)?;
         let kind = end_kind(run.progress());
         let _ = self.core.end(lane, &self.runner, run, kind);
         let _ = self.core.journal();
-        shown::end_kind(self.alloc, kind)
+        Ok(kind)
     }
 
-    /// Lets the run of a lane go on, makes its calls, and ends it. A call that is not made stops it.
-    pub fn run(&mut self, lane: u32) -> Result<String, CaseStop> {
+    /// Lets the run of a lane go on, makes its calls, and ends it: how it ended, or why a call was not made.
+    pub fn run(&mut self, lane: u32) -> Told<Result<EndKind, AppStepStop>> {
         for _ in 0..TURNS {
-            if self.is_going(lane) {
-                let _ = self.go(lane)?;
-            } else if self.is_wanting(lane) {
-                let told = self.call(lane)?;
-                if !self.is_going(lane) {
-                    return Ok(told);
+            if matches!(self.progress(lane), Some(Progress::Going)) {
+                self.go(lane)?;
+            } else if matches!(self.progress(lane), Some(Progress::Wants(_))) {
+                if let Err(stop) = self.call(lane)? {
+                    return Ok(Err(stop));
                 }
             } else {
-                return self.end(lane);
+                return Ok(Ok(self.end(lane)?));
             }
         }
         Err(CaseStop::Unreadable)

@@ -1,31 +1,40 @@
 //! The job of a page.
-ghost use Rattle.std.specs.Prelude.{◌≡◌, ◌<◌, ◌^◌, IfOk, length, true};
+ghost use Rattle.std.specs.Prelude.{◌≡◌, ◌<◌, ◌^◌, length, true};
 ghost use Rattle.asp_job.specs.Running.{is_page};
 ghost use Rattle.asp_job.specs.Size.{IsSmall, request_size};
 
-use crate::said::{moment, number};
+use crate::reading::{next, next_moment, number, text};
 use asp_job::{Asked, Job, Request, Verb, Work};
-use case_files::CaseStop;
-use std::alloc::Global;
+use case_files::{Answer, CaseStop};
 use std::str::Split;
 use vb_value::{Bytes, List, Text};
 
 /// The key for which a job asks: `-` a new one, `0` none, and else that of this number.
-fn asked(written: Option<&str>) -> Result<Asked, CaseStop> {
+fn asked(out: &mut Answer, written: &str) -> Asked {
     match written {
-        Some("-") => Ok(Asked::Fresh),
-        written => Ok(Asked::Key(number(written)?)),
+        "-" => Asked::Fresh,
+        _ => Asked::Key(number(out, written)),
     }
 }
 
-fn request(alloc: Global, word: &str) -> Result<Request, CaseStop>
-    ensures { IfOk result (λ request. request_size request < 2 ^ 24) }
+/// The path that is written so. One that no page may have is noted, and is empty.
+fn path(out: &mut Answer, word: &str) -> Text
+    ensures { length result < 2 ^ 24 }
 {
-    let path = Text::from_str(alloc, word)?;
-    if !word.starts_with('/') || path.len() >= 1 << 24 {
-        return Err(CaseStop::Unreadable);
+    let path = text(out, word);
+    if word.starts_with('/') && path.len() < 1 << 24 {
+        return path;
     }
-    Ok(Request {
+    out.stop(CaseStop::Unreadable);
+    Text::new(out.alloc())
+}
+
+fn request(out: &mut Answer, word: &str) -> Request
+    ensures { request_size result < 2 ^ 24 }
+{
+    let path = path(out, word);
+    let alloc = out.alloc();
+    Request {
         verb: Verb::Get,
         path,
         query: Bytes::new(alloc),
@@ -33,21 +42,20 @@ fn request(alloc: Global, word: &str) -> Result<Request, CaseStop>
         headers: List::new(alloc),
         body: Bytes::new(alloc),
         close: false,
-    })
+    }
 }
 
 /// The job that is written `WORD KEY MOMENT`.
-pub fn read_job(alloc: Global, words: &mut Split<'_, char>) -> Result<Job, CaseStop>
-    ensures page { IfOk result (λ job. is_page job.work ≡ true) }
-    ensures small { IfOk result IsSmall }
+pub fn read_job(out: &mut Answer, words: &mut Split<'_, char>) -> Job
+    ensures page { is_page result.work ≡ true }
+    ensures small { IsSmall result }
 {
-    let word = words.next().unwrap_or("");
-    let asked = asked(words.next())?;
-    let moment = moment(words.next())?;
-    let request = request(alloc, word)?;
-    Ok(Job {
-        work: Work::Page(request),
+    let word = next(words);
+    let asked = asked(out, next(words));
+    let moment = next_moment(out, words);
+    Job {
+        work: Work::Page(request(out, word)),
         moment,
         asked,
-    })
+    }
 }

@@ -6,6 +6,7 @@ mod desk;
 mod entries;
 mod jobs;
 mod lines;
+mod reading;
 mod recordings;
 mod run;
 mod runner;

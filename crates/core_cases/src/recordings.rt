@@ -1,35 +1,46 @@
 //! Recordings, read and written.
 
-use crate::said::record_stop;
+use crate::said::{write_bytes, write_record_stop};
 use crate::table::recording;
 use asp_record::{Item, Recording, read_recording, write_recording};
-use case_files::{CaseStop, Subject, read_text};
-use std::alloc::Global;
+use case_files::{Answer, CaseStop, Subject, read_text};
+use vb_value::Bytes;
 
 /// `read` and the text of a recording: how many items it has, whether it has the same text again, and where it ends; or
 /// where it is refused. `made again`: the same of the recording of twenty items that is made in code, and whether the same
 /// items and seed are read again. `made text`: the text of that.
 pub struct Recordings;
 
-fn told(
-    alloc: Global,
-    recording: &Recording,
-    end: u64,
-    are_same: bool,
-) -> Result<String, CaseStop> {
-    let count = recording.items.len();
-    let same = if are_same { "the same" } else { "others" };
-    Ok(format!(in alloc; "{count}, {same}, ends at {end}")?)
+/// The text of a recording.
+fn text_of(out: &mut Answer, recording: &Recording) -> Bytes {
+    match write_recording(out.alloc(), recording) {
+        Ok(text) => text,
+        Err(_) => {
+            out.stop(CaseStop::Memory);
+            Bytes::new(out.alloc())
+        }
+    }
 }
 
-fn read(alloc: Global, bytes: &[u8]) -> Result<String, CaseStop> {
-    let (recording, end) = match read_recording(alloc, bytes) {
-        Ok(read) => read,
-        Err(stop) => return record_stop(alloc, stop),
-    };
-    let again = write_recording(alloc, &recording)?;
+fn write_told(out: &mut Answer, recording: &Recording, are_same: bool, end: u64) {
+    out.show(&recording.items.len());
+    out.put(if are_same { ", the same" } else { ", others" });
+    out.put(", ends at ");
+    out.show(&end);
+}
+
+/// Writes what was read, and whether it is these bytes again.
+fn write_again(out: &mut Answer, recording: &Recording, end: u64, bytes: &[u8]) {
+    let again = text_of(out, recording);
     let are_same = bytes.starts_with(again.as_slice()) && again.len() as u64 == end;
-    told(alloc, &recording, end, are_same)
+    write_told(out, recording, are_same, end);
+}
+
+fn write_read(out: &mut Answer, bytes: &[u8]) {
+    match read_recording(out.alloc(), bytes) {
+        Ok(read) => write_again(out, &read.0, read.1, bytes),
+        Err(stop) => write_record_stop(out, stop),
+    }
 }
 
 fn is_request(item: &Item, of: u32, at: u64, sent: &[u8]) -> bool {
@@ -74,31 +85,38 @@ fn are_same(one: &Recording, other: &Recording) -> bool {
     same
 }
 
-fn make(alloc: Global) -> Result<String, CaseStop> {
-    let made = recording(alloc)?;
-    let text = write_recording(alloc, &made)?;
-    let (read, end) = match read_recording(alloc, text.as_slice()) {
-        Ok(read) => read,
-        Err(stop) => return record_stop(alloc, stop),
-    };
-    let are_same = are_same(&made, &read) && text.len() as u64 == end;
-    told(alloc, &read, end, are_same)
+fn write_made(out: &mut Answer) {
+    let made = recording(out);
+    let text = text_of(out, &made);
+    match read_recording(out.alloc(), text.as_slice()) {
+        Ok(read) => {
+            let are_same = are_same(&made, &read.0) && text.len() as u64 == read.1;
+            write_told(out, &read.0, are_same, read.1);
+        }
+        Err(stop) => write_record_stop(out, stop),
+    }
 }
 
-fn text(alloc: Global) -> Result<String, CaseStop> {
-    let text = write_recording(alloc, &recording(alloc)?)?;
-    Ok(String::from_utf8_lossy(alloc, text.as_slice())?)
+fn write_text(out: &mut Answer) {
+    let made = recording(out);
+    let text = text_of(out, &made);
+    write_bytes(out, text.as_slice());
+}
+
+fn write_of_words(out: &mut Answer, written: &str) {
+    match written.split_once(' ') {
+        Some(("read", text)) => write_read(out, text.as_bytes()),
+        Some(("made", "again")) => write_made(out),
+        Some(("made", "text")) => write_text(out),
+        _ => out.stop(CaseStop::Unreadable),
+    }
 }
 
 impl Subject for Recordings {
-    fn answer(&self, alloc: Global, case: &str) -> Result<String, CaseStop> {
-        let written = read_text(alloc, case)?;
-        let (word, rest) = written.as_str().split_once(' ').unwrap_or(("", ""));
-        match word {
-            "read" => read(alloc, rest.as_bytes()),
-            "made" if rest == "again" => make(alloc),
-            "made" if rest == "text" => text(alloc),
-            _ => Err(CaseStop::Unreadable),
+    fn answer(&self, case: &str, out: &mut Answer) {
+        match read_text(out.alloc(), case) {
+            Ok(written) => write_of_words(out, written.as_str()),
+            Err(stop) => out.stop(stop),
         }
     }
 }

@@ -4,7 +4,7 @@ use asp_job::{Finished, SessionState};
 use vb_value::Text;
 
 /// How far a run is.
-#[derive(Debug, Drop)]
+#[derive(Drop)]
 pub enum At {
     /// It may go on.
     Going,
@@ -17,7 +17,7 @@ pub enum At {
 }
 
 /// A run on its way.
-#[derive(Debug, Drop)]
+#[derive(Drop)]
 pub struct WordRun {
     /// The path of its page; an event has none.
     pub word: Option<Text>,

@@ -10,18 +10,18 @@ use std::alloc::Global;
 use vb_value::{AppCall, AppReply, Memory, Text};
 
 /// Runs jobs of pages whose paths are words. A word says what its runs do; a run keeps its place in it.
-#[derive(Debug, Drop)]
+#[derive(Drop)]
 pub struct WordRunner {
     /// What memory is taken from.
     pub alloc: Global,
 }
 
 /// The site of all words.
-#[derive(Clone, Copy, Debug, PartialEq, Eq)]
+#[derive(Clone, Copy)]
 pub struct AllWords;
 
 /// What a run needs: nothing.
-#[derive(Clone, Copy, Debug, PartialEq, Eq)]
+#[derive(Clone, Copy)]
 pub struct NoStore;
 
 /// What a run comes to.

@@ -1,57 +1,36 @@
-//! What calls give, as cases write it.
+//! Lines and other bytes, as cases write them.
 
-use asp_record::RecordStop;
-use case_files::CaseStop;
-use std::alloc::Global;
+use asp_job::Entry;
+use asp_record::{RecordStop, entry_line};
+use case_files::{Answer, CaseStop};
+use vb_value::Bytes;
 
-/// The number that is written so.
-pub fn number(written: Option<&str>) -> Result<u32, CaseStop> {
-    match written.unwrap_or("").parse() {
-        Ok(number) => Ok(number),
-        Err(_) => Err(CaseStop::Unreadable),
+/// The line of an entry of a journal; empty where it has none.
+pub fn line_of(out: &mut Answer, entry: &Entry) -> Bytes {
+    match entry_line(out.alloc(), entry) {
+        Ok(line) => line,
+        Err(_) => {
+            out.stop(CaseStop::Memory);
+            Bytes::new(out.alloc())
+        }
     }
 }
 
-/// The moment that is written so, in seconds.
-pub fn moment(written: Option<&str>) -> Result<u64, CaseStop> {
-    match written.unwrap_or("").parse() {
-        Ok(moment) => Ok(moment),
-        Err(_) => Err(CaseStop::Unreadable),
+/// Writes bytes as a text. Where they are none, U+FFFD stands for them.
+pub fn write_bytes(out: &mut Answer, bytes: &[u8]) {
+    match String::from_utf8_lossy(out.alloc(), bytes) {
+        Ok(text) => out.put(text.as_str()),
+        Err(_) => out.stop(CaseStop::Memory),
     }
 }
 
-/// Where bytes were refused.
-pub fn record_stop(alloc: Global, stop: RecordStop) -> Result<String, CaseStop> {
+/// Writes where bytes were refused.
+pub fn write_record_stop(out: &mut Answer, stop: RecordStop) {
     match stop {
-        RecordStop::Refused { offset } => Ok(format!(in alloc; "refused at {offset}")?),
-        RecordStop::Memory => Err(CaseStop::Memory),
-    }
-}
-
-/// What the calls of a case gave, in their order.
-#[derive(Drop)]
-pub struct Said {
-    text: String,
-}
-
-impl Said {
-    /// Before the first call.
-    pub fn new(alloc: Global) -> Said {
-        Said {
-            text: String::new(alloc),
+        RecordStop::Refused { offset } => {
+            out.put("refused at ");
+            out.show(&offset);
         }
-    }
-
-    /// A call gave this word.
-    pub fn word(&mut self, word: &str) -> Result<(), CaseStop> {
-        if !self.text.is_empty() {
-            self.text.push_str(", ")?;
-        }
-        Ok(self.text.push_str(word)?)
-    }
-
-    /// All that was given.
-    pub fn into_text(self) -> String {
-        self.text
+        RecordStop::Memory => out.stop(CaseStop::Memory),
     }
 }

@@ -1,116 +1,148 @@
 //! Calls of the Application object with their replies, as cases write them.
 
-use case_files::CaseStop;
-use std::alloc::Global;
+use crate::reading::{next, text};
+use case_files::{Answer, CaseStop};
 use std::str::Split;
 use vb_value::{AppCall, AppReply, Array, List, Text, Value};
 
 /// A fixed array of two items: the Integer 1, and an array without dimensions.
-fn array(alloc: Global) -> Result<Array, CaseStop> {
-    let mut items = List::new(alloc);
-    items.push(Value::Int(1))?;
-    items.push(Value::Arr(Array {
+fn array(out: &mut Answer) -> Array {
+    let alloc = out.alloc();
+    let inner = Array {
         bounds: List::new(alloc),
         fixed: false,
         items: List::new(alloc),
-    }))?;
-    Ok(Array {
-        bounds: List::from_slice(alloc, &[1, 0])?,
+    };
+    let mut bounds = List::new(alloc);
+    let mut items = List::new(alloc);
+    let are_kept = bounds.append_slice(&[1, 0]).is_ok()
+        && items.push(Value::Int(1)).is_ok()
+        && items.push(Value::Arr(inner)).is_ok();
+    if !are_kept {
+        out.stop(CaseStop::Memory);
+    }
+    Array {
+        bounds,
         fixed: true,
         items,
-    })
+    }
 }
 
-/// A place or a count.
-fn place(written: &str) -> Result<i32, CaseStop> {
+/// A place, a count or a Long.
+fn long(out: &mut Answer, written: &str) -> i32 {
     match written.parse() {
-        Ok(place) => Ok(place),
-        Err(_) => Err(CaseStop::Unreadable),
+        Ok(number) => number,
+        Err(_) => {
+            out.stop(CaseStop::Unreadable);
+            0
+        }
     }
 }
 
 /// Currency, in ten-thousandths.
-fn amount(written: &str) -> Result<i64, CaseStop> {
+fn amount(out: &mut Answer, written: &str) -> i64 {
     match written.parse() {
-        Ok(amount) => Ok(amount),
-        Err(_) => Err(CaseStop::Unreadable),
+        Ok(amount) => amount,
+        Err(_) => {
+            out.stop(CaseStop::Unreadable);
+            0
+        }
+    }
+}
+
+fn integer(out: &mut Answer, written: &str) -> i16 {
+    match written.parse() {
+        Ok(number) => number,
+        Err(_) => {
+            out.stop(CaseStop::Unreadable);
+            0
+        }
     }
 }
 
 /// A Long `5&`, Currency `50000@`, or an Integer `5`.
-fn number(written: &str) -> Result<Value, CaseStop> {
-    if let Some(long) = written.strip_suffix('&') {
-        return Ok(Value::Long(place(long)?));
+fn number(out: &mut Answer, written: &str) -> Value {
+    if let Some(number) = written.strip_suffix('&') {
+        return Value::Long(long(out, number));
     }
     if let Some(currency) = written.strip_suffix('@') {
-        return Ok(Value::Cur(amount(currency)?));
+        return Value::Cur(amount(out, currency));
     }
-    match written.parse() {
-        Ok(integer) => Ok(Value::Int(integer)),
-        Err(_) => Err(CaseStop::Unreadable),
-    }
+    Value::Int(integer(out, written))
 }
 
 /// The value of a word, a text `'abc`, or a number.
-fn value(alloc: Global, written: &str) -> Result<Value, CaseStop> {
-    if let Some(text) = written.strip_prefix('\'') {
-        return Ok(Value::Str(Text::from_str(alloc, text)?));
+fn value(out: &mut Answer, written: &str) -> Value {
+    if let Some(written) = written.strip_prefix('\'') {
+        return Value::Str(text(out, written));
     }
     match written {
-        "empty" => Ok(Value::Empty),
-        "null" => Ok(Value::Null),
-        "true" => Ok(Value::Bool(true)),
-        "false" => Ok(Value::Bool(false)),
-        "array" => Ok(Value::Arr(array(alloc)?)),
-        _ => number(written),
+        "empty" => Value::Empty,
+        "null" => Value::Null,
+        "true" => Value::Bool(true),
+        "false" => Value::Bool(false),
+        "array" => Value::Arr(array(out)),
+        _ => number(out, written),
     }
 }
 
-fn names(alloc: Global, words: &mut Split<'_, char>) -> Result<List<Text>, CaseStop> {
-    let mut names = List::new(alloc);
-    for name in words.clone()? {
-        names.push(Text::from_str(alloc, name)?)?;
+/// All words that are left.
+fn names(out: &mut Answer, words: &mut Split<'_, char>) -> List<Text> {
+    let mut names = List::new(out.alloc());
+    match words.clone() {
+        Ok(rest) => {
+            for word in rest {
+                if names.push(text(out, word)).is_err() {
+                    out.stop(CaseStop::Memory);
+                }
+            }
+        }
+        Err(_) => out.stop(CaseStop::Memory),
     }
-    Ok(names)
+    names
 }
 
 /// A call of the Application object.
-pub fn read_call(alloc: Global, words: &mut Split<'_, char>) -> Result<AppCall, CaseStop> {
-    let call = words.next().unwrap_or("");
+pub fn read_call(out: &mut Answer, words: &mut Split<'_, char>) -> AppCall {
+    let call = next(words);
     match call {
-        "removeall" => return Ok(AppCall::RemoveAll),
-        "count" => return Ok(AppCall::Count),
-        "names" => return Ok(AppCall::Names),
-        "lock" => return Ok(AppCall::Lock),
-        "unlock" => return Ok(AppCall::Unlock),
-        _ => {}
+        "removeall" => AppCall::RemoveAll,
+        "count" => AppCall::Count,
+        "names" => AppCall::Names,
+        "lock" => AppCall::Lock,
+        "unlock" => AppCall::Unlock,
+        _ => call_about(out, call, words),
     }
-    let about = words.next().unwrap_or("");
+}
+
+/// A call that has a name or a place behind it.
+fn call_about(out: &mut Answer, call: &str, words: &mut Split<'_, char>) -> AppCall {
+    let about = next(words);
     match call {
-        "get" => Ok(AppCall::Get(Text::from_str(alloc, about)?)),
+        "get" => AppCall::Get(text(out, about)),
         "put" => {
-            let value = value(alloc, words.next().unwrap_or(""))?;
-            Ok(AppCall::Put(Text::from_str(alloc, about)?, value))
+            let value = value(out, next(words));
+            AppCall::Put(text(out, about), value)
         }
-        "remove" => Ok(AppCall::Remove(Text::from_str(alloc, about)?)),
-        "keyat" => Ok(AppCall::KeyAt(place(about)?)),
-        _ => Err(CaseStop::Unreadable),
+        "remove" => AppCall::Remove(text(out, about)),
+        "keyat" => AppCall::KeyAt(long(out, about)),
+        _ => {
+            out.stop(CaseStop::Unreadable);
+            AppCall::Count
+        }
     }
 }
 
 /// A reply of the Application object. All words behind `names` are names.
-pub fn read_reply(alloc: Global, words: &mut Split<'_, char>) -> Result<AppReply, CaseStop> {
-    let reply = words.next().unwrap_or("");
+pub fn read_reply(out: &mut Answer, words: &mut Split<'_, char>) -> AppReply {
+    let reply = next(words);
     match reply {
-        "number" => Ok(AppReply::Number(place(words.next().unwrap_or(""))?)),
-        "name" => {
-            let name = words.next().unwrap_or("");
-            Ok(AppReply::Name(Text::from_str(alloc, name)?))
-        }
-        "noname" => Ok(AppReply::NoName),
-        "names" => Ok(AppReply::Names(names(alloc, words)?)),
-        "done" => Ok(AppReply::Done),
-        "full" => Ok(AppReply::Full),
-        _ => Ok(AppReply::Value(value(alloc, reply)?)),
+        "number" => AppReply::Number(long(out, next(words))),
+        "name" => AppReply::Name(text(out, next(words))),
+        "noname" => AppReply::NoName,
+        "names" => AppReply::Names(names(out, words)),
+        "done" => AppReply::Done,
+        "full" => AppReply::Full,
+        _ => AppReply::Value(value(out, reply)),
     }
 }

@@ -1,135 +1,193 @@
 //! What the calls of a core tell, as cases write it.
 
+use crate::desk::Told;
+use crate::said::write_bytes;
 use asp_core::{AdmitStop, Admitted, AppStepStop, BeginStop, CollectStop, EventStop, Progress};
-use asp_job::{Answer, EndKind};
-use case_files::CaseStop;
-use std::alloc::Global;
+use asp_job::EndKind;
+use case_files::{Answer, CaseStop};
 
 /// The content of an answer is shown that has at most so many bytes.
 const LONG: usize = 1000;
 
 /// Too many or too heavy entries.
-pub fn full(alloc: Global, entries: u64, weight: u64) -> Result<String, CaseStop> {
-    Ok(format!(in alloc; "full {entries} {weight}")?)
-}
-
-/// A word.
-pub fn word(alloc: Global, word: &str) -> Result<String, CaseStop> {
-    Ok(format!(in alloc; "{word}")?)
-}
-
-/// The number of a run.
-pub fn number(alloc: Global, number: u32) -> Result<String, CaseStop> {
-    Ok(format!(in alloc; "{number}")?)
+fn write_full(out: &mut Answer, entries: u64, weight: u64) {
+    out.put("full ");
+    out.show(&entries);
+    out.put(" ");
+    out.show(&weight);
 }
 
 /// A job came, or did not.
-pub fn admitted(alloc: Global, told: Result<Admitted, AdmitStop>) -> Result<String, CaseStop> {
+pub fn write_admitted(out: &mut Answer, told: Told<Result<Admitted, AdmitStop>>) {
     match told {
-        Ok(told) if told.refused => Ok(format!(in alloc; "{} refused", told.run)?),
-        Ok(told) => Ok(format!(in alloc; "{} key {} at {}", told.run, told.key, told.moment)?),
-        Err(AdmitStop::Stopping) => word(alloc, "stopping"),
-        Err(AdmitStop::WaitingFull) => word(alloc, "waiting full"),
-        Err(AdmitStop::JournalFull { entries, weight }) => full(alloc, entries, weight),
-        Err(AdmitStop::Memory) => Err(CaseStop::Memory),
+        Ok(Ok(told)) => write_job(out, told),
+        Ok(Err(AdmitStop::Stopping)) => out.put("stopping"),
+        Ok(Err(AdmitStop::WaitingFull)) => out.put("waiting full"),
+        Ok(Err(AdmitStop::JournalFull { entries, weight })) => write_full(out, entries, weight),
+        Ok(Err(AdmitStop::Memory)) => out.stop(CaseStop::Memory),
+        Err(stop) => out.stop(stop),
+    }
+}
+
+/// What is told of a job that came.
+fn write_job(out: &mut Answer, told: Admitted) {
+    out.show(&told.run);
+    if told.refused {
+        out.put(" refused");
+    } else {
+        out.put(" key ");
+        out.show(&told.key);
+        out.put(" at ");
+        out.show(&told.moment);
     }
 }
 
 /// Time went on, with so many keys' sessions over by it, or did not.
-pub fn ticked(alloc: Global, told: Result<u32, EventStop>) -> Result<String, CaseStop> {
+pub fn write_ticked(out: &mut Answer, told: Told<Result<u32, EventStop>>) {
     match told {
-        Ok(expired) => Ok(format!(in alloc; "{expired}")?),
-        Err(EventStop::JournalFull { entries, weight }) => full(alloc, entries, weight),
-        Err(EventStop::Memory) => Err(CaseStop::Memory),
+        Ok(Ok(expired)) => out.show(&expired),
+        Ok(Err(stop)) => write_event_stop(out, stop),
+        Err(stop) => out.stop(stop),
     }
 }
 
 /// An event came, or did not.
-pub fn event(alloc: Global, told: Result<(), EventStop>) -> Result<String, CaseStop> {
+pub fn write_event(out: &mut Answer, told: Told<Result<(), EventStop>>) {
     match told {
-        Ok(()) => word(alloc, "done"),
-        Err(EventStop::JournalFull { entries, weight }) => full(alloc, entries, weight),
-        Err(EventStop::Memory) => Err(CaseStop::Memory),
+        Ok(Ok(())) => out.put("done"),
+        Ok(Err(stop)) => write_event_stop(out, stop),
+        Err(stop) => out.stop(stop),
     }
 }
 
-/// Why no run began.
-pub fn begin_stop(alloc: Global, stop: BeginStop) -> Result<String, CaseStop> {
+/// No run begins from now on.
+pub fn write_halted(out: &mut Answer, told: Told<()>) {
+    match told {
+        Ok(()) => out.put("done"),
+        Err(stop) => out.stop(stop),
+    }
+}
+
+fn write_event_stop(out: &mut Answer, stop: EventStop) {
     match stop {
-        BeginStop::Idle => word(alloc, "idle"),
-        BeginStop::JournalFull { entries, weight } => full(alloc, entries, weight),
-        BeginStop::Memory => Err(CaseStop::Memory),
+        EventStop::JournalFull { entries, weight } => write_full(out, entries, weight),
+        EventStop::Memory => out.stop(CaseStop::Memory),
+    }
+}
+
+/// A run began, or did not.
+pub fn write_begun(out: &mut Answer, told: Told<Result<u32, BeginStop>>) {
+    match told {
+        Ok(Ok(run)) => out.show(&run),
+        Ok(Err(BeginStop::Idle)) => out.put("idle"),
+        Ok(Err(BeginStop::JournalFull { entries, weight })) => write_full(out, entries, weight),
+        Ok(Err(BeginStop::Memory)) => out.stop(CaseStop::Memory),
+        Err(stop) => out.stop(stop),
     }
 }
 
 /// How far a run came.
-pub fn progress(alloc: Global, progress: &Progress) -> Result<String, CaseStop> {
+pub fn write_progress(out: &mut Answer, progress: Option<&Progress>) {
     match progress {
-        Progress::Going => word(alloc, "more"),
-        Progress::Wants(_) => word(alloc, "wants"),
-        Progress::Ended => word(alloc, "ended"),
-        Progress::Dead => word(alloc, "dead"),
+        Some(Progress::Going) => out.put("more"),
+        Some(Progress::Wants(_)) => out.put("wants"),
+        Some(Progress::Ended) => out.put("ended"),
+        Some(Progress::Dead) => out.put("dead"),
+        None => out.stop(CaseStop::Unreadable),
     }
 }
 
 /// A call was made, or was not.
-pub fn called(alloc: Global, told: Result<(), AppStepStop>) -> Result<String, CaseStop> {
+pub fn write_called(out: &mut Answer, told: Told<Result<(), AppStepStop>>) {
     match told {
-        Ok(()) => word(alloc, "done"),
-        Err(AppStepStop::Blocked { holder }) => Ok(format!(in alloc; "blocked by {holder}")?),
-        Err(AppStepStop::JournalFull { entries, weight }) => full(alloc, entries, weight),
-        Err(AppStepStop::Memory) => Err(CaseStop::Memory),
+        Ok(Ok(())) => out.put("done"),
+        Ok(Err(stop)) => write_call_stop(out, stop),
+        Err(stop) => out.stop(stop),
+    }
+}
+
+fn write_call_stop(out: &mut Answer, stop: AppStepStop) {
+    match stop {
+        AppStepStop::Blocked { holder } => {
+            out.put("blocked by ");
+            out.show(&holder);
+        }
+        AppStepStop::JournalFull { entries, weight } => write_full(out, entries, weight),
+        AppStepStop::Memory => out.stop(CaseStop::Memory),
     }
 }
 
 /// How a run ended.
-pub fn end_kind(alloc: Global, kind: EndKind) -> Result<String, CaseStop> {
-    match kind {
-        EndKind::Done => word(alloc, "ended"),
-        EndKind::Memory => word(alloc, "out of memory"),
-        EndKind::JournalFull => word(alloc, "journal full"),
+pub fn write_ended(out: &mut Answer, told: Told<EndKind>) {
+    match told {
+        Ok(kind) => out.put(kind_word(kind)),
+        Err(stop) => out.stop(stop),
+    }
+}
+
+/// How a run ended that went on to its end, or which call was not made.
+pub fn write_ran(out: &mut Answer, told: Told<Result<EndKind, AppStepStop>>) {
+    match told {
+        Ok(Ok(kind)) => out.put(kind_word(kind)),
+        Ok(Err(stop)) => write_call_stop(out, stop),
+        Err(stop) => out.stop(stop),
     }
 }
 
 /// How the first run ended, if it has.
-pub fn started(alloc: Global, kind: Option<EndKind>) -> Result<String, CaseStop> {
+pub fn write_started(out: &mut Answer, kind: Option<EndKind>) {
     match kind {
-        Some(kind) => end_kind(alloc, kind),
-        None => word(alloc, "none"),
+        Some(kind) => out.put(kind_word(kind)),
+        None => out.put("none"),
+    }
+}
+
+fn kind_word(kind: EndKind) -> &'static str {
+    match kind {
+        EndKind::Done => "ended",
+        EndKind::Memory => "out of memory",
+        EndKind::JournalFull => "journal full",
     }
 }
 
 /// The status of an answer and its content, or how long that is.
-pub fn answer(alloc: Global, answer: &Answer) -> Result<String, CaseStop> {
+fn write_answer(out: &mut Answer, answer: &asp_job::Answer) {
     let length = answer.body.len();
-    if length == 0 {
-        return Ok(format!(in alloc; "{}", answer.status)?);
-    }
+    out.show(&answer.status);
     if length > LONG {
-        return Ok(format!(in alloc; "{} {length} bytes", answer.status)?);
+        out.put(" ");
+        out.show(&length);
+        out.put(" bytes");
+    } else if length > 0 {
+        out.put(" ");
+        write_bytes(out, answer.body.as_slice());
     }
-    let body = String::from_utf8_lossy(alloc, answer.body.as_slice())?;
-    Ok(format!(in alloc; "{} {body}", answer.status)?)
 }
 
 /// An answer was handed out, or was not.
-pub fn collected(alloc: Global, told: Result<Answer, CollectStop>) -> Result<String, CaseStop> {
+pub fn write_collected(out: &mut Answer, told: &Told<Result<asp_job::Answer, CollectStop>>) {
     match told {
-        Ok(found) => answer(alloc, &found),
-        Err(CollectStop::Foreign { lane }) => Ok(format!(in alloc; "of lane {lane}")?),
-        Err(CollectStop::NotEnded) => word(alloc, "not ended"),
-        Err(CollectStop::NoAnswer) => word(alloc, "no answer"),
-        Err(CollectStop::Taken) => word(alloc, "taken"),
+        Ok(Ok(answer)) => write_answer(out, answer),
+        Ok(Err(CollectStop::Foreign { lane })) => {
+            out.put("of lane ");
+            out.show(lane);
+        }
+        Ok(Err(CollectStop::NotEnded)) => out.put("not ended"),
+        Ok(Err(CollectStop::NoAnswer)) => out.put("no answer"),
+        Ok(Err(CollectStop::Taken)) => out.put("taken"),
+        Err(stop) => out.stop(*stop),
     }
 }
 
 /// The answer that was handed out first, with its run.
-pub fn first(alloc: Global, told: Option<(u32, Answer)>) -> Result<String, CaseStop> {
+pub fn write_first(out: &mut Answer, told: &Told<Option<(u32, asp_job::Answer)>>) {
     match told {
-        Some((run, found)) => {
-            let shown = answer(alloc, &found)?;
-            Ok(format!(in alloc; "{run}: {shown}")?)
+        Ok(Some((run, answer))) => {
+            out.show(run);
+            out.put(": ");
+            write_answer(out, answer);
         }
-        None => word(alloc, "none"),
+        Ok(None) => out.put("none"),
+        Err(stop) => out.stop(*stop),
     }
 }

@@ -1,9 +1,9 @@
 //! A recording of twenty items, made in code.
 
+use crate::reading::bytes;
 use asp_record::{Item, Recording};
-use case_files::CaseStop;
-use std::alloc::Global;
-use vb_value::{Bytes, List};
+use case_files::{Answer, CaseStop};
+use vb_value::List;
 
 /// What session keys are made from.
 const SEED: [u8; 32] = [
@@ -12,7 +12,7 @@ const SEED: [u8; 32] = [
 ];
 
 /// A client, a moment, and the bytes of a request; without bytes time goes on to the moment.
-const ITEMS: [(u32, u64, &[u8]); 20] = [
+const ITEMS: &[(u32, u64, &[u8])] = &[
     (0, 3, b""),
     (1, 3, b"GET / HTTP/1.1\r\nHost: x\r\n\r\n"),
     (2, 3, b"GET / HTTP/1.1\r\nHost: x\r\n\r\n"),
@@ -63,22 +63,24 @@ const ITEMS: [(u32, u64, &[u8]); 20] = [
     ),
 ];
 
-fn item(alloc: Global, client: u32, moment: u64, bytes: &[u8]) -> Result<Item, CaseStop> {
-    if bytes.is_empty() {
-        return Ok(Item::Tick { moment });
+fn item(out: &mut Answer, client: u32, moment: u64, sent: &[u8]) -> Item {
+    if sent.is_empty() {
+        return Item::Tick { moment };
     }
-    Ok(Item::Request {
+    Item::Request {
         client,
         moment,
-        bytes: Bytes::from_slice(alloc, bytes)?,
-    })
+        bytes: bytes(out, sent),
+    }
 }
 
 /// The recording that the table has.
-pub fn recording(alloc: Global) -> Result<Recording, CaseStop> {
-    let mut items = List::new(alloc);
-    for (client, moment, bytes) in ITEMS {
-        items.push(item(alloc, client, moment, bytes)?)?;
+pub fn recording(out: &mut Answer) -> Recording {
+    let mut items = List::new(out.alloc());
+    for (client, moment, sent) in ITEMS.iter() {
+        if items.push(item(out, *client, *moment, sent)).is_err() {
+            out.stop(CaseStop::Memory);
+        }
     }
-    Ok(Recording { seed: SEED, items })
+    Recording { seed: SEED, items }
 }

@@ -1,13 +1,21 @@
 //! Answers.
 
 use asp_response::{CookiePart, Draft, DraftStop, answer_bytes};
-use case_files::{CaseStop, Subject, read_text};
-use std::alloc::Global;
+use case_files::{Answer, CaseStop, Subject, read_text};
 use vb_value::Text;
 
 /// The calls of a page, with `; ` between them, each with the answer: refusals, and then its bytes at the second 784111777.
 /// A `^` stands for a CR in them.
 pub struct Drafts;
+
+impl Subject for Drafts {
+    fn answer(&self, case: &str, out: &mut Answer) {
+        match read_text(out.alloc(), case) {
+            Ok(calls) => write_page(out, calls.as_str()),
+            Err(stop) => out.stop(stop),
+        }
+    }
+}
 
 /// How a draft is finished.
 #[derive(Drop)]
@@ -29,146 +37,131 @@ impl Ending {
     }
 }
 
-fn cookie(alloc: Global, draft: &mut Draft, rest: &str) -> Result<Result<(), DraftStop>, CaseStop> {
-    let (name, rest) = rest.split_once(',').unwrap_or((rest, ""));
-    let (key, value) = rest.split_once(',').unwrap_or((rest, ""));
-    let name = Text::from_str(alloc, name)?;
-    let key = Text::from_str(alloc, key)?;
-    let value = Text::from_str(alloc, value)?;
-    Ok(draft.cookie(&name, &key, &value))
+/// Writes what the calls of a page give.
+fn write_page(out: &mut Answer, calls: &str) {
+    let mut draft = Draft::new(out.alloc());
+    let mut ending = Ending::new();
+    for call in calls.split("; ") {
+        write_call(out, &mut draft, &mut ending, call);
+    }
+    write_answer(out, draft, &ending);
 }
 
-fn part(
-    alloc: Global,
-    draft: &mut Draft,
-    part: CookiePart,
-    rest: &str,
-) -> Result<Result<(), DraftStop>, CaseStop> {
-    let (name, value) = rest.split_once(',').unwrap_or((rest, ""));
-    let name = Text::from_str(alloc, name)?;
-    let value = Text::from_str(alloc, value)?;
-    Ok(draft.cookie_part(&name, part, &value))
+/// Makes one call of a page, and writes the refusal that it gets.
+fn write_call(out: &mut Answer, draft: &mut Draft, ending: &mut Ending, said: &str) {
+    let (word, rest) = said.split_once(' ').unwrap_or((said, ""));
+    match word {
+        "session" => ending.letters = Some(text(out, rest)),
+        "fail" => ending.failure = Some(text(out, rest)),
+        "head" => ending.head_only = true,
+        "close" => ending.close = true,
+        _ => {
+            if let Err(stop) = call(out, draft, word, rest) {
+                write_stop(out, stop);
+            }
+        }
+    }
 }
 
-fn header(alloc: Global, draft: &mut Draft, rest: &str) -> Result<Result<(), DraftStop>, CaseStop> {
-    let (name, value) = rest.split_once(',').unwrap_or((rest, ""));
-    let name = Text::from_str(alloc, name)?;
-    let value = Text::from_str(alloc, value)?;
-    Ok(draft.add_header(&name, &value))
+fn call(out: &mut Answer, draft: &mut Draft, word: &str, rest: &str) -> Result<(), DraftStop> {
+    let text = text(out, rest);
+    match word {
+        "write" => draft.write(&text),
+        "clear" => draft.clear(),
+        "flush" => draft.flush(),
+        "buffer" => draft.set_buffer(rest == "on"),
+        "status" => draft.set_status(&text),
+        "type" => draft.set_content_type(&text),
+        "charset" => draft.set_charset(&text),
+        "cache" => draft.set_cache(&text),
+        "redirect" => draft.redirect(&text),
+        _ => call_on_name(out, draft, word, rest),
+    }
 }
 
-fn call(
-    alloc: Global,
+/// A call on the name before the first comma, and on what stands behind that.
+fn call_on_name(
+    out: &mut Answer,
     draft: &mut Draft,
     word: &str,
     rest: &str,
-) -> Result<Result<(), DraftStop>, CaseStop> {
-    let text = Text::from_str(alloc, rest)?;
+) -> Result<(), DraftStop> {
+    let (name, rest) = rest.split_once(',').unwrap_or((rest, ""));
+    let (name, value) = (text(out, name), text(out, rest));
     match word {
-        "write" => Ok(draft.write(&text)),
-        "clear" => Ok(draft.clear()),
-        "flush" => Ok(draft.flush()),
-        "buffer" => Ok(draft.set_buffer(rest == "on")),
-        "status" => Ok(draft.set_status(&text)),
-        "type" => Ok(draft.set_content_type(&text)),
-        "charset" => Ok(draft.set_charset(&text)),
-        "cache" => Ok(draft.set_cache(&text)),
-        "redirect" => Ok(draft.redirect(&text)),
-        "header" => header(alloc, draft, rest),
-        "cookie" => cookie(alloc, draft, rest),
-        "path" => part(alloc, draft, CookiePart::Path, rest),
-        "domain" => part(alloc, draft, CookiePart::Domain, rest),
-        "secure" => part(alloc, draft, CookiePart::Secure, rest),
-        _ => Err(CaseStop::Unreadable),
+        "header" => draft.add_header(&name, &value),
+        "cookie" => cookie(out, draft, &name, rest),
+        "path" => draft.cookie_part(&name, CookiePart::Path, &value),
+        "domain" => draft.cookie_part(&name, CookiePart::Domain, &value),
+        "secure" => draft.cookie_part(&name, CookiePart::Secure, &value),
+        _ => {
+            out.stop(CaseStop::Unreadable);
+            Ok(())
+        }
     }
 }
 
-fn end(alloc: Global, ending: &mut Ending, word: &str, rest: &str) -> Result<bool, CaseStop> {
-    match word {
-        "session" => ending.letters = Some(Text::from_str(alloc, rest)?),
-        "fail" => ending.failure = Some(Text::from_str(alloc, rest)?),
-        "head" => ending.head_only = true,
-        "close" => ending.close = true,
-        _ => return Ok(false),
-    }
-    Ok(true)
+fn cookie(out: &mut Answer, draft: &mut Draft, name: &Text, rest: &str) -> Result<(), DraftStop> {
+    let (key, value) = rest.split_once(',').unwrap_or((rest, ""));
+    let (key, value) = (text(out, key), text(out, value));
+    draft.cookie(name, &key, &value)
 }
 
-fn push_stop(answer: &mut String, alloc: Global, stop: DraftStop) -> Result<(), CaseStop> {
+/// The text of these characters.
+fn text(out: &mut Answer, written: &str) -> Text {
+    match Text::from_str(out.alloc(), written) {
+        Ok(text) => text,
+        Err(_) => {
+            out.stop(CaseStop::Memory);
+            Text::new(out.alloc())
+        }
+    }
+}
+
+fn write_stop(out: &mut Answer, stop: DraftStop) {
     match stop {
         DraftStop::Error(number) => {
-            answer.push_str(format!(in alloc; "error {number}, ")?.as_str())?;
-            Ok(())
+            out.put("error ");
+            out.show(&number);
+            out.put(", ");
         }
         DraftStop::Limit(kind) => {
-            answer.push_str(format!(in alloc; "limit {kind:?}, ")?.as_str())?;
-            Ok(())
+            out.put("limit ");
+            out.debug(&kind);
+            out.put(", ");
         }
-        DraftStop::Memory => Err(CaseStop::Memory),
+        DraftStop::Memory => out.stop(CaseStop::Memory),
     }
 }
 
-/// The bytes as a text, with a `^` for each CR.
-fn push_bytes(answer: &mut String, alloc: Global, bytes: &[u8]) -> Result<(), CaseStop> {
-    let text = String::from_utf8_lossy(alloc, bytes)?;
-    for c in text.as_str().chars() {
-        answer.push(if c == '\r' { '^' } else { c })?;
-    }
-    Ok(())
-}
-
-/// Makes one call of a page, and adds the refusal that it gets.
-fn push_call(
-    answer: &mut String,
-    alloc: Global,
-    draft: &mut Draft,
-    ending: &mut Ending,
-    said: &str,
-) -> Result<(), CaseStop> {
-    let (word, rest) = said.split_once(' ').unwrap_or((said, ""));
-    if end(alloc, ending, word, rest)? {
-        return Ok(());
-    }
-    match call(alloc, draft, word, rest)? {
-        Ok(()) => Ok(()),
-        Err(stop) => push_stop(answer, alloc, stop),
-    }
-}
-
-/// Adds the bytes of the answer that is made so.
-fn push_answer(
-    answer: &mut String,
-    alloc: Global,
-    draft: Draft,
-    ending: &Ending,
-) -> Result<(), CaseStop> {
+/// Writes the bytes of the answer that is made so.
+fn write_answer(out: &mut Answer, draft: Draft, ending: &Ending) {
     let made = draft.finish(
         ending.letters.as_ref(),
         ending.failure.as_ref(),
         ending.head_only,
         ending.close,
-    )?;
-    push_bytes(
-        answer,
-        alloc,
-        answer_bytes(alloc, &made, 784_111_777)?.as_slice(),
-    )
-}
-
-/// What the calls of a page give.
-fn run(alloc: Global, calls: &str) -> Result<String, CaseStop> {
-    let mut draft = Draft::new(alloc);
-    let mut ending = Ending::new();
-    let mut answer = String::new(alloc);
-    for said in calls.split("; ") {
-        push_call(&mut answer, alloc, &mut draft, &mut ending, said)?;
+    );
+    match made {
+        Ok(made) => match answer_bytes(out.alloc(), &made, 784_111_777) {
+            Ok(bytes) => write_lines(out, bytes.as_slice()),
+            Err(_) => out.stop(CaseStop::Memory),
+        },
+        Err(_) => out.stop(CaseStop::Memory),
     }
-    push_answer(&mut answer, alloc, draft, &ending)?;
-    Ok(answer)
 }
 
-impl Subject for Drafts {
-    fn answer(&self, alloc: Global, case: &str) -> Result<String, CaseStop> {
-        run(alloc, read_text(alloc, case)?.as_str())
+/// Writes bytes as a text, with a `^` for each CR.
+fn write_lines(out: &mut Answer, bytes: &[u8]) {
+    match String::from_utf8_lossy(out.alloc(), bytes) {
+        Ok(text) => {
+            for (at, part) in text.as_str().split('\r').enumerate() {
+                if at > 0 {
+                    out.put("^");
+                }
+                out.put(part);
+            }
+        }
+        Err(_) => out.stop(CaseStop::Memory),
     }
 }

@@ -1,8 +1,9 @@
 //! What pages see of a request.
 
-use crate::requests::{Given, read_at_once, read_bytes, read_singly};
+use crate::requests::{PIECE, read_bytes, read_parts, write_bytes, write_differing};
+use asp_job::Request;
 use asp_request::{InSet, Inputs};
-use case_files::{CaseStop, Subject};
+use case_files::{Answer, CaseStop, Subject};
 use std::alloc::Global;
 use vb_value::{Text, Value};
 
@@ -10,73 +11,97 @@ use vb_value::{Text, Value};
 /// byte.
 pub struct Collections;
 
-fn set_of(word: &str) -> Result<InSet, CaseStop> {
-    match word {
-        "all" => Ok(InSet::All),
-        "query" => Ok(InSet::Query),
-        "form" => Ok(InSet::Form),
-        "cookies" => Ok(InSet::Cookies),
-        "server" => Ok(InSet::Server),
-        _ => Err(CaseStop::Unreadable),
+impl Subject for Collections {
+    fn answer(&self, case: &str, out: &mut Answer) {
+        let (written, asked) = case.split_once(" ## ").unwrap_or((case, ""));
+        let bytes = read_bytes(out, written);
+        match came(out.alloc(), bytes.as_slice(), PIECE, asked).end() {
+            Ok(whole) => {
+                let singly = came(out.alloc(), bytes.as_slice(), 1, asked);
+                if write_differing(out, whole.as_str(), singly) {
+                    out.put(" byte by byte");
+                } else {
+                    out.put(whole.as_str());
+                }
+            }
+            Err(stop) => out.stop(stop),
+        }
     }
 }
 
-fn join(alloc: Global, texts: &[Text]) -> Result<String, CaseStop> {
-    let mut joined = String::new(alloc);
-    for text in texts {
-        joined.push_str("<")?;
-        joined.push_str(text.to_string(alloc)?.as_str())?;
-        joined.push_str(">")?;
+/// What `asked` gives of the one request that comes in pieces of this size.
+fn came(alloc: Global, bytes: &[u8], size: usize, asked: &str) -> Answer {
+    let mut out = Answer::new(alloc);
+    let given = read_parts(&mut out, bytes, b"", size);
+    match given.requests.as_slice() {
+        [request] => write_of_request(&mut out, request, asked),
+        _ => out.stop(CaseStop::Unreadable),
     }
-    Ok(joined)
+    out
 }
 
-fn show(alloc: Global, value: &Value) -> Result<String, CaseStop> {
-    match value {
-        Value::Str(text) => Ok(text.to_string(alloc)?),
-        _ => Ok(String::from_str(alloc, "Empty")?),
-    }
-}
-
-fn raw_cookie(inputs: &Inputs, alloc: Global, name: &Text) -> Result<String, CaseStop> {
-    match inputs.raw_cookie(name) {
-        Some(value) => Ok(String::from_utf8_lossy(alloc, value.as_slice())?),
-        None => Ok(String::from_str(alloc, "None")?),
+fn write_of_request(out: &mut Answer, request: &Request, asked: &str) {
+    match Inputs::of(out.alloc(), request) {
+        Ok(inputs) => write_asked(out, &inputs, asked),
+        Err(_) => out.stop(CaseStop::Memory),
     }
 }
 
-/// What `asked` gives: a call, a collection and a name.
-fn ask(inputs: &Inputs, alloc: Global, asked: &str) -> Result<String, CaseStop> {
+/// Writes what `asked` gives: a call, a collection and a name. A cookie's name stands where the others have a collection.
+fn write_asked(out: &mut Answer, inputs: &Inputs, asked: &str) {
     let (call, rest) = asked.split_once(' ').unwrap_or((asked, ""));
     let (word, name) = rest.split_once(' ').unwrap_or((rest, ""));
-    let name = Text::from_str(alloc, name)?;
+    let is_cookie = call == "cookie";
+    match Text::from_str(out.alloc(), if is_cookie { word } else { name }) {
+        Ok(name) if is_cookie => write_raw_cookie(out, inputs, &name),
+        Ok(name) => match set_of(word) {
+            Some(set) => write_of_set(out, inputs, call, set, &name),
+            None => out.stop(CaseStop::Unreadable),
+        },
+        Err(_) => out.stop(CaseStop::Memory),
+    }
+}
+
+fn set_of(word: &str) -> Option<InSet> {
+    match word {
+        "all" => Some(InSet::All),
+        "query" => Some(InSet::Query),
+        "form" => Some(InSet::Form),
+        "cookies" => Some(InSet::Cookies),
+        "server" => Some(InSet::Server),
+        _ => None,
+    }
+}
+
+fn write_of_set(out: &mut Answer, inputs: &Inputs, call: &str, set: InSet, name: &Text) {
     match call {
-        "joined" => show(alloc, &inputs.joined(alloc, set_of(word)?, &name)?),
-        "values" => join(alloc, inputs.values(set_of(word)?, &name)),
-        "names" => join(alloc, inputs.names(set_of(word)?)),
-        "raw" => Ok(inputs.raw(set_of(word)?).to_string(alloc)?),
-        "cookie" => raw_cookie(inputs, alloc, &Text::from_str(alloc, word)?),
-        _ => Err(CaseStop::Unreadable),
+        "joined" => write_joined(out, inputs, set, name),
+        "values" => write_texts(out, inputs.values(set, name)),
+        "names" => write_texts(out, inputs.names(set)),
+        "raw" => out.text(inputs.raw(set).as_slice()),
+        _ => out.stop(CaseStop::Unreadable),
     }
 }
 
-/// What `asked` gives of the one request that came.
-fn ask_given(given: &Given, alloc: Global, asked: &str) -> Result<String, CaseStop> {
-    match given.requests.as_slice() {
-        [request] => ask(&Inputs::of(alloc, request)?, alloc, asked),
-        _ => Err(CaseStop::Unreadable),
+fn write_joined(out: &mut Answer, inputs: &Inputs, set: InSet, name: &Text) {
+    match inputs.joined(out.alloc(), set, name) {
+        Ok(Value::Str(text)) => out.text(text.as_slice()),
+        Ok(_) => out.put("Empty"),
+        Err(_) => out.stop(CaseStop::Memory),
     }
 }
 
-impl Subject for Collections {
-    fn answer(&self, alloc: Global, case: &str) -> Result<String, CaseStop> {
-        let (written, asked) = case.split_once(" ## ").unwrap_or((case, ""));
-        let bytes = read_bytes(alloc, written)?;
-        let whole = ask_given(&read_at_once(alloc, bytes.as_slice())?, alloc, asked)?;
-        let singly = ask_given(&read_singly(alloc, bytes.as_slice())?, alloc, asked)?;
-        if singly.as_str() != whole.as_str() {
-            return Ok(format!(in alloc; "{singly} byte by byte")?);
-        }
-        Ok(whole)
+fn write_texts(out: &mut Answer, texts: &[Text]) {
+    for text in texts {
+        out.put("<");
+        out.text(text.as_slice());
+        out.put(">");
+    }
+}
+
+fn write_raw_cookie(out: &mut Answer, inputs: &Inputs, name: &Text) {
+    match inputs.raw_cookie(name) {
+        Some(value) => write_bytes(out, value.as_slice()),
+        None => out.put("None"),
     }
 }

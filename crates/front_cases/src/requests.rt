@@ -1,7 +1,10 @@
 //! Requests from bytes, at once and in pieces.
+ghost use Rattle.std.specs.Prelude.{◌≡◌, Ok};
+ghost use Rattle.http_front.specs.Reader.{Wants};
+ghost use Rattle.http_front.specs.declared.stream.End.TheVariants.{More};
 
 use asp_job::Request;
-use case_files::{CaseStop, Subject, read_text};
+use case_files::{Answer, CaseStop, Subject, read_text};
 use http_front::{End, Reader, take_requests};
 use std::alloc::Global;
 use vb_value::{Bytes, List};
@@ -10,8 +13,18 @@ use vb_value::{Bytes, List};
 /// pieces that are cut at each place, and byte by byte: all must give the same.
 pub struct Requests;
 
+impl Subject for Requests {
+    fn answer(&self, case: &str, out: &mut Answer) {
+        let bytes = read_bytes(out, case);
+        match came(out.alloc(), bytes.as_slice(), b"", PIECE).end() {
+            Ok(whole) => write_compared(out, bytes.as_slice(), whole.as_str()),
+            Err(stop) => out.stop(stop),
+        }
+    }
+}
+
 /// The most bytes that a reader is fed at once.
-const PIECE: usize = 65_536;
+pub const PIECE: usize = 65_536;
 
 /// What bytes give: the requests, what comes behind them, and how many bytes then wait for more.
 #[derive(Drop)]
@@ -22,147 +35,170 @@ pub struct Given {
 }
 
 /// The bytes of a case: its text, in which `{ff}` is the byte of that hexadecimal number.
-pub fn read_bytes(alloc: Global, written: &str) -> Result<Bytes, CaseStop> {
-    let text = read_text(alloc, written)?;
-    let mut bytes = Bytes::new(alloc);
-    for (at, part) in text.as_str().split('{').enumerate() {
-        let plain = if at == 0 {
-            part
-        } else {
-            push_number(&mut bytes, part)?
-        };
-        bytes.append_slice(plain.as_bytes())?;
+pub fn read_bytes(out: &mut Answer, written: &str) -> Bytes {
+    let mut bytes = Bytes::new(out.alloc());
+    match read_text(out.alloc(), written) {
+        Ok(text) => push_parts(out, &mut bytes, text.as_str()),
+        Err(stop) => out.stop(stop),
     }
-    Ok(bytes)
+    bytes
 }
 
-/// Adds the byte whose number stands before a `}`, and gives what stands behind that.
-fn push_number<'a>(bytes: &mut Bytes, part: &'a str) -> Result<&'a str, CaseStop> {
-    let (number, plain) = part.split_once('}').ok_or(CaseStop::Unreadable)?;
-    let Ok(byte) = u8::from_str_radix(number, 16) else {
-        return Err(CaseStop::Unreadable);
-    };
-    bytes.push(byte)?;
-    Ok(plain)
+fn push_parts(out: &mut Answer, bytes: &mut Bytes, text: &str) {
+    for (at, part) in text.split('{').enumerate() {
+        if at == 0 {
+            push_plain(out, bytes, part);
+        } else {
+            push_number(out, bytes, part);
+        }
+    }
 }
 
-/// Feeds the pieces in turn, until they are refused.
-fn read_pieces(alloc: Global, pieces: &[&[u8]]) -> Result<Given, CaseStop> {
-    let mut reader = Reader::new(alloc);
-    let mut requests = List::new(alloc);
-    for piece in pieces {
+fn push_plain(out: &mut Answer, bytes: &mut Bytes, plain: &str) {
+    if bytes.append_slice(plain.as_bytes()).is_err() {
+        out.stop(CaseStop::Memory);
+    }
+}
+
+/// Adds the byte whose number stands before a `}`, and what stands behind that.
+fn push_number(out: &mut Answer, bytes: &mut Bytes, part: &str) {
+    let (number, plain) = part.split_once('}').unwrap_or(("", part));
+    match u8::from_str_radix(number, 16) {
+        Ok(byte) => {
+            if bytes.push(byte).is_err() {
+                out.stop(CaseStop::Memory);
+            }
+        }
+        Err(_) => out.stop(CaseStop::Unreadable),
+    }
+    push_plain(out, bytes, plain);
+}
+
+/// Feeds a part of the bytes in pieces of this size, until they are refused.
+fn feed(
+    reader: &mut Reader,
+    requests: &mut List<Request>,
+    part: &[u8],
+    size: usize,
+) -> Result<End, CaseStop>
+    requires { Wants reader.old }
+    ensures { result ≡ Ok More → Wants reader.new }
+{
+    for piece in part.chunks(size.max(1)) {
         if piece.len() > PIECE {
             return Err(CaseStop::Unreadable);
         }
         reader.feed(piece)?;
-        match take_requests(&mut reader, &mut requests)? {
+        match take_requests(reader, requests)? {
             End::More => {}
-            End::Refused(status) => {
-                return Ok(Given {
-                    requests,
-                    end: End::Refused(status),
-                    rest: 0,
-                });
-            }
+            End::Refused(status) => return Ok(End::Refused(status)),
         }
     }
-    Ok(Given {
-        requests,
-        end: End::More,
-        rest: reader.rest(),
-    })
-}
-
-fn push_pieces<'a>(
-    pieces: &mut Vec<&'a [u8]>,
-    bytes: &'a [u8],
-    size: usize,
-) -> Result<(), CaseStop> {
-    for piece in bytes.chunks(size.max(1)) {
-        pieces.push(piece)?;
-    }
-    Ok(())
+    Ok(End::More)
 }
 
 /// What bytes give that come in two parts, each of them in pieces of this size.
-pub fn read_parts(
-    alloc: Global,
-    first: &[u8],
-    rest: &[u8],
-    size: usize,
-) -> Result<Given, CaseStop> {
-    let mut pieces = Vec::new(alloc);
-    push_pieces(&mut pieces, first, size)?;
-    push_pieces(&mut pieces, rest, size)?;
-    read_pieces(alloc, pieces.as_slice())
+pub fn read_parts(out: &mut Answer, first: &[u8], rest: &[u8], size: usize) -> Given {
+    let mut reader = Reader::new(out.alloc());
+    let mut requests = List::new(out.alloc());
+    let mut end = feed(&mut reader, &mut requests, first, size);
+    if matches!(end, Ok(End::More)) {
+        end = feed(&mut reader, &mut requests, rest, size);
+    }
+    let end = match end {
+        Ok(end) => end,
+        Err(stop) => {
+            out.stop(stop);
+            End::More
+        }
+    };
+    let rest = reader.rest();
+    Given {
+        requests,
+        end,
+        rest,
+    }
 }
 
-/// What bytes give at once.
-pub fn read_at_once(alloc: Global, bytes: &[u8]) -> Result<Given, CaseStop> {
-    read_parts(alloc, bytes, b"", PIECE)
+/// Writes bytes as a text.
+pub fn write_bytes(out: &mut Answer, bytes: &[u8]) {
+    match String::from_utf8_lossy(out.alloc(), bytes) {
+        Ok(text) => out.put(text.as_str()),
+        Err(_) => out.stop(CaseStop::Memory),
+    }
 }
 
-/// What bytes give one by one.
-pub fn read_singly(alloc: Global, bytes: &[u8]) -> Result<Given, CaseStop> {
-    read_parts(alloc, bytes, b"", 1)
+fn write_request(out: &mut Answer, request: &Request) {
+    out.debug(&request.verb);
+    out.put(" ");
+    out.text(request.path.as_slice());
+    out.put(" ?");
+    write_bytes(out, request.query.as_slice());
+    out.put(" 1.");
+    out.show(&request.minor);
+    out.put(" ");
+    out.show(&request.headers.len());
+    out.put(" [");
+    write_bytes(out, request.body.as_slice());
+    out.put("] ");
+    out.show(&request.close);
+    out.put(", ");
 }
 
-fn push_request(answer: &mut String, alloc: Global, request: &Request) -> Result<(), CaseStop> {
-    let verb = request.verb;
-    let minor = request.minor;
-    let path = request.path.to_string(alloc)?;
-    let query = String::from_utf8_lossy(alloc, request.query.as_slice())?;
-    let body = String::from_utf8_lossy(alloc, request.body.as_slice())?;
-    let headers = request.headers.len();
-    let close = request.close;
-    let shown = format!(in alloc;
-        "{verb:?} {path} ?{query} 1.{minor} {headers} [{body}] {close}, "
-    )?;
-    answer.push_str(shown.as_str())?;
-    Ok(())
-}
-
-fn show(alloc: Global, given: &Given) -> Result<String, CaseStop> {
-    let mut answer = String::new(alloc);
+fn write_given(out: &mut Answer, given: &Given) {
     for request in given.requests.as_slice() {
-        push_request(&mut answer, alloc, request)?;
+        write_request(out, request);
     }
     match given.end {
-        End::More if given.rest == 0 => answer.push_str("More")?,
-        End::More => answer.push_str(format!(in alloc; "More {}", given.rest)?.as_str())?,
-        End::Refused(status) => answer.push_str(format!(in alloc; "{status}")?.as_str())?,
+        End::More if given.rest == 0 => out.put("More"),
+        End::More => {
+            out.put("More ");
+            out.show(&given.rest);
+        }
+        End::Refused(status) => out.show(&status),
     }
-    Ok(answer)
 }
 
-/// What comes of a cut at which the bytes give something else than at once. Up to 1,023 bytes are cut at each place, more
-/// at some sixteen places.
-fn differing_cut(alloc: Global, bytes: &[u8], whole: &str) -> Result<Option<String>, CaseStop> {
+/// What is written of bytes that come in two parts, each of them in pieces of this size.
+fn came(alloc: Global, first: &[u8], rest: &[u8], size: usize) -> Answer {
+    let mut out = Answer::new(alloc);
+    let given = read_parts(&mut out, first, rest, size);
+    write_given(&mut out, &given);
+    out
+}
+
+/// Writes what came where it is not what came of the whole. Whether that is so.
+pub fn write_differing(out: &mut Answer, whole: &str, came: Answer) -> bool {
+    match came.end() {
+        Ok(came) if came.as_str() == whole => false,
+        Ok(came) => {
+            out.put(came.as_str());
+            true
+        }
+        Err(stop) => {
+            out.stop(stop);
+            true
+        }
+    }
+}
+
+/// Writes what the bytes give at once, or what they give otherwise where that is something else. Up to 1,023 bytes are
+/// cut at each place, more at some sixteen places.
+fn write_compared(out: &mut Answer, bytes: &[u8], whole: &str) {
+    let singly = came(out.alloc(), bytes, b"", 1);
+    if write_differing(out, whole, singly) {
+        return out.put(" byte by byte");
+    }
     let step = bytes.len() / 1024 * 64 + 1;
     for at in 0..bytes.len() {
         if at % step == 0 {
             let (first, rest) = bytes.split_at(at);
-            let came = show(alloc, &read_parts(alloc, first, rest, PIECE)?)?;
-            if came.as_str() != whole {
-                return Ok(Some(format!(in alloc; "{came} where it is cut at {at}")?));
+            let cut = came(out.alloc(), first, rest, PIECE);
+            if write_differing(out, whole, cut) {
+                out.put(" where it is cut at ");
+                return out.show(&at);
             }
         }
     }
-    Ok(None)
-}
-
-impl Subject for Requests {
-    fn answer(&self, alloc: Global, case: &str) -> Result<String, CaseStop> {
-        let bytes = read_bytes(alloc, case)?;
-        let bytes = bytes.as_slice();
-        let whole = show(alloc, &read_at_once(alloc, bytes)?)?;
-        let singly = show(alloc, &read_singly(alloc, bytes)?)?;
-        if singly.as_str() != whole.as_str() {
-            return Ok(format!(in alloc; "{singly} byte by byte")?);
-        }
-        match differing_cut(alloc, bytes, whole.as_str())? {
-            Some(came) => Ok(came),
-            None => Ok(whole),
-        }
-    }
+    out.put(whole);
 }

@@ -1,8 +1,10 @@
 //! Times requests and answers. What was done goes to standard output, and the time that it took to standard error.
 
 ghost use Rattle.std.specs.Prelude.{◌≤◌, length};
+ghost use Rattle.http_front.specs.Reader.{Wants};
 
-use asp_response::{Draft, DraftStop, answer_bytes};
+use asp_job::Request;
+use asp_response::{Draft, answer_bytes};
 use http_front::{End, Reader, take_requests};
 use std::alloc::Global;
 use std::io;
@@ -28,111 +30,123 @@ const QUARTER: &[u8] = b"POST /f HTTP/1.1\r\nHost: x\r\nContent-Length: 262144\r
 
 const WHOLE: &[u8] = b"POST /f HTTP/1.1\r\nHost: x\r\nContent-Length: 1048576\r\n\r\n";
 
+/// Feeds a connection one piece, and then another so many times. Whether all of them were wanted.
+fn feed_times(
+    reader: &mut Reader,
+    requests: &mut List<Request>,
+    first: &[u8],
+    piece: &[u8],
+    times: u32,
+) -> Result<bool, Memory>
+    requires wants { Wants reader.old }
+    requires first { length first.now ≤ 65536 }
+    requires piece { length piece.now ≤ 65536 }
+{
+    reader.feed(first)?;
+    for _ in 0..times {
+        match take_requests(reader, requests)? {
+            End::More => reader.feed(piece)?,
+            End::Refused(_) => return Ok(false),
+        }
+    }
+    take_requests(reader, requests)?;
+    Ok(true)
+}
+
 /// How many requests a connection gives on which one piece comes, and then another so many times.
-fn count_requests(alloc: Global, first: &[u8], piece: &[u8], times: u32) -> Result<usize, Memory>
+fn count_requests(alloc: Global, first: &[u8], piece: &[u8], times: u32) -> Option<usize>
     requires first { length first.now ≤ 65536 }
     requires piece { length piece.now ≤ 65536 }
 {
     let mut reader = Reader::new(alloc);
     let mut requests = List::new(alloc);
-    reader.feed(first)?;
-    for _ in 0..times {
-        match take_requests(&mut reader, &mut requests)? {
-            End::More => reader.feed(piece)?,
-            End::Refused(_) => return Ok(0),
-        }
+    match feed_times(&mut reader, &mut requests, first, piece, times) {
+        Ok(true) => Some(requests.len()),
+        Ok(false) => Some(0),
+        Err(_) => None,
     }
-    take_requests(&mut reader, &mut requests)?;
-    Ok(requests.len())
 }
 
-fn count_bodies(alloc: Global) -> Result<usize, Memory> {
+fn count_bodies(alloc: Global) -> Option<usize> {
     let piece = [b'a'; 65_536];
     let mut count = 0usize;
     for _ in 0..BODIES {
         count = count.saturating_add(count_requests(alloc, WHOLE, &piece, PIECES)?);
     }
-    Ok(count)
+    Some(count)
 }
 
 /// The length of an answer's bytes.
-fn make_answer(alloc: Global, text: &Text) -> Result<usize, DraftStop> {
+fn answer_length(alloc: Global, text: &Text) -> Option<usize> {
     let mut draft = Draft::new(alloc);
-    draft.write(text)?;
-    let answer = draft.finish(None, None, false, false)?;
-    Ok(answer_bytes(alloc, &answer, 784_111_777)?.len())
+    let is_written = draft.write(text).is_ok();
+    match draft.finish(None, None, false, false) {
+        Ok(answer) if is_written => match answer_bytes(alloc, &answer, 784_111_777) {
+            Ok(bytes) => Some(bytes.len()),
+            Err(_) => None,
+        },
+        _ => None,
+    }
 }
 
-fn count_answered(alloc: Global) -> Result<usize, DraftStop> {
-    let text = Text::from_str(alloc, "<html><body><h1>18 bottles</h1></body></html>")?;
+fn count_of_answers(alloc: Global, text: &Text) -> Option<usize> {
     let mut count = 0usize;
     for _ in 0..ANSWERS {
-        count = count.saturating_add(make_answer(alloc, &text)?);
+        count = count.saturating_add(answer_length(alloc, text)?);
     }
-    Ok(count)
+    Some(count)
 }
 
-/// Prints how many of what came of a trial, and the time since it began.
-fn tell<R: Runtime, E: Drop>(
-    rt: &R,
-    start: Instant,
-    trial: &str,
-    came: Result<usize, E>,
-) -> io::Result<()> {
-    let time = start.elapsed(rt)?;
-    let Ok(came) = came else {
-        return Err(ErrorKind::Other.into());
-    };
-    println!(rt; "{trial}: {came}")?;
-    eprintln!(rt; "{} microseconds", time.as_micros())
+fn count_answered(alloc: Global) -> Option<usize> {
+    match Text::from_str(alloc, "<html><body><h1>18 bottles</h1></body></html>") {
+        Ok(text) => count_of_answers(alloc, &text),
+        Err(_) => None,
+    }
 }
 
-/// Runs the trials of this name.
-fn run<R: Runtime + AllocGlobal>(rt: &R, name: &str) -> io::Result<()> {
-    let alloc = rt.alloc();
-    let start = Instant::now(rt)?;
+/// What is counted in the trial of this name, and how many there were, if memory lasted.
+fn counted(alloc: Global, name: &str) -> Option<(&'static str, Option<usize>)> {
     match name {
-        "heads" => {
-            let came = count_requests(alloc, b"", HEAD, HEADS);
-            tell(rt, start, "requests without a body", came)
-        }
-        "bodies" => {
-            let came = count_bodies(alloc);
-            tell(rt, start, "requests with a body of 1 MiB", came)
-        }
-        "quarter" => {
-            let came = count_requests(alloc, QUARTER, b"a", 262_144);
-            tell(
-                rt,
-                start,
-                "requests with a body of 256 KiB, byte by byte",
-                came,
-            )
-        }
-        "whole" => {
-            let came = count_requests(alloc, WHOLE, b"a", 1_048_576);
-            tell(
-                rt,
-                start,
-                "requests with a body of 1 MiB, byte by byte",
-                came,
-            )
-        }
-        "answers" => {
-            let came = count_answered(alloc);
-            tell(rt, start, "bytes of 20,000 answers", came)
-        }
-        _ => Err(ErrorKind::InvalidInput.into()),
+        "heads" => Some((
+            "requests without a body",
+            count_requests(alloc, b"", HEAD, HEADS),
+        )),
+        "bodies" => Some(("requests with a body of 1 MiB", count_bodies(alloc))),
+        "quarter" => Some((
+            "requests with a body of 256 KiB, byte by byte",
+            count_requests(alloc, QUARTER, b"a", 262_144),
+        )),
+        "whole" => Some((
+            "requests with a body of 1 MiB, byte by byte",
+            count_requests(alloc, WHOLE, b"a", 1_048_576),
+        )),
+        "answers" => Some(("bytes of 20,000 answers", count_answered(alloc))),
+        _ => None,
     }
 }
 
-/// Runs the trials of this name, or all of them in turn for `time`.
+/// Runs the trial of this name, and prints how many of what came of it and the time that it took.
+fn run<R: Runtime + AllocGlobal>(rt: &R, name: &str) -> io::Result<()> {
+    let start = Instant::now(rt)?;
+    match counted(rt.alloc(), name) {
+        Some((what, Some(came))) => {
+            let time = start.elapsed(rt)?;
+            println!(rt; "{what}: {came}")?;
+            eprintln!(rt; "{} microseconds", time.as_micros())
+        }
+        Some((_, None)) => Err(ErrorKind::Other.into()),
+        None => Err(ErrorKind::InvalidInput.into()),
+    }
+}
+
+/// Runs the trial of this name, or all of them in turn for `time`.
 pub fn time<R: Runtime + AllocGlobal>(rt: &R, name: &str) -> io::Result<()> {
     if name != "time" {
         return run(rt, name);
     }
-    for trial in ["heads", "bodies", "quarter", "whole", "answers"] {
-        run(rt, trial)?;
-    }
-    Ok(())
+    run(rt, "heads")?;
+    run(rt, "bodies")?;
+    run(rt, "quarter")?;
+    run(rt, "whole")?;
+    run(rt, "answers")
 }

@@ -1,113 +1,108 @@
 //! Calls by how many arguments they have.
 
-use crate::keyed::{call_of_dictionary, call_on_key};
-use crate::said::{CallStop, Outcome, Said};
+use crate::keyed::{write_of_dictionary, write_on_key};
+use crate::said::{write_done, write_number, write_object, write_read, write_refused, write_value};
 use crate::values::{number, place, value};
-use case_files::CaseStop;
-use std::alloc::Global;
+use case_files::{Answer, CaseStop};
 use vb_dict::{new_dict, set_mode};
 use vb_heap::{CellNo, Heap};
 use vb_value::{ObjNo, Value};
 
-/// What a call without arguments gives.
-pub fn call_on_page(heap: &mut Heap, word: &str) -> Outcome {
+/// Writes what a call without arguments gives.
+pub fn write_on_page(out: &mut Answer, heap: &mut Heap, word: &str) {
     match word {
-        "weight" => return Ok(Said::Number(heap.page_weight())),
-        "mark" => return Ok(Said::Number(u64::from(heap.mark()))),
-        "release" => return Ok(Said::of_object(heap.release_point())),
-        "last" => return Ok(Said::of_object(heap.last_point())),
+        "weight" => write_number(out, heap.page_weight()),
+        "mark" => write_number(out, u64::from(heap.mark())),
+        "release" => write_object(out, heap.release_point()),
+        "last" => write_object(out, heap.last_point()),
         "reset" => heap.reset(),
-        "table" => make_table(heap)?,
-        _ => return Err(CallStop::Case(CaseStop::Unreadable)),
+        "table" => write_done(out, new_dict(heap)),
+        _ => out.stop(CaseStop::Unreadable),
     }
-    Ok(Said::Done)
 }
 
-fn make_table(heap: &mut Heap) -> Result<(), CallStop> {
-    new_dict(heap)?;
-    Ok(())
-}
-
-/// What a call of one argument gives.
-pub fn call_on_one(alloc: Global, heap: &mut Heap, word: &str, first: &str) -> Outcome {
+/// Writes what a call of one argument gives.
+pub fn write_on_one(out: &mut Answer, heap: &mut Heap, word: &str, first: &str) {
     match word {
         "read" => {
-            let place = place(alloc, first)?;
-            Ok(Said::Value(heap.read(alloc, &place)?))
+            let place = place(out, first);
+            let read = heap.read(out.alloc(), &place);
+            write_read(out, &read);
         }
         "cell" => {
-            let value = value(alloc, heap, first)?;
-            heap.new_cell(value)?;
-            Ok(Said::Done)
+            let value = value(out, heap, first);
+            write_done(out, heap.new_cell(value));
         }
         "hold" => {
-            let value = value(alloc, heap, first)?;
-            heap.hold(&value)?;
-            Ok(Said::Done)
+            let value = value(out, heap, first);
+            write_done(out, heap.hold(&value));
         }
-        _ => call_on_number(alloc, heap, word, number(first)?),
+        _ => {
+            let number = number(out, first);
+            write_on_number(out, heap, word, number);
+        }
     }
 }
 
-/// What a call on a cell, a mark or an object gives.
-fn call_on_number(alloc: Global, heap: &mut Heap, word: &str, number: u32) -> Outcome {
+/// Writes what a call on a cell, a mark or an object gives.
+fn write_on_number(out: &mut Answer, heap: &mut Heap, word: &str, number: u32) {
     let object = ObjNo(number);
     match word {
         "drop" => heap.drop_cell(CellNo(u64::from(number))),
         "letgo" => heap.let_go(number),
         "finish" => heap.finish_object(object),
-        "count" => return Ok(Said::Number(u64::from(heap.count(object)))),
-        "class" => return class(heap, object),
-        _ => return call_of_dictionary(alloc, heap, word, object),
-    }
-    Ok(Said::Done)
-}
-
-fn class(heap: &Heap, object: ObjNo) -> Outcome {
-    match heap.class(object)? {
-        Some(class) => Ok(Said::Number(u64::from(class))),
-        None => Ok(Said::Value(Value::Nothing)),
+        "count" => write_number(out, u64::from(heap.count(object))),
+        "class" => write_class(out, heap, object),
+        _ => write_of_dictionary(out, heap, word, object),
     }
 }
 
-/// What a call of two arguments gives.
-pub fn call_on_two(
-    alloc: Global,
-    heap: &mut Heap,
-    word: &str,
-    first: &str,
-    second: &str,
-) -> Outcome {
+fn write_class(out: &mut Answer, heap: &Heap, object: ObjNo) {
+    match heap.class(object) {
+        Ok(Some(class)) => write_number(out, u64::from(class)),
+        Ok(None) => write_value(out, &Value::Nothing),
+        Err(error) => write_refused(out, error),
+    }
+}
+
+/// Writes what a call of two arguments gives.
+pub fn write_on_two(out: &mut Answer, heap: &mut Heap, word: &str, first: &str, second: &str) {
     if word == "store" {
-        let place = place(alloc, first)?;
-        let value = value(alloc, heap, second)?;
-        heap.store(&place, value)?;
-        return Ok(Said::Done);
+        let place = place(out, first);
+        let value = value(out, heap, second);
+        write_done(out, heap.store(&place, value));
+        return;
     }
-    let first = number(first)?;
+    let first = number(out, first);
     match word {
-        "object" => make_object(heap, first, number(second)?),
-        "field" => Ok(Said::Number(heap.field(ObjNo(first), number(second)?)?.0)),
-        "setmode" => set_mode_of(heap, ObjNo(first), &value(alloc, heap, second)?),
-        _ => call_on_key(
-            alloc,
-            heap,
-            word,
-            ObjNo(first),
-            &value(alloc, heap, second)?,
-        ),
+        "object" => {
+            let fields = number(out, second);
+            write_done(out, heap.new_object(first, fields));
+        }
+        "field" => {
+            let field = number(out, second);
+            write_field(out, heap, ObjNo(first), field);
+        }
+        _ => {
+            let value = value(out, heap, second);
+            write_on_value(out, heap, word, ObjNo(first), &value);
+        }
     }
 }
 
-fn make_object(heap: &mut Heap, class: u32, fields: u32) -> Outcome {
-    heap.new_object(class, fields)?;
-    Ok(Said::Done)
+fn write_field(out: &mut Answer, heap: &Heap, object: ObjNo, field: u32) {
+    match heap.field(object, field) {
+        Ok(cell) => write_number(out, cell.0),
+        Err(error) => write_refused(out, error),
+    }
 }
 
-fn set_mode_of(heap: &mut Heap, dictionary: ObjNo, mode: &Value) -> Outcome {
-    let Value::Int(mode) = mode else {
-        return Err(CallStop::Case(CaseStop::Unreadable));
-    };
-    set_mode(heap, dictionary, i32::from(*mode))?;
-    Ok(Said::Done)
+/// Writes what a call on a dictionary and a value gives.
+fn write_on_value(out: &mut Answer, heap: &mut Heap, word: &str, dictionary: ObjNo, value: &Value) {
+    match value {
+        Value::Int(mode) if word == "setmode" => {
+            write_done(out, set_mode(heap, dictionary, i32::from(*mode)));
+        }
+        _ => write_on_key(out, heap, word, dictionary, value),
+    }
 }

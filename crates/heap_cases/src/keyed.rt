@@ -1,68 +1,59 @@
 //! Calls of dictionaries.
 
-use crate::said::{CallStop, Outcome, Said};
+use crate::said::{write_done, write_got, write_long, write_read, write_truth};
 use crate::values::{number, value};
-use case_files::CaseStop;
-use std::alloc::Global;
+use case_files::{Answer, CaseStop};
 use vb_dict::{add, count, exists, get, items, keys, mode, put, remove, remove_all};
 use vb_heap::Heap;
 use vb_value::{ObjNo, Value};
 
-/// What a call on a whole dictionary gives.
-pub fn call_of_dictionary(
-    alloc: Global,
-    heap: &mut Heap,
-    word: &str,
-    dictionary: ObjNo,
-) -> Outcome {
+/// Writes what a call on a whole dictionary gives.
+pub fn write_of_dictionary(out: &mut Answer, heap: &mut Heap, word: &str, dictionary: ObjNo) {
     match word {
-        "entries" => Ok(Said::Value(Value::Long(count(heap, dictionary)?))),
-        "mode" => Ok(Said::Value(Value::Long(mode(heap, dictionary)?))),
-        "keys" => Ok(Said::Value(keys(alloc, heap, dictionary)?)),
-        "items" => Ok(Said::Value(items(alloc, heap, dictionary)?)),
-        "clear" => {
-            remove_all(heap, dictionary)?;
-            Ok(Said::Done)
+        "entries" => write_long(out, count(heap, dictionary)),
+        "mode" => write_long(out, mode(heap, dictionary)),
+        "keys" => {
+            let keys = keys(out.alloc(), heap, dictionary);
+            write_read(out, &keys);
         }
-        _ => Err(CallStop::Case(CaseStop::Unreadable)),
+        "items" => {
+            let items = items(out.alloc(), heap, dictionary);
+            write_read(out, &items);
+        }
+        "clear" => write_done(out, remove_all(heap, dictionary)),
+        _ => out.stop(CaseStop::Unreadable),
     }
 }
 
-/// What a call on a key of a dictionary gives.
-pub fn call_on_key(
-    alloc: Global,
-    heap: &mut Heap,
-    word: &str,
-    dictionary: ObjNo,
-    key: &Value,
-) -> Outcome {
+/// Writes what a call on a key of a dictionary gives.
+pub fn write_on_key(out: &mut Answer, heap: &mut Heap, word: &str, dictionary: ObjNo, key: &Value) {
     match word {
-        "get" => Ok(Said::Value(get(alloc, heap, dictionary, key)?)),
-        "exists" => Ok(Said::Value(Value::Bool(exists(heap, dictionary, key)?))),
-        "remove" => {
-            remove(heap, dictionary, key)?;
-            Ok(Said::Done)
+        "get" => {
+            let got = get(out.alloc(), heap, dictionary, key);
+            write_got(out, &got);
         }
-        _ => Err(CallStop::Case(CaseStop::Unreadable)),
+        "exists" => write_truth(out, exists(heap, dictionary, key)),
+        "remove" => write_done(out, remove(heap, dictionary, key)),
+        _ => out.stop(CaseStop::Unreadable),
     }
 }
 
-/// What a call with a dictionary, a key and an item gives.
-pub fn call_on_entry(
-    alloc: Global,
+/// Writes what a call with a dictionary, a key and an item gives.
+pub fn write_on_entry(
+    out: &mut Answer,
     heap: &mut Heap,
     word: &str,
     dictionary: &str,
     key: &str,
     item: &str,
-) -> Outcome {
-    let dictionary = ObjNo(number(dictionary)?);
-    let key = value(alloc, heap, key)?;
-    let item = value(alloc, heap, item)?;
+) {
+    let dictionary = ObjNo(number(out, dictionary));
+    let key = value(out, heap, key);
+    let item = value(out, heap, item);
+    let alloc = out.alloc();
     match word {
-        "add" => add(alloc, heap, dictionary, &key, item)?,
-        "put" => put(alloc, heap, dictionary, &key, item)?,
-        _ => return Err(CallStop::Case(CaseStop::Unreadable)),
+        "add" => write_done(out, add(alloc, heap, dictionary, &key, item)),
+        "put" => write_done(out, put(alloc, heap, dictionary, &key, item)),
+        _ => out.stop(CaseStop::Unreadable),
     }
-    Ok(Said::Done)
 }

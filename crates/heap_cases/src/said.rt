@@ -1,112 +1,125 @@
-//! What calls give, as cases write it.
+//! What calls give, as cases write it. Between two answers stands a comma.
 
-use case_files::CaseStop;
-use std::alloc::Global;
+use case_files::{Answer, CaseStop};
 use vb_heap::HeapStop;
 use vb_value::{ObjNo, Value, VbError, VbFault};
 
-/// What a call gives.
-#[derive(Drop)]
-pub enum Said {
-    /// Nothing: it did its work.
-    Done,
-    Number(u64),
-    Value(Value),
+/// Writes a number.
+pub fn write_number(out: &mut Answer, number: u64) {
+    write_comma(out);
+    out.show(&number);
 }
 
-/// What a call gives, or why it gives nothing.
-pub type Outcome = Result<Said, CallStop>;
-
-/// Why a call gives nothing.
-#[derive(Clone, Copy)]
-pub enum CallStop {
-    /// It can't be read.
-    Case(CaseStop),
-    /// The page refused it.
-    Heap(HeapStop),
+/// Writes an object, or Nothing.
+pub fn write_object(out: &mut Answer, object: Option<ObjNo>) {
+    match object {
+        Some(object) => write_value(out, &Value::Obj(object)),
+        None => write_value(out, &Value::Nothing),
+    }
 }
 
-impl Said {
-    /// An object, or Nothing.
-    pub fn of_object(object: Option<ObjNo>) -> Said {
-        match object {
-            Some(object) => Said::Value(Value::Obj(object)),
-            None => Said::Value(Value::Nothing),
+/// Writes a value, of an array its items in brackets.
+pub fn write_value(out: &mut Answer, value: &Value) {
+    write_comma(out);
+    match value {
+        Value::Arr(array) => write_items(out, array.items.as_slice()),
+        _ => write_item(out, value),
+    }
+}
+
+/// Writes nothing of a call that did its work, or why it was refused.
+pub fn write_done<T: Drop>(out: &mut Answer, done: Result<T, HeapStop>) {
+    if let Err(stop) = done {
+        write_stop(out, stop);
+    }
+}
+
+/// Writes the value that a call on a dictionary gave, or why it was refused.
+pub fn write_got(out: &mut Answer, got: &Result<Value, HeapStop>) {
+    match got {
+        Ok(value) => write_value(out, value),
+        Err(stop) => write_stop(out, *stop),
+    }
+}
+
+/// Writes the value that a call gave that left the page as it was, or why it was refused.
+pub fn write_read(out: &mut Answer, read: &Result<Value, VbFault>) {
+    match read {
+        Ok(value) => write_value(out, value),
+        Err(fault) => write_stop(out, (*fault).into()),
+    }
+}
+
+/// Writes the Boolean that a call gave, or why it was refused.
+pub fn write_truth(out: &mut Answer, truth: Result<bool, VbFault>) {
+    match truth {
+        Ok(truth) => write_value(out, &Value::Bool(truth)),
+        Err(fault) => write_stop(out, fault.into()),
+    }
+}
+
+/// Writes the Long that a call gave, or why it was refused.
+pub fn write_long(out: &mut Answer, long: Result<i32, VbError>) {
+    match long {
+        Ok(number) => write_value(out, &Value::Long(number)),
+        Err(error) => write_refused(out, error),
+    }
+}
+
+/// Writes an error of the language.
+pub fn write_refused(out: &mut Answer, error: VbError) {
+    write_stop(out, error.into());
+}
+
+/// Writes why a call was refused.
+fn write_stop(out: &mut Answer, stop: HeapStop) {
+    match stop {
+        HeapStop::Memory => out.stop(CaseStop::Memory),
+        _ => {
+            write_comma(out);
+            out.show(&stop);
         }
     }
 }
 
-/// Adds what a call gave.
-pub fn push_said(out: &mut String, alloc: Global, said: &Said) -> Result<(), CaseStop> {
-    match said {
-        Said::Done => Ok(()),
-        Said::Number(number) => push(out, ", ", format!(in alloc; "{number}")?.as_str()),
-        Said::Value(Value::Arr(array)) => push_items(out, alloc, array.items.as_slice()),
-        Said::Value(value) => push(out, ", ", item_text(alloc, value)?.as_str()),
-    }
-}
-
-/// Adds why a call was refused.
-pub fn push_stop(out: &mut String, alloc: Global, stop: CallStop) -> Result<(), CaseStop> {
-    match stop {
-        CallStop::Case(stop) => Err(stop),
-        CallStop::Heap(HeapStop::Memory) => Err(CaseStop::Memory),
-        CallStop::Heap(stop) => push(out, ", ", format!(in alloc; "{stop}")?.as_str()),
-    }
-}
-
-/// Adds an answer, and before it, unless it is the first, what stands between two.
-fn push(out: &mut String, between: &str, answer: &str) -> Result<(), CaseStop> {
+/// Writes what stands before an answer, unless it is the first.
+fn write_comma(out: &mut Answer) {
     if !out.is_empty() {
-        out.push_str(between)?;
+        out.put(", ");
     }
-    Ok(out.push_str(answer)?)
 }
 
-/// Adds the items of an array, in brackets.
-fn push_items(out: &mut String, alloc: Global, items: &[Value]) -> Result<(), CaseStop> {
-    let mut all = String::new(alloc);
-    for item in items {
-        push(&mut all, ",", item_text(alloc, item)?.as_str())?;
+fn write_items(out: &mut Answer, items: &[Value]) {
+    out.put("[");
+    for (i, item) in items.iter().enumerate() {
+        if i > 0 {
+            out.put(",");
+        }
+        write_item(out, item);
     }
-    push(out, ", ", format!(in alloc; "[{all}]")?.as_str())
+    out.put("]");
 }
 
-/// A value as cases write it. No case asks for an array within one or for a Currency.
-fn item_text(alloc: Global, item: &Value) -> Result<String, CaseStop> {
+/// Writes a value. No case asks for an array within one or for a Currency.
+fn write_item(out: &mut Answer, item: &Value) {
     match item {
-        Value::Empty => Ok(String::from_str(alloc, "empty")?),
-        Value::Null => Ok(String::from_str(alloc, "null")?),
-        Value::Nothing => Ok(String::from_str(alloc, "nothing")?),
-        Value::Bool(truth) => Ok(format!(in alloc; "{truth}")?),
-        Value::Int(number) => Ok(format!(in alloc; "{number}")?),
-        Value::Long(number) => Ok(format!(in alloc; "{number}&")?),
-        Value::Obj(object) => Ok(format!(in alloc; "obj{}", object.0)?),
-        Value::Str(text) => Ok(format!(in alloc; "'{}", text.to_string(alloc)?)?),
-        Value::Arr(_) | Value::Cur(_) => Ok(String::from_str(alloc, "another")?),
-    }
-}
-
-impl From<CaseStop> for CallStop {
-    fn from(stop: CaseStop) -> CallStop {
-        CallStop::Case(stop)
-    }
-}
-
-impl From<HeapStop> for CallStop {
-    fn from(stop: HeapStop) -> CallStop {
-        CallStop::Heap(stop)
-    }
-}
-
-impl From<VbFault> for CallStop {
-    fn from(fault: VbFault) -> CallStop {
-        CallStop::Heap(fault.into())
-    }
-}
-
-impl From<VbError> for CallStop {
-    fn from(error: VbError) -> CallStop {
-        CallStop::Heap(error.into())
+        Value::Empty => out.put("empty"),
+        Value::Null => out.put("null"),
+        Value::Nothing => out.put("nothing"),
+        Value::Bool(truth) => out.show(truth),
+        Value::Int(number) => out.show(number),
+        Value::Long(number) => {
+            out.show(number);
+            out.put("&");
+        }
+        Value::Obj(object) => {
+            out.put("obj");
+            out.show(&object.0);
+        }
+        Value::Str(text) => {
+            out.put("'");
+            out.text(text.as_slice());
+        }
+        Value::Arr(_) | Value::Cur(_) => out.put("another"),
     }
 }

@@ -1,108 +1,149 @@
-//! Places and values as cases write them.
+//! Numbers, places and values as cases write them. What is not written so stops the answer, and something else is had
+//! in its place.
 
-use case_files::CaseStop;
-use std::alloc::Global;
+use case_files::{Answer, CaseStop};
 use vb_heap::{CellNo, Heap, Place};
 use vb_value::{Array, List, ObjNo, Text, Value, VbFault};
 
 /// The number that is written so.
-pub fn number(written: &str) -> Result<u32, CaseStop> {
+pub fn number(out: &mut Answer, written: &str) -> u32 {
     match written.parse() {
-        Ok(number) => Ok(number),
-        Err(_) => Err(CaseStop::Unreadable),
+        Ok(number) => number,
+        Err(_) => {
+            out.stop(CaseStop::Unreadable);
+            0
+        }
     }
 }
 
 /// The place that is written so: the number of its cell, and the indices of each step in parentheses, as `0(1,2)(0)`.
-pub fn place(alloc: Global, written: &str) -> Result<Place, CaseStop> {
+pub fn place(out: &mut Answer, written: &str) -> Place {
     let mut parts = written.split('(');
-    let cell = number(parts.next().unwrap_or(""))?;
-    let mut steps = List::new(alloc);
+    let cell = number(out, parts.next().unwrap_or(""));
+    let mut steps = List::new(out.alloc());
     for part in parts {
-        let Some(indices) = part.strip_suffix(')') else {
-            return Err(CaseStop::Unreadable);
-        };
-        steps.push(numbers(alloc, indices, ',')?)?;
-    }
-    Ok(Place {
-        cell: CellNo(u64::from(cell)),
-        steps,
-    })
-}
-
-fn numbers(alloc: Global, written: &str, between: char) -> Result<List<i32>, CaseStop> {
-    let mut numbers = List::new(alloc);
-    for word in written.split(between) {
-        match word.parse() {
-            Ok(number) => numbers.push(number)?,
-            Err(_) => return Err(CaseStop::Unreadable),
+        match part.strip_suffix(')') {
+            Some(indices) => {
+                let indices = numbers(out, indices, ',');
+                if steps.push(indices).is_err() {
+                    out.stop(CaseStop::Memory);
+                }
+            }
+            None => out.stop(CaseStop::Unreadable),
         }
     }
-    Ok(numbers)
+    Place {
+        cell: CellNo(u64::from(cell)),
+        steps,
+    }
+}
+
+fn numbers(out: &mut Answer, written: &str, between: char) -> List<i32> {
+    let mut numbers = List::new(out.alloc());
+    for word in written.split(between) {
+        match word.parse() {
+            Ok(number) => {
+                if numbers.push(number).is_err() {
+                    out.stop(CaseStop::Memory);
+                }
+            }
+            Err(_) => out.stop(CaseStop::Unreadable),
+        }
+    }
+    numbers
 }
 
 /// The value that is written so: an array by its upper bounds and items, as `[1x0:7,8]`, or one that is no array.
-pub fn value(alloc: Global, heap: &Heap, written: &str) -> Result<Value, CaseStop> {
-    let Some(rest) = written.strip_prefix('[') else {
-        return item(alloc, heap, written);
-    };
-    let (bounds, items) = rest.split_once(':').unwrap_or((rest, ""));
+pub fn value(out: &mut Answer, heap: &Heap, written: &str) -> Value {
+    match written.strip_prefix('[') {
+        Some(rest) => array(out, heap, rest),
+        None => item(out, heap, written),
+    }
+}
+
+fn array(out: &mut Answer, heap: &Heap, written: &str) -> Value {
+    let (bounds, items) = written.split_once(':').unwrap_or((written, ""));
     match items.strip_suffix(']') {
-        Some(items) => array(alloc, heap, bounds, items),
-        None => Err(CaseStop::Unreadable),
+        Some(items) => Value::Arr(Array {
+            bounds: numbers(out, bounds, 'x'),
+            fixed: true,
+            items: items_of(out, heap, items),
+        }),
+        None => unreadable(out),
     }
 }
 
-fn array(alloc: Global, heap: &Heap, bounds: &str, items: &str) -> Result<Value, CaseStop> {
-    let bounds = numbers(alloc, bounds, 'x')?;
-    let mut all = List::new(alloc);
-    for word in items.split(',') {
-        all.push(item(alloc, heap, word)?)?;
+fn items_of(out: &mut Answer, heap: &Heap, written: &str) -> List<Value> {
+    let mut items = List::new(out.alloc());
+    for word in written.split(',') {
+        let item = item(out, heap, word);
+        if items.push(item).is_err() {
+            out.stop(CaseStop::Memory);
+        }
     }
-    Ok(Value::Arr(Array {
-        bounds,
-        fixed: true,
-        items: all,
-    }))
+    items
 }
 
-fn item(alloc: Global, heap: &Heap, word: &str) -> Result<Value, CaseStop> {
+fn item(out: &mut Answer, heap: &Heap, word: &str) -> Value {
     if let Some(text) = word.strip_prefix('\'') {
-        return Ok(Value::Str(Text::from_str(alloc, text)?));
+        return text_value(out, text);
     }
     if let Some(cell) = word.strip_prefix('$') {
-        return copied(alloc, heap, cell);
+        return copied(out, heap, cell);
     }
     match word {
-        "empty" => Ok(Value::Empty),
-        "null" => Ok(Value::Null),
-        "true" => Ok(Value::Bool(true)),
-        "false" => Ok(Value::Bool(false)),
-        "nothing" => Ok(Value::Nothing),
-        _ => numeric(word),
+        "empty" => Value::Empty,
+        "null" => Value::Null,
+        "true" => Value::Bool(true),
+        "false" => Value::Bool(false),
+        "nothing" => Value::Nothing,
+        _ => numeric(out, word),
+    }
+}
+
+fn text_value(out: &mut Answer, text: &str) -> Value {
+    match Text::from_str(out.alloc(), text) {
+        Ok(text) => Value::Str(text),
+        Err(_) => no_memory(out),
     }
 }
 
 /// A copy of what a cell has.
-fn copied(alloc: Global, heap: &Heap, cell: &str) -> Result<Value, CaseStop> {
-    match heap.read(alloc, &place(alloc, cell)?) {
-        Ok(value) => Ok(value),
-        Err(VbFault::Error(_)) => Err(CaseStop::Unreadable),
-        Err(VbFault::Memory) => Err(CaseStop::Memory),
+fn copied(out: &mut Answer, heap: &Heap, cell: &str) -> Value {
+    let place = place(out, cell);
+    match heap.read(out.alloc(), &place) {
+        Ok(value) => value,
+        Err(VbFault::Error(_)) => unreadable(out),
+        Err(VbFault::Memory) => no_memory(out),
     }
 }
 
 /// A Long `5&`, a Currency of a whole number `5@`, an object `obj5` or an Integer `5`.
-fn numeric(word: &str) -> Result<Value, CaseStop> {
+fn numeric(out: &mut Answer, word: &str) -> Value {
     if let Some(whole) = word.strip_suffix('@') {
-        return Ok(Value::Cur(i64::from(number(whole)?) * 10_000));
+        return Value::Cur(i64::from(number(out, whole)) * 10_000);
     }
     if let Some(object) = word.strip_prefix("obj") {
-        return Ok(Value::Obj(ObjNo(number(object)?)));
+        return Value::Obj(ObjNo(number(out, object)));
     }
-    let read = match word.strip_suffix('&') {
-        Some(long) => long.parse().ok().map(Value::Long),
-        None => word.parse().ok().map(Value::Int),
-    };
-    read.ok_or(CaseStop::Unreadable)
+    if let Some(long) = word.strip_suffix('&') {
+        return match long.parse() {
+            Ok(number) => Value::Long(number),
+            Err(_) => unreadable(out),
+        };
+    }
+    match word.parse() {
+        Ok(number) => Value::Int(number),
+        Err(_) => unreadable(out),
+    }
+}
+
+fn unreadable(out: &mut Answer) -> Value {
+    out.stop(CaseStop::Unreadable);
+    Value::Empty
+}
+
+fn no_memory(out: &mut Answer) -> Value {
+    out.stop(CaseStop::Memory);
+    Value::Empty
 }

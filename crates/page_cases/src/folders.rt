@@ -1,40 +1,37 @@
 //! The files of folders that make up their sites.
 
+use crate::includes::write_placed;
 use crate::sites::read_site;
-use case_files::{CaseStop, Subject};
+use case_files::{Answer, CaseStop, Subject};
 use site_load::{LoadStop, site_files};
-use std::alloc::Global;
 use vb_value::SiteFile;
 
 /// Folders, each with the files of its site and how many bytes they have, or the file that is refused.
 pub struct Folders;
 
 impl Subject for Folders {
-    fn answer(&self, alloc: Global, case: &str) -> Result<String, CaseStop> {
-        let mut folder = read_site(alloc, case)?;
-        match site_files(alloc, &mut folder) {
-            Ok(files) => files_text(alloc, files.as_slice()),
+    fn answer(&self, case: &str, out: &mut Answer) {
+        let Some(mut folder) = read_site(out, case) else {
+            return;
+        };
+        match site_files(out.alloc(), &mut folder) {
+            Ok(files) => write_files(out, files.as_slice()),
             Err(LoadStop::Refused(fault)) => {
-                let path = fault.path.to_string(alloc)?;
-                let line = fault.line;
-                let kind = fault.kind;
-                Ok(format!(in alloc; "{path}:{line}: {kind:?}")?)
+                write_placed(out, &fault.path, fault.line, &fault.kind);
             }
-            Err(LoadStop::ReadFault) => Ok(String::from_str(alloc, "read fault")?),
-            Err(LoadStop::Memory) => Err(CaseStop::Memory),
+            Err(LoadStop::ReadFault) => out.put("read fault"),
+            Err(LoadStop::Memory) => out.stop(CaseStop::Memory),
         }
     }
 }
 
-fn files_text(alloc: Global, files: &[SiteFile]) -> Result<String, CaseStop> {
-    let mut out = String::new(alloc);
+fn write_files(out: &mut Answer, files: &[SiteFile]) {
     for file in files {
         if !out.is_empty() {
-            out.push_str(", ")?;
+            out.put(", ");
         }
-        let path = file.path.to_string(alloc)?;
-        let size = file.bytes.len();
-        out.push_str(format!(in alloc; "{path} {size}")?.as_str())?;
+        out.text(file.path.as_slice());
+        out.put(" ");
+        out.show(&file.bytes.len());
     }
-    Ok(out)
 }

@@ -3,65 +3,82 @@ ghost use Rattle.std.specs.Prelude.{IsTrue};
 ghost use Rattle.std.specs.List.{All};
 ghost use Rattle.page_read.specs.Reading.{IsShort};
 
-use crate::pages::{MOST_BYTES, push_piece};
+use crate::pages::{MOST_BYTES, write_piece};
 use crate::sites::read_files;
-use case_files::{CaseStop, Subject};
+use case_files::{Answer, CaseStop, Subject};
 use page_read::{Located, SiteStop, expand};
-use std::alloc::Global;
+use std::fmt::Debug;
 use vb_value::{List, SiteFile, Text};
 
 /// Pages of sites, each with its parts: the file of each and what it is, or the file and the line of the first fault.
 pub struct Includes;
 
 impl Subject for Includes {
-    fn answer(&self, alloc: Global, case: &str) -> Result<String, CaseStop> {
-        let (path, _) = case.split_once(" ## ").unwrap_or((case, ""));
-        let path = Text::from_str(alloc, path)?;
-        let files = read_files(alloc, case)?;
-        expanded(alloc, &files, &path)
-    }
-}
-
-/// The parts of a page, or its first fault.
-fn expanded(alloc: Global, files: &List<SiteFile>, path: &Text) -> Result<String, CaseStop> {
-    if !are_short(files.as_slice()) {
-        return Err(CaseStop::Unreadable);
-    }
-    match expand(alloc, files, path) {
-        Ok(parts) => parts_text(alloc, parts.as_slice()),
-        Err(stop) => fault_text(alloc, stop),
-    }
-}
-
-/// The file, the line and the kind of a fault.
-pub fn fault_text(alloc: Global, stop: SiteStop) -> Result<String, CaseStop> {
-    match stop {
-        SiteStop::Fault(fault) => {
-            let path = fault.path.to_string(alloc)?;
-            let line = fault.line;
-            let kind = fault.kind;
-            Ok(format!(in alloc; "{path}:{line}: {kind:?}")?)
+    fn answer(&self, case: &str, out: &mut Answer) {
+        if let Some((_, parts)) = parts(out, case) {
+            write_parts(out, parts.as_slice());
         }
-        SiteStop::Memory => Err(CaseStop::Memory),
     }
+}
+
+/// The path of a page and its parts, if it has them. Else the answer has why.
+pub fn parts(out: &mut Answer, case: &str) -> Option<(Text, List<Located>)> {
+    let (path, _) = case.split_once(" ## ").unwrap_or((case, ""));
+    let files = read_files(out, case);
+    match Text::from_str(out.alloc(), path) {
+        Ok(path) => parts_of(out, &files, path),
+        Err(_) => {
+            out.stop(CaseStop::Memory);
+            None
+        }
+    }
+}
+
+fn parts_of(out: &mut Answer, files: &List<SiteFile>, path: Text) -> Option<(Text, List<Located>)> {
+    if !are_short(files.as_slice()) {
+        out.stop(CaseStop::Unreadable);
+        return None;
+    }
+    match expand(out.alloc(), files, &path) {
+        Ok(parts) => Some((path, parts)),
+        Err(stop) => {
+            write_fault(out, &stop);
+            None
+        }
+    }
+}
+
+/// Writes the file, the line and the kind of a fault.
+pub fn write_fault(out: &mut Answer, stop: &SiteStop) {
+    match stop {
+        SiteStop::Fault(fault) => write_placed(out, &fault.path, fault.line, &fault.kind),
+        SiteStop::Memory => out.stop(CaseStop::Memory),
+    }
+}
+
+/// Writes a file, a line, and what stands there.
+pub fn write_placed<K: Debug>(out: &mut Answer, path: &Text, line: u32, kind: &K) {
+    out.text(path.as_slice());
+    out.put(":");
+    out.show(&line);
+    out.put(": ");
+    out.debug(kind);
 }
 
 /// Whether each file is one that a site may have.
-pub fn are_short(files: &[SiteFile]) -> bool
+fn are_short(files: &[SiteFile]) -> bool
     ensures { IsTrue result → All IsShort files.now }
 {
     files.iter().all(|file| file.bytes.len() <= MOST_BYTES)
 }
 
-fn parts_text(alloc: Global, parts: &[Located]) -> Result<String, CaseStop> {
-    let mut out = String::new(alloc);
+fn write_parts(out: &mut Answer, parts: &[Located]) {
     for part in parts {
         if !out.is_empty() {
-            out.push_str(", ")?;
+            out.put(", ");
         }
-        out.push_str(part.path.to_string(alloc)?.as_str())?;
-        out.push(' ')?;
-        push_piece(&mut out, alloc, &part.fragment)?;
+        out.text(part.path.as_slice());
+        out.put(" ");
+        write_piece(out, &part.fragment);
     }
-    Ok(out)
 }

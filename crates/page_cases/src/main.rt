@@ -1,4 +1,5 @@
-//! Tries the cases of data/: page files with their pieces, pages with their lines, and commands over sites.
+//! Tries the cases of data/: page files with their pieces, pages with their lines, folders, texts of the web, and the
+//! words of command lines.
 #![tactic(auto)]
 
 mod builds;
@@ -6,14 +7,13 @@ mod commands;
 mod folders;
 mod hexadecimal;
 mod includes;
-mod outside;
 mod pages;
 mod sites;
 mod web;
 
 use builds::Builds;
 use case_files::try_file;
-use commands::{CommandWords, try_commands};
+use commands::CommandWords;
 use folders::Folders;
 use includes::Includes;
 use pages::{PageBytes, Pages};
@@ -22,27 +22,14 @@ use std::io::ErrorKind;
 use web::Web;
 
 fn main(rt: HostRuntime) -> io::Result<()> {
-    let pages = try_file(&rt, "pages.txt", &Pages)?;
-    let bytes = try_file(&rt, "bytes.txt", &PageBytes)?;
-    let includes = try_file(&rt, "includes.txt", &Includes)?;
-    let builds = try_file(&rt, "builds.txt", &Builds)?;
-    let words = try_file(&rt, "words.txt", &CommandWords)?;
-    let sites = try_commands(&rt, "sites.txt", false)?;
-    let members = try_commands(&rt, "members.txt", false)?;
-    let faults = try_commands(&rt, "faults.txt", true)?;
-    let folders = try_file(&rt, "folders.txt", &Folders)?;
-    let web = try_file(&rt, "web.txt", &Web)?;
-    if pages
-        && bytes
-        && includes
-        && builds
-        && words
-        && sites
-        && members
-        && faults
-        && folders
-        && web
-    {
+    let mut all_passed = try_file(&rt, "pages.txt", &Pages)?;
+    all_passed &= try_file(&rt, "bytes.txt", &PageBytes)?;
+    all_passed &= try_file(&rt, "includes.txt", &Includes)?;
+    all_passed &= try_file(&rt, "builds.txt", &Builds)?;
+    all_passed &= try_file(&rt, "words.txt", &CommandWords)?;
+    all_passed &= try_file(&rt, "folders.txt", &Folders)?;
+    all_passed &= try_file(&rt, "web.txt", &Web)?;
+    if all_passed {
         Ok(())
     } else {
         Err(ErrorKind::InvalidData.into())

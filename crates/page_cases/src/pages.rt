@@ -1,10 +1,9 @@
 //! What page files are made of.
 
 use crate::hexadecimal::read_bytes;
-use case_files::{CaseStop, Subject, read_text};
+use case_files::{Answer, CaseStop, Subject, read_text};
 use page_read::{Fragment, PageStop, fragments};
-use std::alloc::Global;
-use vb_value::{Memory, Text};
+use vb_value::Text;
 
 /// How many bytes a page file of a case may have.
 pub const MOST_BYTES: usize = 4_194_304;
@@ -16,71 +15,76 @@ pub struct Pages;
 pub struct PageBytes;
 
 impl Subject for Pages {
-    fn answer(&self, alloc: Global, case: &str) -> Result<String, CaseStop> {
-        pieces_text(alloc, read_text(alloc, case)?.as_str().as_bytes())
+    fn answer(&self, case: &str, out: &mut Answer) {
+        match read_text(out.alloc(), case) {
+            Ok(text) => write_pieces(out, text.as_str().as_bytes()),
+            Err(stop) => out.stop(stop),
+        }
     }
 }
 
 impl Subject for PageBytes {
-    fn answer(&self, alloc: Global, case: &str) -> Result<String, CaseStop> {
-        pieces_text(alloc, read_bytes(alloc, case)?.as_slice())
+    fn answer(&self, case: &str, out: &mut Answer) {
+        match read_bytes(out.alloc(), case) {
+            Ok(bytes) => write_pieces(out, bytes.as_slice()),
+            Err(stop) => out.stop(stop),
+        }
     }
 }
 
-fn pieces_text(alloc: Global, bytes: &[u8]) -> Result<String, CaseStop> {
+fn write_pieces(out: &mut Answer, bytes: &[u8]) {
     if bytes.len() > MOST_BYTES {
-        return Err(CaseStop::Unreadable);
+        return out.stop(CaseStop::Unreadable);
     }
-    let pieces = match fragments(alloc, bytes) {
-        Ok(pieces) => pieces,
-        Err(PageStop::Fault { kind, line }) => return Ok(format!(in alloc; "{kind:?} {line}")?),
-        Err(PageStop::Memory) => return Err(CaseStop::Memory),
-    };
-    let mut out = String::new(alloc);
-    for piece in pieces.as_slice() {
-        if !out.is_empty() {
-            out.push_str(", ")?;
+    match fragments(out.alloc(), bytes) {
+        Ok(pieces) => {
+            for (i, piece) in pieces.as_slice().iter().enumerate() {
+                if i > 0 {
+                    out.put(", ");
+                }
+                write_piece(out, piece);
+            }
         }
-        push_piece(&mut out, alloc, piece)?;
+        Err(PageStop::Fault { kind, line }) => {
+            out.debug(&kind);
+            out.put(" ");
+            out.show(&line);
+        }
+        Err(PageStop::Memory) => out.stop(CaseStop::Memory),
     }
-    Ok(out)
 }
 
 /// Adds a piece as cases write it.
-pub fn push_piece(out: &mut String, alloc: Global, piece: &Fragment) -> Result<(), Memory> {
+pub fn write_piece(out: &mut Answer, piece: &Fragment) {
     match piece {
-        Fragment::Directive { session: true } => Ok(out.push_str("directive")?),
-        Fragment::Directive { session: false } => Ok(out.push_str("directive without sessions")?),
-        Fragment::Text { text, line: _ } => push_quoted(out, alloc, text),
-        Fragment::Script { text, line } => push_placed(out, alloc, "script ", *line, text),
-        Fragment::Write { text, line } => push_placed(out, alloc, "", *line, text),
-        Fragment::Element { text, line } => push_placed(out, alloc, "element ", *line, text),
+        Fragment::Directive { session: true } => out.put("directive"),
+        Fragment::Directive { session: false } => out.put("directive without sessions"),
+        Fragment::Text { text, line: _ } => write_quoted(out, text),
+        Fragment::Script { text, line } => write_kind(out, "script ", *line, text),
+        Fragment::Write { text, line } => write_kind(out, "", *line, text),
+        Fragment::Element { text, line } => write_kind(out, "element ", *line, text),
         Fragment::Include {
             from_root: true,
             path,
             line,
-        } => push_placed(out, alloc, "virtual ", *line, path),
+        } => write_kind(out, "virtual ", *line, path),
         Fragment::Include {
             from_root: false,
             path,
             line,
-        } => push_placed(out, alloc, "file ", *line, path),
+        } => write_kind(out, "file ", *line, path),
     }
 }
 
-fn push_placed(
-    out: &mut String,
-    alloc: Global,
-    kind: &str,
-    line: u32,
-    text: &Text,
-) -> Result<(), Memory> {
-    out.push_str(format!(in alloc; "{kind}{line}: ")?.as_str())?;
-    push_quoted(out, alloc, text)
+fn write_kind(out: &mut Answer, kind: &str, line: u32, text: &Text) {
+    out.put(kind);
+    out.show(&line);
+    out.put(": ");
+    write_quoted(out, text);
 }
 
-fn push_quoted(out: &mut String, alloc: Global, text: &Text) -> Result<(), Memory> {
-    out.push('"')?;
-    out.push_str(text.to_string(alloc)?.as_str())?;
-    Ok(out.push('"')?)
+fn write_quoted(out: &mut Answer, text: &Text) {
+    out.put("\"");
+    out.text(text.as_slice());
+    out.put("\"");
 }

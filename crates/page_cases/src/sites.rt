@@ -2,47 +2,56 @@
 
 use crate::hexadecimal::read_bytes;
 use asp_io::{MemFolder, SureFolder};
-use case_files::{CaseStop, read_text};
+use case_files::{Answer, CaseStop, read_text};
 use std::alloc::Global;
 use vb_value::{Bytes, List, SiteFile, Text};
 
 /// The site of a case, as [`read_files`] reads its files.
-pub fn read_site(alloc: Global, case: &str) -> Result<MemFolder, CaseStop> {
-    read_failing_site(alloc, case, 0)
-}
-
-/// The same, where the call of the folder with this number fails, or none at 0.
-pub fn read_failing_site(alloc: Global, case: &str, fails: u64) -> Result<MemFolder, CaseStop> {
-    let fails = List::from_slice(alloc, &[fails])?;
-    match SureFolder::new(read_files(alloc, case)?) {
-        Some(folder) => Ok(MemFolder::new(folder, fails)),
-        None => Err(CaseStop::Unreadable),
+pub fn read_site(out: &mut Answer, case: &str) -> Option<MemFolder> {
+    let files = read_files(out, case);
+    let Ok(fails) = List::from_slice(out.alloc(), &[0]) else {
+        out.stop(CaseStop::Memory);
+        return None;
+    };
+    match SureFolder::new(files) {
+        Some(folder) => Some(MemFolder::new(folder, fails)),
+        None => {
+            out.stop(CaseStop::Unreadable);
+            None
+        }
     }
 }
 
 /// The files of a case, which are written each behind ` ## `: its path, a colon, and its text behind a blank; or its path,
 /// `=`, and its bytes in hexadecimal.
-pub fn read_files(alloc: Global, case: &str) -> Result<List<SiteFile>, CaseStop> {
-    let mut files = List::new(alloc);
+pub fn read_files(out: &mut Answer, case: &str) -> List<SiteFile> {
+    let mut files = List::new(out.alloc());
     for (i, part) in case.split(" ## ").enumerate() {
         if i > 0 {
-            files.push(read_file(alloc, part)?)?;
+            push_file(out, &mut files, part);
         }
     }
-    Ok(files)
+    files
 }
 
-fn read_file(alloc: Global, written: &str) -> Result<SiteFile, CaseStop> {
+fn push_file(out: &mut Answer, files: &mut List<SiteFile>, written: &str) {
     let (head, rest) = written.split_once(' ').unwrap_or((written, ""));
     let (path, bytes) = match (head.strip_suffix(':'), rest.strip_prefix("= ")) {
-        (Some(path), _) => (path, text_bytes(alloc, rest)?),
-        (None, Some(bytes)) => (head, read_bytes(alloc, bytes)?),
-        (None, None) => return Err(CaseStop::Unreadable),
+        (Some(path), _) => (path, text_bytes(out.alloc(), rest)),
+        (None, Some(bytes)) => (head, read_bytes(out.alloc(), bytes)),
+        (None, None) => (head, Err(CaseStop::Unreadable)),
     };
-    Ok(SiteFile {
-        path: Text::from_str(alloc, path)?,
-        bytes,
-    })
+    let Ok(path) = Text::from_str(out.alloc(), path) else {
+        return out.stop(CaseStop::Memory);
+    };
+    match bytes {
+        Ok(bytes) => {
+            if files.push(SiteFile { path, bytes }).is_err() {
+                out.stop(CaseStop::Memory);
+            }
+        }
+        Err(stop) => out.stop(stop),
+    }
 }
 
 fn text_bytes(alloc: Global, written: &str) -> Result<Bytes, CaseStop> {

@@ -2,120 +2,143 @@
 
 use crate::notes::Notes;
 use crate::programs::program;
-use crate::stopped::Stopped;
-use case_files::{CaseStop, read_text};
-use std::alloc::Global;
+use crate::stopped::write_stop;
+use case_files::{Answer, CaseStop, read_text};
 use vb_meaning::PlainEnd;
 use vb_plain::run_act;
-use vb_syntax::{Act, ActDone, ActEnd};
-use vb_value::{AppCall, AppReply, List, Memory, Text, Value};
+use vb_syntax::{Act, ActDone, ActEnd, Program};
+use vb_value::{AppCall, AppReply, List, Text, Value};
 
-/// What a script writes, and how it ends where that is not at its end.
-pub fn written(alloc: Global, case: &str) -> Result<String, Stopped> {
-    let (notes, end) = run(alloc, case, false, &[])?;
-    let mut out = notes.to_string(alloc)?;
-    push_end(&mut out, alloc, &end)?;
-    Ok(out)
+/// Writes what a script writes, and how it ends where that is not at its end.
+pub fn write_plain(out: &mut Answer, case: &str) {
+    write_case(out, case, false, false, &[]);
 }
 
-/// The same, and how many objects it made and ended.
-pub fn counted(alloc: Global, case: &str) -> Result<String, Stopped> {
-    let (notes, end) = run(alloc, case, true, &[])?;
-    let mut out = notes.to_string(alloc)?;
-    push_end(&mut out, alloc, &end)?;
-    if let PlainEnd::Ends(done) = &end {
-        let (made, finished) = (done.made, done.finished);
-        push_word(&mut out, format!(in alloc; "{finished}/{made}")?.as_str())?;
+/// The same in the wider environment, and how many objects it made and ended.
+pub fn write_counted(out: &mut Answer, case: &str) {
+    write_case(out, case, true, true, &[]);
+}
+
+/// Writes what a script writes and how it ends, given replies of the Application object: their numbers stand first, with
+/// blanks between them and `: ` behind.
+pub fn write_replied(out: &mut Answer, case: &str) {
+    match case.split_once(": ") {
+        Some((numbers, script)) => {
+            let replies = replies(out, numbers);
+            write_case(out, script, true, false, replies.as_slice());
+        }
+        None => out.stop(CaseStop::Unreadable),
     }
-    Ok(out)
 }
 
-/// What a script writes and how it ends, given replies of the Application object: their numbers stand first, with blanks
-/// between them and `: ` behind.
-pub fn replied(alloc: Global, case: &str) -> Result<String, Stopped> {
-    let Some((numbers, script)) = case.split_once(": ") else {
-        return Err(Stopped::Case(CaseStop::Unreadable));
-    };
-    let replies = replies(alloc, numbers)?;
-    let (notes, end) = run(alloc, script, true, replies.as_slice())?;
-    let mut out = notes.to_string(alloc)?;
-    push_end(&mut out, alloc, &end)?;
-    Ok(out)
-}
-
-fn replies(alloc: Global, numbers: &str) -> Result<List<AppReply>, Stopped> {
-    let mut replies = List::new(alloc);
+fn replies(out: &mut Answer, numbers: &str) -> List<AppReply> {
+    let mut replies = List::new(out.alloc());
     for number in numbers.split(' ') {
-        if number.is_empty() {
-            continue;
-        }
-        match number.parse() {
-            Ok(number) => replies.push(AppReply::Value(Value::Long(number)))?,
-            Err(_) => return Err(Stopped::Case(CaseStop::Unreadable)),
+        if !number.is_empty() {
+            push_reply(out, &mut replies, number);
         }
     }
-    Ok(replies)
+    replies
 }
 
-fn run(
-    alloc: Global,
-    script: &str,
+fn push_reply(out: &mut Answer, replies: &mut List<AppReply>, number: &str) {
+    match number.parse() {
+        Ok(number) => {
+            let reply = AppReply::Value(Value::Long(number));
+            if replies.push(reply).is_err() {
+                out.stop(CaseStop::Memory);
+            }
+        }
+        Err(_) => out.stop(CaseStop::Unreadable),
+    }
+}
+
+fn write_case(
+    out: &mut Answer,
+    written: &str,
     is_wide: bool,
+    is_counted: bool,
     replies: &[AppReply],
-) -> Result<(Text, PlainEnd), Stopped> {
-    let program = program(alloc, read_text(alloc, script)?.as_str())?;
+) {
+    match read_text(out.alloc(), written) {
+        Ok(script) => match program(out, script.as_str()) {
+            Ok(program) => write_run(out, &program, is_wide, is_counted, replies),
+            Err(stop) => write_stop(out, &stop),
+        },
+        Err(stop) => out.stop(stop),
+    }
+}
+
+fn write_run(
+    out: &mut Answer,
+    program: &Program,
+    is_wide: bool,
+    is_counted: bool,
+    replies: &[AppReply],
+) {
+    let alloc = out.alloc();
     let mut notes = Notes {
         alloc,
         is_wide,
         text: Text::new(alloc),
     };
-    let end = run_act(alloc, &program, Act::Body, &mut notes, replies)?;
-    Ok((notes.text, end))
-}
-
-/// How an act ended, if not at its end, behind what it wrote.
-fn push_end(out: &mut String, alloc: Global, end: &PlainEnd) -> Result<(), Memory> {
+    let end = run_act(alloc, program, Act::Body, &mut notes, replies);
+    out.text(notes.text.as_slice());
     match end {
-        PlainEnd::Wants(call) => push_call(out, alloc, call),
-        PlainEnd::Ends(done) => push_done(out, alloc, done),
+        Ok(PlainEnd::Wants(call)) => write_call(out, &call),
+        Ok(PlainEnd::Ends(done)) => write_done(out, &done, is_counted),
+        Err(_) => out.stop(CaseStop::Memory),
     }
 }
 
-fn push_call(out: &mut String, alloc: Global, call: &AppCall) -> Result<(), Memory> {
+/// Writes what stands before a word, unless it is the first.
+fn write_blank(out: &mut Answer) {
+    if !out.is_empty() {
+        out.put(" ");
+    }
+}
+
+fn write_call(out: &mut Answer, call: &AppCall) {
+    write_blank(out);
     match call {
         AppCall::Get(name) => {
-            push_word(out, "wants Get ")?;
-            out.push_str(name.to_string(alloc)?.as_str())?;
+            out.put("wants Get ");
+            out.text(name.as_slice());
         }
-        _ => push_word(out, "wants another call")?,
+        _ => out.put("wants another call"),
     }
-    Ok(())
 }
 
-fn push_done(out: &mut String, alloc: Global, done: &ActDone) -> Result<(), Memory> {
+/// Writes how an act ended, if not at its end, and how many objects ended of those that were made, if that is wanted.
+fn write_done(out: &mut Answer, done: &ActDone, is_counted: bool) {
     match &done.end {
         ActEnd::Done => {}
-        ActEnd::Stopped => push_word(out, "stopped")?,
+        ActEnd::Stopped => {
+            write_blank(out);
+            out.put("stopped");
+        }
         ActEnd::Error { number, line, .. } => {
-            push_word(
-                out,
-                format!(in alloc; "error {number}, line {line}")?.as_str(),
-            )?
+            write_blank(out);
+            out.put("error ");
+            out.show(number);
+            write_line(out, *line);
         }
         ActEnd::Limit { kind, line } => {
-            push_word(
-                out,
-                format!(in alloc; "limit {kind:?}, line {line}")?.as_str(),
-            )?
+            write_blank(out);
+            out.put("limit ");
+            out.debug(kind);
+            write_line(out, *line);
         }
     }
-    Ok(())
+    if is_counted {
+        write_blank(out);
+        out.show(&done.finished);
+        out.put("/");
+        out.show(&done.made);
+    }
 }
 
-/// Adds a word, with a blank before it if it is not the first.
-fn push_word(out: &mut String, word: &str) -> Result<(), Memory> {
-    if !out.is_empty() {
-        out.push(' ')?;
-    }
-    Ok(out.push_str(word)?)
+fn write_line(out: &mut Answer, line: u32) {
+    out.put(", line ");
+    out.show(&line);
 }

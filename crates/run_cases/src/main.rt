@@ -16,26 +16,17 @@ use std::io;
 use std::io::ErrorKind;
 use subject::Cases;
 
-/// The files of cases, and what each is tried on.
-const FILES: [(&str, Cases); 8] = [
-    ("statements.txt", Cases::Written),
-    ("errors.txt", Cases::Written),
-    ("objects.txt", Cases::Counted),
-    ("replies.txt", Cases::Replied),
-    ("request.txt", Cases::Answered),
-    ("response.txt", Cases::Answered),
-    ("server.txt", Cases::Answered),
-    ("answers.txt", Cases::Answered),
-];
-
 fn main(rt: HostRuntime) -> io::Result<()> {
-    let mut all_passed = true;
-    for (name, subject) in FILES {
-        if !try_file(&rt, name, &subject)? {
-            all_passed = false;
-        }
-    }
-    if all_passed {
+    let statements = try_file(&rt, "statements.txt", &Cases::Written)?;
+    let errors = try_file(&rt, "errors.txt", &Cases::Written)?;
+    let objects = try_file(&rt, "objects.txt", &Cases::Counted)?;
+    let replies = try_file(&rt, "replies.txt", &Cases::Replied)?;
+    let request = try_file(&rt, "request.txt", &Cases::Answered)?;
+    let response = try_file(&rt, "response.txt", &Cases::Answered)?;
+    let server = try_file(&rt, "server.txt", &Cases::Answered)?;
+    let answers = try_file(&rt, "answers.txt", &Cases::Answered)?;
+    let scripts_passed = statements && errors && objects && replies;
+    if scripts_passed && request && response && server && answers {
         Ok(())
     } else {
         Err(ErrorKind::InvalidData.into())

@@ -1,17 +1,21 @@
 //! The programs of scripts.
 
-use crate::stopped::Stopped;
-use case_files::CaseStop;
-use page_build::script_program;
-use std::alloc::Global;
+use case_files::{Answer, CaseStop};
+use page_build::{ScriptStop, script_program};
 use vb_syntax::Program;
 use vb_value::Text;
 
-/// The program of a script.
-pub fn program(alloc: Global, script: &str) -> Result<Program, Stopped> {
-    let text = Text::from_str(alloc, script)?;
-    if text.len() >= 1 << 31 {
-        return Err(Stopped::Case(CaseStop::Unreadable));
+/// The program of a script, or why it has none. A script that is too long for one stops the answer.
+pub fn program(out: &mut Answer, script: &str) -> Result<Program, ScriptStop> {
+    match Text::from_str(out.alloc(), script) {
+        Ok(text) => {
+            if text.len() < 1 << 31 {
+                script_program(out.alloc(), &text)
+            } else {
+                out.stop(CaseStop::Unreadable);
+                Err(ScriptStop::Memory)
+            }
+        }
+        Err(_) => Err(ScriptStop::Memory),
     }
-    Ok(script_program(alloc, &text)?)
 }

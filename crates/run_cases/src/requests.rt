@@ -1,6 +1,7 @@
 //! Requests from bytes.
 ghost use Rattle.std.specs.Prelude.{◌≡◌, ◌<◌, ◌-◌, ◌^◌, IfOk, IsTrue, min, sum_by};
 ghost use Rattle.asp_job.specs.Size as size;
+ghost use Rattle.http_front.specs.Reader.{Wants};
 
 use asp_job::{Asked, Header, Job, Request, Work};
 use case_files::CaseStop;
@@ -34,31 +35,39 @@ fn is_small(request: &Request) -> bool
     fixed.saturating_add(content) < 1 << 24
 }
 
-/// The requests of bytes that come one by one.
-fn read_singly(alloc: Global, bytes: &[u8]) -> Result<List<Request>, CaseStop> {
-    let mut reader = Reader::new(alloc);
-    let mut requests = List::new(alloc);
+/// Feeds bytes one by one, and takes the requests that they give.
+fn feed_singly(
+    reader: &mut Reader,
+    requests: &mut List<Request>,
+    bytes: &[u8],
+) -> Result<(), CaseStop>
+    requires { Wants reader.old }
+{
     for place in 0..bytes.len() {
         reader.feed(&bytes[place..place + 1])?;
-        match take_requests(&mut reader, &mut requests)? {
+        match take_requests(reader, requests)? {
             End::More => {}
             End::Refused(_) => return Err(CaseStop::Unreadable),
         }
     }
-    Ok(requests)
+    Ok(())
 }
 
 /// The job of the one request that a text gives, byte by byte.
 pub fn read_job(alloc: Global, text: &str) -> Result<Job, CaseStop>
     ensures { IfOk result size.IsSmall }
 {
-    let mut requests = read_singly(alloc, text.as_bytes())?;
-    match requests.pop() {
-        Some(request) if requests.is_empty() && is_small(&request) => Ok(Job {
-            work: Work::Page(request),
-            moment: 0,
-            asked: Asked::Fresh,
-        }),
-        _ => Err(CaseStop::Unreadable),
+    let mut reader = Reader::new(alloc);
+    let mut requests = List::new(alloc);
+    match feed_singly(&mut reader, &mut requests, text.as_bytes()) {
+        Ok(()) => match requests.pop() {
+            Some(request) if requests.is_empty() && is_small(&request) => Ok(Job {
+                work: Work::Page(request),
+                moment: 0,
+                asked: Asked::Fresh,
+            }),
+            _ => Err(CaseStop::Unreadable),
+        },
+        Err(stop) => Err(stop),
     }
 }

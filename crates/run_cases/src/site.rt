@@ -1,10 +1,8 @@
-//! A site of one page and one static file.
+//! A site of one page and one static file. Where memory runs out, that stops the answer, and the site lacks something.
 
-use crate::programs::program;
-use crate::stopped::Stopped;
 use asp_site::{LineSpot, Page, Site};
-use case_files::CaseStop;
-use std::alloc::Global;
+use case_files::{Answer, CaseStop};
+use vb_syntax::Program;
 use vb_value::{Bytes, Copied, List, SiteFile, Text};
 
 /// The file of the page.
@@ -16,53 +14,57 @@ const FILE: &str = "/a.css";
 /// How many lines of the page have a place.
 const LINES: u32 = 100;
 
-fn lines(alloc: Global, path: &Text) -> Result<List<LineSpot>, CaseStop> {
-    let mut lines = List::new(alloc);
-    for line in 0..LINES {
-        lines.push(LineSpot {
-            path: path.copy()?,
-            line,
-        })?;
+/// The site whose page `/d/p.asp` is this program.
+pub fn site_of(out: &mut Answer, program: Program) -> Site {
+    let path = text(out, PAGE);
+    let page = Page {
+        lines: lines(out, &path),
+        path,
+        session: false,
+        program,
+    };
+    let mut pages = List::new(out.alloc());
+    if pages.push(page).is_err() {
+        out.stop(CaseStop::Memory);
     }
-    Ok(lines)
-}
-
-fn page(alloc: Global, script: &str) -> Result<Page, CaseStop> {
-    let path = Text::from_str(alloc, PAGE)?;
-    let lines = lines(alloc, &path)?;
-    match program(alloc, script) {
-        Ok(program) => Ok(Page {
-            lines,
-            path,
-            session: false,
-            program,
-        }),
-        Err(Stopped::Fault { .. }) => Err(CaseStop::Unreadable),
-        Err(Stopped::Case(stop)) => Err(stop),
-    }
-}
-
-fn pages(alloc: Global, script: &str) -> Result<List<Page>, CaseStop> {
-    let mut pages = List::new(alloc);
-    pages.push(page(alloc, script)?)?;
-    Ok(pages)
-}
-
-fn statics(alloc: Global) -> Result<List<SiteFile>, CaseStop> {
-    let mut statics = List::new(alloc);
-    statics.push(SiteFile {
-        path: Text::from_str(alloc, FILE)?,
-        bytes: Bytes::from_slice(alloc, b"p {}")?,
-    })?;
-    Ok(statics)
-}
-
-/// The site whose page `/d/p.asp` has this script.
-pub fn site_of(alloc: Global, script: &str) -> Result<Site, CaseStop> {
-    let statics = statics(alloc)?;
-    Ok(Site {
-        pages: pages(alloc, script)?,
-        statics,
+    Site {
+        pages,
+        statics: statics(out),
         events: None,
-    })
+    }
+}
+
+fn text(out: &mut Answer, written: &str) -> Text {
+    match Text::from_str(out.alloc(), written) {
+        Ok(text) => text,
+        Err(_) => {
+            out.stop(CaseStop::Memory);
+            Text::new(out.alloc())
+        }
+    }
+}
+
+fn lines(out: &mut Answer, path: &Text) -> List<LineSpot> {
+    let mut lines = List::new(out.alloc());
+    for line in 0..LINES {
+        let is_kept = match path.copy() {
+            Ok(path) => lines.push(LineSpot { path, line }).is_ok(),
+            Err(_) => false,
+        };
+        if !is_kept {
+            out.stop(CaseStop::Memory);
+        }
+    }
+    lines
+}
+
+fn statics(out: &mut Answer) -> List<SiteFile> {
+    let path = text(out, FILE);
+    let mut bytes = Bytes::new(out.alloc());
+    let mut statics = List::new(out.alloc());
+    let is_written = bytes.append_slice(b"p {}").is_ok();
+    if !is_written || statics.push(SiteFile { path, bytes }).is_err() {
+        out.stop(CaseStop::Memory);
+    }
+    statics
 }

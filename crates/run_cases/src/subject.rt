@@ -1,13 +1,10 @@
 //! What each file of cases is tried on.
 
-use crate::acts::{counted, replied, written};
-use crate::pages::answered;
-use crate::stopped::{Stopped, answer_or_fault};
-use case_files::{CaseStop, Subject};
-use std::alloc::Global;
+use crate::acts::{write_counted, write_plain, write_replied};
+use crate::pages::write_answered;
+use case_files::{Answer, Subject};
 
 /// What the cases of a file are tried on: scripts, or pages with requests.
-#[derive(Clone, Copy)]
 pub enum Cases {
     Written,
     Counted,
@@ -15,19 +12,13 @@ pub enum Cases {
     Answered,
 }
 
-impl Cases {
-    fn outcome(self, alloc: Global, case: &str) -> Result<String, Stopped> {
-        match self {
-            Cases::Written => written(alloc, case),
-            Cases::Counted => counted(alloc, case),
-            Cases::Replied => replied(alloc, case),
-            Cases::Answered => Ok(answered(alloc, case)?),
-        }
-    }
-}
-
 impl Subject for Cases {
-    fn answer(&self, alloc: Global, case: &str) -> Result<String, CaseStop> {
-        answer_or_fault(alloc, self.outcome(alloc, case))
+    fn answer(&self, case: &str, out: &mut Answer) {
+        match self {
+            Cases::Written => write_plain(out, case),
+            Cases::Counted => write_counted(out, case),
+            Cases::Replied => write_replied(out, case),
+            Cases::Answered => write_answered(out, case),
+        }
     }
 }

@@ -5,7 +5,7 @@ use std::rt::Env;
 use std::{env, io};
 
 /// What a run is asked to do.
-#[derive(Debug, Drop)]
+#[derive(Drop)]
 pub struct Asked {
     /// The file whose text the script is made of.
     pub file: String,

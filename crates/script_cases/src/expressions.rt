@@ -1,61 +1,23 @@
 //! Expressions as text. A chain is `(first operator operand ..)`, a parenthesis of its own `[x]`, and `f(a b)` is
 //! a path with a group. Words that stand for values have a `#` before them, and a Long has an `&` behind it.
 
-use std::alloc::Global;
+use case_files::Answer;
 use vb_syntax::{Expression, Literal, Operation, Path, PathHead, Step};
-use vb_value::{Memory, Op2, Text};
+use vb_value::Op2;
 
-/// The text so far.
-#[derive(Drop)]
-pub struct Notation {
-    alloc: Global,
-    text: String,
+/// Adds a line, unless it is the first.
+pub fn write_line(out: &mut Answer, line: u32) {
+    if line != 1 {
+        out.put("@");
+        out.show(&line);
+    }
 }
 
-impl Notation {
-    /// The empty text.
-    pub fn new(alloc: Global) -> Notation {
-        Notation {
-            alloc,
-            text: String::new(alloc),
-        }
-    }
-
-    /// What was written.
-    pub fn text(self) -> String {
-        self.text
-    }
-
-    /// Adds a word as it stands.
-    pub fn put(&mut self, word: &str) -> Result<(), Memory> {
-        self.text.push_str(word)?;
-        Ok(())
-    }
-
-    /// Adds a name as it stands.
-    pub fn name(&mut self, text: &Text) -> Result<(), Memory> {
-        self.put(text.to_string(self.alloc)?.as_str())
-    }
-
-    /// Adds a number in decimal.
-    pub fn number(&mut self, number: i32) -> Result<(), Memory> {
-        self.put(format!(in self.alloc; "{number}")?.as_str())
-    }
-
-    /// A line, which is left out where it is the first.
-    pub fn line(&mut self, line: u32) -> Result<(), Memory> {
-        if line == 1 {
-            return Ok(());
-        }
-        self.put(format!(in self.alloc; "@{line}")?.as_str())
-    }
-
-    /// The beginning of what stands in a line.
-    pub fn open(&mut self, word: &str, line: u32) -> Result<(), Memory> {
-        self.put("(")?;
-        self.put(word)?;
-        self.line(line)
-    }
+/// Adds the beginning of what stands in a line.
+pub fn write_open(out: &mut Answer, word: &str, line: u32) {
+    out.put("(");
+    out.put(word);
+    write_line(out, line);
 }
 
 fn operator_word(operator: Op2) -> &'static str {
@@ -82,20 +44,20 @@ fn operator_word(operator: Op2) -> &'static str {
 }
 
 /// Adds a literal.
-pub fn write_literal(out: &mut Notation, value: &Literal) -> Result<(), Memory> {
+pub fn write_literal(out: &mut Answer, value: &Literal) {
     match value {
         Literal::Empty => out.put("#Empty"),
         Literal::Null => out.put("#Null"),
         Literal::Boolean(true) => out.put("#True"),
         Literal::Boolean(false) => out.put("#False"),
-        Literal::Integer(number) => out.number(i32::from(*number)),
+        Literal::Integer(number) => out.show(number),
         Literal::Long(number) => {
-            out.number(*number)?;
+            out.show(number);
             out.put("&")
         }
         Literal::Text(text) => {
-            out.put("\"")?;
-            out.name(text)?;
+            out.put("\"");
+            out.text(text.as_slice());
             out.put("\"")
         }
     }
@@ -103,76 +65,74 @@ pub fn write_literal(out: &mut Notation, value: &Literal) -> Result<(), Memory> 
 
 /// Adds the tree of an expression.
 #[cycle(expressions)]
-pub fn write_expression(out: &mut Notation, tree: &Expression) -> Result<(), Memory> {
+pub fn write_expression(out: &mut Answer, tree: &Expression) {
     match tree {
         Expression::Literal(value) => write_literal(out, value),
         Expression::Nothing => out.put("#Nothing"),
         Expression::New { class } => {
-            out.put("(New ")?;
-            out.name(class)?;
+            out.put("(New ");
+            out.text(class.as_slice());
             out.put(")")
         }
         Expression::Path(path) => write_path(out, path),
         Expression::Parenthesis(inner) => {
-            out.put("[")?;
-            write_expression(out, inner.get())?;
+            out.put("[");
+            write_expression(out, inner.get());
             out.put("]")
         }
         Expression::Negative(operand) => {
-            out.put("(- ")?;
-            write_expression(out, operand.get())?;
+            out.put("(- ");
+            write_expression(out, operand.get());
             out.put(")")
         }
         Expression::Not(operand) => {
-            out.put("(Not ")?;
-            write_expression(out, operand.get())?;
+            out.put("(Not ");
+            write_expression(out, operand.get());
             out.put(")")
         }
         Expression::Chain { first, rest } => {
-            out.put("(")?;
-            write_expression(out, first.get())?;
-            write_operations(out, rest.as_slice())?;
+            out.put("(");
+            write_expression(out, first.get());
+            write_operations(out, rest.as_slice());
             out.put(")")
         }
     }
 }
 
 #[cycle(expressions)]
-fn write_operations(out: &mut Notation, operations: &[Operation]) -> Result<(), Memory> {
+fn write_operations(out: &mut Answer, operations: &[Operation]) {
     for operation in operations {
-        out.put(operator_word(operation.operator))?;
-        write_expression(out, &operation.operand)?;
+        out.put(operator_word(operation.operator));
+        write_expression(out, &operation.operand);
     }
-    Ok(())
 }
 
 /// Adds a path.
 #[cycle(expressions)]
-pub fn write_path(out: &mut Notation, path: &Path) -> Result<(), Memory> {
+pub fn write_path(out: &mut Answer, path: &Path) {
     match &path.head {
-        PathHead::Name(text) => out.name(text)?,
-        PathHead::Me => out.put("#Me")?,
+        PathHead::Name(text) => out.text(text.as_slice()),
+        PathHead::Me => out.put("#Me"),
         PathHead::With(text) => {
-            out.put(".")?;
-            out.name(text)?;
+            out.put(".");
+            out.text(text.as_slice());
         }
     }
     for step in path.steps.as_slice() {
-        write_step(out, step)?;
+        write_step(out, step);
     }
-    Ok(())
 }
 
 #[cycle(expressions)]
-fn write_step(out: &mut Notation, step: &Step) -> Result<(), Memory> {
+fn write_step(out: &mut Answer, step: &Step) {
     match step {
         Step::Member(text) => {
-            out.put(".")?;
-            out.name(text)
+            out.put(".");
+            out.text(text.as_slice())
         }
         Step::Group(arguments) => {
-            out.put("(")?;
-            write_expressions(out, arguments.as_slice())?;
+            out.put("(");
+            write_expressions(out, arguments.as_slice());
             out.put(")")
         }
     }
@@ -180,14 +140,13 @@ fn write_step(out: &mut Notation, step: &Step) -> Result<(), Memory> {
 
 /// Adds the trees of expressions, with blanks between them.
 #[cycle(expressions)]
-pub fn write_expressions(out: &mut Notation, trees: &[Expression]) -> Result<(), Memory> {
+pub fn write_expressions(out: &mut Answer, trees: &[Expression]) {
     let [first, more @ ..] = trees else {
-        return Ok(());
+        return;
     };
-    write_expression(out, first)?;
+    write_expression(out, first);
     for tree in more {
-        out.put(" ")?;
-        write_expression(out, tree)?;
+        out.put(" ");
+        write_expression(out, tree);
     }
-    Ok(())
 }

@@ -24,29 +24,19 @@ use std::rt::Files;
 use subject::Scripts;
 use timing::time_stages;
 
-/// The files of cases, and what each is tried on.
-const FILES: [(&str, Scripts); 11] = [
-    ("words.txt", Scripts::Words),
-    ("places.txt", Scripts::Places),
-    ("counts.txt", Scripts::Counts),
-    ("grammar.txt", Scripts::Trees),
-    ("without_edges.txt", Scripts::BareTrees),
-    ("depths.txt", Scripts::Verdicts),
-    ("printed.txt", Scripts::Printed),
-    ("scripts.txt", Scripts::Programs),
-    ("names.txt", Scripts::Names),
-    ("parts.txt", Scripts::ScriptParts),
-    ("pages.txt", Scripts::PageParts),
-];
-
 /// Tries each file of cases.
 fn try_cases<R: Files + AllocGlobal + Print>(rt: &R) -> io::Result<()> {
-    let mut all_passed = true;
-    for (name, subject) in FILES {
-        if !try_file(rt, name, &subject)? {
-            all_passed = false;
-        }
-    }
+    let mut all_passed = try_file(rt, "words.txt", &Scripts::Words)?;
+    all_passed &= try_file(rt, "places.txt", &Scripts::Places)?;
+    all_passed &= try_file(rt, "counts.txt", &Scripts::Counts)?;
+    all_passed &= try_file(rt, "grammar.txt", &Scripts::Trees)?;
+    all_passed &= try_file(rt, "without_edges.txt", &Scripts::BareTrees)?;
+    all_passed &= try_file(rt, "depths.txt", &Scripts::Verdicts)?;
+    all_passed &= try_file(rt, "printed.txt", &Scripts::Printed)?;
+    all_passed &= try_file(rt, "scripts.txt", &Scripts::Programs)?;
+    all_passed &= try_file(rt, "names.txt", &Scripts::Names)?;
+    all_passed &= try_file(rt, "parts.txt", &Scripts::ScriptParts)?;
+    all_passed &= try_file(rt, "pages.txt", &Scripts::PageParts)?;
     if all_passed {
         Ok(())
     } else {

@@ -1,24 +1,22 @@
 //! What names stand for.
 
 use crate::programs::program;
-use crate::stopped::Stopped;
-use case_files::CaseStop;
-use std::alloc::Global;
+use case_files::{Answer, CaseStop};
 use vb_syntax::Program;
 use vb_syntax::program::{Expression, Head, Named, Path, Procedure, Statement, StatementKind};
-use vb_value::Memory;
 
-/// What the names stand for in a statement of a script. The case names it: `page:` and the script for the last of the
-/// page, `procedure:` for the last of the last procedure and `start:` for its first, `method:` for the last of the last
-/// procedure of the last class.
-pub fn names(alloc: Global, case: &str) -> Result<String, Stopped> {
+/// Writes what the names stand for in a statement of a script. The case names it: `page:` and the script for the last
+/// of the page, `procedure:` for the last of the last procedure and `start:` for its first, `method:` for the last of
+/// the last procedure of the last class.
+pub fn write_names(out: &mut Answer, case: &str) {
     let Some((place, script)) = case.split_once(": ") else {
-        return Err(CaseStop::Unreadable.into());
+        return out.stop(CaseStop::Unreadable);
     };
-    let program = program(alloc, script)?;
-    match statement(place, &program) {
-        Some(statement) => Ok(statement_text(alloc, statement)?),
-        None => Err(CaseStop::Unreadable.into()),
+    if let Some(program) = program(out, script) {
+        match statement(place, &program) {
+            Some(statement) => write_statement(out, statement),
+            None => out.stop(CaseStop::Unreadable),
+        }
     }
 }
 
@@ -51,49 +49,52 @@ fn last(body: &[Statement]) -> Option<&Statement> {
     }
 }
 
-fn named_text(alloc: Global, name: &Named) -> Result<String, Memory> {
+fn write_named(out: &mut Answer, name: &Named) {
     match name {
-        Named::Place(slot) => Ok(format!(in alloc; "{slot:?}")?),
-        _ => Ok(format!(in alloc; "{name:?}")?),
+        Named::Place(slot) => out.debug(slot),
+        _ => out.debug(name),
     }
 }
 
-fn head_text(alloc: Global, head: &Head) -> Result<String, Memory> {
+fn write_head(out: &mut Answer, head: &Head) {
     match head {
-        Head::Named(name) => named_text(alloc, name),
-        Head::Member { member, .. } => Ok(format!(in alloc; "{member:?}")?),
-        _ => Ok(format!(in alloc; "{head:?}")?),
+        Head::Named(name) => write_named(out, name),
+        Head::Member { member, .. } => out.debug(member),
+        _ => out.debug(head),
     }
 }
 
-fn path_text(alloc: Global, path: &Path) -> Result<String, Memory> {
-    let (head, steps) = (head_text(alloc, &path.head)?, path.steps.len());
-    Ok(format!(in alloc; "{head} {steps}")?)
+fn write_path(out: &mut Answer, path: &Path) {
+    write_head(out, &path.head);
+    out.put(" ");
+    out.show(&path.steps.len());
 }
 
-fn value_text(alloc: Global, value: &Expression) -> Result<String, Memory> {
+fn write_value(out: &mut Answer, value: &Expression) {
     match value {
-        Expression::Path(path) => path_text(alloc, path),
-        _ => Ok(String::from_str(alloc, "value")?),
+        Expression::Path(path) => write_path(out, path),
+        _ => out.put("value"),
     }
 }
 
 /// What the names in a statement stand for, each with how many steps stay behind it.
-fn statement_text(alloc: Global, statement: &Statement) -> Result<String, Memory> {
+fn write_statement(out: &mut Answer, statement: &Statement) {
     match &statement.kind {
         StatementKind::Assign { target, value } | StatementKind::Set { target, value } => {
-            let (target, value) = (path_text(alloc, target)?, value_text(alloc, value)?);
-            Ok(format!(in alloc; "{target} = {value}")?)
+            write_path(out, target);
+            out.put(" = ");
+            write_value(out, value);
         }
-        StatementKind::Call { callee } => path_text(alloc, callee),
+        StatementKind::Call { callee } => write_path(out, callee),
         StatementKind::ForEach {
             variable,
             group,
             ..
         } => {
-            let (variable, group) = (named_text(alloc, variable)?, value_text(alloc, group)?);
-            Ok(format!(in alloc; "{variable} in {group}")?)
+            write_named(out, variable);
+            out.put(" in ");
+            write_value(out, group);
         }
-        _ => Ok(String::from_str(alloc, "other")?),
+        _ => out.put("other"),
     }
 }

@@ -1,59 +1,69 @@
 //! The programs of scripts and pages.
 
-use crate::stopped::Stopped;
+use crate::stopped::{write_script_stop, write_stop};
 use crate::words::{case_text, page_words};
+use case_files::Answer;
 use page_build::script_program;
-use std::alloc::Global;
 use vb_parse::parse;
 use vb_scope::resolve;
 use vb_syntax::Program;
-use vb_value::{List, Memory, Text};
+use vb_value::{List, Text};
 
-/// The program of a script's text.
-pub fn program(alloc: Global, script: &str) -> Result<Program, Stopped> {
-    let text = case_text(alloc, script)?;
-    Ok(script_program(alloc, &text)?)
+/// The program of a script's text, if it has one. Else the answer has why.
+pub fn program(out: &mut Answer, script: &str) -> Option<Program> {
+    let text = case_text(out, script)?;
+    match script_program(out.alloc(), &text) {
+        Ok(program) => Some(program),
+        Err(stop) => {
+            write_script_stop(out, &stop);
+            None
+        }
+    }
 }
 
-/// The program of a page.
-fn page_program(alloc: Global, page: &str) -> Result<Program, Stopped> {
-    let unit = parse(alloc, page_words(alloc, page)?.as_slice())?;
-    Ok(resolve(alloc, unit)?)
+/// Writes the variables, procedures and classes of a script's program.
+pub fn write_script_parts(out: &mut Answer, script: &str) {
+    if let Some(program) = program(out, script) {
+        write_parts(out, &program);
+    }
 }
 
-/// The variables, procedures and classes of a script's program.
-pub fn script_parts(alloc: Global, script: &str) -> Result<String, Stopped> {
-    Ok(parts_text(alloc, &program(alloc, script)?)?)
+/// Writes the variables, procedures and classes of a page's program.
+pub fn write_page_parts(out: &mut Answer, page: &str) {
+    let Some(words) = page_words(out, page) else {
+        return;
+    };
+    match parse(out.alloc(), words.as_slice()) {
+        Ok(unit) => match resolve(out.alloc(), unit) {
+            Ok(program) => write_parts(out, &program),
+            Err(stop) => write_stop(out, &stop),
+        },
+        Err(stop) => write_stop(out, &stop),
+    }
 }
 
-/// The variables, procedures and classes of a page's program.
-pub fn page_parts(alloc: Global, page: &str) -> Result<String, Stopped> {
-    Ok(parts_text(alloc, &page_program(alloc, page)?)?)
+/// Writes that a script has a program.
+pub fn write_accepted(out: &mut Answer, script: &str) {
+    if program(out, script).is_some() {
+        out.put("accepted");
+    }
 }
 
-/// That a script has a program.
-pub fn accepted(alloc: Global, script: &str) -> Result<String, Stopped> {
-    let _program = program(alloc, script)?;
-    Ok(String::from_str(alloc, "accepted")?)
+fn write_parts(out: &mut Answer, program: &Program) {
+    out.put("variables");
+    write_names(out, &program.vars);
+    out.put(", procedures");
+    write_names(out, &program.procs);
+    out.put(", classes");
+    write_names(out, &program.classes);
 }
 
-fn parts_text(alloc: Global, program: &Program) -> Result<String, Memory> {
-    let mut out = String::from_str(alloc, "variables")?;
-    push_names(&mut out, alloc, &program.vars)?;
-    out.push_str(", procedures")?;
-    push_names(&mut out, alloc, &program.procs)?;
-    out.push_str(", classes")?;
-    push_names(&mut out, alloc, &program.classes)?;
-    Ok(out)
-}
-
-fn push_names(out: &mut String, alloc: Global, names: &List<Text>) -> Result<(), Memory> {
+fn write_names(out: &mut Answer, names: &List<Text>) {
     if names.is_empty() {
-        out.push_str(" none")?;
+        out.put(" none");
     }
     for name in names.as_slice() {
-        out.push(' ')?;
-        out.push_str(name.to_string(alloc)?.as_str())?;
+        out.put(" ");
+        out.text(name.as_slice());
     }
-    Ok(())
 }

@@ -1,11 +1,12 @@
 //! What each file of cases is tried on.
 
-use crate::grammar::{bare_tree, counts, inner_words, places, printed, tree, verdict};
-use crate::names::names;
-use crate::programs::{accepted, page_parts, script_parts};
-use crate::stopped::{Stopped, answer_or_fault};
-use case_files::{CaseStop, Subject};
-use std::alloc::Global;
+use crate::grammar::{
+    write_bare_tree, write_inner_words, write_printed, write_script_counts, write_script_places,
+    write_tree, write_verdict,
+};
+use crate::names::write_names;
+use crate::programs::{write_accepted, write_page_parts, write_script_parts};
+use case_files::{Answer, Subject};
 
 /// What the scripts of a file are tried on. Each has its answer or its first fault with the line.
 #[derive(Clone, Copy)]
@@ -23,26 +24,20 @@ pub enum Scripts {
     PageParts,
 }
 
-impl Scripts {
-    fn outcome(self, alloc: Global, case: &str) -> Result<String, Stopped> {
-        match self {
-            Scripts::Words => inner_words(alloc, case),
-            Scripts::Places => places(alloc, case),
-            Scripts::Counts => counts(alloc, case),
-            Scripts::Trees => tree(alloc, case),
-            Scripts::BareTrees => bare_tree(alloc, case),
-            Scripts::Verdicts => verdict(alloc, case),
-            Scripts::Printed => printed(alloc, case),
-            Scripts::Programs => accepted(alloc, case),
-            Scripts::Names => names(alloc, case),
-            Scripts::ScriptParts => script_parts(alloc, case),
-            Scripts::PageParts => page_parts(alloc, case),
-        }
-    }
-}
-
 impl Subject for Scripts {
-    fn answer(&self, alloc: Global, case: &str) -> Result<String, CaseStop> {
-        answer_or_fault(alloc, self.outcome(alloc, case))
+    fn answer(&self, case: &str, out: &mut Answer) {
+        match self {
+            Scripts::Words => write_inner_words(out, case),
+            Scripts::Places => write_script_places(out, case),
+            Scripts::Counts => write_script_counts(out, case),
+            Scripts::Trees => write_tree(out, case),
+            Scripts::BareTrees => write_bare_tree(out, case),
+            Scripts::Verdicts => write_verdict(out, case),
+            Scripts::Printed => write_printed(out, case),
+            Scripts::Programs => write_accepted(out, case),
+            Scripts::Names => write_names(out, case),
+            Scripts::ScriptParts => write_script_parts(out, case),
+            Scripts::PageParts => write_page_parts(out, case),
+        }
     }
 }

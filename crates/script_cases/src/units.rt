@@ -1,51 +1,51 @@
 //! Scripts as text: the items with a blank between, and before them `explicit` where they begin with that. A
 //! procedure is `(form Access name(parameters) { body })`, a class `(class name members)`.
 
-use crate::expressions::Notation;
+use crate::expressions::write_open;
 use crate::statements::{write_access, write_block, write_statement, write_variables};
-use std::alloc::Global;
+use case_files::Answer;
 use vb_syntax::{
     Access, Class, ClassMember, FieldAccess, Item, Parameter, Procedure, ProcedureKind, Property,
     PropertyKind, Statement, Unit,
 };
-use vb_value::{Memory, Text};
+use vb_value::Text;
 
-fn write_parameters(out: &mut Notation, parameters: &[Parameter]) -> Result<(), Memory> {
-    out.put("(")?;
+fn write_parameters(out: &mut Answer, parameters: &[Parameter]) {
+    out.put("(");
     for (i, parameter) in parameters.iter().enumerate() {
         if 0 < i {
-            out.put(" ")?;
+            out.put(" ");
         }
         if parameter.by_value {
-            out.put("ByVal:")?;
+            out.put("ByVal:");
         }
-        out.name(&parameter.name)?;
+        out.text(parameter.name.as_slice());
     }
     out.put(")")
 }
 
 /// What procedures and properties have behind their first word.
 fn write_body(
-    out: &mut Notation,
+    out: &mut Answer,
     access: Option<Access>,
     name: &Text,
     parameters: &[Parameter],
     body: &[Statement],
-) -> Result<(), Memory> {
-    write_access(out, access)?;
-    out.put(" ")?;
-    out.name(name)?;
-    write_parameters(out, parameters)?;
-    write_block(out, body)?;
+) {
+    write_access(out, access);
+    out.put(" ");
+    out.text(name.as_slice());
+    write_parameters(out, parameters);
+    write_block(out, body);
     out.put(")")
 }
 
-fn write_procedure(out: &mut Notation, found: &Procedure) -> Result<(), Memory> {
+fn write_procedure(out: &mut Answer, found: &Procedure) {
     let word = match found.kind {
         ProcedureKind::Sub => "sub",
         ProcedureKind::Function => "function",
     };
-    out.open(word, found.line)?;
+    write_open(out, word, found.line);
     write_body(
         out,
         found.access,
@@ -55,13 +55,13 @@ fn write_procedure(out: &mut Notation, found: &Procedure) -> Result<(), Memory> 
     )
 }
 
-fn write_property(out: &mut Notation, found: &Property) -> Result<(), Memory> {
+fn write_property(out: &mut Answer, found: &Property) {
     let word = match found.kind {
         PropertyKind::Get => "get",
         PropertyKind::Let => "let",
         PropertyKind::Set => "set",
     };
-    out.open(word, found.line)?;
+    write_open(out, word, found.line);
     write_body(
         out,
         found.access,
@@ -71,7 +71,7 @@ fn write_property(out: &mut Notation, found: &Property) -> Result<(), Memory> {
     )
 }
 
-fn write_member(out: &mut Notation, member: &ClassMember) -> Result<(), Memory> {
+fn write_member(out: &mut Answer, member: &ClassMember) {
     match member {
         ClassMember::Fields {
             line,
@@ -83,8 +83,8 @@ fn write_member(out: &mut Notation, member: &ClassMember) -> Result<(), Memory> 
                 FieldAccess::Public => "public",
                 FieldAccess::Private => "private",
             };
-            out.open(word, *line)?;
-            write_variables(out, fields.as_slice())?;
+            write_open(out, word, *line);
+            write_variables(out, fields.as_slice());
             out.put(")")
         }
         ClassMember::Method(found) => write_procedure(out, found),
@@ -92,18 +92,18 @@ fn write_member(out: &mut Notation, member: &ClassMember) -> Result<(), Memory> 
     }
 }
 
-fn write_class(out: &mut Notation, found: &Class) -> Result<(), Memory> {
-    out.open("class", found.line)?;
-    out.put(" ")?;
-    out.name(&found.name)?;
+fn write_class(out: &mut Answer, found: &Class) {
+    write_open(out, "class", found.line);
+    out.put(" ");
+    out.text(found.name.as_slice());
     for member in found.members.as_slice() {
-        out.put(" ")?;
-        write_member(out, member)?;
+        out.put(" ");
+        write_member(out, member);
     }
     out.put(")")
 }
 
-fn write_item(out: &mut Notation, item: &Item) -> Result<(), Memory> {
+fn write_item(out: &mut Answer, item: &Item) {
     match item {
         Item::Statement(found) => write_statement(out, found),
         Item::Variables {
@@ -115,8 +115,8 @@ fn write_item(out: &mut Notation, item: &Item) -> Result<(), Memory> {
                 Access::Public => "public",
                 Access::Private => "private",
             };
-            out.open(word, *line)?;
-            write_variables(out, variables.as_slice())?;
+            write_open(out, word, *line);
+            write_variables(out, variables.as_slice());
             out.put(")")
         }
         Item::Procedure(found) => write_procedure(out, found),
@@ -124,17 +124,15 @@ fn write_item(out: &mut Notation, item: &Item) -> Result<(), Memory> {
     }
 }
 
-/// The text of a script's tree.
-pub fn unit_text(alloc: Global, unit: &Unit) -> Result<String, Memory> {
-    let mut out = Notation::new(alloc);
+/// Adds a script's tree.
+pub fn write_unit(out: &mut Answer, unit: &Unit) {
     if unit.option_explicit {
-        out.put("explicit")?;
+        out.put("explicit");
     }
     for (i, item) in unit.items.as_slice().iter().enumerate() {
         if 0 < i || unit.option_explicit {
-            out.put(" ")?;
+            out.put(" ");
         }
-        write_item(&mut out, item)?;
+        write_item(out, item);
     }
-    Ok(out.text())
 }

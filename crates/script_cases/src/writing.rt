@@ -2,8 +2,8 @@
 //! a Long `l:1`, a string `s:a`, the end of a line `end`, text of the page `t:a`, the mark of a value `<%=`. A point that
 //! no path goes on with is `..`.
 
-use std::alloc::Global;
-use vb_value::{Memory, Symbol, Text, Token, TokenKind};
+use case_files::Answer;
+use vb_value::{Symbol, Text, Token, TokenKind};
 
 fn symbol_text(symbol: Symbol) -> &'static str {
     match symbol {
@@ -27,82 +27,90 @@ fn symbol_text(symbol: Symbol) -> &'static str {
     }
 }
 
-fn push_word(out: &mut String, alloc: Global, kind: &TokenKind) -> Result<(), Memory> {
+fn write_word(out: &mut Answer, kind: &TokenKind) {
     match kind {
-        TokenKind::Keyword(word) => Ok(out.push_str(format!(in alloc; "{word:?}")?.as_str())?),
-        TokenKind::Symbol(symbol) => Ok(out.push_str(symbol_text(*symbol))?),
+        TokenKind::Keyword(word) => out.debug(word),
+        TokenKind::Symbol(symbol) => out.put(symbol_text(*symbol)),
         TokenKind::Name {
             text,
             bracketed: true,
         } => {
-            push_text(out, alloc, "[", text)?;
-            Ok(out.push(']')?)
+            write_marked(out, "[", text);
+            out.put("]");
         }
         TokenKind::Name {
             text,
             bracketed: false,
-        } => push_text(out, alloc, "n:", text),
-        TokenKind::Integer(value) => Ok(out.push_str(format!(in alloc; "i:{value}")?.as_str())?),
-        TokenKind::Long(value) => Ok(out.push_str(format!(in alloc; "l:{value}")?.as_str())?),
-        TokenKind::String(text) => push_text(out, alloc, "s:", text),
-        TokenKind::LineEnd => Ok(out.push_str("end")?),
-        TokenKind::PageText(text) => push_text(out, alloc, "t:", text),
-        TokenKind::PageWrite => Ok(out.push_str("<%=")?),
+        } => write_marked(out, "n:", text),
+        TokenKind::Integer(value) => {
+            out.put("i:");
+            out.show(value);
+        }
+        TokenKind::Long(value) => {
+            out.put("l:");
+            out.show(value);
+        }
+        TokenKind::String(text) => write_marked(out, "s:", text),
+        TokenKind::LineEnd => out.put("end"),
+        TokenKind::PageText(text) => write_marked(out, "t:", text),
+        TokenKind::PageWrite => out.put("<%="),
     }
 }
 
-fn push_text(out: &mut String, alloc: Global, mark: &str, text: &Text) -> Result<(), Memory> {
-    out.push_str(mark)?;
-    Ok(out.push_str(text.to_string(alloc)?.as_str())?)
+fn write_marked(out: &mut Answer, mark: &str, text: &Text) {
+    out.put(mark);
+    out.text(text.as_slice());
 }
 
-/// The words, with blanks between them.
-pub fn words_text(alloc: Global, words: &[Token]) -> Result<String, Memory> {
-    let mut out = String::new(alloc);
+/// Adds the words, with blanks between them.
+pub fn write_words(out: &mut Answer, words: &[Token]) {
     for (i, token) in words.iter().enumerate() {
         if i > 0 {
-            out.push(' ')?;
+            out.put(" ");
         }
-        push_word(&mut out, alloc, &token.kind)?;
+        write_word(out, &token.kind);
     }
-    Ok(out)
 }
 
-/// The words, and `@` with the line before each that stands in another line than the one before it.
-pub fn lined_text(alloc: Global, words: &[Token]) -> Result<String, Memory> {
-    let mut out = String::new(alloc);
+/// Adds the words, and `@` with the line before each that stands in another line than the one before it.
+pub fn write_lined(out: &mut Answer, words: &[Token]) {
     let mut line = 0;
     for token in words {
         if !out.is_empty() {
-            out.push(' ')?;
+            out.put(" ");
         }
         if token.line != line {
             line = token.line;
-            out.push_str(format!(in alloc; "@{line} ")?.as_str())?;
+            out.put("@");
+            out.show(&line);
+            out.put(" ");
         }
-        push_word(&mut out, alloc, &token.kind)?;
+        write_word(out, &token.kind);
     }
-    Ok(out)
 }
 
-/// Of each word its line, and where it begins and ends.
-pub fn places_text(alloc: Global, words: &[Token]) -> Result<String, Memory> {
-    let mut out = String::new(alloc);
+/// Adds of each word its line, and where it begins and ends.
+pub fn write_places(out: &mut Answer, words: &[Token]) {
     for (i, token) in words.iter().enumerate() {
         if i > 0 {
-            out.push(' ')?;
+            out.put(" ");
         }
-        let (line, start, end) = (token.line, token.start, token.end);
-        out.push_str(format!(in alloc; "{line}:{start}-{end}")?.as_str())?;
+        out.show(&token.line);
+        out.put(":");
+        out.show(&token.start);
+        out.put("-");
+        out.show(&token.end);
     }
-    Ok(out)
 }
 
-/// How many words there are, and the line of the last.
-pub fn counts_text(alloc: Global, words: &[Token]) -> Result<String, Memory> {
-    let count = words.len();
+/// Adds how many words there are, and the line of the last.
+pub fn write_counts(out: &mut Answer, words: &[Token]) {
     match words {
-        [] => Ok(String::from_str(alloc, "none")?),
-        [.., last] => Ok(format!(in alloc; "{count}, to line {}", last.line)?),
+        [] => out.put("none"),
+        [.., last] => {
+            out.show(&words.len());
+            out.put(", to line ");
+            out.show(&last.line);
+        }
     }
 }

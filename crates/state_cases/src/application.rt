@@ -1,140 +1,149 @@
 //! Calls of the Application object.
 
-use crate::said::{Said, number};
+use crate::said::{number, write_comma, write_maybe, write_word};
 use asp_app::{AppStop, Application};
 use asp_objects::may_call;
-use case_files::{CaseStop, Subject, read_text};
-use std::alloc::Global;
-use std::str::Split;
+use case_files::{Answer, CaseStop, Subject, read_text};
 use vb_value::{AppCall, AppReply, Text, Value};
 
 /// Calls of a new Application object, with `; ` between them, each with its reply.
 pub struct Applications;
 
-/// A text `'abc`, `empty`, or an Integer `5`.
-fn value(alloc: Global, written: &str) -> Result<Value, CaseStop> {
-    if let Some(text) = written.strip_prefix('\'') {
-        return Ok(Value::Str(Text::from_str(alloc, text)?));
+impl Subject for Applications {
+    fn answer(&self, case: &str, out: &mut Answer) {
+        match read_text(out.alloc(), case) {
+            Ok(text) => write_calls(out, text.as_str()),
+            Err(stop) => out.stop(stop),
+        }
+    }
+}
+
+fn write_calls(out: &mut Answer, calls: &str) {
+    let mut application = Application::new(out.alloc());
+    for call in calls.split("; ") {
+        write_call(out, &mut application, call);
+    }
+}
+
+/// Writes what a call gives. It has at most four words.
+fn write_call(out: &mut Answer, application: &mut Application, written: &str) {
+    let mut words = written.split(' ');
+    let run = words.next().unwrap_or("");
+    let second = words.next();
+    match run {
+        "end" => application.free(number(out, second)),
+        "holder" => write_maybe(out, application.holder()),
+        _ => {
+            let run = number(out, Some(run));
+            let (first, value) = (words.next().unwrap_or(""), words.next().unwrap_or(""));
+            let call = call_of(out, second.unwrap_or(""), first, value);
+            write_of_run(out, application, run, &call);
+        }
+    }
+}
+
+/// The call of this word, as a case writes it.
+fn call_of(out: &mut Answer, word: &str, first: &str, value: &str) -> AppCall {
+    match word {
+        "get" => AppCall::Get(text(out, first)),
+        "put" => AppCall::Put(text(out, first), value_of(out, value)),
+        "remove" => AppCall::Remove(text(out, first)),
+        "clear" => AppCall::RemoveAll,
+        "count" => AppCall::Count,
+        "names" => AppCall::Names,
+        "lock" => AppCall::Lock,
+        "unlock" => AppCall::Unlock,
+        "key" => AppCall::KeyAt(place(out, first)),
+        _ => {
+            out.stop(CaseStop::Unreadable);
+            AppCall::Count
+        }
+    }
+}
+
+fn text(out: &mut Answer, written: &str) -> Text {
+    match Text::from_str(out.alloc(), written) {
+        Ok(text) => text,
+        Err(_) => {
+            out.stop(CaseStop::Memory);
+            Text::new(out.alloc())
+        }
+    }
+}
+
+/// A text `'abc`, or an Integer `5`.
+fn value_of(out: &mut Answer, written: &str) -> Value {
+    if let Some(written) = written.strip_prefix('\'') {
+        return Value::Str(text(out, written));
     }
     match written.parse() {
-        Ok(number) => Ok(Value::Int(number)),
-        Err(_) => Err(CaseStop::Unreadable),
+        Ok(number) => Value::Int(number),
+        Err(_) => {
+            out.stop(CaseStop::Unreadable);
+            Value::Empty
+        }
     }
 }
 
-fn push_value(said: &mut Said, value: &Value) -> Result<(), CaseStop> {
-    match value {
-        Value::Empty => said.word("empty"),
-        Value::Int(number) => {
-            let written = format!(in said.alloc; "{number}")?;
-            said.word(written.as_str())
+fn place(out: &mut Answer, written: &str) -> i32 {
+    match written.parse() {
+        Ok(place) => place,
+        Err(_) => {
+            out.stop(CaseStop::Unreadable);
+            0
         }
-        Value::Str(text) => {
-            let written = format!(in said.alloc; "'{}", text.to_string(said.alloc)?)?;
-            said.word(written.as_str())
-        }
-        _ => said.word("another"),
     }
 }
 
-fn push_names(said: &mut Said, names: &[Text]) -> Result<(), CaseStop> {
-    let mut all = String::new(said.alloc);
-    for name in names {
-        if !all.is_empty() {
-            all.push(' ')?;
-        }
-        all.push_str(name.to_string(said.alloc)?.as_str())?;
-    }
-    let written = format!(in said.alloc; "[{all}]")?;
-    said.word(written.as_str())
-}
-
-fn push_reply(said: &mut Said, reply: &AppReply) -> Result<(), CaseStop> {
-    match reply {
-        AppReply::Value(value) => push_value(said, value),
-        AppReply::Number(number) => {
-            let written = format!(in said.alloc; "{number}")?;
-            said.word(written.as_str())
-        }
-        AppReply::Name(name) => {
-            let written = name.to_string(said.alloc)?;
-            said.word(written.as_str())
-        }
-        AppReply::NoName => said.word("no name"),
-        AppReply::Names(names) => push_names(said, names.as_slice()),
-        AppReply::Done => said.word("done"),
-        AppReply::Full => said.word("full"),
-    }
-}
-
-/// A call as a case writes it.
-fn read_call(alloc: Global, word: &str, words: &mut Split<'_, char>) -> Result<AppCall, CaseStop> {
-    let first = words.next().unwrap_or("");
-    match word {
-        "get" => Ok(AppCall::Get(Text::from_str(alloc, first)?)),
-        "put" => {
-            let value = value(alloc, words.next().unwrap_or(""))?;
-            Ok(AppCall::Put(Text::from_str(alloc, first)?, value))
-        }
-        "remove" => Ok(AppCall::Remove(Text::from_str(alloc, first)?)),
-        "clear" => Ok(AppCall::RemoveAll),
-        "count" => Ok(AppCall::Count),
-        "names" => Ok(AppCall::Names),
-        "lock" => Ok(AppCall::Lock),
-        "unlock" => Ok(AppCall::Unlock),
-        "key" => match first.parse() {
-            Ok(place) => Ok(AppCall::KeyAt(place)),
-            Err(_) => Err(CaseStop::Unreadable),
+/// Writes the reply to a call of a run.
+fn write_of_run(out: &mut Answer, application: &mut Application, run: u32, call: &AppCall) {
+    match may_call(out.alloc(), call) {
+        Ok(true) => match application.call(run, call) {
+            Ok(reply) => write_reply(out, &reply),
+            Err(AppStop::Blocked { holder }) => {
+                write_word(out, "blocked by ");
+                out.show(&holder);
+            }
+            Err(AppStop::Memory) => out.stop(CaseStop::Memory),
         },
-        _ => Err(CaseStop::Unreadable),
+        Ok(false) => out.stop(CaseStop::Unreadable),
+        Err(_) => out.stop(CaseStop::Memory),
     }
 }
 
-/// A call of a run.
-fn call(
-    application: &mut Application,
-    said: &mut Said,
-    run: u32,
-    call: &AppCall,
-) -> Result<(), CaseStop> {
-    if !may_call(said.alloc, call)? {
-        return Err(CaseStop::Unreadable);
-    }
-    match application.call(run, call) {
-        Ok(reply) => push_reply(said, &reply),
-        Err(AppStop::Blocked { holder }) => {
-            let written = format!(in said.alloc; "blocked by {holder}")?;
-            said.word(written.as_str())
-        }
-        Err(AppStop::Memory) => Err(CaseStop::Memory),
+fn write_reply(out: &mut Answer, reply: &AppReply) {
+    write_comma(out);
+    match reply {
+        AppReply::Value(value) => write_value(out, value),
+        AppReply::Number(number) => out.show(number),
+        AppReply::Name(name) => out.text(name.as_slice()),
+        AppReply::NoName => out.put("no name"),
+        AppReply::Names(names) => write_names(out, names.as_slice()),
+        AppReply::Done => out.put("done"),
+        AppReply::Full => out.put("full"),
     }
 }
 
-fn one(application: &mut Application, said: &mut Said, written: &str) -> Result<(), CaseStop> {
-    let mut words = written.split(' ');
-    let first = words.next().unwrap_or("");
-    match first {
-        "end" => {
-            application.free(number(words.next())?);
-            Ok(())
+fn write_value(out: &mut Answer, value: &Value) {
+    match value {
+        Value::Empty => out.put("empty"),
+        Value::Int(number) => out.show(number),
+        Value::Str(text) => {
+            out.put("'");
+            out.text(text.as_slice());
         }
-        "holder" => said.maybe(application.holder()),
-        _ => {
-            let run = number(Some(first))?;
-            let asked = read_call(said.alloc, words.next().unwrap_or(""), &mut words)?;
-            call(application, said, run, &asked)
-        }
+        _ => out.put("another"),
     }
 }
 
-impl Subject for Applications {
-    fn answer(&self, alloc: Global, case: &str) -> Result<String, CaseStop> {
-        let text = read_text(alloc, case)?;
-        let mut application = Application::new(alloc);
-        let mut said = Said::new(alloc);
-        for written in text.as_str().split("; ") {
-            one(&mut application, &mut said, written)?;
+/// Writes names, in brackets.
+fn write_names(out: &mut Answer, names: &[Text]) {
+    out.put("[");
+    for (i, name) in names.iter().enumerate() {
+        if i > 0 {
+            out.put(" ");
         }
-        Ok(said.into_text())
+        out.text(name.as_slice());
     }
+    out.put("]");
 }

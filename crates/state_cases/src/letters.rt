@@ -2,11 +2,19 @@
 ghost use Rattle.std.specs.Prelude.{◌<◌, IfOk};
 
 use asp_session::letters;
-use case_files::{CaseStop, Subject, read_text};
-use std::alloc::Global;
+use case_files::{Answer, CaseStop, Subject, read_text};
 
 /// A seed in hexadecimal and a key, with the key's letters.
 pub struct Letters;
+
+impl Subject for Letters {
+    fn answer(&self, case: &str, out: &mut Answer) {
+        match read_text(out.alloc(), case) {
+            Ok(text) => write_letters(out, text.as_str()),
+            Err(stop) => out.stop(stop),
+        }
+    }
+}
 
 fn digit(digits: &[u8], place: usize) -> Result<u8, CaseStop>
     ensures { IfOk result (λ digit. digit < 16) }
@@ -33,21 +41,15 @@ fn seed(written: &str) -> Result<[u8; 32], CaseStop> {
     Ok(seed)
 }
 
-impl Subject for Letters {
-    fn answer(&self, alloc: Global, case: &str) -> Result<String, CaseStop> {
-        let text = read_text(alloc, case)?;
-        let Some((written, key)) = text.as_str().split_once(' ') else {
-            return Err(CaseStop::Unreadable);
-        };
-        let seed = seed(written)?;
-        let key: u32 = key.parse().map_err(|_| CaseStop::Unreadable)?;
-        if key == 0 {
-            return Err(CaseStop::Unreadable);
+/// Writes the letters of a key, which stands behind the seed.
+fn write_letters(out: &mut Answer, written: &str) {
+    let (digits, key) = written.split_once(' ').unwrap_or((written, ""));
+    match (seed(digits), key.parse()) {
+        (Ok(seed), Ok(key)) if key > 0 => {
+            for letter in letters(&seed, key).as_slice() {
+                out.text(&[char::from(*letter)]);
+            }
         }
-        let mut answer = String::new(alloc);
-        for letter in letters(&seed, key) {
-            answer.push(char::from(letter))?;
-        }
-        Ok(answer)
+        _ => out.stop(CaseStop::Unreadable),
     }
 }

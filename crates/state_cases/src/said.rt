@@ -1,74 +1,64 @@
-//! What calls give, as cases write it.
+//! The numbers of calls, and what calls give, as cases write them.
 
-use case_files::CaseStop;
-use std::alloc::Global;
+use case_files::{Answer, CaseStop};
+use vb_value::{List, Memory};
 
-/// The number that is written so.
-pub fn number(written: Option<&str>) -> Result<u32, CaseStop> {
+/// The number that is written so. Anything else stops the answer.
+pub fn number(out: &mut Answer, written: Option<&str>) -> u32 {
     match written.unwrap_or("").parse() {
-        Ok(number) => Ok(number),
-        Err(_) => Err(CaseStop::Unreadable),
+        Ok(number) => number,
+        Err(_) => {
+            out.stop(CaseStop::Unreadable);
+            0
+        }
     }
 }
 
-/// The moment that is written so, in seconds.
-pub fn moment(written: Option<&str>) -> Result<u64, CaseStop> {
-    Ok(u64::from(number(written)?))
+/// The moment that is written so, in seconds. Anything else stops the answer.
+pub fn moment(out: &mut Answer, written: Option<&str>) -> u64 {
+    u64::from(number(out, written))
 }
 
-/// What the calls of a case gave, in their order.
-#[derive(Drop)]
-pub struct Said {
-    pub alloc: Global,
-    text: String,
+/// Writes what stands before an answer, unless it is the first.
+pub fn write_comma(out: &mut Answer) {
+    if !out.is_empty() {
+        out.put(", ");
+    }
 }
 
-impl Said {
-    /// Before the first call.
-    pub fn new(alloc: Global) -> Said {
-        Said {
-            alloc,
-            text: String::new(alloc),
-        }
-    }
+/// A call gave this word.
+pub fn write_word(out: &mut Answer, word: &str) {
+    write_comma(out);
+    out.put(word);
+}
 
-    /// A call gave this word.
-    pub fn word(&mut self, word: &str) -> Result<(), CaseStop> {
-        if !self.text.is_empty() {
-            self.text.push_str(", ")?;
-        }
-        Ok(self.text.push_str(word)?)
-    }
+/// A call gave this number.
+pub fn write_number(out: &mut Answer, number: u32) {
+    write_comma(out);
+    out.show(&number);
+}
 
-    /// A call gave this number.
-    pub fn number(&mut self, number: u32) -> Result<(), CaseStop> {
-        let written = format!(in self.alloc; "{number}")?;
-        self.word(written.as_str())
+/// A call gave a number or nothing.
+pub fn write_maybe(out: &mut Answer, number: Option<u32>) {
+    match number {
+        Some(number) => write_number(out, number),
+        None => write_word(out, "none"),
     }
+}
 
-    /// A call gave a number or nothing.
-    pub fn maybe(&mut self, number: Option<u32>) -> Result<(), CaseStop> {
-        match number {
-            Some(number) => self.number(number),
-            None => self.word("none"),
-        }
-    }
-
-    /// A call gave these numbers.
-    pub fn numbers(&mut self, numbers: &[u32]) -> Result<(), CaseStop> {
-        let mut all = String::new(self.alloc);
-        for number in numbers {
-            if !all.is_empty() {
-                all.push(' ')?;
+/// A call gave these numbers.
+pub fn write_numbers(out: &mut Answer, numbers: &Result<List<u32>, Memory>) {
+    match numbers {
+        Ok(numbers) => {
+            write_word(out, "[");
+            for (i, number) in numbers.as_slice().iter().enumerate() {
+                if i > 0 {
+                    out.put(" ");
+                }
+                out.show(number);
             }
-            all.push_str(format!(in self.alloc; "{number}")?.as_str())?;
+            out.put("]");
         }
-        let written = format!(in self.alloc; "[{all}]")?;
-        self.word(written.as_str())
-    }
-
-    /// All that was given.
-    pub fn into_text(self) -> String {
-        self.text
+        Err(_) => out.stop(CaseStop::Memory),
     }
 }

@@ -19,7 +19,7 @@ fn lists_take_items(rt: HostRuntime) -> Result<(), Memory> {
     list.reserve(100)?;
     list.append_slice(&[7])?;
     list.append(list.copy()?)?;
-    assert_eq!(rt; list.as_slice(), [0, 1, 7, 0, 1, 7].as_slice());
+    assert!(rt; list.as_slice() == [0, 1, 7, 0, 1, 7].as_slice());
     Ok(())
 }
 
@@ -30,17 +30,17 @@ fn lists_lose_items(rt: HostRuntime) -> Result<(), Memory> {
         list.set(0, 9);
         list.truncate(3);
     }
-    assert_eq!(rt; list.pop(), Some(2));
-    assert_eq!(rt; list.as_slice(), [9, 1].as_slice());
+    assert!(rt; list.pop() == Some(2));
+    assert!(rt; list.as_slice() == [9, 1].as_slice());
     Ok(())
 }
 
 #[test]
 fn lists_show_their_items(rt: HostRuntime) -> Result<(), Memory> {
     let list = numbers(rt.alloc(), 2)?;
-    assert_eq!(rt; list.get(1).copied(), Some(1));
+    assert!(rt; list.get(1).copied() == Some(1));
     assert!(rt; list.get(2).is_none() && !list.is_empty());
-    assert_eq!(rt; list.iter().count(), 2);
+    assert!(rt; list.iter().count() == 2);
     Ok(())
 }
 
@@ -55,8 +55,8 @@ fn lists_are_compared(rt: HostRuntime) -> Result<(), Memory> {
 #[test]
 fn a_box_holds_its_value(rt: HostRuntime) -> Result<(), Memory> {
     let held = Boxed::new(rt.alloc(), 'x')?;
-    assert_eq!(rt; *held.get(), 'x');
-    assert_eq!(rt; held.into_inner(), 'x');
+    assert!(rt; *held.get() == 'x');
+    assert!(rt; held.into_inner() == 'x');
     Ok(())
 }
 
@@ -66,7 +66,7 @@ fn names_in_tables(rt: HostRuntime) -> Result<(), Fail> {
     let table: [(&[u8], u32); 3] = [(b"Len", 1), (b"Mid", 2), (b"len", 3)];
     for (name, found) in [("lEN", Some(1)), ("mid", Some(2)), ("le", None), ("", None)] {
         let name = Text::from_str(rt.alloc(), name)?;
-        assert_eq!(rt; among(&table, name.as_slice()), found);
+        assert!(rt; among(&table, name.as_slice()) == found);
     }
     Ok(())
 }

@@ -27,9 +27,8 @@ fn a_real_folder(rt: HostRuntime) -> Result<(), Fail> {
     fs::write(&rt, "asp_io_real_folder/deep/empty.inc", "")?;
     let mut folder = StdFolder::new(rt.clone()?, String::from_str(alloc, root)?);
     let names = folder.names(alloc)?;
-    assert_eq!(rt;
-        listing(alloc, &names)?.as_str(),
-        "/deep/empty.inc\n/deep/er/é.asp\n/index.asp\n"
+    assert!(rt;
+        listing(alloc, &names)?.as_str() == "/deep/empty.inc\n/deep/er/é.asp\n/index.asp\n"
     );
     let reads = [
         ("/index.asp", 9, "hello"),
@@ -39,9 +38,9 @@ fn a_real_folder(rt: HostRuntime) -> Result<(), Fail> {
     ];
     for (name, most, want) in reads {
         let bytes = folder.read(alloc, &Text::from_str(alloc, name)?, most)?;
-        assert_eq!(rt; bytes.as_slice(), want.as_bytes(), "{name}");
+        assert!(rt; bytes.as_slice() == want.as_bytes(), "{name}");
     }
-    assert_eq!(rt; folder.faults(), 0);
+    assert!(rt; folder.faults() == 0);
     Ok(fs::remove_dir_all(&rt, root)?)
 }
 
@@ -67,7 +66,7 @@ fn what_a_real_folder_refuses(rt: HostRuntime) -> Result<(), Fail> {
     for (at, name) in refused.iter().enumerate() {
         let read = folder.read(alloc, &Text::from_str(alloc, name)?, 9);
         assert!(rt; matches!(read, Err(IoStop::Failed)), "{name}");
-        assert_eq!(rt; folder.faults(), at as u64 + 1, "{name}");
+        assert!(rt; folder.faults() == at as u64 + 1, "{name}");
     }
     assert!(rt; matches!(folder.names(alloc), Err(IoStop::Failed)));
     Ok(fs::remove_dir_all(&rt, root)?)
@@ -84,7 +83,7 @@ fn roots_that_are_no_folders_of_files(rt: HostRuntime) -> Result<(), Fail> {
         );
         let read = folder.read(alloc, &Text::from_str(alloc, "/null")?, 9);
         assert!(rt; matches!(read, Err(IoStop::Failed)), "{root}");
-        assert_eq!(rt; folder.faults(), 2, "{root}");
+        assert!(rt; folder.faults() == 2, "{root}");
     }
     Ok(())
 }
@@ -92,7 +91,7 @@ fn roots_that_are_no_folders_of_files(rt: HostRuntime) -> Result<(), Fail> {
 #[test]
 fn real_output(rt: HostRuntime) -> Result<(), Fail> {
     let mut out = StdOut::new(rt.clone()?);
-    assert_eq!(rt; write_all(&mut out, "é\n".as_bytes()), Ok(()));
-    assert_eq!(rt; out.faults(), 0);
+    assert!(rt; write_all(&mut out, "é\n".as_bytes()) == Ok(()));
+    assert!(rt; out.faults() == 0);
     Ok(())
 }

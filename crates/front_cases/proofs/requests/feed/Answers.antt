@@ -1,4 +1,4 @@
-use Rattle.front_cases.proofs.requests.read_pieces.Goals as goal
+use Rattle.front_cases.proofs.requests.feed.Goals as goal
 
 pub loop-piece-preserved : goal.loop-piece-preserved
 loop-piece-preserved c = (rw c.in-More.is at c.in_ok-take_requests.ensures).2.gives
