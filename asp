@@ -127,7 +127,7 @@ own_errors() {
 # says how the program ended.
 run_unproved() {
   local words=("$@") code input=/dev/null
-  echo "asp: not proved yet, so this runs an unproved build, in about a minute: ./asp build proves it" >&2
+  echo "asp: not proved yet, so this runs an unproved build, in a minute or two: ./asp build proves it" >&2
   case "${2-}" in '' | /*) ;; *) [ "$1" = gen ] || words[1]=$PWD/$2 ;; esac
   case "${1-}" in replay | audit) input=/dev/stdin ;; esac
   errors=$(mktemp)
