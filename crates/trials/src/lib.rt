@@ -12,3 +12,5 @@ mod longest;
 mod memory;
 #[cfg(test)]
 mod streams;
+#[cfg(test)]
+mod turns;
