@@ -1,12 +1,21 @@
--- A fact of all items of a list, where one comes or goes at its end.
-use Rattle.std.proofs.Common.{◌≡◌, List, [], ◌∷◌, ◌++◌, zero, suc, All, sym, subst, arith}
+-- Lanes of a desk, in lists: of a new desk, and of one from which the last is taken.
+use Rattle.std.proofs.Common.{◌≡◌, refl, ℕ, List, [], ◌∷◌, ◌++◌, All, subst}
+use Rattle.std.proofs.lemmas.List.Elements.{All-map}
+use Rattle.turn_desk.proofs.Gathering.{All-front, All-last}
+use Rattle.turn_desk.specs.Shown.{DeskView, IsLaneOf, lane_view, new_lanes}
+use Rattle.turn_desk.specs.Steps.{fresh_lanes}
+
+-- the lanes of a new desk are that desk's
+pub fresh : {E F : Type 0} (lane_of : E → ℕ) (desk : DeskView F) (history : List E)
+    → All (IsLaneOf desk) (new_lanes lane_of desk history)
+fresh lane_of desk history =
+    All-map (IsLaneOf desk) (lane_view desk) (fresh_lanes lane_of history 0 desk.lanes) (λ k d lt. (refl, refl))
 
 module _ {A : Type 0} (Fact : A → Type 0) where
-  front : (items : List A) (last : A) → All Fact (items ++ last ∷ []) → All Fact items
-  front [] last all k d lt = absurd (omega arith)
-  front (x ∷ xs) last all zero d lt = all zero d (omega arith)
-  front (x ∷ xs) last all (suc k) d lt = front xs last (λ i e l. all (suc i) e (omega arith)) k d (omega arith)
-
   -- what all had, those that are left have
   pub left : (whole items : List A) (last : A) → whole ≡ items ++ last ∷ [] → All Fact whole → All Fact items
-  left whole items last is all = front items last (subst (λ xs. All Fact xs) is all)
+  left whole items last is all = All-front Fact items last (subst (λ xs. All Fact xs) is all)
+
+  -- and so has the one that was taken
+  pub taken : (whole items : List A) (last : A) → whole ≡ items ++ last ∷ [] → All Fact whole → Fact last
+  taken whole items last is all = All-last Fact items last (subst (λ xs. All Fact xs) is all)

@@ -1,5 +1,5 @@
 //! Turns at a desk, of lanes in one thread and in many.
-ghost use Rattle.std.specs.Prelude.{◌≡◌, ◌<◌, ◌≤◌, ◌^◌, [], length, All};
+ghost use Rattle.std.specs.Prelude.{◌≡◌, ◌<◌, ◌≤◌, ◌^◌, [], length, All, IfOk};
 ghost use Rattle.turn_desk.specs.Histories.{GrowsBy};
 ghost use Rattle.turn_desk.specs.Shown.{IsLaneOf};
 
@@ -7,7 +7,7 @@ use std::alloc::Global;
 use std::hint::spin_loop;
 use std::sync::Wait;
 use std::test::Fail;
-use std::thread::{Threads, join};
+use std::thread::{Threads, join, map_vec};
 use turn_desk::{Desk, Lane, Stands};
 use vb_value::{List, Memory};
 
@@ -66,13 +66,55 @@ impl<T> Log<T> {
                 if note.0 == number {
                     right &= last < Some(note.1);
                     last = Some(note.1);
-                    count += 1;
+                    count = count.wrapping_add(1);
                 }
             }
             right &= count == each;
         }
         right
     }
+}
+
+/// A desk round an empty log, and its lanes.
+#[tactic(auto, using(crate::proofs::Lanes::fresh))]
+fn opened<T: Drop>(
+    alloc: Global,
+    kept: T,
+    count: u32,
+) -> Result<(Desk<Log<T>>, List<Lane<Log<T>>>), Memory>
+    requires { (1 ≤ count) × (count ≤ 32) }
+    ensures { IfOk result (λ made. All (λ lane. IsLaneOf made.0 lane) made.1) }
+{
+    Desk::new(alloc, Log::new(alloc, kept), count)
+}
+
+/// The last of these lanes.
+#[tactic(auto, using(crate::proofs::Lanes::left, crate::proofs::Lanes::taken))]
+fn popped<T: Drop>(
+    desk: &Desk<Log<T>>,
+    lanes: &mut List<Lane<Log<T>>>,
+) -> Result<Lane<Log<T>>, Fail>
+    requires { All (λ lane. IsLaneOf desk.now lane) lanes.old }
+    ensures lane { IfOk result (λ lane. IsLaneOf desk.now lane) }
+    ensures lanes { All (λ lane. IsLaneOf desk.now lane) lanes.new }
+{
+    match lanes.pop() {
+        Some(lane) => Ok(lane),
+        None => Err(Fail::from(Memory)),
+    }
+}
+
+/// These lanes with one more.
+fn pushed<T: Drop>(
+    desk: &Desk<Log<T>>,
+    mut lanes: List<Lane<Log<T>>>,
+    lane: Lane<Log<T>>,
+) -> Result<List<Lane<Log<T>>>, Memory>
+    requires { All (λ lane. IsLaneOf desk.now lane) lanes × IsLaneOf desk.now lane }
+    ensures { IfOk result (λ lanes. All (λ lane. IsLaneOf desk.now lane) lanes) }
+{
+    lanes.push(lane)?;
+    Ok(lanes)
 }
 
 /// A turn that adds a note.
@@ -108,28 +150,20 @@ fn notes<T, R: Wait>(
 }
 
 /// The same of each lane, in a thread of its own. What `T` is decides whether lanes may go to other threads.
-#[tactic(auto, using(crate::proofs::Lanes::left))]
 fn all_note<T: Send + Drop, R: Threads + Wait + Sync>(
     rt: &R,
     desk: &Desk<Log<T>>,
-    mut lanes: List<Lane<Log<T>>>,
+    lanes: List<Lane<Log<T>>>,
     turns: u32,
     rests: bool,
-) -> List<Lane<Log<T>>>
+) -> Result<List<Lane<Log<T>>>, Memory>
     requires { All (λ lane. IsLaneOf desk.now lane) lanes }
-    ensures { All (λ lane. IsLaneOf desk.now lane) result }
+    ensures { IfOk result (λ back. All (λ lane. IsLaneOf desk.now lane) back) }
 {
-    let Some(lane) = lanes.pop() else {
-        return lanes;
-    };
-    let (mut others, lane) = join(
-        rt,
-        || all_note(rt, desk, lanes, turns, rests),
-        || notes(rt, desk, lane, turns, rests),
-    );
-    match others.push(lane) {
-        Ok(()) => others,
-        Err(_) => others,
+    let lanes = lanes.into_vec();
+    match map_vec(rt, lanes, &|lane| notes(rt, desk, lane, turns, rests)) {
+        Ok(lanes) => Ok(List::from_vec(lanes)),
+        Err(_) => Err(Memory),
     }
 }
 
@@ -143,9 +177,13 @@ fn all_come_out<R: Threads + Wait + Sync>(
 ) -> Result<bool, Memory>
     requires { (1 ≤ count) × (count ≤ 32) }
 {
-    let (desk, lanes) = Desk::new(alloc, Log::new(alloc, 7u8), count)?;
-    let lanes = all_note(rt, &desk, lanes, turns, rests);
-    let each = if rests { turns - turns.div_ceil(3) } else { turns };
+    let (desk, lanes) = opened(alloc, 7u8, count)?;
+    let lanes = all_note(rt, &desk, lanes, turns, rests)?;
+    let each = if rests {
+        turns - turns.div_ceil(3)
+    } else {
+        turns
+    };
     Ok(match desk.close(lanes) {
         Ok(log) => log.kept == 7 && log.is_right(count, each),
         Err(_) => false,
@@ -155,19 +193,19 @@ fn all_come_out<R: Threads + Wait + Sync>(
 /// A turn begins with what the turns before it left, and the desk ends with all lanes, in whatever order.
 #[test]
 fn one_after_another(rt: HostRuntime) -> Result<(), Fail> {
-    let (desk, mut lanes) = Desk::new(rt.alloc(), Log::new(rt.alloc(), ()), 2)?;
-    let (Some(second), Some(first)) = (lanes.pop(), lanes.pop()) else {
-        return Err(Fail::from(Memory));
-    };
+    let (desk, mut lanes) = opened(rt.alloc(), (), 2)?;
+    let second = popped(&desk, &mut lanes)?;
+    let first = popped(&desk, &mut lanes)?;
     assert!(rt; first.number() == 0 && second.number() == 1);
     let first = note(&rt, &desk, first, 0);
     let mut turn = desk.take(&rt, second);
-    assert!(rt; turn.state().length() == 1);
-    lanes.push(turn.give())?;
-    let Err((desk, mut lanes)) = desk.close(lanes) else {
+    let length = turn.state().length();
+    let lanes = pushed(&desk, lanes, turn.give())?;
+    assert!(rt; length == 1);
+    let Err((desk, lanes)) = desk.close(lanes) else {
         panic!(rt; "a lane is missing")
     };
-    lanes.push(first)?;
+    let lanes = pushed(&desk, lanes, first)?;
     let Ok(log) = desk.close(lanes) else {
         panic!(rt; "both lanes are there")
     };
@@ -178,8 +216,8 @@ fn one_after_another(rt: HostRuntime) -> Result<(), Fail> {
 /// A desk of which a lane was let go is never closed.
 #[test]
 fn a_lane_let_go(rt: HostRuntime) -> Result<(), Fail> {
-    let (desk, mut lanes) = Desk::new(rt.alloc(), Log::new(rt.alloc(), ()), 3)?;
-    assert!(rt; lanes.pop().is_some());
+    let (desk, mut lanes) = opened(rt.alloc(), (), 3)?;
+    let _ = popped(&desk, &mut lanes)?;
     let Err((desk, lanes)) = desk.close(lanes) else {
         panic!(rt; "a lane was let go")
     };
@@ -190,15 +228,13 @@ fn a_lane_let_go(rt: HostRuntime) -> Result<(), Fail> {
     Ok(())
 }
 
+/// A turn that changes nothing leaves the state as it was.
 #[test]
 fn a_turn_that_changes_nothing(rt: HostRuntime) -> Result<(), Fail> {
-    let mut log = Log::new(rt.alloc(), 5u8);
-    log.add(0, 3);
-    let (desk, mut lanes) = Desk::new(rt.alloc(), log, 1)?;
-    let Some(lane) = lanes.pop() else {
-        return Err(Fail::from(Memory));
-    };
-    lanes.push(desk.take(&rt, lane).give())?;
+    let (desk, mut lanes) = opened(rt.alloc(), 5u8, 1)?;
+    let lane = popped(&desk, &mut lanes)?;
+    let lane = note(&rt, &desk, lane, 3);
+    let lanes = pushed(&desk, lanes, desk.take(&rt, lane).give())?;
     let Ok(log) = desk.close(lanes) else {
         panic!(rt; "the lane is there")
     };
@@ -206,41 +242,29 @@ fn a_turn_that_changes_nothing(rt: HostRuntime) -> Result<(), Fail> {
     Ok(())
 }
 
-/// Two lanes in two threads.
 #[test]
 fn two_lanes_in_two_threads(rt: HostRuntime) -> Result<(), Fail> {
-    let (desk, mut lanes) = Desk::new(rt.alloc(), Log::new(rt.alloc(), 7u8), 2)?;
-    let (Some(second), Some(first)) = (lanes.pop(), lanes.pop()) else {
-        return Err(Fail::from(Memory));
-    };
-    let (first, second) = join(
-        &rt,
-        || notes(&rt, &desk, first, 1_000, false),
-        || notes(&rt, &desk, second, 1_000, false),
-    );
-    lanes.push(second)?;
-    lanes.push(first)?;
-    let Ok(log) = desk.close(lanes) else {
-        panic!(rt; "both lanes are there")
-    };
-    assert!(rt; log.kept == 7 && log.is_right(2, 1_000));
+    assert!(rt; all_come_out(&rt, rt.alloc(), 2, 1_000, false)?);
     Ok(())
 }
 
 #[test]
-fn lanes_in_threads(rt: HostRuntime) -> Result<(), Fail> {
-    let alloc = rt.alloc();
-    assert!(rt; all_come_out(&rt, alloc, 2, 1_000, false)?);
-    assert!(rt; all_come_out(&rt, alloc, 16, 10_000, true)?);
-    assert!(rt; all_come_out(&rt, alloc, 32, 100, false)?);
-    assert!(rt; all_come_out(&rt, alloc, 1, 100, false)?);
+fn sixteen_lanes_of_which_each_third_turn_adds_nothing(rt: HostRuntime) -> Result<(), Fail> {
+    assert!(rt; all_come_out(&rt, rt.alloc(), 16, 1_000, true)?);
+    Ok(())
+}
+
+#[test]
+fn the_most_and_the_fewest_lanes(rt: HostRuntime) -> Result<(), Fail> {
+    assert!(rt; all_come_out(&rt, rt.alloc(), 32, 100, false)?);
+    assert!(rt; all_come_out(&rt, rt.alloc(), 1, 100, false)?);
     Ok(())
 }
 
 /// A turn that is so long that others sleep meanwhile, and that adds nothing.
 fn long_turn<T, R: Wait>(rt: &R, desk: &Desk<Log<T>>, lane: Lane<Log<T>>) -> Lane<Log<T>>
     requires { IsLaneOf desk.now lane }
-    ensures { IsLaneOf desk.now result }
+    ensures { IsLaneOf desk.now result × (result.number ≡ lane.number) }
 {
     let turn = desk.take(rt, lane);
     for _ in 0..20_000_000u32 {
@@ -252,10 +276,9 @@ fn long_turn<T, R: Wait>(rt: &R, desk: &Desk<Log<T>>, lane: Lane<Log<T>>) -> Lan
 /// Who sleeps gets its turn, though the turn before it added nothing.
 #[test]
 fn a_sleeper_gets_its_turn(rt: HostRuntime) -> Result<(), Fail> {
-    let (desk, mut lanes) = Desk::new(rt.alloc(), Log::new(rt.alloc(), ()), 2)?;
-    let (Some(second), Some(first)) = (lanes.pop(), lanes.pop()) else {
-        return Err(Fail::from(Memory));
-    };
+    let (desk, mut lanes) = opened(rt.alloc(), (), 2)?;
+    let second = popped(&desk, &mut lanes)?;
+    let first = popped(&desk, &mut lanes)?;
     let (first, second) = join(
         &rt,
         || long_turn(&rt, &desk, first),
