@@ -12,7 +12,7 @@ pub mod Starting
 pub mod Same
 pub mod Staying
 pub mod Locking
-pub mod Trimming
+pub mod Finding
 pub mod Ticking
 pub mod Admitting
 pub mod Coming

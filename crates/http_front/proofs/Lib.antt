@@ -7,5 +7,4 @@ mod OpenTargets
 mod Shortest
 mod Streams
 mod Targets
-mod Trimming
 mod Utf8
