@@ -18,7 +18,7 @@ use Rattle.asp_record.specs.Journal.{AreLines}
 use Rattle.asp_replay.specs.declared.stop.FeedStop.{FeedStop}
 use Rattle.asp_replay.specs.declared.stop.FeedStop.TheVariants as stop
 use Rattle.asp_replay.specs.Feed.{HasFed, HasFedPart}
-use Rattle.asp_replay.specs.Shown.{AreRecords, IsOutput, done_line, lines_of, shown_of}
+use Rattle.asp_feed.specs.Shown.{AreRecords, IsOutput, done_line, lines_of, shown_of}
 use Rattle.asp_replay.specs.Underway.{HasNotBegun, IsCoreOf, WritesText}
 use Rattle.asp_replay.proofs.FedBack.{rules_here}
 use Rattle.asp_replay.proofs.Pieces.{part_more, with_none, wrote_more}

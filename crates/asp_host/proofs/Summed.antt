@@ -13,7 +13,7 @@ use Rattle.asp_record.specs.declared.recording.Item.{Item}
 use Rattle.asp_replay.specs.declared.stop.FeedStop.{FeedStop}
 use Rattle.asp_replay.specs.declared.stop.FeedStop.TheVariants as stop
 use Rattle.asp_replay.specs.Feed.{HasFedPart, IsWhole}
-use Rattle.asp_replay.specs.Shown.{lines_of}
+use Rattle.asp_feed.specs.Shown.{lines_of}
 use Rattle.asp_replay.specs.Underway.{HasNotBegun, IsCoreOf, WritesText}
 use Rattle.asp_replay.proofs.FedBack.{rules_here}
 use Rattle.asp_summary.specs.Counted.{summary_of}

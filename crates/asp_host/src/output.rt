@@ -7,7 +7,7 @@ ghost use Rattle.asp_record.specs.EntryLines.{lines_in};
 ghost use Rattle.asp_record.specs.Journal.{AreLines};
 ghost use Rattle.asp_record.specs.Ranged.{AreRanged};
 ghost use Rattle.asp_record.specs.Recorded.{IsSound};
-ghost use Rattle.asp_replay.specs.Shown.{done_line, lines_of, shown_of};
+ghost use Rattle.asp_feed.specs.Shown.{done_line, lines_of, shown_of};
 ghost use Rattle.asp_replay.specs.Underway.{WritesText};
 ghost use Rattle.asp_host.specs.Replayed.{HasReplayed, HasStopped};
 

@@ -6,7 +6,7 @@ ghost use Rattle.asp_io.specs.Faults.{HasCause};
 ghost use Rattle.asp_io.specs.Sink.{with_bytes};
 ghost use Rattle.asp_job.specs.Journal.{IsValidJournal};
 ghost use Rattle.asp_record.specs.Recorded.{IsSound};
-ghost use Rattle.asp_replay.specs.Shown.{lines_of};
+ghost use Rattle.asp_feed.specs.Shown.{lines_of};
 ghost use Rattle.asp_replay.specs.Underway.{WritesText};
 ghost use Rattle.asp_summary.specs.Counted.{summary_of as summary};
 ghost use Rattle.asp_summary.specs.Lines.{summary_lines};

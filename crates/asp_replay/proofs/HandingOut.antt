@@ -25,7 +25,7 @@ use Rattle.asp_job.specs.Rules.{Rules}
 use Rattle.asp_job.specs.Runs.{asking_lane_of, has_ended, is_taken, moment_of}
 use Rattle.asp_job.specs.Told.{Meaning}
 use Rattle.asp_replay.specs.Sequential.{hand_outs}
-use Rattle.asp_replay.specs.Shown.{AreRecords, IsRecord, Shown}
+use Rattle.asp_feed.specs.Shown.{AreRecords, IsRecord, Shown}
 use Rattle.asp_replay.specs.Underway.{AreOfLane}
 use Rattle.asp_replay.proofs.Handed.{first_handed, ready_handed, shown_handed}
 use Rattle.asp_replay.proofs.Pieces.{wrote_more}

@@ -12,7 +12,7 @@ use Rattle.asp_record.specs.declared.recording.Item.{Item}
 use Rattle.asp_replay.specs.declared.stop.FeedStop.{FeedStop}
 use Rattle.asp_replay.specs.declared.stop.FeedStop.TheVariants as stop
 use Rattle.asp_replay.specs.Feed as feed
-use Rattle.asp_replay.specs.Feeding.{Clients, events_of, is_calm}
+use Rattle.asp_feed.specs.Feeding.{Clients, events_of, is_calm}
 use Rattle.asp_replay.specs.Sequential.{IsBusy}
 use Rattle.asp_replay.specs.Underway.{After, IsStartStop, IsUnderWay, is_starting}
 use Rattle.asp_replay.proofs.Grown.{ends_here}

@@ -19,7 +19,7 @@ use Rattle.asp_replay.specs.declared.stop.FeedStop.{FeedStop}
 use Rattle.asp_replay.specs.declared.stop.FeedStop.TheVariants as stop
 use Rattle.asp_replay.specs.Feed.{HasAllCome, HasCause, IsNext}
 use Rattle.asp_replay.specs.Feed.IsTooMuchNext.{OfItem, OfStop}
-use Rattle.asp_replay.specs.Feeding.{Clients, is_calm}
+use Rattle.asp_feed.specs.Feeding.{Clients, is_calm}
 use Rattle.asp_replay.specs.Sequential.{AddsItem, IsBusy, hand_outs, may_come}
 use Rattle.asp_replay.specs.Underway.{After, AreOfLane, EndsSo, HandsOut, IsItemTooMuch, IsOfOneLane, IsOfWriting}
 use Rattle.asp_replay.specs.Underway.{IsUnderWay, StandsAt, WorkAdds, Works, turn_stop}

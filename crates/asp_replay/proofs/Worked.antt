@@ -14,7 +14,7 @@ use Rattle.asp_lane.specs.declared.turn.Turn.TheVariants as turn
 use Rattle.asp_lane.specs.Turns.{AddsBegin, AddsStep, Fits, IsTurn}
 use Rattle.asp_lane.proofs.Turns.{grown_none}
 use Rattle.asp_lane.proofs.Unfinished.{begun_alone}
-use Rattle.asp_replay.specs.Feeding.{is_calm}
+use Rattle.asp_feed.specs.Feeding.{is_calm}
 use Rattle.asp_replay.specs.Sequential.{HasInHand}
 use Rattle.asp_replay.specs.Underway.{HasStepped, HasWorked, Steps, Works, is_done, is_more}
 

@@ -20,9 +20,9 @@ use Rattle.asp_record.specs.declared.recording.Item.{Item}
 use Rattle.asp_record.specs.Recorded.{moment_of}
 use Rattle.asp_replay.specs.declared.stop.FeedStop.{FeedStop}
 use Rattle.asp_replay.specs.declared.stop.FeedStop.TheVariants as stop
-use Rattle.asp_replay.specs.Feeding.{Clients, HasCome, IsFed, IsFedPart, events_of, is_calm}
+use Rattle.asp_feed.specs.Feeding.{Clients, HasCome, IsFed, IsFedPart, events_of, is_calm}
 use Rattle.asp_replay.specs.Sequential.{AddsItem, IsSequential, is_memory_end, may_come}
-use Rattle.asp_replay.specs.Shown.{AreRecords, Shown, shown_of}
+use Rattle.asp_feed.specs.Shown.{AreRecords, Shown, shown_of}
 
 -- ---- records
 

@@ -29,9 +29,9 @@ use Rattle.asp_record.specs.Recorded.{AreItems}
 use Rattle.asp_replay.specs.declared.stop.FeedStop.{FeedStop}
 use Rattle.asp_replay.specs.declared.stop.FeedStop.TheVariants as stop
 use Rattle.asp_replay.specs.Feed.{ArePartWritten, AreWritten, HasCause, HasFed, is_full_end}
-use Rattle.asp_replay.specs.Feeding.{Clients, HasCome, IsFed, IsFedPart, comes, is_calm, moment_by}
+use Rattle.asp_feed.specs.Feeding.{Clients, HasCome, IsFed, IsFedPart, comes, is_calm, moment_by}
 use Rattle.asp_replay.specs.Sequential.{AddsItem, AreTurns, HasInHand, first_place, hand_outs, is_memory_end}
-use Rattle.asp_replay.specs.Shown.{AreRecords, IsRecord, Shown}
+use Rattle.asp_feed.specs.Shown.{AreRecords, IsRecord, Shown}
 
 -- ---- stops
 

@@ -13,16 +13,16 @@ ghost use Rattle.asp_lane.specs.Started.{HasStarted};
 ghost use Rattle.asp_lane.specs.Turns.{Fits, run_in};
 ghost use Rattle.asp_record.specs.declared.recording.Item.{Item as ItemView};
 ghost use Rattle.asp_record.specs.Recorded.{IsSound};
+ghost use Rattle.asp_feed.specs.Feeding.{Clients as ClientsView, events_of};
 ghost use Rattle.asp_replay.specs.Feed as spec;
-ghost use Rattle.asp_replay.specs.Feeding.{Clients as ClientsView, events_of};
 ghost use Rattle.asp_replay.specs.Underway as way;
 
-use crate::clients::Clients;
 use crate::coming::{is_calm, may_come, moment_of};
 use crate::stop::FeedStop;
 use crate::turns::{come_turn, stop_turn, work_turn};
 use crate::winding_up::wind_up;
 use asp_core::Core;
+use asp_feed::Clients;
 use asp_io::Sink;
 use asp_job::{EndKind, Runner};
 use asp_lane::{Hand, let_go};

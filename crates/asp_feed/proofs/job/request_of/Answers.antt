@@ -1,5 +1,5 @@
-use Rattle.asp_replay.proofs.OneRequest.{fed_more, none_refused, none_wanting, one_comes}
-use Rattle.asp_replay.proofs.job.request_of.Goals as goal
+use Rattle.asp_feed.proofs.OneRequest.{fed_more, none_refused, none_wanting, one_comes}
+use Rattle.asp_feed.proofs.job.request_of.Goals as goal
 
 pub returns-in-Request : goal.returns-in-Request
 returns-in-Request c =

@@ -4,7 +4,7 @@
 ghost use Rattle.std.specs.Prelude.{IfOk};
 ghost use Rattle.asp_job.specs.Size.{IsSmall};
 ghost use Rattle.asp_record.specs.Recorded.{IsOneRequest};
-ghost use Rattle.asp_replay.specs.Feeding as spec;
+ghost use Rattle.asp_feed.specs.Feeding as spec;
 
 use crate::clients::{Clients, asked_by};
 use asp_job::{Job, Request, Work};

@@ -1,6 +1,6 @@
 use Rattle.std.proofs.Common.{◌≡◌, ◌++◌, length}
 use Rattle.http_front.specs.Reader.{Wants}
-use Rattle.asp_replay.proofs.job.request_of.Given as goal
+use Rattle.asp_feed.proofs.job.request_of.Given as goal
 
 abbrev pub invariant-loop-rest : goal.invariant-loop-rest
 invariant-loop-rest l = record {

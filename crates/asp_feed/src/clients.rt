@@ -3,7 +3,7 @@
 
 ghost use Rattle.std.specs.Prelude.{◌≡◌, ◌<◌, OnOk};
 ghost use Rattle.indexmap.specs.IndexMap.{spare};
-ghost use Rattle.asp_replay.specs.Feeding as spec;
+ghost use Rattle.asp_feed.specs.Feeding as spec;
 
 use asp_job::Asked;
 use indexmap::IndexMap;

@@ -1,6 +1,6 @@
 use Rattle.std.proofs.Common.{[]}
-use Rattle.asp_replay.proofs.Small.{small_request}
-use Rattle.asp_replay.proofs.job.job_of.Goals as goal
+use Rattle.asp_feed.proofs.Small.{small_request}
+use Rattle.asp_feed.proofs.job.job_of.Goals as goal
 
 pub returns-clause-small : goal.returns-clause-small
 returns-clause-small c =
