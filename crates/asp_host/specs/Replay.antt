@@ -5,7 +5,7 @@ use Rattle.asp_core.specs.Kernel.{rules_by}
 use Rattle.asp_job.specs.declared.answer.Fail.{Fail}
 use Rattle.asp_job.specs.Rules.{Rules}
 use Rattle.asp_record.specs.declared.recording.Recording.{Recording}
-use Rattle.asp_run.specs.Running.{meaning_of}
+use Rattle.asp_acts.specs.Running.{meaning_of}
 use Rattle.asp_site.specs.declared.site.Site.{Site}
 use Rattle.site_load.specs.Accepted.{IsAccepted, IsFolderFault}
 use Rattle.asp_host.specs.declared.status.Status.{Status}

@@ -18,11 +18,11 @@ use Rattle.asp_objects.specs.declared.objects.PageObjects.{PageObjects}
 use Rattle.asp_objects.specs.Members.{asked, answered, outside_page}
 use Rattle.asp_site.specs.declared.site.Page.{Page}
 use Rattle.asp_site.specs.declared.site.Site.{Site}
-use Rattle.asp_run.specs.declared.course.Course.{Course}
-use Rattle.asp_run.specs.declared.course.Tally.{Tally}
-use Rattle.asp_run.specs.declared.course.Way.{Way}
-use Rattle.asp_run.specs.declared.course.Way.TheVariants.{Wants, On}
-use Rattle.asp_run.specs.Failures.{failure_text, fail_of}
+use Rattle.asp_acts.specs.declared.course.Course.{Course}
+use Rattle.asp_acts.specs.declared.course.Tally.{Tally}
+use Rattle.asp_acts.specs.declared.course.Way.{Way}
+use Rattle.asp_acts.specs.declared.course.Way.TheVariants.{Wants, On}
+use Rattle.asp_acts.specs.Failures.{failure_text, fail_of}
 
 -- before any act
 abbrev pub no_tally : Tally

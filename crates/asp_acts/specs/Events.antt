@@ -8,10 +8,10 @@ use Rattle.asp_job.specs.Told.{Told, Outcome, Wants, Ends}
 use Rattle.asp_objects.specs.declared.objects.PageObjects.{PageObjects}
 use Rattle.asp_objects.specs.Members.{fresh_objects, outside_page}
 use Rattle.asp_site.specs.declared.site.Site.{Site}
-use Rattle.asp_run.specs.declared.course.Course.{Course}
-use Rattle.asp_run.specs.declared.course.Way.{Way}
-use Rattle.asp_run.specs.declared.course.Way.TheVariants.{Wants as WantsReply, On}
-use Rattle.asp_run.specs.Acts.{course_of, event}
+use Rattle.asp_acts.specs.declared.course.Course.{Course}
+use Rattle.asp_acts.specs.declared.course.Way.{Way}
+use Rattle.asp_acts.specs.declared.course.Way.TheVariants.{Wants as WantsReply, On}
+use Rattle.asp_acts.specs.Acts.{course_of, event}
 
 -- what stands in the place of a request
 abbrev pub no_request : Request

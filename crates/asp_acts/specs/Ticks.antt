@@ -21,12 +21,12 @@ use Rattle.asp_objects.specs.Members.{asked, answered}
 use Rattle.asp_site.specs.declared.site.Page.{Page}
 use Rattle.asp_site.specs.declared.site.Site.{Site}
 use Rattle.asp_site.specs.Lookup.{page_at}
-use Rattle.asp_run.specs.declared.course.Course.{Course}
-use Rattle.asp_run.specs.declared.course.Way.{Way}
-use Rattle.asp_run.specs.declared.course.Way.TheVariants.{On}
-use Rattle.asp_run.specs.Acts.{course_of, number_of, starts, opens, outside}
-use Rattle.asp_run.specs.Events.{event_objects}
-use Rattle.asp_run.specs.Pages.{page_takes, page_begins as course_of_page}
+use Rattle.asp_acts.specs.declared.course.Course.{Course}
+use Rattle.asp_acts.specs.declared.course.Way.{Way}
+use Rattle.asp_acts.specs.declared.course.Way.TheVariants.{On}
+use Rattle.asp_acts.specs.Acts.{course_of, number_of, starts, opens, outside}
+use Rattle.asp_acts.specs.Events.{event_objects}
+use Rattle.asp_acts.specs.Pages.{page_takes, page_begins as course_of_page}
 
 -- the state that a step leaves
 abbrev pub left_by : {E : Type 0} → Step (State E) (Unit {0}) → State E

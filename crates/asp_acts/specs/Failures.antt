@@ -10,7 +10,7 @@ use Rattle.asp_job.specs.declared.answer.Fail.TheVariants as fail
 use Rattle.asp_site.specs.declared.site.LineSpot.{LineSpot}
 use Rattle.asp_site.specs.declared.site.Page.{Page}
 use Rattle.asp_text.specs.Html.{html_encoded}
-use Rattle.asp_run.specs.Lines.{spot_of}
+use Rattle.asp_acts.specs.Lines.{spot_of}
 
 -- ---- the code of an error
 

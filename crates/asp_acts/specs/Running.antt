@@ -7,9 +7,9 @@ use Rattle.asp_job.specs.declared.request.Request.{Request}
 use Rattle.asp_job.specs.Told.{Told, Outcome, Meaning}
 use Rattle.asp_site.specs.declared.site.Site.{Site}
 use Rattle.asp_site.specs.Lookup.{page_at}
-use Rattle.asp_run.specs.Events.{application_event, session_end}
-use Rattle.asp_run.specs.Pages.{is_keyed_page, request_work}
-use Rattle.asp_run.specs.Ticks.{ticks_of}
+use Rattle.asp_acts.specs.Events.{application_event, session_end}
+use Rattle.asp_acts.specs.Pages.{is_keyed_page, request_work}
+use Rattle.asp_acts.specs.Ticks.{ticks_of}
 
 abbrev pub work_of : Site → Told → Work → Outcome
 work_of site told (work.Page request) = request_work site told request

@@ -17,10 +17,10 @@ use Rattle.asp_site.specs.declared.site.Page.{Page}
 use Rattle.asp_site.specs.declared.site.Site.{Site}
 use Rattle.asp_site.specs.Endings.{media_type_of}
 use Rattle.asp_site.specs.Lookup.{page_at, static_at}
-use Rattle.asp_run.specs.declared.course.Course.{Course}
-use Rattle.asp_run.specs.declared.course.Way.{Way}
-use Rattle.asp_run.specs.declared.course.Way.TheVariants.{Wants as WantsReply, On}
-use Rattle.asp_run.specs.Acts.{course_of, page_acts}
+use Rattle.asp_acts.specs.declared.course.Course.{Course}
+use Rattle.asp_acts.specs.declared.course.Way.{Way}
+use Rattle.asp_acts.specs.declared.course.Way.TheVariants.{Wants as WantsReply, On}
+use Rattle.asp_acts.specs.Acts.{course_of, page_acts}
 
 -- whether the answer has no content
 abbrev pub is_head : Verb → Bool
