@@ -42,7 +42,7 @@ on_err (Err stop) P Q f p = f p
 
 -- what is seen of a core
 abbrev pub view_of : {R Site : Type 0} → R → Site → List ℕ → List Entry → CoreView R Site
-view_of runner site seed journal = record { journal = journal; runner = runner; site = site; seed = seed }
+view_of runner site setting journal = record { journal = journal; runner = runner; site = site; setting = setting }
 
 -- a fact of what was given becomes another
 pub on_each : {T E : Type 0} → (result : Result T E) (P Q : T → Type 0) → ((x : T) → P x → Q x) → IfOk result P

@@ -9,11 +9,12 @@ ghost use Rattle.asp_job.specs.Journal as journals;
 ghost use Rattle.asp_job.specs.Runs as runs;
 ghost use Rattle.asp_core.specs.Kernel.{CoreView, RunView, past_of, rules_of, grown};
 ghost use Rattle.asp_core.specs.Kernel.{AreWellFormed, IsHostOf, IsTooMuch, IsWithin};
-ghost use Rattle.asp_core.specs.Kernel.{IsRunOf, HasRoom, HasAnswerRoom, expired};
+ghost use Rattle.asp_core.specs.Kernel.{IsRunOf, HasRoom, HasAnswerRoom, expired, setting_of};
 ghost use Rattle.asp_core.specs.Ready.{IsAnswered};
 
 use crate::events::{with_stop, with_tick};
 use crate::room::make_room;
+use crate::setting::Setting;
 use crate::stop::EventStop;
 use asp_app::Application;
 use asp_job::{Answer, Entry, Fail, Runner, SessionState, What, Work};
@@ -34,7 +35,7 @@ pub struct Core<R: Runner> {
     pub(crate) start_fail: Option<Fail>,
     pub(crate) runner: Snapshot<R>,
     pub(crate) site: Snapshot<R::Site>,
-    pub(crate) seed: [u8; 32],
+    pub(crate) setting: Setting,
 }
 
 impl<R: Runner> Model for Core<R> {
@@ -49,15 +50,15 @@ impl<R: Runner> Model for Core<R> {
     ghost coded = { Prim.hlevel (codes, contract.the_row.coded, R.code, R.Site.code) };
 
     ghost view = { λ c.
-        record { journal = c.journal.items; runner = c.runner.value; site = c.site.value; seed = c.seed } };
+        record { journal = c.journal.items; runner = c.runner.value; site = c.site.value; setting = c.setting } };
 
     ghost invariant = { λ c.
-        IsKept (rules_by (R.meaning c.runner.value c.site.value) c.seed) (reverse c.journal.items)
+        IsKept (rules_by (R.meaning c.runner.value c.site.value) c.setting) (reverse c.journal.items)
         c.table.items c.opened c.application c.answers.items
         × IsWithin (reverse c.journal.items)
         × HasRoom (reverse c.journal.items) (length c.answers.items) c.journal.capacity
         × HasAnswerRoom (reverse c.journal.items) (length c.answers.items) (vec_capacity c.answers)
-        × (c.start_fail ≡ starts.start_fail (rules_by (R.meaning c.runner.value c.site.value) c.seed)
+        × (c.start_fail ≡ starts.start_fail (rules_by (R.meaning c.runner.value c.site.value) c.setting)
         (reverse c.journal.items)) };
 }
 
@@ -95,10 +96,11 @@ impl<R: Runner> Core<R> {
         runner: &R,
         site: &R::Site,
         seed: [u8; 32],
+        strict: bool,
     ) -> Result<Core<R>, Memory>
         ensures journal { IfOk result (λ core. core.journal ≡ history.with_lane lane (What.Queue 1 Work.Start 0) ∷ []) }
         ensures host { IfOk result (λ core. IsHostOf core runner.now site.now) }
-        ensures seed { IfOk result (λ core. core.seed ≡ seed) }
+        ensures setting { IfOk result (λ core. core.setting ≡ setting_of seed strict) }
     {
         let mut answers = Vec::new(alloc);
         let journal = first_journal(alloc, lane, &mut answers)?;
@@ -111,7 +113,7 @@ impl<R: Runner> Core<R> {
             start_fail: None,
             runner: Snapshot::of(runner),
             site: Snapshot::of(site),
-            seed,
+            setting: Setting { seed, strict },
         })
     }
 
@@ -180,7 +182,7 @@ impl<R: Runner> Core<R> {
         with_tick(
             &self.runner,
             &self.site,
-            &self.seed,
+            &self.setting,
             &mut self.journal,
             &mut self.answers,
             self.table.as_slice(),
@@ -206,7 +208,7 @@ impl<R: Runner> Core<R> {
         with_stop(
             &self.runner,
             &self.site,
-            &self.seed,
+            &self.setting,
             &mut self.journal,
             &mut self.answers,
             self.table.as_slice(),

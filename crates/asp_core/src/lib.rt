@@ -19,6 +19,7 @@ mod places;
 mod ready;
 mod room;
 mod run;
+mod setting;
 mod stop;
 mod takes;
 mod tellers;
@@ -31,4 +32,5 @@ pub use laws::{
 };
 pub use ready::{BODY_ROOM, MOST_BODIES};
 pub use run::{Progress, Run, StandIns};
+pub use setting::Setting;
 pub use stop::{AdmitStop, AppStepStop, BeginStop, CollectStop, EventStop};

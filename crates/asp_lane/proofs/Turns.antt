@@ -30,7 +30,7 @@ use Rattle.asp_lane.proofs.Unfinished.{begun_alone, ended_none, never_blocked}
 
 pub grown_none : {R Site : Type 0} → (core : CoreView R Site) → grown core [] ≡ core
 grown_none core =
-    ap (λ journal. record { journal = journal; runner = core.runner; site = core.site; seed = core.seed })
+    ap (λ journal. record { journal = journal; runner = core.runner; site = core.site; setting = core.setting })
     (append-nil core.journal)
 
 past_grown : {R Site : Type 0} → (old new : CoreView R Site) (entry : Entry) → new ≡ grown old (entry ∷ [])

@@ -180,7 +180,7 @@ grown_more : {R Site : Type 0} → (old now new : CoreView R Site) (taken : List
     → new ≡ grown old (hand_outs (taken ++ first ∷ []))
 grown_more old now new taken first is took =
     took ∙ ap (λ core. grown core (with_lane 0 (Take first.0) ∷ [])) is
-    ∙ ap (λ journal. record { journal = journal; runner = old.runner; site = old.site; seed = old.seed })
+    ∙ ap (λ journal. record { journal = journal; runner = old.runner; site = old.site; setting = old.setting })
     (append_assoc old.journal (hand_outs taken) (with_lane 0 (Take first.0) ∷ [])
     ∙ ap (λ entries. old.journal ++ entries) (sym (hand_outs_more taken first)))
 

@@ -20,7 +20,7 @@ use Rattle.asp_replay.proofs.Turning.{grown_both}
 
 pub grown_none : {R Site : Type 0} → (core : CoreView R Site) → core ≡ grown core []
 grown_none core =
-    ap (λ journal. record { journal = journal; runner = core.runner; site = core.site; seed = core.seed })
+    ap (λ journal. record { journal = journal; runner = core.runner; site = core.site; setting = core.setting })
     (sym (append-nil core.journal))
 
 pub host_grown : {R Site : Type 0} → (old new : CoreView R Site) (entries : List Entry) (runner : R) (site : Site)

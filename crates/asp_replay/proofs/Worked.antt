@@ -25,7 +25,7 @@ first_is a b e = cc
 grown_twice : {R Site : Type 0} → (core : CoreView R Site) (entry : Entry) (more : List Entry)
     → grown (grown core (entry ∷ [])) more ≡ grown core (entry ∷ more)
 grown_twice core entry more =
-    ap (λ journal. record { journal = journal; runner = core.runner; site = core.site; seed = core.seed })
+    ap (λ journal. record { journal = journal; runner = core.runner; site = core.site; setting = core.setting })
     (append_assoc core.journal (entry ∷ []) more)
 
 module _ {R Site State : Type 0} (meaning : R → Site → Meaning) (stands : R → Site → State → Told → ℕ → Type 0) where

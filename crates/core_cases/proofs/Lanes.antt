@@ -91,7 +91,7 @@ pub record HasGrown {R Site : Type 0} (lane : ℕ) (old new : CoreView R Site) :
 
 grown_none : {R Site : Type 0} → (core : CoreView R Site) → grown core [] ≡ core
 grown_none core =
-    ap (λ journal. record { journal = journal; runner = core.runner; site = core.site; seed = core.seed })
+    ap (λ journal. record { journal = journal; runner = core.runner; site = core.site; setting = core.setting })
     (append-nil core.journal)
 
 pub same_grown : {R Site : Type 0} → (lane : ℕ) (old new : CoreView R Site) → new ≡ old → HasGrown lane old new

@@ -25,14 +25,15 @@ invariant_of-self g c =
     let none : refused_before past ≡ None = grind (arith, common_steps) in
     let free = none_before past none in
     let ok = rw (runner, site) at c.take_job-made.ensures.ok in
-    let all = kept_taken c.take_job-made.result m core.seed core.journal.items c.take_job-made.new.journal.items core.table.items
+    let all = kept_taken c.take_job-made.result m core.setting core.journal.items c.take_job-made.new.journal.items
+    core.table.items
     c.take_job-made.new.table.items core.opened core.application core.answers.items
     c.take_job-made.new.answers.items c.args.lane c.args.job.now
     core.journal.capacity c.take_job-made.new.journal.capacity (vec_capacity core.answers)
     (vec_capacity c.take_job-made.new.answers)
     c.self.invariant.0 c.self.invariant.1 c.self.invariant.2 c.self.invariant.3 free.0 c.requires.page c.requires.small
     free.1 ok c.take_job-made.ensures.err c.take_job-made.ensures.capacity in
-    let rules = rules_by m core.seed in
+    let rules = rules_by m core.setting in
     let next = c.take_job-made.new.journal.items in
     let more = admit_entries rules past c.args.lane c.args.job.now in
     let made = job_made rules past core.table.items c.args.lane c.args.job.now c.self.invariant.0.sessions in
@@ -58,7 +59,7 @@ returns-clause-ok g c =
     (admit_entries (rules_of g.R.Runner.meaning v) (past_of v) c.args.lane c.args.job.now)) c.self.view_is in
     elim c.match-made.branch [
       | goal.in-Ok w ↦ rw w.result-is (
-          ap (λ items. view_of core.runner.value core.site.value core.seed items)
+          ap (λ items. view_of core.runner.value core.site.value core.setting items)
           (rw (runner, site) at w.in-Ok.ensures.ok).journal_is ∙ old)
       | goal.in-Err w ↦ rw w.result-is tt
     ]

@@ -16,8 +16,8 @@ use Rattle.asp_core.proofs.kernel.Core.app_step.Goals as goal
 pub invariant_of-self : goal.invariant_of-self
 invariant_of-self g c =
     let core = c.self.inside in
-    let view = view_of core.runner.value core.site.value core.seed core.journal.items in
-    let m = rules_by (g.R.Runner.meaning core.runner.value core.site.value) core.seed in
+    let view = view_of core.runner.value core.site.value core.setting core.journal.items in
+    let m = rules_by (g.R.Runner.meaning core.runner.value core.site.value) core.setting in
     let run = c.args.run.now in
     let runner : c.args.runner.now ≡ core.runner.value = c.requires.host ∙ sym (ap (λ v. v.runner) c.self.view_is) in
     let is : IsRunOf g.R.Runner.meaning g.R.Runner.stands view c.args.lane run =
@@ -50,7 +50,7 @@ returns-clause-ok g c =
     let ok = rw (runner, c.as_slice.ensures.value) at c.make_call.ensures.ok in
     let old = ap (λ (v : CoreView g.row.R.Denot g.row.R-Site.Denot). grown v (called v c.args.lane run))
     c.self.view_is in
-    on_ok c.make_call.result _ _ (λ has. core_called core.runner.value core.site.value core.seed
+    on_ok c.make_call.result _ _ (λ has. core_called core.runner.value core.site.value core.setting
     (g.R.Runner.stands core.runner.value) c.args.lane core.journal.items core.application
     (length core.answers.items) run c.make_call.new.journal.items c.make_call.new.application
     c.make_call.new.journal.capacity c.make_call.new.run c.self.invariant.0.held_is has ∙ old) ok
@@ -58,7 +58,7 @@ returns-clause-ok g c =
 pub returns-clause-run : goal.returns-clause-run
 returns-clause-run g c =
     let core = c.self.inside in
-    let view = view_of core.runner.value core.site.value core.seed core.journal.items in
+    let view = view_of core.runner.value core.site.value core.setting core.journal.items in
     let run = c.args.run.now in
     let runner : c.args.runner.now ≡ core.runner.value = c.requires.host ∙ sym (ap (λ v. v.runner) c.self.view_is) in
     let is : IsRunOf g.R.Runner.meaning g.R.Runner.stands view c.args.lane run =
@@ -66,7 +66,7 @@ returns-clause-run g c =
     IsRunOf g.R.Runner.meaning g.R.Runner.stands v c.args.lane run) (sym c.self.view_is) c.requires.run in
     let ok = rw (runner, c.as_slice.ensures.value) at c.make_call.ensures.ok in
     on_ok c.make_call.result _ _ (λ has. run_of_called g.R.Runner.meaning g.R.Runner.stands core.runner.value
-    core.site.value core.seed c.args.lane core.journal.items core.application (length core.answers.items) run
+    core.site.value core.setting c.args.lane core.journal.items core.application (length core.answers.items) run
     c.make_call.new.journal.items c.make_call.new.application c.make_call.new.journal.capacity
     c.make_call.new.run c.self.invariant.0.held_is is has) ok
 
@@ -96,8 +96,8 @@ returns-clause-blocked g c holder =
 pub returns-clause-full : goal.returns-clause-full
 returns-clause-full g c entries weight e =
     let core = c.self.inside in
-    let view = view_of core.runner.value core.site.value core.seed core.journal.items in
-    let m = rules_by (g.R.Runner.meaning core.runner.value core.site.value) core.seed in
+    let view = view_of core.runner.value core.site.value core.setting core.journal.items in
+    let m = rules_by (g.R.Runner.meaning core.runner.value core.site.value) core.setting in
     let run = c.args.run.now in
     subst (λ (v : CoreView g.row.R.Denot g.row.R-Site.Denot).
     IsTooMuch (past_after (past_of v) (called v c.args.lane run)) entries weight) c.self.view_is
@@ -107,8 +107,8 @@ returns-clause-full g c entries weight e =
 pub returns-clause-not_fit : goal.returns-clause-not_fit
 returns-clause-not_fit g c entries weight e =
     let core = c.self.inside in
-    let view = view_of core.runner.value core.site.value core.seed core.journal.items in
-    let m = rules_by (g.R.Runner.meaning core.runner.value core.site.value) core.seed in
+    let view = view_of core.runner.value core.site.value core.setting core.journal.items in
+    let m = rules_by (g.R.Runner.meaning core.runner.value core.site.value) core.setting in
     let run = c.args.run.now in
     subst (λ (v : CoreView g.row.R.Denot g.row.R-Site.Denot). HasNotFitFor (past_of v) c.args.lane run) c.self.view_is
     (full_called m view core.table.items core.opened core.application core.answers.items c.args.lane run entries

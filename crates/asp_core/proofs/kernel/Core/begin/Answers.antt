@@ -32,7 +32,7 @@ begin_run-requires g c =
 pub invariant_of-self : goal.invariant_of-self
 invariant_of-self g c =
     let core = c.self.inside in
-    let m = rules_by (g.R.Runner.meaning core.runner.value core.site.value) core.seed in
+    let m = rules_by (g.R.Runner.meaning core.runner.value core.site.value) core.setting in
     let runner : c.args.runner.now ≡ core.runner.value =
     c.requires.host.runner_is ∙ sym (ap (λ v. v.runner) c.self.view_is) in
     let site : c.args.site.now ≡ core.site.value =
@@ -74,7 +74,7 @@ returns-clause-next g c =
 pub returns-clause-light : goal.returns-clause-light
 returns-clause-light g c =
     let core = c.self.inside in
-    let m = rules_by (g.R.Runner.meaning core.runner.value core.site.value) core.seed in
+    let m = rules_by (g.R.Runner.meaning core.runner.value core.site.value) core.setting in
     let past = reverse core.journal.items in
     let runner : c.args.runner.now ≡ core.runner.value =
     c.requires.host.runner_is ∙ sym (ap (λ v. v.runner) c.self.view_is) in
@@ -96,7 +96,7 @@ returns-clause-begun g c =
     c.requires.host.site_is ∙ sym (ap (λ v. v.site) c.self.view_is) in
     let ok = rw (runner, site) at c.begin_run.ensures.ok in
     on_each c.begin_run.result _ _ (λ run has.
-    ap (λ items. view_of core.runner.value core.site.value core.seed items) has.journal_is
+    ap (λ items. view_of core.runner.value core.site.value core.setting items) has.journal_is
     ∙ ap (λ (v : CoreView g.row.R.Denot g.row.R-Site.Denot). grown v
     (begin_entry (rules_of g.R.Runner.meaning v) (past_of v) c.args.lane run.number ∷ [])) c.self.view_is) ok
 
@@ -109,7 +109,7 @@ returns-clause-run g c =
     c.requires.host.site_is ∙ sym (ap (λ v. v.site) c.self.view_is) in
     let ok = rw (runner, site) at c.begin_run.ensures.ok in
     on_each c.begin_run.result _ _ (λ run has. begun_run g.R.Runner.meaning g.R.Runner.stands core.runner.value
-    core.site.value core.seed c.args.lane core.journal.items c.begin_run.new.journal.items core.opened
+    core.site.value core.setting c.args.lane core.journal.items c.begin_run.new.journal.items core.opened
     c.begin_run.new.opened core.answers.items
     c.begin_run.new.journal.capacity (vec_capacity c.begin_run.new.answers) run has) ok
 
@@ -132,7 +132,7 @@ returns-clause-full g c entries weight =
     let site : c.args.site.now ≡ core.site.value =
     c.requires.host.site_is ∙ sym (ap (λ v. v.site) c.self.view_is) in
     let same = rules_same g.R.Runner.meaning c.args.runner.now core.runner.value c.args.site.now core.site.value
-    core.seed runner site in
+    core.setting runner site in
     subst (λ (v : CoreView g.row.R.Denot g.row.R-Site.Denot). IfErr c.begin_run.result
     (λ stop. stop.1 ≡ begin.JournalFull entries weight →
     IsBeginTooMuch (rules_of g.R.Runner.meaning v) (past_of v) c.args.lane entries weight)) c.self.view_is
@@ -149,7 +149,7 @@ returns-clause-fits g c =
     let site : c.args.site.now ≡ core.site.value =
     c.requires.host.site_is ∙ sym (ap (λ v. v.site) c.self.view_is) in
     let same = rules_same g.R.Runner.meaning c.args.runner.now core.runner.value c.args.site.now core.site.value
-    core.seed runner site in
+    core.setting runner site in
     subst (λ (v : CoreView g.row.R.Denot g.row.R-Site.Denot). IfErr c.begin_run.result
     (λ stop. stop.1 ≡ begin.Memory → NextFits (rules_of g.R.Runner.meaning v) (past_of v) c.args.lane))
     c.self.view_is

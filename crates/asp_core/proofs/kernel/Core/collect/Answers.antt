@@ -16,7 +16,7 @@ pub take_run-requires : goal.take_run-requires
 take_run-requires g c =
     let core = c.self.inside in
     let past = reverse core.journal.items in
-    let rules = rules_by (g.R.Runner.meaning core.runner.value core.site.value) core.seed in
+    let rules = rules_by (g.R.Runner.meaning core.runner.value core.site.value) core.setting in
     let none : collect_stop past c.args.lane c.args.run ≡ None = grind (arith, common_steps) in
     let can = can_take rules past c.args.lane c.args.run c.self.invariant.0.account.entries c.self.invariant.0.answered
     none in
@@ -30,7 +30,7 @@ pub invariant_of-self : goal.invariant_of-self
 invariant_of-self g c =
     let core = c.self.inside in
     let past = reverse core.journal.items in
-    let rules = rules_by (g.R.Runner.meaning core.runner.value core.site.value) core.seed in
+    let rules = rules_by (g.R.Runner.meaning core.runner.value core.site.value) core.setting in
     let none : collect_stop past c.args.lane c.args.run ≡ None = grind (arith, common_steps) in
     let can = can_take rules past c.args.lane c.args.run c.self.invariant.0.account.entries c.self.invariant.0.answered
     none in
@@ -47,7 +47,7 @@ pub returns-clause-answer : goal.returns-clause-answer
 returns-clause-answer g c =
     let core = c.self.inside in
     let past = reverse core.journal.items in
-    let rules = rules_by (g.R.Runner.meaning core.runner.value core.site.value) core.seed in
+    let rules = rules_by (g.R.Runner.meaning core.runner.value core.site.value) core.setting in
     let none : collect_stop past c.args.lane c.args.run ≡ None = grind (arith, common_steps) in
     let can = can_take rules past c.args.lane c.args.run c.self.invariant.0.account.entries c.self.invariant.0.answered
     none in

@@ -16,7 +16,7 @@ pub take_run-answer-requires : goal.take_run-answer-requires
 take_run-answer-requires g c =
     let core = c.self.inside in
     let past = reverse core.journal.items in
-    let rules = rules_by (g.R.Runner.meaning core.runner.value core.site.value) core.seed in
+    let rules = rules_by (g.R.Runner.meaning core.runner.value core.site.value) core.setting in
     let run = c.in-Some.run' in
     let kept = c.self.invariant.0 in
     let first : IsFirst past c.args.lane core.answers.items run = grind (arith, common_steps) in
@@ -32,7 +32,7 @@ pub invariant_of-self : goal.invariant_of-self
 invariant_of-self g c =
     let core = c.self.inside in
     let past = reverse core.journal.items in
-    let rules = rules_by (g.R.Runner.meaning core.runner.value core.site.value) core.seed in
+    let rules = rules_by (g.R.Runner.meaning core.runner.value core.site.value) core.setting in
     let run = c.in-Some.run' in
     let kept = c.self.invariant.0 in
     let first : IsFirst past c.args.lane core.answers.items run = grind (arith, common_steps) in
@@ -51,7 +51,7 @@ pub returns-clause-first : goal.returns-clause-first
 returns-clause-first g c =
     let core = c.self.inside in
     let past = reverse core.journal.items in
-    let rules = rules_by (g.R.Runner.meaning core.runner.value core.site.value) core.seed in
+    let rules = rules_by (g.R.Runner.meaning core.runner.value core.site.value) core.setting in
     let run = c.in-Some.run' in
     let kept = c.self.invariant.0 in
     let first : IsFirst past c.args.lane core.answers.items run = grind (arith, common_steps) in
@@ -64,7 +64,7 @@ pub returns-clause-answer : goal.returns-clause-answer
 returns-clause-answer g c =
     let core = c.self.inside in
     let past = reverse core.journal.items in
-    let rules = rules_by (g.R.Runner.meaning core.runner.value core.site.value) core.seed in
+    let rules = rules_by (g.R.Runner.meaning core.runner.value core.site.value) core.setting in
     let run = c.in-Some.run' in
     let kept = c.self.invariant.0 in
     let first : IsFirst past c.args.lane core.answers.items run = grind (arith, common_steps) in

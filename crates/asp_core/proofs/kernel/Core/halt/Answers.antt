@@ -11,7 +11,7 @@ use Rattle.asp_core.proofs.kernel.Core.halt.Goals as goal
 pub invariant_of-self : goal.invariant_of-self
 invariant_of-self g c =
     let core = c.self.inside in
-    let m = rules_by (g.R.Runner.meaning core.runner.value core.site.value) core.seed in
+    let m = rules_by (g.R.Runner.meaning core.runner.value core.site.value) core.setting in
     let journal = core.journal.items in
     let next = c.push_reserved.new.self.items in
     let going : is_halted (reverse journal) ≡ false = grind (arith, common_steps) in
