@@ -1,0 +1,11 @@
+pub mod Totals
+pub mod Parts
+pub mod Stages
+pub mod Kept
+pub mod Drawing
+pub mod Looking
+pub mod Raising
+pub mod Opening
+pub mod Dealing
+pub mod Gathering
+pub mod Ending

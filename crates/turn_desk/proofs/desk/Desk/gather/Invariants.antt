@@ -1,0 +1,9 @@
+use Rattle.std.proofs.Common.{◌≡◌, vec_len}
+use Rattle.turn_desk.proofs.Gathering.{Gathers}
+use Rattle.turn_desk.proofs.desk.Desk.gather.Given as goal
+
+abbrev pub invariant-loop-lane : goal.invariant-loop-lane
+invariant-loop-lane g l = (l.seat.table_id ≡ l.self.id) × Gathers l.self l.lanes.items l.seat.me l.fn.lanes.items
+
+abbrev pub decreases-loop-lane : goal.decreases-loop-lane
+decreases-loop-lane g l = vec_len l.lanes
