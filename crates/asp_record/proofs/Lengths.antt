@@ -135,9 +135,11 @@ item_is_short now (item.Request client moment bytes) next =
     let low : client < 2 ^ 32 = held.0 in
     let ends : moment ≤ 253402300799 = next.ends in
     let short = one_request_is_short bytes held.2 in
+    let seven : length (codes "request") ≡ 7 = refl in
     omega (
       arith,
       short,
+      seven,
       request_length (codes "request") (decimal client) (decimal moment) (decimal (length bytes)) bytes,
       length-decimal-le 10 client (omega arith) (omega (arith, low)) (omega (arith, low)),
       length-decimal-le 12 moment (omega arith) (omega (arith, ends)) (omega (arith, ends)),
@@ -145,8 +147,10 @@ item_is_short now (item.Request client moment bytes) next =
     )
 item_is_short now (item.Tick moment) next =
     let ends : moment ≤ 253402300799 = next.ends in
+    let four : length (codes "tick") ≡ 4 = refl in
     omega (
       arith,
+      four,
       tick_length (codes "tick") (decimal moment),
       length-decimal-le 12 moment (omega arith) (omega (arith, ends)) (omega (arith, ends)),
     )
@@ -164,24 +168,33 @@ begun_length first seed items = simp length-append (omega arith)
 opening_length : (recording : Recording) → length (opening_text recording)
     ≡ 9 + length (seed_text recording.seed) + length (flat_map item_text recording.items)
 opening_length recording =
-    begun_length (line (codes "ASPREC 1")) (seed_text recording.seed) (flat_map item_text recording.items)
+    let nine : length (line (codes "ASPREC 1")) ≡ 9 = refl in
+    let whole = begun_length (line (codes "ASPREC 1")) (seed_text recording.seed)
+    (flat_map item_text recording.items) in
+    omega (arith, nine, whole)
 
 seed_length : (seed : List ℕ) → length seed ≡ 32 → length (seed_text seed) ≡ 70
-seed_length seed size = omega (arith, tick_length (codes "seed") (hex seed), hex_length seed, size)
+seed_length seed size =
+    let four : length (codes "seed") ≡ 4 = refl in
+    omega (arith, four, tick_length (codes "seed") (hex seed), hex_length seed, size)
 
 items_length : (items : List Item) (one : Item) → length (flat_map item_text (items ++ one ∷ []))
     ≡ length (flat_map item_text items) + length (item_text one)
-items_length items one = omega (
-  arith,
-  ap length (flat_map-append item_text items (one ∷ [])),
-  length-append (flat_map item_text items) (flat_map item_text (one ∷ [])),
-  ap length (append-nil (item_text one)),
-)
+items_length items one =
+    let last : flat_map item_text (one ∷ []) ≡ item_text one = append-nil (item_text one) in
+    omega (
+      arith,
+      ap length (flat_map-append item_text items (one ∷ [])),
+      length-append (flat_map item_text items) (flat_map item_text (one ∷ [])),
+      ap length last,
+    )
 
 longer_is_short : (part longer : Part) → IsPart longer → IsLonger part longer
     → length (part_text longer) ≤ length (part_text part) + 2097152
 longer_is_short Nothing Nothing right longer = absurd longer
-longer_is_short Nothing Named right longer = omega arith
+longer_is_short Nothing Named right longer =
+    let nine : length (part_text Named) ≡ 9 = refl in
+    omega (arith, nine)
 longer_is_short Nothing (Begun recording) right longer = absurd longer
 longer_is_short Nothing (Ended recording) right longer = absurd longer
 longer_is_short Named Nothing right longer = absurd longer
@@ -224,7 +237,7 @@ place_stays bytes more part offset many (inl (last, short, is)) = inl (
   record {
     is_open = last.is_open;
     last = λ longer right longer_is begins. last.last longer right longer_is (begins_front bytes more (part_text longer)
-    (omega (arith, many, short, longer_is_short part longer right longer_is)) begins);
+        (omega (arith, many, short, longer_is_short part longer right longer_is)) begins);
   },
   short,
   is,

@@ -42,11 +42,7 @@ fn session_key_at(bytes: &[u8]) -> Option<(u32, &[u8])>
     ensures { Reads (λ read. (read.0, read.1.now)) result (spec.session_key_at bytes.now) }
 {
     let (key, rest) = narrow_at(b"\n", bytes)?;
-    if 0 < key {
-        Some((key, rest))
-    } else {
-        None
-    }
+    if 0 < key { Some((key, rest)) } else { None }
 }
 
 #[tactic(auto, unfolding(crate::specs::ReadingLines::queue_at))]
