@@ -6,8 +6,8 @@ ghost use Rattle.asp_acts.specs.Acts as spec;
 ghost use Rattle.asp_run.specs.Stands.{told_of};
 
 use crate::course::act;
-use asp_acts::{Course, Way};
 use crate::run::PlainRun;
+use asp_acts::{Course, Way};
 use asp_site::{Page, Site};
 use std::alloc::Global;
 use vb_syntax::Act;

@@ -7,10 +7,10 @@ ghost use Rattle.asp_run.specs.Stands.{outcome_of, told_of};
 
 use crate::acting::page_acts;
 use crate::course::course_of;
-use asp_acts::{Course, Way};
 use crate::ended::{Came, Ended};
 use crate::file::{copy_kept, is_head, refused_work};
 use crate::run::PlainRun;
+use asp_acts::{Course, Way};
 use asp_job::{Request, Verb};
 use asp_objects::{HeldSession, PageObjects};
 use asp_response::Draft;

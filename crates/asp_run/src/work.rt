@@ -9,12 +9,12 @@ ghost use Rattle.asp_run.specs.Stands.{outcome_of, told_of};
 
 use crate::acting::event;
 use crate::course::course_of;
-use asp_acts::{Course, Way};
 use crate::ended::{Came, Ended};
 use crate::file::{copy_kept, file_work, missing_work};
 use crate::page::{page_takes, page_work};
 use crate::run::PlainRun;
 use crate::text::ascii;
+use asp_acts::{Course, Way};
 use asp_job::{Job, Request, Verb, Work};
 use asp_objects::{HeldSession, PageObjects};
 use asp_site::{Found, Site, find};
