@@ -38,3 +38,7 @@ pub mod Ordering
 pub mod Alone
 pub mod Grouping
 pub mod Lanes
+pub mod Lengths
+pub mod Bearing
+pub mod Lasting
+pub mod Moved

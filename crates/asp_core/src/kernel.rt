@@ -1,7 +1,7 @@
 //! The core: it keeps the journal, and tables of what the journal says.
 #![tactic(auto)]
 
-ghost use Rattle.std.specs.Prelude.{◌≡◌, ◌+◌, ◌-◌, ◌<◌, ◌≤◌, ◌++◌, ◌∷◌, [], ℕ, List as Items, reverse, length, OnOk};
+ghost use Rattle.std.specs.Prelude.{◌≡◌, ◌+◌, ◌-◌, ◌^◌, ◌<◌, ◌≤◌, ◌++◌, ◌∷◌, [], ℕ, List as Items, reverse, length, OnOk};
 ghost use Rattle.std.specs.Prelude.{OnErr, IfOk, IfErr, IsOk};
 ghost use Rattle.std.specs.Prelude.{Some, None, Err, true, false, ◌↔◌, ◌≢◌, IsSome, vec_capacity};
 ghost use Rattle.asp_job.specs.History as history;
@@ -140,6 +140,15 @@ impl<R: Runner> Core<R> {
         ensures { result ≡ history.entries_in (past_of self.now) }
     {
         self.journal.entries_in()
+    }
+
+    /// How many entries the journal has, those of hand-outs and of a Halt too.
+    #[tactic(auto, using(crate::proofs::Lengths::short_journal))]
+    pub fn length(&self) -> u64
+        ensures length { result ≡ length self.now.journal }
+        ensures short { result < 2 ^ 32 }
+    {
+        self.journal.len() as u64
     }
 
     /// How many runs are unfinished.

@@ -27,8 +27,9 @@ mod tellers;
 pub use admitted::Admitted;
 pub use kernel::Core;
 pub use laws::{
-    answers_in_order, answers_wait, calls_follow, end_fits, handed_out_once, holder_is_unfinished,
-    lock_holds, runs_stay, sessions_apart, some_run_may_begin,
+    answer_stays, answers_in_order, answers_wait, calls_follow, end_fits, events_bear_lane,
+    handed_out_once, holder_is_unfinished, lock_holds, run_stays, runs_stay, sessions_apart,
+    some_run_may_begin,
 };
 pub use ready::{BODY_ROOM, MOST_BODIES};
 pub use run::{Progress, Run, StandIns};
