@@ -1,7 +1,6 @@
 -- A lane's own entries, and what a longer history leaves as it was.
 use Rattle.std.proofs.Common.{◌≡◌, ℕ, suc, List, [], ◌∷◌, ◌++◌, refl, sym, ap, ◌∙◌, arith, append_assoc, All, ◌≢◌}
 use Rattle.std.proofs.Common.{◌<◌, ◌≤◌, Bool, true, false, cond, eqb, append-nil, eq-eqb, ne_eqb, lt-ltb, le-ltb, ltb}
-use Rattle.std.proofs.Common.{◌+◌}
 use Rattle.std.proofs.lemmas.List.Elements.{filter-append}
 use Rattle.turn_desk.specs.declared.view.Known.{Known}
 use Rattle.turn_desk.specs.Histories.{total, Every, BeginsWith, own_part}

@@ -1,5 +1,4 @@
-use Rattle.std.proofs.Common.{◌++◌, map, sym, ap, ◌∙◌, subst, arith, true, false, ◌+◌, rules}
-use mathlib.Core.Option.{none}
+use Rattle.std.proofs.Common.{◌++◌, map, sym, ap, ◌∙◌, subst, arith, ◌+◌, rules}
 use Rattle.turn_desk.specs.Shown.{lane_view}
 use Rattle.turn_desk.proofs.Dealing.{splits_as, Deals, deals, all_dealt}
 use Rattle.turn_desk.proofs.desk.Desk.deal.Goals as goal

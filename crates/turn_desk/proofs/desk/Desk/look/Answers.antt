@@ -1,5 +1,4 @@
-use Rattle.std.proofs.Common.{sym, ap, ◌∙◌, arith, true, false}
-use mathlib.Core.Option.{some, none}
+use Rattle.std.proofs.Common.{sym, ap, ◌∙◌, arith}
 use Rattle.turn_desk.proofs.Looking.{looks_as, has_turn, has_no_turn, taken_out, slot_out, if_taken}
 use Rattle.turn_desk.proofs.desk.Desk.look.Goals as goal
 

@@ -1,6 +1,5 @@
-use Rattle.std.proofs.Common.{◌≡◌, ℕ, [], ◌∷◌, ◌++◌, refl, sym, ap, ◌∙◌, subst, arith, ◌<◌, ◌%◌, Some, ◌*◌, ◌+◌}
+use Rattle.std.proofs.Common.{◌≡◌, ℕ, [], ◌∷◌, ◌++◌, refl, sym, ap, ◌∙◌, subst, arith, ◌<◌, ◌%◌, Some, ◌*◌}
 use Rattle.std.proofs.Common.{length}
-use mathlib.Core.Option.{some}
 use Rattle.turn_desk.specs.Steps.{Numbered}
 use Rattle.turn_desk.proofs.Dealing.{numbered}
 use Rattle.turn_desk.proofs.Opening.{length-fresh_lanes, opens_as}
