@@ -6,3 +6,4 @@ pub mod Refusals
 pub mod OneReplayOutput
 pub mod OneReplayJournal
 pub mod OneGetOutput
+pub mod OneGenJournal
