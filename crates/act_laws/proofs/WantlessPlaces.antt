@@ -5,7 +5,7 @@ use Rattle.vb_value.specs.declared.value.ObjNo.{ObjNo}
 use Rattle.vb_value.specs.declared.value.Value.{Value, Empty, Long, Str, Bool as Boolean}
 use Rattle.vb_value.specs.Conversions.{to_long_of, to_str_of}
 use Rattle.vb_value.specs.Errors.{type_mismatch, illegal_assignment, object_not_set, unsupported, wrong_number}
-use Rattle.vb_value.specs.Errors.{and_then}
+use Rattle.vb_value.specs.Errors.{undefined_variable, and_then}
 use Rattle.vb_syntax.specs.declared.program.name.DictionaryMember.{DictionaryMember}
 use Rattle.vb_syntax.specs.declared.program.name.DictionaryMember.TheVariants as word
 use Rattle.vb_syntax.specs.declared.program.name.ErrMember.{ErrMember}
@@ -31,7 +31,7 @@ use Rattle.vb_meaning.specs.Dictionaries.{asking, has_items, item, item_by, put_
 use Rattle.vb_meaning.specs.Dictionaries.{named_member, set_member}
 use Rattle.vb_meaning.specs.ErrObject.{raise_of, raise, err_value, set_err}
 use Rattle.vb_meaning.specs.Paths.{item_in, element_in, element_at, element_of_place}
-use Rattle.vb_meaning.specs.Paths.{element, reached_value, kind_of}
+use Rattle.vb_meaning.specs.Paths.{element, hold_reached, reached_value, kind_of}
 use Rattle.vb_meaning.specs.Places.{new_cell, hold, holding, variable, slot_place, target_variable, indices_of}
 use Rattle.vb_meaning.specs.Places.{element_place, held_at, read_place, is_fixed, store_place}
 use Rattle.vb_meaning.specs.Errors.{cleared, with_err}
@@ -61,6 +61,7 @@ variable_wantless found = seeing_wantless (λ world. given (slot_place found wor
 
 pub target_wantless : (found : Named) → Wantless (target_variable found)
 target_wantless (named.Place found) = variable_wantless found
+target_wantless named.Unknown = fails_wantless undefined_variable
 target_wantless _ = fails_wantless illegal_assignment
 
 pub held_wantless : (place : Place) → Wantless (held_at place)
@@ -183,6 +184,10 @@ pub reached_wantless : (from : Reached) → Wantless (reached_value from)
 unfolding reached_value
 reached_wantless (AtPlace place) = read_wantless place
 reached_wantless (AtValue value) = pure_wantless value
+
+pub hold_reached_wantless : (from : Reached) → Wantless (hold_reached from)
+hold_reached_wantless (AtPlace place) = pure_wantless tt
+hold_reached_wantless (AtValue value) = hold_wantless value
 
 put_wantless : (object : ObjNo) (keys : List Value) (value : Value) → Wantless (put_in_object object keys value)
 put_wantless object keys value =

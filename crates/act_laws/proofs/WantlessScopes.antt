@@ -51,7 +51,7 @@ use Rattle.act_laws.proofs.Wantless.{Wantless, then_wantless, pure_wantless, fai
 use Rattle.act_laws.proofs.Wantless.{seeing_wantless, heap_wantless, choice_wantless, line_wantless}
 use Rattle.act_laws.proofs.Wantless.{changing_wantless, framed_wantless, settling_wantless}
 use Rattle.act_laws.proofs.Marks.{object_settles, table_settles}
-use Rattle.act_laws.proofs.WantlessPlaces.{new_cell_wantless, hold_wantless, holding_wantless, variable_wantless}
+use Rattle.act_laws.proofs.WantlessPlaces.{new_cell_wantless, hold_wantless, variable_wantless}
 use Rattle.act_laws.proofs.WantlessPlaces.{target_wantless, held_wantless, read_wantless, store_wantless}
 
 -- ---- declarations
@@ -134,7 +134,7 @@ result_wantless None = pure_wantless Empty
 created_wantless : (name : List ℕ) → Wantless (created name)
 created_wantless name = choice_wantless (same_name (codes "scripting.dictionary") name)
     (then_wantless (settling_wantless new_table_of with_new_table (λ world right fitting.
-    table_settles world.heap world.finished right fitting)) (λ object. holding_wantless (Obj object)))
+    table_settles world.heap world.finished right fitting)) (λ object. pure_wantless (Obj object)))
     (fails_wantless cannot_create_object)
 
 pub create_object_wantless : (arguments : List Value) → Wantless (create_object arguments)
@@ -208,6 +208,7 @@ erase_wantless (named.Place found) = then_wantless (variable_wantless found) (λ
     then_wantless (held_wantless place) (λ old.
     then_wantless (given_wantless (statements.erased (out-Value old))) (λ value.
     heap_wantless (store_of place value) (with_stored place value) (λ store count. refl))))
+erase_wantless named.Unknown = fails_wantless undefined_variable
 erase_wantless _ = fails_wantless type_mismatch
 
 pub erase_all_wantless : (names : List Named) → Wantless (statements.erase_all names)

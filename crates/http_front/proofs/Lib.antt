@@ -4,7 +4,7 @@ mod Fronts
 mod HeaderFields
 mod Marks
 mod OpenTargets
-mod Shortest
+pub mod Shortest
 mod Streams
 mod Targets
 mod Utf8

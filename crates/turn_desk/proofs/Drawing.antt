@@ -26,8 +26,10 @@ module _ {S E F : Type 0} (lane_of : E → ℕ) (entries : S → List E) (fixed 
       → (ℕ → Me (Option S) (View E F) → Type 0) → List ℕ → Type 0
   Goes = Steps lane_of entries fixed count part
 
-  draws_at : (s : State (Option S) (View E F)) (o : Rule s) (id : ℕ) (l : Known E) (f : Option F) → get_elem? s.views id ≡ some (view (l ∷ []) Idle f)
-      → Goes s 0 id (idle l f) (λ n. (n + 1) % 18446744073709551616) (Draws (idle l f)) (words_after o.drawn o.served (length o.history))
+  draws_at : (s : State (Option S) (View E F)) (o : Rule s) (id : ℕ) (l : Known E) (f : Option F)
+      → get_elem? s.views id ≡ some (view (l ∷ []) Idle f)
+      → Goes s 0 id (idle l f) (λ n. (n + 1) % 18446744073709551616) (Draws (idle l f))
+      (words_after o.drawn o.served (length o.history))
   draws_at s o id l f me =
       let v : View E F = view (l ∷ []) Idle f in
       let w : View E F = view (l ∷ []) (Waiting o.drawn) f in
@@ -48,20 +50,30 @@ module _ {S E F : Type 0} (lane_of : E → ℕ) (entries : S → List E) (fixed 
           out = omega (arith, total-set (λ u. tickets u.stage) s.views id v w me, o.out);
           apart = λ t. let moved = total-set (λ u. times_held t u.stage) s.views id v w me in
               dite (ℕ_discrete o.drawn t)
-              (λ e. let none-yet = total-zero (λ (u : View E F). times_held t u.stage) s.views (λ j u at. undrawn o.drawn o.served o.history u.lanes u.stage t (omega (arith, e)) (o.views j u at).2) in
+              (λ e. let none-yet = total-zero (λ (u : View E F). times_held t u.stage) s.views
+              (λ j u at. undrawn o.drawn o.served o.history u.lanes u.stage t (omega (arith, e))
+              (o.views j u at).2) in
               omega (arith, one_where-same o.drawn t e))
               (λ ne. omega (arith, one_where-apart o.drawn t ne, o.apart t));
           views = views_set (Fits (o.drawn + 1) o.served o.history) s.views id w
-              (λ j u ne at. let was = o.views j u at in (was.0, was.1, drawn_more o.drawn o.served o.history u.lanes u.stage was.2))
+              (λ j u ne at. let was = o.views j u at in (
+                was.0,
+                was.1,
+                drawn_more o.drawn o.served o.history u.lanes u.stage was.2,
+              ))
               (mine.0, mine.1, (omega (arith, o.out), omega arith, omega arith));
           state = still_there lane_of entries fixed count part s [] o.history id v w me (λ is. is) o.state;
         },
         (o.drawn, refl, refl),
       )
 
-  pub draws : (slots id : ℕ) (l : Known E) (f : Option F) → Allows Rule slots id (idle l f) 0 (λ n. (n + 1) % 18446744073709551616) (Draws (idle l f))
-  draws slots id l f s o wide me _ = subst (Goes s 0 id (idle l f) (λ n. (n + 1) % 18446744073709551616) (Draws (idle l f))) (sym o.words) (draws_at s o id l f me)
+  pub draws : (slots id : ℕ) (l : Known E) (f : Option F)
+      → Allows Rule slots id (idle l f) 0 (λ n. (n + 1) % 18446744073709551616) (Draws (idle l f))
+  draws slots id l f s o wide me _ = subst (Goes s 0 id (idle l f) (λ n. (n + 1) % 18446744073709551616)
+      (Draws (idle l f))) (sym o.words) (draws_at s o id l f me)
 
   -- the steps, at a seat that is known to be such
-  pub draws_as : (slots id : ℕ) (m : Me (Option S) (View E F)) → IsIdle m → Allows Rule slots id m 0 (λ n. (n + 1) % 18446744073709551616) (Draws m)
-  draws_as slots id m is = subst (λ (x : Me (Option S) (View E F)). Allows Rule slots id x 0 (λ n. (n + 1) % 18446744073709551616) (Draws x)) (sym is.2) (draws slots id is.0 is.1)
+  pub draws_as : (slots id : ℕ) (m : Me (Option S) (View E F)) → IsIdle m
+      → Allows Rule slots id m 0 (λ n. (n + 1) % 18446744073709551616) (Draws m)
+  draws_as slots id m is = subst (λ (x : Me (Option S) (View E F)). Allows Rule slots id x 0
+      (λ n. (n + 1) % 18446744073709551616) (Draws x)) (sym is.2) (draws slots id is.0 is.1)

@@ -17,7 +17,8 @@ use Rattle.turn_desk.proofs.Stages.{views_set}
 use Rattle.turn_desk.proofs.Totals.{total-append, total-set}
 
 -- a seat with one lane and no ticket is at rest
-pub at_rest-idle : {S E F : Type 0} (m : Me (Option S) (View E F)) (l : Known E) (f : Option F) → m ≡ idle l f → IsAtRest m
+pub at_rest-idle : {S E F : Type 0} (m : Me (Option S) (View E F)) (l : Known E) (f : Option F) → m ≡ idle l f
+    → IsAtRest m
 at_rest-idle m l f is = subst (λ x. IsAtRest x) (sym is) (refl, omega arith)
 
 module _ {S E F : Type 0} (lane_of : E → ℕ) (entries : S → List E) (fixed : S → F) (count : ℕ) (part : F) where
@@ -27,8 +28,10 @@ module _ {S E F : Type 0} (lane_of : E → ℕ) (entries : S → List E) (fixed 
   abbrev Fits : ℕ → ℕ → List E → View E F → Type 0
   Fits = SeatFits lane_of entries fixed part
 
-  pub joins : (id : ℕ) (mine-lanes : List (Known E)) (f : Option F) (other : ℕ) (lanes : List (Known E)) (f' : Option F) → 0 < length mine-lanes
-      → Joins Rule id (view mine-lanes Idle f) other (view lanes Idle f') (joined (view mine-lanes Idle f) (view lanes Idle f')) blank
+  pub joins : (id : ℕ) (mine-lanes : List (Known E)) (f : Option F) (other : ℕ) (lanes : List (Known E))
+      (f' : Option F) → 0 < length mine-lanes
+      → Joins Rule id (view mine-lanes Idle f) other (view lanes Idle f')
+      (joined (view mine-lanes Idle f) (view lanes Idle f')) blank
   joins id ls f other ks f' some-lane s o me apart them =
       let v : View E F = view ls Idle f in
       let w : View E F = view ks Idle f' in
@@ -36,7 +39,8 @@ module _ {S E F : Type 0} (lane_of : E → ℕ) (entries : S → List E) (fixed 
       let vs : List (View E F) = set s.views id joined in
       let mine = o.views id v me in
       let theirs = o.views other w (sym (set_else s.views id other joined apart) ∙ them) in
-      let both : (g : View E F → ℕ) → total g (set vs other blank) + g w + g v ≡ total g s.views + g joined + g blank =
+      let both : (g : View E F → ℕ) → total g (set vs other blank) + g w + g v ≡ total g s.views + g joined + g
+      blank =
       λ g. omega (arith, total-set g s.views id v joined me, total-set g vs other w blank them) in
       record {
         history = o.history;
@@ -47,20 +51,30 @@ module _ {S E F : Type 0} (lane_of : E → ℕ) (entries : S → List E) (fixed 
         of_lanes = o.of_lanes;
         few = o.few;
         lanes = omega (arith, both (λ u. length u.lanes), length-append ks ls, o.lanes);
-        once = λ k. omega (arith, both (times_seated k), total-append (λ (l : Known E). one_where l.number k) ks ls, o.once k);
+        once = λ k. omega (
+          arith,
+          both (times_seated k),
+          total-append (λ (l : Known E). one_where l.number k) ks ls,
+          o.once k,
+        );
         out = omega (arith, both (λ u. tickets u.stage), o.out);
         apart = λ t. omega (arith, both (λ u. times_held t u.stage), o.apart t);
         views = views_set (Fits o.drawn o.served o.history) vs other blank
-            (λ j u ne at. views_set (Fits o.drawn o.served o.history) s.views id joined (λ i x ne' e. o.views i x e) ((λ lt. mine.0 some-lane), Every-append _ ks ls theirs.1 mine.1, tt) j u at)
+            (λ j u ne at. views_set (Fits o.drawn o.served o.history) s.views id joined (λ i x ne' e. o.views i x e)
+            ((λ lt. mine.0 some-lane), Every-append _ ks ls theirs.1 mine.1, tt) j u at)
             ((λ lt. absurd (omega arith)), tt, tt);
-        state = still_there lane_of entries fixed count part (record { words = []; homes = s.homes; views = vs }) [] o.history other w blank them (λ is. is)
+        state = still_there lane_of entries fixed count part (record { words = []; homes = s.homes; views = vs }) []
+            o.history other w blank them (λ is. is)
             (still_there lane_of entries fixed count part s [] o.history id v joined me (λ is. is) o.state);
       }
 
-  pub joins_as : (id : ℕ) (m : Me (Option S) (View E F)) (other : ℕ) (w : Me (Option S) (View E F)) → IsAtRest m → IsAtRest w → Joins Rule id m.0 other w.0 (joined m.0 w.0) blank
+  pub joins_as : (id : ℕ) (m : Me (Option S) (View E F)) (other : ℕ) (w : Me (Option S) (View E F)) → IsAtRest m
+      → IsAtRest w → Joins Rule id m.0 other w.0 (joined m.0 w.0) blank
   joins_as id m other w is is' =
-      subst (λ (x : View E F). Joins Rule id x other w.0 (joined x w.0) blank) (sym (ap (λ (x : Me (Option S) (View E F)). x.0) is.0))
-      (subst (λ (x : View E F). Joins Rule id (view m.0.lanes Idle m.0.fixed) other x (joined (view m.0.lanes Idle m.0.fixed) x) blank) (sym (ap (λ (x : Me (Option S) (View E F)). x.0) is'.0))
+      subst (λ (x : View E F). Joins Rule id x other w.0 (joined x w.0) blank)
+      (sym (ap (λ (x : Me (Option S) (View E F)). x.0) is.0))
+      (subst (λ (x : View E F). Joins Rule id (view m.0.lanes Idle m.0.fixed) other x
+      (joined (view m.0.lanes Idle m.0.fixed) x) blank) (sym (ap (λ (x : Me (Option S) (View E F)). x.0) is'.0))
       (joins id m.0.lanes m.0.fixed other w.0.lanes w.0.fixed is.1))
 
 -- a fact of all items of a list with one more holds of the others, and of that one
@@ -74,7 +88,8 @@ All-last P [] y h = h 0 y (omega arith)
 All-last P (x ∷ xs) y h = All-last P xs y (λ i e l. h (suc i) e (omega arith))
 
 -- a lane of this desk is what it knows
-lane_same : {E F : Type 0} (d : DeskView F) (l : LaneView E F) → IsLaneOf d l → l ≡ lane_view d (known l.number l.seen l.own)
+lane_same : {E F : Type 0} (d : DeskView F) (l : LaneView E F) → IsLaneOf d l
+    → l ≡ lane_view d (known l.number l.seen l.own)
 lane_same d l is = λ i. record { desk = is.0 i; number = l.number; seen = l.seen; own = l.own; fixed = is.1 i }
 
 module _ {S E F : Type 0} where
@@ -82,18 +97,23 @@ module _ {S E F : Type 0} where
   abbrev pub Gathers : DeskView F → List (LaneView E F) → Me (Option S) (View E F) → List (LaneView E F) → Type 0
   Gathers d items m all = All (λ l. IsLaneOf d l) items × IsAtRest m × (items ++ map (lane_view d) m.0.lanes ≡ all)
 
-  pub starts_gathering : (d : DeskView F) (items : List (LaneView E F)) (l : LaneView E F) (m : Me (Option S) (View E F)) (all : List (LaneView E F))
-      → All (λ l. IsLaneOf d l) all → all ≡ items ++ l ∷ [] → m ≡ idle (known l.number l.seen l.own) l.fixed → Gathers d items m all
+  pub starts_gathering : (d : DeskView F) (items : List (LaneView E F)) (l : LaneView E F)
+      (m : Me (Option S) (View E F)) (all : List (LaneView E F))
+      → All (λ l. IsLaneOf d l) all → all ≡ items ++ l ∷ [] → m ≡ idle (known l.number l.seen l.own) l.fixed
+      → Gathers d items m all
   starts_gathering d items l m all of whole is =
       let of' : All (λ l. IsLaneOf d l) (items ++ l ∷ []) = subst (λ xs. All (λ l. IsLaneOf d l) xs) whole of in
       let last = All-last (λ l. IsLaneOf d l) items l of' in (
         All-front (λ l. IsLaneOf d l) items l of',
         subst (λ (x : Me (Option S) (View E F)). IsAtRest x) (sym is) (refl, omega arith),
-        ap (λ (x : Me (Option S) (View E F)). items ++ map (lane_view d) x.0.lanes) is ∙ (ap (λ x. items ++ x ∷ []) (sym (lane_same d l last)) ∙ sym whole),
+        ap (λ (x : Me (Option S) (View E F)). items ++ map (lane_view d) x.0.lanes) is
+            ∙ (ap (λ x. items ++ x ∷ []) (sym (lane_same d l last)) ∙ sym whole),
       )
 
-  pub gathers : (d : DeskView F) (items rest : List (LaneView E F)) (l : LaneView E F) (m n : Me (Option S) (View E F)) (all : List (LaneView E F))
-      → Gathers d items m all → items ≡ rest ++ l ∷ [] → n ≡ (view (known l.number l.seen l.own ∷ m.0.lanes) Idle m.0.fixed, []) → Gathers d rest n all
+  pub gathers : (d : DeskView F) (items rest : List (LaneView E F)) (l : LaneView E F)
+      (m n : Me (Option S) (View E F)) (all : List (LaneView E F))
+      → Gathers d items m all → items ≡ rest ++ l ∷ []
+      → n ≡ (view (known l.number l.seen l.own ∷ m.0.lanes) Idle m.0.fixed, []) → Gathers d rest n all
   gathers d items rest l m n all h popped is =
       let of' : All (λ l. IsLaneOf d l) (rest ++ l ∷ []) = subst (λ xs. All (λ l. IsLaneOf d l) xs) popped h.0 in
       let last = All-last (λ l. IsLaneOf d l) rest l of' in (
@@ -101,12 +121,15 @@ module _ {S E F : Type 0} where
         subst (λ (x : Me (Option S) (View E F)). IsAtRest x) (sym is) (refl, omega arith),
         ap (λ (x : Me (Option S) (View E F)). rest ++ map (lane_view d) x.0.lanes) is
             ∙ (ap (λ x. rest ++ x ∷ map (lane_view d) m.0.lanes) (sym (lane_same d l last))
-            ∙ (sym (append_assoc rest (l ∷ []) (map (lane_view d) m.0.lanes)) ∙ (ap (λ xs. xs ++ map (lane_view d) m.0.lanes) (sym popped) ∙ h.2))),
+            ∙ (sym (append_assoc rest (l ∷ []) (map (lane_view d) m.0.lanes))
+            ∙ (ap (λ xs. xs ++ map (lane_view d) m.0.lanes) (sym popped) ∙ h.2))),
       )
 
   -- what each lane knows, said of the lanes that contracts see
-  pub all_end : (lane_of : E → ℕ) (entries : S → List E) (fixed : S → F) (d : DeskView F) (history : List E) (lanes : List (Known E)) → Every (KnownFits lane_of entries fixed history) lanes
+  pub all_end : (lane_of : E → ℕ) (entries : S → List E) (fixed : S → F) (d : DeskView F) (history : List E)
+      (lanes : List (Known E)) → Every (KnownFits lane_of entries fixed history) lanes
       → All (LaneFits lane_of history) (map (lane_view d) lanes)
   all_end lane_of entries fixed d history [] h k e lt = absurd (omega arith)
   all_end lane_of entries fixed d history (l ∷ ls) h zero e lt = h.0
-  all_end lane_of entries fixed d history (l ∷ ls) h (suc k) e lt = all_end lane_of entries fixed d history ls h.1 k e (omega arith)
+  all_end lane_of entries fixed d history (l ∷ ls) h (suc k) e lt =
+      all_end lane_of entries fixed d history ls h.1 k e (omega arith)

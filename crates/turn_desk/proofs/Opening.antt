@@ -31,7 +31,8 @@ module _ {E : Type 0} (lane_of : E → ℕ) (history : List E) where
             (λ ne. omega (arith, one_where-apart n k ne, more.2 (omega arith) (omega arith))),
       )
 
-  numbers_once : (count k : ℕ) → total (λ l. one_where l.number k) (fresh_lanes lane_of history 0 count) ≡ one_below k count
+  numbers_once : (count k : ℕ) → total (λ l. one_where l.number k) (fresh_lanes lane_of history 0 count) ≡ one_below
+      k count
   numbers_once count k =
       dite (dec_le count k)
       (λ past. omega (arith, (numbers 0 count k).1 (omega arith), one_below-no k count past))
@@ -44,12 +45,16 @@ module _ {S E F : Type 0} (lane_of : E → ℕ) (entries : S → List E) (fixed 
   abbrev Fits : ℕ → ℕ → List E → View E F → Type 0
   Fits = SeatFits lane_of entries fixed part
 
-  all_fit : (history : List E) (n k : ℕ) → Every (KnownFits lane_of entries fixed history) (fresh_lanes lane_of history n k)
+  all_fit : (history : List E) (n k : ℕ) → Every (KnownFits lane_of entries fixed history)
+      (fresh_lanes lane_of history n k)
   all_fit history n zero = tt
   all_fit history n (suc k) = ((begins-self history, refl), all_fit history (suc n) k)
 
-  pub opens : (state : S) (long : ℕ) → long ≡ length (entries state) * 4294967296 → length (entries state) < 4294967296 → AreOfLanes lane_of count (entries state) → count ≤ 32 → fixed state ≡ part
-      → Rule (opening (0 ∷ long ∷ []) (Some state ∷ []) (view (fresh_lanes lane_of (entries state) 0 count) Idle (Some part)))
+  pub opens : (state : S) (long : ℕ) → long ≡ length (entries state) * 4294967296
+      → length (entries state) < 4294967296 → AreOfLanes lane_of count (entries state) → count ≤ 32
+      → fixed state ≡ part
+      → Rule (opening (0 ∷ long ∷ []) (Some state ∷ [])
+      (view (fresh_lanes lane_of (entries state) 0 count) Idle (Some part)))
   opens state long is short within few same-part =
       let v : View E F = view (fresh_lanes lane_of (entries state) 0 count) Idle (Some part) in
       record {
@@ -68,13 +73,18 @@ module _ {S E F : Type 0} (lane_of : E → ℕ) (entries : S → List E) (fixed 
         state = inl (state, refl, refl, same-part);
       }
     where
-      one : (v : View E F) → Fits 0 0 (entries state) v → (j : ℕ) (u : View E F) → get_elem? (v ∷ []) j ≡ some u → Fits 0 0 (entries state) u
+      one : (v : View E F) → Fits 0 0 (entries state) v → (j : ℕ) (u : View E F) → get_elem? (v ∷ []) j ≡ some u
+          → Fits 0 0 (entries state) u
       one v fit zero u e = subst (Fits 0 0 (entries state)) (some-injective v u e) fit
       one v fit (suc j) u e = absurd (some-ne-none u (sym e))
 
   -- the same, over a copy of the state that proofs alone see
-  pub opens_as : (state copy : S) (long : ℕ) (slots : List (Option S)) → copy ≡ state → slots ≡ Some state ∷ [] → long ≡ length (entries state) * 4294967296 → length (entries state) < 4294967296 → AreOfLanes lane_of count (entries state) → count ≤ 32 → fixed copy ≡ part
+  pub opens_as : (state copy : S) (long : ℕ) (slots : List (Option S)) → copy ≡ state → slots ≡ Some state ∷ []
+      → long ≡ length (entries state) * 4294967296 → length (entries state) < 4294967296
+      → AreOfLanes lane_of count (entries state) → count ≤ 32 → fixed copy ≡ part
       → Rule (opening (0 ∷ long ∷ []) slots (view (fresh_lanes lane_of (entries copy) 0 count) Idle (Some part)))
   opens_as state copy long slots same items is short within few same-part =
-      subst (λ x. Rule (opening (0 ∷ long ∷ []) slots (view (fresh_lanes lane_of (entries x) 0 count) Idle (Some part)))) (sym same)
-      (subst (λ xs. Rule (opening (0 ∷ long ∷ []) xs (view (fresh_lanes lane_of (entries state) 0 count) Idle (Some part)))) (sym items) (opens state long is short within few (ap fixed (sym same) ∙ same-part)))
+      subst (λ x. Rule (opening (0 ∷ long ∷ []) slots
+      (view (fresh_lanes lane_of (entries x) 0 count) Idle (Some part)))) (sym same)
+      (subst (λ xs. Rule (opening (0 ∷ long ∷ []) xs (view (fresh_lanes lane_of (entries state) 0 count) Idle
+      (Some part)))) (sym items) (opens state long is short within few (ap fixed (sym same) ∙ same-part)))

@@ -1,7 +1,6 @@
 -- A lane's own entries, and what a longer history leaves as it was.
 use Rattle.std.proofs.Common.{◌≡◌, ℕ, suc, List, [], ◌∷◌, ◌++◌, refl, sym, ap, ◌∙◌, arith, append_assoc, All, ◌≢◌}
 use Rattle.std.proofs.Common.{◌<◌, ◌≤◌, Bool, true, false, cond, eqb, append-nil, eq-eqb, ne_eqb, lt-ltb, le-ltb, ltb}
-use Rattle.std.proofs.Common.{◌+◌}
 use Rattle.std.proofs.lemmas.List.Elements.{filter-append}
 use Rattle.turn_desk.specs.declared.view.Known.{Known}
 use Rattle.turn_desk.specs.Histories.{total, Every, BeginsWith, own_part}
@@ -50,28 +49,37 @@ module _ {A : Type 0} where
 
 module _ {E : Type 0} (lane_of : E → ℕ) where
   -- entries of one lane are none of another's
-  pub own_part-others : (n k : ℕ) (more : List E) → n ≢ k → All (λ e. lane_of e ≡ n) more → own_part lane_of k more ≡ []
+  pub own_part-others : (n k : ℕ) (more : List E) → n ≢ k → All (λ e. lane_of e ≡ n) more
+      → own_part lane_of k more ≡ []
   own_part-others n k [] apart h = refl
   own_part-others n k (e ∷ es) apart h =
       let first : lane_of e ≡ n = h 0 e (omega arith) in
       let no = ne_eqb (lane_of e) k (λ q. apart (sym first ∙ q)) in
-      ap (λ b. cond b (e ∷ own_part lane_of k es) (own_part lane_of k es)) no ∙ own_part-others n k es apart (λ i d lt. h (suc i) d (omega arith))
+      ap (λ b. cond b (e ∷ own_part lane_of k es) (own_part lane_of k es)) no
+      ∙ own_part-others n k es apart (λ i d lt. h (suc i) d (omega arith))
 
   -- entries of one lane are all its own
   pub own_part-own : (n : ℕ) (more : List E) → All (λ e. lane_of e ≡ n) more → own_part lane_of n more ≡ more
   own_part-own n [] h = refl
   own_part-own n (e ∷ es) h =
       let yes = eq-eqb (lane_of e) n (h 0 e (omega arith)) in
-      ap (λ b. cond b (e ∷ own_part lane_of n es) (own_part lane_of n es)) yes ∙ ap (λ l. e ∷ l) (own_part-own n es (λ i d lt. h (suc i) d (omega arith)))
+      ap (λ b. cond b (e ∷ own_part lane_of n es) (own_part lane_of n es)) yes
+      ∙ ap (λ l. e ∷ l) (own_part-own n es (λ i d lt. h (suc i) d (omega arith)))
 
-  pub own_part-kept : (n k : ℕ) (history more : List E) → n ≢ k → All (λ e. lane_of e ≡ n) more → own_part lane_of k (history ++ more) ≡ own_part lane_of k history
+  pub own_part-kept : (n k : ℕ) (history more : List E) → n ≢ k → All (λ e. lane_of e ≡ n) more
+      → own_part lane_of k (history ++ more) ≡ own_part lane_of k history
   own_part-kept n k history more apart h =
-      filter-append (λ e. eqb (lane_of e) k) history more ∙ (ap (λ l. own_part lane_of k history ++ l) (own_part-others n k more apart h) ∙ append-nil (own_part lane_of k history))
+      filter-append (λ e. eqb (lane_of e) k) history more
+      ∙ (ap (λ l. own_part lane_of k history ++ l) (own_part-others n k more apart h)
+      ∙ append-nil (own_part lane_of k history))
 
-  pub own_part-grows : (n : ℕ) (history more : List E) → All (λ e. lane_of e ≡ n) more → own_part lane_of n (history ++ more) ≡ own_part lane_of n history ++ more
-  own_part-grows n history more h = filter-append (λ e. eqb (lane_of e) n) history more ∙ ap (λ l. own_part lane_of n history ++ l) (own_part-own n more h)
+  pub own_part-grows : (n : ℕ) (history more : List E) → All (λ e. lane_of e ≡ n) more
+      → own_part lane_of n (history ++ more) ≡ own_part lane_of n history ++ more
+  own_part-grows n history more h = filter-append (λ e. eqb (lane_of e) n) history more
+      ∙ ap (λ l. own_part lane_of n history ++ l) (own_part-own n more h)
 
 -- no lane of a list has the number k
-pub lanes-apart : {E : Type 0} (k : ℕ) (lanes : List (Known E)) → total (λ l. one_where l.number k) lanes ≡ 0 → Every (λ l. k ≢ l.number) lanes
+pub lanes-apart : {E : Type 0} (k : ℕ) (lanes : List (Known E)) → total (λ l. one_where l.number k) lanes ≡ 0
+    → Every (λ l. k ≢ l.number) lanes
 lanes-apart k [] z = tt
 lanes-apart k (l ∷ ls) z = ((λ e. one_where_zero l.number k (omega arith) (sym e)), lanes-apart k ls (omega arith))

@@ -9,7 +9,8 @@ module _ {A : Type 0} (g : A → ℕ) where
   total-append [] m = omega arith
   total-append (x ∷ xs) m = omega (arith, total-append xs m)
 
-  pub total-set : (l : List A) (j : ℕ) (v w : A) → get_elem? l j ≡ some v → total g (set l j w) + g v ≡ total g l + g w
+  pub total-set : (l : List A) (j : ℕ) (v w : A) → get_elem? l j ≡ some v
+      → total g (set l j w) + g v ≡ total g l + g w
   total-set [] j v w e = absurd (some-ne-none v (sym e))
   total-set (x ∷ xs) zero v w e = omega (arith, ap g (some-injective x v e))
   total-set (x ∷ xs) (suc j) v w e = omega (arith, total-set xs j v w e)
@@ -19,7 +20,8 @@ module _ {A : Type 0} (g : A → ℕ) where
   term_le (x ∷ xs) zero v e = omega (arith, ap g (some-injective x v e))
   term_le (x ∷ xs) (suc j) v e = omega (arith, term_le xs j v e)
 
-  pub terms_le : (l : List A) (j k : ℕ) (v u : A) → k ≢ j → get_elem? l j ≡ some v → get_elem? l k ≡ some u → g v + g u ≤ total g l
+  pub terms_le : (l : List A) (j k : ℕ) (v u : A) → k ≢ j → get_elem? l j ≡ some v → get_elem? l k ≡ some u
+      → g v + g u ≤ total g l
   terms_le [] j k v u n e d = absurd (some-ne-none v (sym e))
   terms_le (x ∷ xs) zero zero v u n e d = absurd (n refl)
   terms_le (x ∷ xs) zero (suc k) v u n e d = omega (arith, ap g (some-injective x v e), term_le xs k u d)
@@ -32,6 +34,7 @@ module _ {A : Type 0} (g : A → ℕ) where
   total-zero (x ∷ xs) h = omega (arith, h 0 x refl, total-zero xs (λ j v e. h (suc j) v e))
 
   -- a sum that is no more than another, term by term
-  pub total-le : (f : A → ℕ) (l : List A) → ((j : ℕ) (v : A) → get_elem? l j ≡ some v → g v ≤ f v) → total g l ≤ total f l
+  pub total-le : (f : A → ℕ) (l : List A) → ((j : ℕ) (v : A) → get_elem? l j ≡ some v → g v ≤ f v)
+      → total g l ≤ total f l
   total-le f [] h = omega arith
   total-le f (x ∷ xs) h = omega (arith, h 0 x refl, total-le f xs (λ j v e. h (suc j) v e))

@@ -1,5 +1,5 @@
--- The rule of a desk, which holds between any two atomic steps. A desk has two words, for the tickets drawn, and for the
--- turn served with the length of the history; and a slot for the state.
+-- The rule of a desk, which holds between any two atomic steps. A desk has two words, for the tickets drawn, and for
+-- the turn served with the length of the history; and a slot for the state.
 use Rattle.std.specs.Prelude.{◌≡◌, ◌⊎◌, ℕ, ◌+◌, ◌*◌, ◌%◌, ◌<◌, ◌≤◌, ◌==◌, nat_lt, if◌then◌else◌}
 use Rattle.std.specs.Prelude.{List, [], ◌∷◌, length, Option, Some}
 use mathlib.Core.Option.{some, none}
@@ -37,7 +37,7 @@ IsServing Idle = ⊥
 IsServing (Waiting ticket) = ⊥
 IsServing (Serving ticket) = Unit {0}
 
--- the words: the tickets drawn; in the high half of the second the length of the history, in its low half the turn served
+-- the words: the tickets drawn; the length of the history in the high half of the second, the turn served in its low half
 abbrev pub words_after : ℕ → ℕ → ℕ → List ℕ
 words_after drawn served long = (drawn % 18446744073709551616) ∷ (long * 4294967296 + served % 4294967296) ∷ []
 
@@ -78,7 +78,7 @@ module _ {S E F : Type 0} (lane_of : E → ℕ) (entries : S → List E) (fixed 
   StateFits part history table =
       ((state : S) × (table.homes ≡ some (Some state) ∷ []) × (entries state ≡ history) × (fixed state ≡ part))
       ⊎ ((table.homes ≡ none ∷ [])
-          × ((seat : ℕ) × (v : View E F) × (get_elem? table.views seat ≡ some v) × IsServing v.stage))
+      × ((seat : ℕ) × (v : View E F) × (get_elem? table.views seat ≡ some v) × IsServing v.stage))
 
   -- a desk of so many lanes, with this fixed part
   pub record IsOrderly (count : ℕ) (part : F) (table : State (Option S) (View E F)) : Type 0 where

@@ -1,5 +1,5 @@
 -- What contracts see of a desk, a lane and a turn.
-use Rattle.std.specs.Prelude.{◌≡◌, ℕ, ◌%◌, List, ◌∷◌, [], map, Option, Some, None}
+use Rattle.std.specs.Prelude.{◌≡◌, ℕ, ◌%◌, List, map, Option, Some, None}
 use Rattle.atomic_table.specs.Seated.{TableId}
 use Rattle.atomic_table.specs.Table.{Me}
 use Rattle.turn_desk.specs.declared.view.View.{View}
@@ -61,13 +61,13 @@ module _ {E F : Type 0} where
 
 module _ {S E F : Type 0} (lane_of : E → ℕ) where
   -- the lane of this number, without a ticket
-  abbrev pub IsLane : ℕ → Me (Option S) (View E F) → Type 0
-  IsLane number m =
+  abbrev pub IsLaneSeat : ℕ → Me (Option S) (View E F) → Type 0
+  IsLaneSeat number m =
       (m ≡ idle (known number (seen_of m.0.lanes) (own_of m.0.lanes)) m.0.fixed)
       × (own_part lane_of number (seen_of m.0.lanes) ≡ own_of m.0.lanes)
 
   -- the lane of this number, with the turn of a ticket with this low half, while the state is out of its slot
-  abbrev pub IsTurn : ℕ → ℕ → Me (Option S) (View E F) → Type 0
-  IsTurn number low m =
+  abbrev pub IsTurnSeat : ℕ → ℕ → Me (Option S) (View E F) → Type 0
+  IsTurnSeat number low m =
       (m ≡ serves (known number (seen_of m.0.lanes) (own_of m.0.lanes)) (ticket_of m.0.stage) m.0.fixed None)
       × (low ≡ ticket_of m.0.stage % 4294967296) × (own_part lane_of number (seen_of m.0.lanes) ≡ own_of m.0.lanes)

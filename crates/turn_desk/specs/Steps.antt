@@ -103,7 +103,8 @@ module _ {E F : Type 0} where
   with_ticket v ticket = view v.lanes (Waiting ticket) v.fixed
 
   abbrev pub in_turn : View E F → List E → View E F
-  in_turn v history = view (known (number_of v.lanes) history (own_of v.lanes) ∷ []) (Serving (ticket_of v.stage)) v.fixed
+  in_turn v history = view (known (number_of v.lanes) history (own_of v.lanes) ∷ []) (Serving (ticket_of v.stage))
+      v.fixed
 
   abbrev pub behind_turn : (E → ℕ) → View E F → List E → View E F
   behind_turn lane_of v history =

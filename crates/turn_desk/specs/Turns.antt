@@ -14,9 +14,9 @@ abbrev pub LendsState : (S E F : RattleType) → Ghosts S.Denot E.Denot F.Denot 
 LendsState S E F stands turn state =
     Lends (the_row (record { mir = named 0; lft = [] }) S E F stands) S turn state (with_state turn.now)
 
--- a call that is one turn of a lane, with this answer: on some history which begins with all that the lane had seen, and
--- has of the lane just its own entries, the call does what `does` says of that history, its answer and the history that
--- it leaves
+-- a call that is one turn of a lane, with this answer: on some history, which begins with all that the lane had seen and
+-- has of the lane just its own entries, it does what `does` says of that history, the answer and the history that it
+-- leaves
 pub record IsOneTurn {E F A : Type 0} (lane_of : E → ℕ) (does : List E → A → List E → Type 0) (old : LaneView E F)
     (answer : A) (new : LaneView E F) : Type 0 where
   pub before : List E

@@ -36,7 +36,9 @@ impl<S: Stands> Model for Desk<S> {
     ghost Value = { DeskView S.Fixed };
 
     ghost view = { λ d. record {
-        id = d.table.shared.table_id; lanes = d.lanes; fixed = S.fixed d.table.shared.key.state.value
+      id = d.table.shared.table_id;
+      lanes = d.lanes;
+      fixed = S.fixed d.table.shared.key.state.value;
     } };
 
     ghost invariant = { λ d. (d.table.shared.table_id.words ≡ 2) × (d.table.shared.table_id.slots ≡ 1)
@@ -44,7 +46,7 @@ impl<S: Stands> Model for Desk<S> {
 }
 
 impl<S: Stands> Desk<S> {
-    /// A desk with this state, and its lanes, numbered from 0. The state is dropped where there is no memory for a desk.
+    /// A desk with this state, and its lanes, numbered from 0. Where there is no memory for it, the state is dropped.
     pub fn new(alloc: Global, state: S, lanes: u32) -> Result<(Desk<S>, List<Lane<S>>), Memory>
     where
         S: Drop,

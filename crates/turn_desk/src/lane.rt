@@ -16,17 +16,20 @@ pub struct Lane<S: Stands> {
 }
 
 impl<S: Stands> Model for Lane<S> {
-    ghost use Rattle.turn_desk.specs.Shown.{LaneView, IsLane};
+    ghost use Rattle.turn_desk.specs.Shown.{LaneView, IsLaneSeat};
     ghost use Rattle.turn_desk.specs.Steps.{seen_of, own_of};
 
     ghost Value = { LaneView S.Entry S.Fixed };
 
     ghost view = { λ l. record {
-        desk = l.seat.table_id; number = l.number; seen = seen_of l.seat.me.0.lanes;
-        own = own_of l.seat.me.0.lanes; fixed = l.seat.me.0.fixed
+      desk = l.seat.table_id;
+      number = l.number;
+      seen = seen_of l.seat.me.0.lanes;
+      own = own_of l.seat.me.0.lanes;
+      fixed = l.seat.me.0.fixed;
     } };
 
-    ghost invariant = { λ l. IsLane S.lane_of l.number l.seat.me };
+    ghost invariant = { λ l. IsLaneSeat S.lane_of l.number l.seat.me };
 }
 
 impl<S: Stands> Lane<S> {

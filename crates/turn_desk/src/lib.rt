@@ -1,6 +1,6 @@
 //! A lock that is given by tickets, round one state: threads change it in turns, each with a lane of its own. The state
-//! has a history of entries, which grows by the turns alone, and each lane knows what it has seen of it and which entries
-//! are its own.
+//! has a history of entries, which grows by the turns alone, and each lane knows what it has seen of it and which
+//! entries are its own.
 #![tactic(auto)]
 
 mod closing;

@@ -1,7 +1,8 @@
 //! What can stand on a desk.
 ghost use Rattle.std.specs.Prelude.{◌≡◌, ℕ, ◌<◌, List, length};
 
-/// A state that has a history, a list of entries each with the number of a lane, and a fixed part, which no turn changes.
+/// A state with a history, which is a list of entries each with the number of a lane, and with a fixed part, which no
+/// turn changes.
 ///
 /// The history and the fixed part are meanings: the state need not hold them as they are.
 pub trait Stands {

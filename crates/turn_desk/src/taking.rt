@@ -20,7 +20,8 @@ impl<S: Stands> Desk<S> {
         requires desk { seat.old.table_id ≡ self.now.id }
         requires seat { IsIdle seat.old.me }
         ensures desk { seat.new.table_id ≡ seat.old.table_id }
-        ensures ticket { (t : ℕ) × (result ≡ t % 2 ^ 32) × (seat.new.me ≡ (with_ticket seat.old.me.0 t, seat.old.me.1)) }
+        ensures ticket { (t : ℕ) × (result ≡ t % 2 ^ 32)
+            × (seat.new.me ≡ (with_ticket seat.old.me.0 t, seat.old.me.1)) }
     {
         let ticket = self.table.shared.fetch_add::<Draw>(seat, TICKET, 1);
         (ticket % (1 << 32)) as u32

@@ -21,17 +21,21 @@ pub struct Turn<'a, S: Stands> {
 
 impl<'a, S: Stands> Model for Turn<'a, S> {
     ghost use Rattle.std.specs.Prelude.{◌≡◌};
-    ghost use Rattle.turn_desk.specs.Shown.{TurnView, IsTurn};
+    ghost use Rattle.turn_desk.specs.Shown.{TurnView, IsTurnSeat};
     ghost use Rattle.turn_desk.specs.Steps.{seen_of, own_of};
 
     ghost Value = { TurnView S S.Entry S.Fixed };
 
     ghost view = { λ t. record {
-        desk = t.seat.table_id; number = t.number; seen = seen_of t.seat.me.0.lanes;
-        own = own_of t.seat.me.0.lanes; fixed = t.seat.me.0.fixed; state = t.state
+      desk = t.seat.table_id;
+      number = t.number;
+      seen = seen_of t.seat.me.0.lanes;
+      own = own_of t.seat.me.0.lanes;
+      fixed = t.seat.me.0.fixed;
+      state = t.state;
     } };
 
-    ghost invariant = { λ t. (t.seat.table_id ≡ t.desk.now.id) × IsTurn S.lane_of t.number t.ticket t.seat.me };
+    ghost invariant = { λ t. (t.seat.table_id ≡ t.desk.now.id) × IsTurnSeat S.lane_of t.number t.ticket t.seat.me };
 }
 
 impl<'a, S: Stands> Turn<'a, S> {

@@ -43,7 +43,7 @@ impl<
         List<Argument>,
     ) -> Result<Value, Stop>,
 > Rules<I, V, A, S, C, T, N> {
-    /// A procedure that came to its end, or was left by an Exit: its value is held, its names go, and objects end.
+    /// A procedure that came to its end, or was left by an Exit: its names go and objects end, while its value is held.
     fn returned(
         &self,
         p: &Program,
@@ -58,10 +58,12 @@ impl<
             (record playing.old.world { frame = caller; calls = calls }) (seen playing.old env.old))
             result (seen playing.new env.new) }
     {
+        let mark = playing.world.heap.mark();
         let value = result_value(self.alloc, &playing.world)?;
         hold(&mut playing.world, &value)?;
         leave(&mut playing.world, caller, calls);
         self.settle(p, playing, env)?;
+        playing.world.heap.let_go(mark);
         Ok(value)
     }
 

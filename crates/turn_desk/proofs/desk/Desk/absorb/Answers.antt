@@ -12,5 +12,6 @@ join_seat-requires g c =
       c.into_seat-other.ensures.desk ∙ (c.requires.desk.1.0 ∙ here),
       ap (λ m. m.1) c.into_seat-other.ensures.seat,
       omega (arith, c.self.invariant.0),
-      joins_as S.lane_of S.entries S.fixed key.lanes (S.fixed key.state.value) _ c.args.seat.now.me _ other.me c.requires.seat (at_rest-idle other.me _ _ c.into_seat-other.ensures.seat),
+      joins_as S.lane_of S.entries S.fixed key.lanes (S.fixed key.state.value) _ c.args.seat.now.me _ other.me
+          c.requires.seat (at_rest-idle other.me _ _ c.into_seat-other.ensures.seat),
     )

@@ -8,5 +8,5 @@ returns-clause-fits g c =
     let S = g.S.Stands in
     let history = S.entries c.end.result in
     let ended = all_end S.lane_of S.entries S.fixed c.args.self history c.gather-seat.result.me.0.lanes
-        c.end.ensures.lanes in
+    c.end.ensures.lanes in
     subst (λ lanes. All (LaneFits S.lane_of history) lanes) (c.gather-seat.ensures.lanes ∙ c.into_vec.ensures) ended

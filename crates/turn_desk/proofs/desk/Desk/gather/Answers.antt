@@ -6,5 +6,7 @@ pub loop-lane-preserved : goal.loop-lane-preserved
 loop-lane-preserved g c =
     let inv = c.loop-lane.invariant in (
       c.absorb.ensures.desk ∙ inv.0,
-      gathers c.args.self.now c.loop-lane.lanes.items c.pop-in-loop-lane.new.self.items c.in-Some-pop.lane c.loop-lane.seat.me c.absorb.new.seat.me c.args.lanes.items inv.1 c.in-Some-pop.ensures.items c.absorb.ensures.lanes,
+      gathers c.args.self.now c.loop-lane.lanes.items c.pop-in-loop-lane.new.self.items c.in-Some-pop.lane
+          c.loop-lane.seat.me c.absorb.new.seat.me c.args.lanes.items inv.1 c.in-Some-pop.ensures.items
+          c.absorb.ensures.lanes,
     )
