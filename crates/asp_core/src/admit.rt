@@ -122,16 +122,16 @@ impl<R: Runner> Core<R> {
             (kernel.rules_of R.meaning self.old) (kernel.past_of self.old) lane job.now)) entries weight }
         ensures err { OnErr result (self.new ≡ self.old) }
     {
-        if let Some(stop) = refused_before(&self.journal) {
+        if let Some(stop) = refused_before(&self.kept.journal) {
             return Err(stop);
         }
         let made = take_job(
             runner,
             site,
-            &self.setting,
-            &mut self.journal,
-            &mut self.answers,
-            &mut self.table,
+            &self.house.setting,
+            &mut self.kept.journal,
+            &mut self.kept.answers,
+            &mut self.kept.table,
             lane,
             job,
         );

@@ -233,11 +233,11 @@ impl<R: Runner> Core<R> {
         begin_run(
             runner,
             site,
-            &self.setting,
-            &mut self.journal,
-            &mut self.answers,
-            self.table.as_slice(),
-            &mut self.opened,
+            &self.house.setting,
+            &mut self.kept.journal,
+            &mut self.kept.answers,
+            self.kept.table.as_slice(),
+            &mut self.kept.opened,
             lane,
             store,
         )

@@ -10,13 +10,14 @@ use Rattle.asp_job.specs.declared.entry.What.TheVariants.{Take}
 use Rattle.asp_core.proofs.Failing.{fail_push}
 use Rattle.asp_core.proofs.Fits.{take_fit}
 use Rattle.asp_core.proofs.Handing.{can_take, kept_after_take, take_room}
-use Rattle.asp_core.proofs.kernel.Core.collect.Goals as goal
+use Rattle.asp_core.proofs.hands.Core+R.collect.Goals as goal
 
 pub take_run-requires : goal.take_run-requires
 take_run-requires g c =
-    let core = c.self.inside in
+    let core = c.self.inside.kept in
+    let house = c.self.inside.house in
     let past = reverse core.journal.items in
-    let rules = rules_by (g.R.Runner.meaning core.runner.value core.site.value) core.setting in
+    let rules = rules_by (g.R.Runner.meaning house.runner.value house.site.value) house.setting in
     let none : collect_stop past c.args.lane c.args.run ≡ None = grind (arith, common_steps) in
     let can = can_take rules past c.args.lane c.args.run c.self.invariant.0.account.entries c.self.invariant.0.answered
     none in
@@ -28,9 +29,10 @@ take_run-requires g c =
 
 pub invariant_of-self : goal.invariant_of-self
 invariant_of-self g c =
-    let core = c.self.inside in
+    let core = c.self.inside.kept in
+    let house = c.self.inside.house in
     let past = reverse core.journal.items in
-    let rules = rules_by (g.R.Runner.meaning core.runner.value core.site.value) core.setting in
+    let rules = rules_by (g.R.Runner.meaning house.runner.value house.site.value) house.setting in
     let none : collect_stop past c.args.lane c.args.run ≡ None = grind (arith, common_steps) in
     let can = can_take rules past c.args.lane c.args.run c.self.invariant.0.account.entries c.self.invariant.0.answered
     none in
@@ -45,9 +47,10 @@ invariant_of-self g c =
 
 pub returns-clause-answer : goal.returns-clause-answer
 returns-clause-answer g c =
-    let core = c.self.inside in
+    let core = c.self.inside.kept in
+    let house = c.self.inside.house in
     let past = reverse core.journal.items in
-    let rules = rules_by (g.R.Runner.meaning core.runner.value core.site.value) core.setting in
+    let rules = rules_by (g.R.Runner.meaning house.runner.value house.site.value) house.setting in
     let none : collect_stop past c.args.lane c.args.run ≡ None = grind (arith, common_steps) in
     let can = can_take rules past c.args.lane c.args.run c.self.invariant.0.account.entries c.self.invariant.0.answered
     none in

@@ -6,12 +6,13 @@ use Rattle.asp_job.specs.declared.entry.What.TheVariants.{Halt}
 use Rattle.asp_core.specs.Kernel.{rules_by}
 use Rattle.asp_core.proofs.Failing.{fail_push}
 use Rattle.asp_core.proofs.Halting.{kept_after_halt}
-use Rattle.asp_core.proofs.kernel.Core.halt.Goals as goal
+use Rattle.asp_core.proofs.hands.Core+R.halt.Goals as goal
 
 pub invariant_of-self : goal.invariant_of-self
 invariant_of-self g c =
-    let core = c.self.inside in
-    let m = rules_by (g.R.Runner.meaning core.runner.value core.site.value) core.setting in
+    let core = c.self.inside.kept in
+    let house = c.self.inside.house in
+    let m = rules_by (g.R.Runner.meaning house.runner.value house.site.value) house.setting in
     let journal = core.journal.items in
     let next = c.push_reserved.new.self.items in
     let going : is_halted (reverse journal) ≡ false = grind (arith, common_steps) in

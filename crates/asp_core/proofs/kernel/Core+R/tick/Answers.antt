@@ -6,12 +6,13 @@ use Rattle.asp_core.proofs.Failing.{fail_calm, fail_either}
 use Rattle.asp_core.proofs.Fits.{tick_calm}
 use Rattle.asp_core.proofs.Kept.{kept_after_tick}
 use Rattle.asp_core.proofs.Same.{kept_either, on_ok, view_of}
-use Rattle.asp_core.proofs.kernel.Core.tick.Goals as goal
+use Rattle.asp_core.proofs.kernel.Core+R.tick.Goals as goal
 
 pub invariant_of-self : goal.invariant_of-self
 invariant_of-self g c =
-    let core = c.self.inside in
-    let m = rules_by (g.R.Runner.meaning core.runner.value core.site.value) core.setting in
+    let core = c.self.inside.kept in
+    let house = c.self.inside.house in
+    let m = rules_by (g.R.Runner.meaning house.runner.value house.site.value) house.setting in
     let past = reverse core.journal.items in
     let next = c.with_tick.new.journal.items in
     let kept = on_ok c.with_tick.result (next ≡ core.journal.items ++ tick_entries m past c.args.lane c.args.moment)
@@ -37,14 +38,15 @@ invariant_of-self g c =
 
 pub returns-clause-ok : goal.returns-clause-ok
 returns-clause-ok g c =
-    let core = c.self.inside in
-    let m = rules_by (g.R.Runner.meaning core.runner.value core.site.value) core.setting in
+    let core = c.self.inside.kept in
+    let house = c.self.inside.house in
+    let m = rules_by (g.R.Runner.meaning house.runner.value house.site.value) house.setting in
     let past = reverse core.journal.items in
     let old = ap (λ (v : CoreView g.row.R.Denot g.row.R-Site.Denot). grown v
     (tick_entries (rules_of g.R.Runner.meaning v) (past_of v) c.args.lane c.args.moment)) c.self.view_is in
     on_ok c.with_tick.result (c.with_tick.new.journal.items ≡ core.journal.items ++ tick_entries m past c.args.lane
     c.args.moment) _
-    (λ made. ap (λ items. view_of core.runner.value core.site.value core.setting items) made ∙ old)
+    (λ made. ap (λ items. view_of house.runner.value house.site.value house.setting items) made ∙ old)
     c.with_tick.ensures.entries
 
 pub returns-clause-full : goal.returns-clause-full

@@ -13,14 +13,15 @@ use Rattle.asp_job.specs.declared.answer.Answer.{Answer}
 use Rattle.asp_core.proofs.Beginning.{begun_run, kept_either_begun, on_each_ok, rules_same}
 use Rattle.asp_core.proofs.Failing.{fail_either, fail_push}
 use Rattle.asp_core.proofs.Same.{on_each, on_err, view_of}
-use Rattle.asp_core.proofs.kernel.Core.begin.Goals as goal
+use Rattle.asp_core.proofs.begin.Core+R.begin.Goals as goal
 
 pub begin_run-requires : goal.begin_run-requires
 begin_run-requires g c =
-    let core = c.self.inside in
-    let runner : c.args.runner.now ≡ core.runner.value =
+    let core = c.self.inside.kept in
+    let house = c.self.inside.house in
+    let runner : c.args.runner.now ≡ house.runner.value =
     c.requires.host.runner_is ∙ sym (ap (λ v. v.runner) c.self.view_is) in
-    let site : c.args.site.now ≡ core.site.value =
+    let site : c.args.site.now ≡ house.site.value =
     c.requires.host.site_is ∙ sym (ap (λ v. v.site) c.self.view_is) in
     rw (runner, site, c.as_slice.ensures.value) (record {
       held = core.application;
@@ -31,14 +32,15 @@ begin_run-requires g c =
 
 pub invariant_of-self : goal.invariant_of-self
 invariant_of-self g c =
-    let core = c.self.inside in
-    let m = rules_by (g.R.Runner.meaning core.runner.value core.site.value) core.setting in
-    let runner : c.args.runner.now ≡ core.runner.value =
+    let core = c.self.inside.kept in
+    let house = c.self.inside.house in
+    let m = rules_by (g.R.Runner.meaning house.runner.value house.site.value) house.setting in
+    let runner : c.args.runner.now ≡ house.runner.value =
     c.requires.host.runner_is ∙ sym (ap (λ v. v.runner) c.self.view_is) in
-    let site : c.args.site.now ≡ core.site.value =
+    let site : c.args.site.now ≡ house.site.value =
     c.requires.host.site_is ∙ sym (ap (λ v. v.site) c.self.view_is) in
     let ok = rw (runner, site) at c.begin_run.ensures.ok in
-    let all = kept_either_begun c.begin_run.result m (g.R.Runner.stands core.runner.value core.site.value) c.args.lane
+    let all = kept_either_begun c.begin_run.result m (g.R.Runner.stands house.runner.value house.site.value) c.args.lane
     core.journal.items c.begin_run.new.journal.items core.table.items core.opened c.begin_run.new.opened
     core.application core.answers.items c.begin_run.new.answers.items
     core.journal.capacity c.begin_run.new.journal.capacity
@@ -60,10 +62,11 @@ invariant_of-self g c =
 
 pub returns-clause-next : goal.returns-clause-next
 returns-clause-next g c =
-    let core = c.self.inside in
-    let runner : c.args.runner.now ≡ core.runner.value =
+    let core = c.self.inside.kept in
+    let house = c.self.inside.house in
+    let runner : c.args.runner.now ≡ house.runner.value =
     c.requires.host.runner_is ∙ sym (ap (λ v. v.runner) c.self.view_is) in
-    let site : c.args.site.now ≡ core.site.value =
+    let site : c.args.site.now ≡ house.site.value =
     c.requires.host.site_is ∙ sym (ap (λ v. v.site) c.self.view_is) in
     let ok = rw (runner, site) at c.begin_run.ensures.ok in
     on_each c.begin_run.result _ _ (λ run has.
@@ -73,12 +76,13 @@ returns-clause-next g c =
 
 pub returns-clause-light : goal.returns-clause-light
 returns-clause-light g c =
-    let core = c.self.inside in
-    let m = rules_by (g.R.Runner.meaning core.runner.value core.site.value) core.setting in
+    let core = c.self.inside.kept in
+    let house = c.self.inside.house in
+    let m = rules_by (g.R.Runner.meaning house.runner.value house.site.value) house.setting in
     let past = reverse core.journal.items in
-    let runner : c.args.runner.now ≡ core.runner.value =
+    let runner : c.args.runner.now ≡ house.runner.value =
     c.requires.host.runner_is ∙ sym (ap (λ v. v.runner) c.self.view_is) in
-    let site : c.args.site.now ≡ core.site.value =
+    let site : c.args.site.now ≡ house.site.value =
     c.requires.host.site_is ∙ sym (ap (λ v. v.site) c.self.view_is) in
     let ok = rw (runner, site) at c.begin_run.ensures.ok in
     subst (λ (v : CoreView g.row.R.Denot g.row.R-Site.Denot).
@@ -89,33 +93,35 @@ returns-clause-light g c =
 
 pub returns-clause-begun : goal.returns-clause-begun
 returns-clause-begun g c =
-    let core = c.self.inside in
-    let runner : c.args.runner.now ≡ core.runner.value =
+    let core = c.self.inside.kept in
+    let house = c.self.inside.house in
+    let runner : c.args.runner.now ≡ house.runner.value =
     c.requires.host.runner_is ∙ sym (ap (λ v. v.runner) c.self.view_is) in
-    let site : c.args.site.now ≡ core.site.value =
+    let site : c.args.site.now ≡ house.site.value =
     c.requires.host.site_is ∙ sym (ap (λ v. v.site) c.self.view_is) in
     let ok = rw (runner, site) at c.begin_run.ensures.ok in
     on_each c.begin_run.result _ _ (λ run has.
-    ap (λ items. view_of core.runner.value core.site.value core.setting items) has.journal_is
+    ap (λ items. view_of house.runner.value house.site.value house.setting items) has.journal_is
     ∙ ap (λ (v : CoreView g.row.R.Denot g.row.R-Site.Denot). grown v
     (begin_entry (rules_of g.R.Runner.meaning v) (past_of v) c.args.lane run.number ∷ [])) c.self.view_is) ok
 
 pub returns-clause-run : goal.returns-clause-run
 returns-clause-run g c =
-    let core = c.self.inside in
-    let runner : c.args.runner.now ≡ core.runner.value =
+    let core = c.self.inside.kept in
+    let house = c.self.inside.house in
+    let runner : c.args.runner.now ≡ house.runner.value =
     c.requires.host.runner_is ∙ sym (ap (λ v. v.runner) c.self.view_is) in
-    let site : c.args.site.now ≡ core.site.value =
+    let site : c.args.site.now ≡ house.site.value =
     c.requires.host.site_is ∙ sym (ap (λ v. v.site) c.self.view_is) in
     let ok = rw (runner, site) at c.begin_run.ensures.ok in
-    on_each c.begin_run.result _ _ (λ run has. begun_run g.R.Runner.meaning g.R.Runner.stands core.runner.value
-    core.site.value core.setting c.args.lane core.journal.items c.begin_run.new.journal.items core.opened
+    on_each c.begin_run.result _ _ (λ run has. begun_run g.R.Runner.meaning g.R.Runner.stands house.runner.value
+    house.site.value house.setting c.args.lane core.journal.items c.begin_run.new.journal.items core.opened
     c.begin_run.new.opened core.answers.items
     c.begin_run.new.journal.capacity (vec_capacity c.begin_run.new.answers) run has) ok
 
 pub returns-clause-idle : goal.returns-clause-idle
 returns-clause-idle g c =
-    let core = c.self.inside in
+    let core = c.self.inside.kept in
     let past = reverse core.journal.items in
     subst (λ (v : CoreView g.row.R.Denot g.row.R-Site.Denot). IfErr c.begin_run.result
     (λ stop. stop.1 ≡ begin.Idle ↔ IsIdle (rules_of g.R.Runner.meaning v) (past_of v))) c.self.view_is
@@ -125,14 +131,15 @@ returns-clause-idle g c =
 
 pub returns-clause-full : goal.returns-clause-full
 returns-clause-full g c entries weight =
-    let core = c.self.inside in
+    let core = c.self.inside.kept in
+    let house = c.self.inside.house in
     let past = reverse core.journal.items in
-    let runner : c.args.runner.now ≡ core.runner.value =
+    let runner : c.args.runner.now ≡ house.runner.value =
     c.requires.host.runner_is ∙ sym (ap (λ v. v.runner) c.self.view_is) in
-    let site : c.args.site.now ≡ core.site.value =
+    let site : c.args.site.now ≡ house.site.value =
     c.requires.host.site_is ∙ sym (ap (λ v. v.site) c.self.view_is) in
-    let same = rules_same g.R.Runner.meaning c.args.runner.now core.runner.value c.args.site.now core.site.value
-    core.setting runner site in
+    let same = rules_same g.R.Runner.meaning c.args.runner.now house.runner.value c.args.site.now house.site.value
+    house.setting runner site in
     subst (λ (v : CoreView g.row.R.Denot g.row.R-Site.Denot). IfErr c.begin_run.result
     (λ stop. stop.1 ≡ begin.JournalFull entries weight →
     IsBeginTooMuch (rules_of g.R.Runner.meaning v) (past_of v) c.args.lane entries weight)) c.self.view_is
@@ -142,14 +149,15 @@ returns-clause-full g c entries weight =
 
 pub returns-clause-fits : goal.returns-clause-fits
 returns-clause-fits g c =
-    let core = c.self.inside in
+    let core = c.self.inside.kept in
+    let house = c.self.inside.house in
     let past = reverse core.journal.items in
-    let runner : c.args.runner.now ≡ core.runner.value =
+    let runner : c.args.runner.now ≡ house.runner.value =
     c.requires.host.runner_is ∙ sym (ap (λ v. v.runner) c.self.view_is) in
-    let site : c.args.site.now ≡ core.site.value =
+    let site : c.args.site.now ≡ house.site.value =
     c.requires.host.site_is ∙ sym (ap (λ v. v.site) c.self.view_is) in
-    let same = rules_same g.R.Runner.meaning c.args.runner.now core.runner.value c.args.site.now core.site.value
-    core.setting runner site in
+    let same = rules_same g.R.Runner.meaning c.args.runner.now house.runner.value c.args.site.now house.site.value
+    house.setting runner site in
     subst (λ (v : CoreView g.row.R.Denot g.row.R-Site.Denot). IfErr c.begin_run.result
     (λ stop. stop.1 ≡ begin.Memory → NextFits (rules_of g.R.Runner.meaning v) (past_of v) c.args.lane))
     c.self.view_is

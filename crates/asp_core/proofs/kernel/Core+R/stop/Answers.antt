@@ -8,12 +8,13 @@ use Rattle.asp_core.proofs.Failing.{fail_calm, fail_either}
 use Rattle.asp_core.proofs.Fits.{stop_calm}
 use Rattle.asp_core.proofs.Kept.{kept_after_stop}
 use Rattle.asp_core.proofs.Same.{kept_either, on_ok, view_of}
-use Rattle.asp_core.proofs.kernel.Core.stop.Goals as goal
+use Rattle.asp_core.proofs.kernel.Core+R.stop.Goals as goal
 
 pub invariant_of-self : goal.invariant_of-self
 invariant_of-self g c =
-    let core = c.self.inside in
-    let m = rules_by (g.R.Runner.meaning core.runner.value core.site.value) core.setting in
+    let core = c.self.inside.kept in
+    let house = c.self.inside.house in
+    let m = rules_by (g.R.Runner.meaning house.runner.value house.site.value) house.setting in
     let past = reverse core.journal.items in
     let next = c.with_stop.new.journal.items in
     let going : is_stopping past ≡ false = grind (arith, common_steps) in
@@ -40,13 +41,14 @@ invariant_of-self g c =
 
 pub returns-clause-ok : goal.returns-clause-ok
 returns-clause-ok g c =
-    let core = c.self.inside in
-    let m = rules_by (g.R.Runner.meaning core.runner.value core.site.value) core.setting in
+    let core = c.self.inside.kept in
+    let house = c.self.inside.house in
+    let m = rules_by (g.R.Runner.meaning house.runner.value house.site.value) house.setting in
     let past = reverse core.journal.items in
     let old = ap (λ (v : CoreView g.row.R.Denot g.row.R-Site.Denot). grown v
     (stop_entries (rules_of g.R.Runner.meaning v) (past_of v) c.args.lane)) c.self.view_is in
     on_ok c.with_stop.result (c.with_stop.new.journal.items ≡ core.journal.items ++ stop_entries m past c.args.lane) _
-    (λ made _. ap (λ items. view_of core.runner.value core.site.value core.setting items) made ∙ old)
+    (λ made _. ap (λ items. view_of house.runner.value house.site.value house.setting items) made ∙ old)
     c.with_stop.ensures.entries
 
 pub returns-clause-full : goal.returns-clause-full

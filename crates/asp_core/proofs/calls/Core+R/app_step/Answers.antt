@@ -11,20 +11,21 @@ use Rattle.asp_core.proofs.Called.{core_called, free_called, full_called, run_of
 use Rattle.asp_core.proofs.Calling.{kept_either_called, run_wants}
 use Rattle.asp_core.proofs.Failing.{fail_either, fail_push}
 use Rattle.asp_core.proofs.Same.{on_err, on_ok, view_of}
-use Rattle.asp_core.proofs.kernel.Core.app_step.Goals as goal
+use Rattle.asp_core.proofs.calls.Core+R.app_step.Goals as goal
 
 pub invariant_of-self : goal.invariant_of-self
 invariant_of-self g c =
-    let core = c.self.inside in
-    let view = view_of core.runner.value core.site.value core.setting core.journal.items in
-    let m = rules_by (g.R.Runner.meaning core.runner.value core.site.value) core.setting in
+    let core = c.self.inside.kept in
+    let house = c.self.inside.house in
+    let view = view_of house.runner.value house.site.value house.setting core.journal.items in
+    let m = rules_by (g.R.Runner.meaning house.runner.value house.site.value) house.setting in
     let run = c.args.run.now in
-    let runner : c.args.runner.now ≡ core.runner.value = c.requires.host ∙ sym (ap (λ v. v.runner) c.self.view_is) in
+    let runner : c.args.runner.now ≡ house.runner.value = c.requires.host ∙ sym (ap (λ v. v.runner) c.self.view_is) in
     let is : IsRunOf g.R.Runner.meaning g.R.Runner.stands view c.args.lane run =
     subst (λ (v : CoreView g.row.R.Denot g.row.R-Site.Denot).
     IsRunOf g.R.Runner.meaning g.R.Runner.stands v c.args.lane run) (sym c.self.view_is) c.requires.run in
     let ok = rw (runner, c.as_slice.ensures.value) at c.make_call.ensures.ok in
-    let all = kept_either_called c.make_call.result m (g.R.Runner.stands core.runner.value) c.args.lane core.journal.items
+    let all = kept_either_called c.make_call.result m (g.R.Runner.stands house.runner.value) c.args.lane core.journal.items
     c.make_call.new.journal.items core.table.items core.opened core.application c.make_call.new.application
     core.answers.items run c.make_call.new.run core.journal.capacity c.make_call.new.journal.capacity
     (vec_capacity core.answers) c.self.invariant.0 c.self.invariant.1 c.self.invariant.2 c.self.invariant.3
@@ -44,29 +45,31 @@ invariant_of-self g c =
 
 pub returns-clause-ok : goal.returns-clause-ok
 returns-clause-ok g c =
-    let core = c.self.inside in
+    let core = c.self.inside.kept in
+    let house = c.self.inside.house in
     let run = c.args.run.now in
-    let runner : c.args.runner.now ≡ core.runner.value = c.requires.host ∙ sym (ap (λ v. v.runner) c.self.view_is) in
+    let runner : c.args.runner.now ≡ house.runner.value = c.requires.host ∙ sym (ap (λ v. v.runner) c.self.view_is) in
     let ok = rw (runner, c.as_slice.ensures.value) at c.make_call.ensures.ok in
     let old = ap (λ (v : CoreView g.row.R.Denot g.row.R-Site.Denot). grown v (called v c.args.lane run))
     c.self.view_is in
-    on_ok c.make_call.result _ _ (λ has. core_called core.runner.value core.site.value core.setting
-    (g.R.Runner.stands core.runner.value) c.args.lane core.journal.items core.application
+    on_ok c.make_call.result _ _ (λ has. core_called house.runner.value house.site.value house.setting
+    (g.R.Runner.stands house.runner.value) c.args.lane core.journal.items core.application
     (length core.answers.items) run c.make_call.new.journal.items c.make_call.new.application
     c.make_call.new.journal.capacity c.make_call.new.run c.self.invariant.0.held_is has ∙ old) ok
 
 pub returns-clause-run : goal.returns-clause-run
 returns-clause-run g c =
-    let core = c.self.inside in
-    let view = view_of core.runner.value core.site.value core.setting core.journal.items in
+    let core = c.self.inside.kept in
+    let house = c.self.inside.house in
+    let view = view_of house.runner.value house.site.value house.setting core.journal.items in
     let run = c.args.run.now in
-    let runner : c.args.runner.now ≡ core.runner.value = c.requires.host ∙ sym (ap (λ v. v.runner) c.self.view_is) in
+    let runner : c.args.runner.now ≡ house.runner.value = c.requires.host ∙ sym (ap (λ v. v.runner) c.self.view_is) in
     let is : IsRunOf g.R.Runner.meaning g.R.Runner.stands view c.args.lane run =
     subst (λ (v : CoreView g.row.R.Denot g.row.R-Site.Denot).
     IsRunOf g.R.Runner.meaning g.R.Runner.stands v c.args.lane run) (sym c.self.view_is) c.requires.run in
     let ok = rw (runner, c.as_slice.ensures.value) at c.make_call.ensures.ok in
-    on_ok c.make_call.result _ _ (λ has. run_of_called g.R.Runner.meaning g.R.Runner.stands core.runner.value
-    core.site.value core.setting c.args.lane core.journal.items core.application (length core.answers.items) run
+    on_ok c.make_call.result _ _ (λ has. run_of_called g.R.Runner.meaning g.R.Runner.stands house.runner.value
+    house.site.value house.setting c.args.lane core.journal.items core.application (length core.answers.items) run
     c.make_call.new.journal.items c.make_call.new.application c.make_call.new.journal.capacity
     c.make_call.new.run c.self.invariant.0.held_is is has) ok
 
@@ -76,7 +79,7 @@ returns-clause-going g c =
 
 pub returns-clause-free : goal.returns-clause-free
 returns-clause-free g c =
-    let core = c.self.inside in
+    let core = c.self.inside.kept in
     let run = c.args.run.now in
     subst (λ (v : CoreView g.row.R.Denot g.row.R-Site.Denot). OnOk c.make_call.result (blocker v run ≡ None))
     c.self.view_is (on_ok c.make_call.result _ _ (λ has. subst (λ (h : AppState). blocker_by h run ≡ None)
@@ -95,9 +98,10 @@ returns-clause-blocked g c holder =
 
 pub returns-clause-full : goal.returns-clause-full
 returns-clause-full g c entries weight e =
-    let core = c.self.inside in
-    let view = view_of core.runner.value core.site.value core.setting core.journal.items in
-    let m = rules_by (g.R.Runner.meaning core.runner.value core.site.value) core.setting in
+    let core = c.self.inside.kept in
+    let house = c.self.inside.house in
+    let view = view_of house.runner.value house.site.value house.setting core.journal.items in
+    let m = rules_by (g.R.Runner.meaning house.runner.value house.site.value) house.setting in
     let run = c.args.run.now in
     subst (λ (v : CoreView g.row.R.Denot g.row.R-Site.Denot).
     IsTooMuch (past_after (past_of v) (called v c.args.lane run)) entries weight) c.self.view_is
@@ -106,9 +110,10 @@ returns-clause-full g c entries weight e =
 
 pub returns-clause-not_fit : goal.returns-clause-not_fit
 returns-clause-not_fit g c entries weight e =
-    let core = c.self.inside in
-    let view = view_of core.runner.value core.site.value core.setting core.journal.items in
-    let m = rules_by (g.R.Runner.meaning core.runner.value core.site.value) core.setting in
+    let core = c.self.inside.kept in
+    let house = c.self.inside.house in
+    let view = view_of house.runner.value house.site.value house.setting core.journal.items in
+    let m = rules_by (g.R.Runner.meaning house.runner.value house.site.value) house.setting in
     let run = c.args.run.now in
     subst (λ (v : CoreView g.row.R.Denot g.row.R-Site.Denot). HasNotFitFor (past_of v) c.args.lane run) c.self.view_is
     (full_called m view core.table.items core.opened core.application core.answers.items c.args.lane run entries

@@ -12,11 +12,12 @@ use Rattle.asp_core.proofs.Fits.{end_numbered}
 use Rattle.asp_core.specs.Start.{fail_after}
 use Rattle.asp_core.proofs.Ending.{end_fails, end_grown, end_room, ending_of, kept_after_end}
 use Rattle.asp_core.proofs.Same.{view_of}
-use Rattle.asp_core.proofs.kernel.Core.end.Goals as goal
+use Rattle.asp_core.proofs.ends.Core+R.end.Goals as goal
 
 pub end_run-requires : goal.end_run-requires
 end_run-requires g c =
-    let core = c.self.inside in
+    let core = c.self.inside.kept in
+    let house = c.self.inside.house in
     let past = reverse core.journal.items in
     let run = c.args.run.number in
     let lane = c.args.lane in
@@ -28,9 +29,9 @@ end_run-requires g c =
     let leaves : left ≡ left_of kind told c.args.run.stand_ins =
     c.left_of-left.ensures ∙ ap (left_of kind told) c.finish-told.ensures.stand_ins in
     let ends = ending_of g.R.Runner.meaning g.R.Runner.stands c.args.self.now
-    (view_of core.runner.value core.site.value core.setting core.journal.items) lane c.args.run kind told left
+    (view_of house.runner.value house.site.value house.setting core.journal.items) lane c.args.run kind told left
     c.self.view_is c.requires.run c.requires.kind finish leaves in
-    let rules = rules_by (g.R.Runner.meaning core.runner.value core.site.value) core.setting in
+    let rules = rules_by (g.R.Runner.meaning house.runner.value house.site.value) house.setting in
     let number : c.number-number.result ≡ run = c.number-number.ensures in
     let room = end_room rules core.journal.items run (length core.answers.items) core.journal.capacity
     (vec_capacity core.answers) core.table.items core.opened core.application core.answers.items c.self.invariant.0
@@ -49,7 +50,8 @@ end_run-requires g c =
 
 pub invariant_of-self : goal.invariant_of-self
 invariant_of-self g c =
-    let core = c.self.inside in
+    let core = c.self.inside.kept in
+    let house = c.self.inside.house in
     let past = reverse core.journal.items in
     let run = c.args.run.number in
     let lane = c.args.lane in
@@ -61,9 +63,9 @@ invariant_of-self g c =
     let leaves : left ≡ left_of kind told c.args.run.stand_ins =
     c.left_of-left.ensures ∙ ap (left_of kind told) c.finish-told.ensures.stand_ins in
     let ends = ending_of g.R.Runner.meaning g.R.Runner.stands c.args.self.now
-    (view_of core.runner.value core.site.value core.setting core.journal.items) lane c.args.run kind told left
+    (view_of house.runner.value house.site.value house.setting core.journal.items) lane c.args.run kind told left
     c.self.view_is c.requires.run c.requires.kind finish leaves in
-    let rules = rules_by (g.R.Runner.meaning core.runner.value core.site.value) core.setting in
+    let rules = rules_by (g.R.Runner.meaning house.runner.value house.site.value) house.setting in
     let number : c.number-number.result ≡ run = c.number-number.ensures in
     let made : c.end_run.new.journal.items ≡ core.journal.items ++ with_lane lane (end_what run kind left) ∷ [] =
     c.end_run.ensures.journal
@@ -85,7 +87,8 @@ invariant_of-self g c =
 
 pub returns : goal.returns
 returns g c =
-    let core = c.self.inside in
+    let core = c.self.inside.kept in
+    let house = c.self.inside.house in
     let past = reverse core.journal.items in
     let run = c.args.run.number in
     let lane = c.args.lane in
@@ -97,14 +100,14 @@ returns g c =
     let leaves : left ≡ left_of kind told c.args.run.stand_ins =
     c.left_of-left.ensures ∙ ap (left_of kind told) c.finish-told.ensures.stand_ins in
     let ends = ending_of g.R.Runner.meaning g.R.Runner.stands c.args.self.now
-    (view_of core.runner.value core.site.value core.setting core.journal.items) lane c.args.run kind told left
+    (view_of house.runner.value house.site.value house.setting core.journal.items) lane c.args.run kind told left
     c.self.view_is c.requires.run c.requires.kind finish leaves in
-    let rules = rules_by (g.R.Runner.meaning core.runner.value core.site.value) core.setting in
+    let rules = rules_by (g.R.Runner.meaning house.runner.value house.site.value) house.setting in
     let number : c.number-number.result ≡ run = c.number-number.ensures in
     let made : c.end_run.new.journal.items ≡ core.journal.items ++ with_lane lane (end_what run kind left) ∷ [] =
     c.end_run.ensures.journal
     ∙ ap (λ n. core.journal.items ++ with_lane lane (end_what n kind left) ∷ []) number in
     let grows = end_grown rules core.journal.items c.end_run.new.journal.items lane run kind left ends.1 made in
-    ap (λ items. view_of core.runner.value core.site.value core.setting items) grows
+    ap (λ items. view_of house.runner.value house.site.value house.setting items) grows
     ∙ ap (λ (v : CoreView g.row.R.Denot g.row.R-Site.Denot). grown v
     (end_entry (rules_of g.R.Runner.meaning v) (past_of v) lane run kind ∷ [])) c.self.view_is

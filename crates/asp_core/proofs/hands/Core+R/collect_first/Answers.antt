@@ -10,13 +10,14 @@ use Rattle.asp_core.specs.Ready.{first_for, ready}
 use Rattle.asp_core.proofs.Failing.{fail_push}
 use Rattle.asp_core.proofs.Fits.{take_fit}
 use Rattle.asp_core.proofs.Handing.{IsFirst, can_take_run, first_is, kept_after_take, take_room}
-use Rattle.asp_core.proofs.kernel.Core.collect_first.Goals as goal
+use Rattle.asp_core.proofs.hands.Core+R.collect_first.Goals as goal
 
 pub take_run-answer-requires : goal.take_run-answer-requires
 take_run-answer-requires g c =
-    let core = c.self.inside in
+    let core = c.self.inside.kept in
+    let house = c.self.inside.house in
     let past = reverse core.journal.items in
-    let rules = rules_by (g.R.Runner.meaning core.runner.value core.site.value) core.setting in
+    let rules = rules_by (g.R.Runner.meaning house.runner.value house.site.value) house.setting in
     let run = c.in-Some.run' in
     let kept = c.self.invariant.0 in
     let first : IsFirst past c.args.lane core.answers.items run = grind (arith, common_steps) in
@@ -30,9 +31,10 @@ take_run-answer-requires g c =
 
 pub invariant_of-self : goal.invariant_of-self
 invariant_of-self g c =
-    let core = c.self.inside in
+    let core = c.self.inside.kept in
+    let house = c.self.inside.house in
     let past = reverse core.journal.items in
-    let rules = rules_by (g.R.Runner.meaning core.runner.value core.site.value) core.setting in
+    let rules = rules_by (g.R.Runner.meaning house.runner.value house.site.value) house.setting in
     let run = c.in-Some.run' in
     let kept = c.self.invariant.0 in
     let first : IsFirst past c.args.lane core.answers.items run = grind (arith, common_steps) in
@@ -49,9 +51,10 @@ invariant_of-self g c =
 
 pub returns-clause-first : goal.returns-clause-first
 returns-clause-first g c =
-    let core = c.self.inside in
+    let core = c.self.inside.kept in
+    let house = c.self.inside.house in
     let past = reverse core.journal.items in
-    let rules = rules_by (g.R.Runner.meaning core.runner.value core.site.value) core.setting in
+    let rules = rules_by (g.R.Runner.meaning house.runner.value house.site.value) house.setting in
     let run = c.in-Some.run' in
     let kept = c.self.invariant.0 in
     let first : IsFirst past c.args.lane core.answers.items run = grind (arith, common_steps) in
@@ -62,9 +65,10 @@ returns-clause-first g c =
 
 pub returns-clause-answer : goal.returns-clause-answer
 returns-clause-answer g c =
-    let core = c.self.inside in
+    let core = c.self.inside.kept in
+    let house = c.self.inside.house in
     let past = reverse core.journal.items in
-    let rules = rules_by (g.R.Runner.meaning core.runner.value core.site.value) core.setting in
+    let rules = rules_by (g.R.Runner.meaning house.runner.value house.site.value) house.setting in
     let run = c.in-Some.run' in
     let kept = c.self.invariant.0 in
     let first : IsFirst past c.args.lane core.answers.items run = grind (arith, common_steps) in
