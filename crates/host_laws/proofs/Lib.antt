@@ -6,4 +6,3 @@ pub mod Refusals
 pub mod OneReplayOutput
 pub mod OneReplayJournal
 pub mod OneGetOutput
-pub mod OneGenJournal

@@ -1,7 +1,7 @@
 //! Laws of the host's commands. The functions do nothing but call up the laws that theirs stand on: their contracts are
 //! the laws.
 ghost use Rattle.host_laws.specs.Laws.{CheckRefusesNone, GenRefusesNone, GetRefusesNone};
-ghost use Rattle.host_laws.specs.Laws.{OneGenJournal, OneGetOutput, OneOutcome, OneReplayJournal, OneReplayOutput, OneSite};
+ghost use Rattle.host_laws.specs.Laws.{OneGetOutput, OneOutcome, OneReplayJournal, OneReplayOutput, OneSite};
 ghost use Rattle.host_laws.specs.Laws.{ReplayRefusesNone};
 
 use asp_record::{one_recording, recording_not_refused};
@@ -57,14 +57,6 @@ pub fn one_replay_journal()
     ensures { OneReplayJournal }
 {
     one_recording();
-    one_journal();
-}
-
-/// How many requests `gen` made and what it wrote of them with `--journal` determine the journal, but for the entries that
-/// have no line.
-pub fn one_gen_journal()
-    ensures { OneGenJournal }
-{
     one_journal();
 }
 
