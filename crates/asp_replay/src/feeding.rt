@@ -1,8 +1,9 @@
 //! A recording is fed to a host.
 #![tactic(auto)]
 
-ghost use Rattle.std.specs.Prelude.{◌≡◌, ◌⊎◌, ◌∷◌, [], ℕ, false, IfErr, IfOk, List, OnOk, Option};
+ghost use Rattle.std.specs.Prelude.{◌≡◌, ◌⊎◌, ◌∷◌, [], ℕ, true, false, IfErr, IfOk, List, OnOk, Option, is_some};
 ghost use Rattle.asp_core.specs.Kernel.{IsHostOf, grown, past_of, rules_by, rules_of, setting_of};
+ghost use Rattle.asp_journal.specs.Telling.{end_kind};
 ghost use Rattle.asp_io.specs.Faults.{HasCause};
 ghost use Rattle.asp_job.specs.declared.entry.Entry.{Entry};
 ghost use Rattle.asp_job.specs.declared.entry.What.TheVariants as What;
