@@ -38,7 +38,6 @@ nothing_part rules items journal before after same = record {
   past = first_past;
   account = record { entries = (record { turn = (refl, tt); legal = tt; follows = tt }, tt); settled = refl };
   fed = inr ([], items, [], refl, record { items_are = (refl, refl); calm = (tt, tt) });
-  passed = inr refl;
   bytes = [];
   is_part = inr ([], [], refl, refl);
   wrote = record { count = 0; within = omega arith; added = same ∙ sym (with_none before) };
@@ -53,7 +52,6 @@ part_of rules items journal past ended before after part =
       past = past;
       account = part.account;
       fed = part.fed;
-      passed = part.passed;
       bytes = written.records;
       is_part = inr (written.first, written.later, written.shown_are, written.are_records);
       wrote = written.wrote;
@@ -147,7 +145,6 @@ module _ {R Site : Type 0} (meaning : R → Site → Meaning) where
         past = past;
         account = subst (λ some. IsValidJournal some past) same valid;
         fed = inl fed.whole.fed;
-        passed = inl fed.whole.started;
         bytes = written.records ++ text;
         is_part = inl (whole_output (rules_of meaning core) other past journal written.records same written.are_records);
         wrote = part_more before held after written.records text written.wrote part;

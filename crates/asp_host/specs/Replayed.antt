@@ -11,7 +11,7 @@ use Rattle.asp_record.specs.EntryLines.{lines_in}
 use Rattle.asp_record.specs.Journal.{AreLines}
 use Rattle.asp_replay.specs.declared.stop.FeedStop.{FeedStop}
 use Rattle.asp_replay.specs.declared.stop.FeedStop.TheVariants as stop
-use Rattle.asp_replay.specs.Feed.{HasFailed, HasFedPart, IsPassed, IsWhole}
+use Rattle.asp_replay.specs.Feed.{HasFailed, HasFedPart, IsWhole}
 use Rattle.asp_feed.specs.Feeding.{IsFedPart}
 use Rattle.asp_feed.specs.Shown.{IsOutput, IsOutputPart}
 
@@ -27,14 +27,12 @@ pub record HasReplayed (rules : Rules) (items : List Item) (journal : Bool) (bef
   pub lines : journal ≡ true → AreLines (lines_in past)
   pub wrote : after ≡ with_bytes before output
 
--- The items were replayed in part, or to their end: nothing came before the first run had ended well. First bytes of
--- what belongs to this journal were written.
+-- the items were replayed in part, or to their end, and first bytes of what belongs to this journal were written
 pub record HasReplayedPart (rules : Rules) (items : List Item) (journal : Bool) (before after : Option (List ℕ)) : Type 0
   where
     pub past : List Entry
     pub account : IsValidJournal rules past
     pub fed : IsFedPart items past
-    pub passed : IsPassed rules past
     pub bytes : List ℕ
     pub is_part : IsOutputPart rules past journal bytes
     pub wrote : AddsPart before after bytes

@@ -6,7 +6,6 @@ ghost use Rattle.asp_core.specs.Kernel.{IsHostOf, RunView, grown, past_of, rules
 ghost use Rattle.asp_io.specs.Faults.{HasCause};
 ghost use Rattle.asp_job.specs.declared.entry.Entry.{Entry};
 ghost use Rattle.asp_job.specs.Runs.{is_stopping};
-ghost use Rattle.asp_lane.specs.Started.{HasStarted};
 ghost use Rattle.asp_lane.specs.Turns.{Fits, run_in};
 ghost use Rattle.asp_record.specs.declared.recording.Item.{Item as ItemView};
 ghost use Rattle.asp_record.specs.Recorded as recorded;
@@ -51,7 +50,6 @@ pub fn come_turn<R: Runner, K: Sink>(
     requires held { recorded.IsHeld item.now }
     requires may { may_come (past_of core.old) (recorded.moment_of item.now) ≡ true }
     requires going { is_stopping (past_of core.old) ≡ false }
-    requires started { HasStarted (rules_of R.meaning core.old) (past_of core.old) }
     requires lane { spec.IsOfOneLane (rules_of R.meaning core.old) (past_of core.old) }
     ensures grows { (entries : List Entry) × (core.new ≡ grown core.old entries) }
     ensures fits { (in_hand : Option (RunView R.State)) → Fits R.meaning R.stands core.old 0 in_hand
@@ -79,7 +77,6 @@ pub fn stop_turn<R: Runner, K: Sink>(
 ) -> Result<(), FeedStop>
     requires calm { is_calm (past_of core.old) ≡ true }
     requires once { is_stopping (past_of core.old) ≡ false }
-    requires started { HasStarted (rules_of R.meaning core.old) (past_of core.old) }
     requires lane { spec.IsOfOneLane (rules_of R.meaning core.old) (past_of core.old) }
     ensures grows { (entries : List Entry) × (core.new ≡ grown core.old entries) }
     ensures fits { (in_hand : Option (RunView R.State)) → Fits R.meaning R.stands core.old 0 in_hand

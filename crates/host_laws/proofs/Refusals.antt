@@ -137,7 +137,6 @@ module _ (sites : OneSite) (faultless : SiteOrFault) where
       account = filled.1.account;
       answered = filled.1.answered;
       fed = filled.1.fed;
-      passed = filled.1.passed;
       wound_up = filled.1.wound_up;
       cause = filled.1.cause;
       written = record {

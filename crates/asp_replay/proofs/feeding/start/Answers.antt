@@ -30,9 +30,6 @@ returns-then-not-is_starting-clause-started g c =
     c.loop.invariant.grows.1 in
     subst (λ m. OnOk c.started.result (HasStarted m (past_of c.loop.core))) same c.started.ensures.ok
 
-pub returns-then-not-is_starting-clause-none_came : goal.returns-then-not-is_starting-clause-none_came
-returns-then-not-is_starting-clause-none_came g c = c.loop.invariant.none_came
-
 pub returns-then-not-is_starting-clause-after : goal.returns-then-not-is_starting-clause-after
 returns-then-not-is_starting-clause-after g c = λ items left clients before is.
     let meaning = g.R.Runner.meaning in
@@ -72,11 +69,6 @@ pub returns-in-Err-clause-grows : goal.returns-in-Err-clause-grows
 returns-in-Err-clause-grows g c =
     grown_more c.args.core.now c.loop.core c.work_turn-next.new.core c.loop.invariant.grows
     c.work_turn-next.ensures.grows
-
-pub returns-in-Err-clause-none_came : goal.returns-in-Err-clause-none_came
-returns-in-Err-clause-none_came g c =
-    none_still (past_of c.loop.core) (past_of c.work_turn-next.new.core) c.work_turn-next.ensures.quiet
-    c.loop.invariant.none_came
 
 pub returns-in-Err-clause-after : goal.returns-in-Err-clause-after
 returns-in-Err-clause-after g c = λ items left clients before is.
@@ -124,9 +116,6 @@ loop-preserved g c =
 
 pub returns-clause-grows : goal.returns-clause-grows
 returns-clause-grows g c = c.loop.invariant.grows
-
-pub returns-clause-none_came : goal.returns-clause-none_came
-returns-clause-none_came g c = c.loop.invariant.none_came
 
 pub returns-clause-after : goal.returns-clause-after
 returns-clause-after g c = λ items left clients before is.
