@@ -79,8 +79,8 @@ pub record HasAllCome (items : List Item) (past : List Entry) : Type 0 where
   pub came : HasCome (reverse items) past clients
   pub calm : is_calm past ≡ true
 
--- with what comes next, the next item, the Stop, a Begin or a call, there would be so many entries of that weight, too
--- many or too heavy
+-- with what comes next, the next item, the Stop, a Begin, or the call that an unfinished run wants, there would be so many
+-- entries of that weight, too many or too heavy
 pub data IsTooMuchNext (rules : Rules) (items : List Item) (past : List Entry) (entries weight : ℕ) : Type 0 where
   OfItem : (clients then_clients : Clients) (next : Item) (added : List Entry) → IsNext items past clients next
       → AddsItem rules past clients next added then_clients
