@@ -1,4 +1,4 @@
--- The ticks of a run in a turn of a lane. All of it is the profile's.
+-- The ticks of a run in a turn of a lane. All of it is the product's own.
 use Rattle.std.specs.Prelude.{◌≡◌, ◌⊎◌, ℕ, ◌+◌, [], ◌∷◌, Option, Some, None, IfSome}
 use Rattle.asp_job.specs.declared.entry.EndKind.TheVariants as kind
 use Rattle.asp_job.specs.Journal.{end_entry}
