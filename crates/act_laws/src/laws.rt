@@ -38,7 +38,7 @@ pub fn objects_end<E>()
     ensures { ObjectsEnd E }
 {}
 
-/// The terminator of each object is run once.
+/// Each object ends once: its terminator begins only while it is live, and it is not live again.
 pub fn terminators_run_once<E>()
     ensures { TerminatorsRunOnce E }
 {}

@@ -35,6 +35,7 @@ use Rattle.asp_job.specs.declared.session.SessionState.{SessionState}
 use Rattle.asp_response.specs.declared.fixed.Unavailable.TheVariants as cause
 use Rattle.asp_core.proofs.Kept.{may_follow, kept_tick, grown_past, past_after_is, quiet_tick}
 use Rattle.asp_core.proofs.Waiting.{tick_stopping, tick_waiting}
+use Rattle.asp_core.specs.declared.setting.Setting.{Setting}
 
 -- a place without a session at the end changes nothing
 get_push : (table : List (Option SessionState)) (i : ℕ) → get_or (table ++ None ∷ []) i None ≡ get_or table i None
@@ -70,12 +71,12 @@ and_right true b e = e
 and_right false b e = absurd cc
 
 -- the answer of a refused job
-pub refused_answer : (m : Meaning) (seed : List ℕ) (work : Work) → stand_in cause.TooManySessions work
-    ≡ unavailable_in (rules_by m seed) TooManySessions work
-refused_answer m seed (work.Page request) = refl
-refused_answer m seed work.Start = refl
-refused_answer m seed work.SessionEnd = refl
-refused_answer m seed work.Stop = refl
+pub refused_answer : (m : Meaning) (setting : Setting) (work : Work) → stand_in cause.TooManySessions work
+    ≡ unavailable_in (rules_by m setting) TooManySessions work
+refused_answer m setting (work.Page request) = refl
+refused_answer m setting work.Start = refl
+refused_answer m setting work.SessionEnd = refl
+refused_answer m setting work.Stop = refl
 
 -- the entry of a job is one of two
 abbrev drawn_if : Bool → ℕ → ℕ → Bool → Job → What
@@ -86,14 +87,14 @@ KeptWith m past table count held answers lane what =
     IsKept m (with_lane lane what ∷ past) (with_place table (makes_key what)) count held
     (with_answer answers (told_of what).run (answer_for what))
 
-kept_refused : (m : Meaning) (seed : List ℕ) (past : List Entry) (table : List (Option SessionState)) (count : ℕ)
-    (held : AppState) (answers : List (ℕ × Answer)) (lane : ℕ) (job : Job) → let rules = rules_by m seed in
+kept_refused : (m : Meaning) (setting : Setting) (past : List Entry) (table : List (Option SessionState)) (count : ℕ)
+    (held : AppState) (answers : List (ℕ × Answer)) (lane : ℕ) (job : Job) → let rules = rules_by m setting in
     IsKept rules past table count held answers → IsAsked past job → IsSmall job
     → needs_key (m.is_keyed job) (key_asked_by rules job) (session_of rules past) past ≡ true
     → has_most_keys (session_of rules past) past ≡ true → KeptWith rules past table count held answers lane
     (Refuse (drawn past + 1) job)
-kept_refused m seed past table count held answers lane job kept asked small needs most =
-    let rules = rules_by m seed in
+kept_refused m setting past table count held answers lane job kept asked small needs most =
+    let rules = rules_by m setting in
     let entry = with_lane lane (Refuse (drawn past + 1) job) in
     let turn = may_follow rules past entry kept.account.settled
     (record { asked = asked; number = refl; needs = needs; most = most }) in
@@ -109,21 +110,21 @@ kept_refused m seed past table count held answers lane job kept asked small need
       held_is = kept.held_is;
       answers_are = ap (λ list. with_answer list (drawn past + 1) (stand_in cause.TooManySessions job.work))
           kept.answers_are
-          ∙ ap (with_answer _ (drawn past + 1)) (refused_answer m seed job.work);
+          ∙ ap (with_answer _ (drawn past + 1)) (refused_answer m setting job.work);
       answered = (tt, kept.answered);
       formed = (small, kept.formed);
       valid = kept.valid;
     }
 
-kept_admitted : (m : Meaning) (seed : List ℕ) (past : List Entry) (table : List (Option SessionState)) (count : ℕ)
-    (held : AppState) (answers : List (ℕ × Answer)) (lane : ℕ) (job : Job) → let rules = rules_by m seed in
+kept_admitted : (m : Meaning) (setting : Setting) (past : List Entry) (table : List (Option SessionState)) (count : ℕ)
+    (held : AppState) (answers : List (ℕ × Answer)) (lane : ℕ) (job : Job) → let rules = rules_by m setting in
     IsKept rules past table count held answers → IsAsked past job → IsSmall job
     → is_refused (m.is_keyed job) (key_asked_by rules job) (session_of rules past) past ≡ false
     → KeptWith rules past table count held answers lane
     (Admit (drawn past + 1) (key_for (m.is_keyed job) (key_asked_by rules job) (session_of rules past) past)
     (needs_key (m.is_keyed job) (key_asked_by rules job) (session_of rules past) past) job)
-kept_admitted m seed past table count held answers lane job kept asked small live =
-    let rules = rules_by m seed in
+kept_admitted m setting past table count held answers lane job kept asked small live =
+    let rules = rules_by m setting in
     let fresh = needs_key (m.is_keyed job) (key_asked_by rules job) (session_of rules past) past in
     let key = key_for (m.is_keyed job) (key_asked_by rules job) (session_of rules past) past in
     let entry = with_lane lane (Admit (drawn past + 1) key fresh job) in
@@ -145,21 +146,22 @@ kept_admitted m seed past table count held answers lane job kept asked small liv
       valid = place_valid table fresh kept.valid;
     }
 
-kept_drawn : (m : Meaning) (seed : List ℕ) (past : List Entry) (table : List (Option SessionState)) (count : ℕ)
-    (held : AppState) (answers : List (ℕ × Answer)) (lane : ℕ) (job : Job) → let rules = rules_by m seed in
+kept_drawn : (m : Meaning) (setting : Setting) (past : List Entry) (table : List (Option SessionState)) (count : ℕ)
+    (held : AppState) (answers : List (ℕ × Answer)) (lane : ℕ) (job : Job) → let rules = rules_by m setting in
     IsKept rules past table count held answers → IsAsked past job → IsSmall job → KeptWith rules past table count held
     answers lane (admission (m.is_keyed job) (key_asked_by rules job) (session_of rules past) past job)
-kept_drawn m seed past table count held answers lane job kept asked small =
-    let rules = rules_by m seed in
+kept_drawn m setting past table count held answers lane job kept asked small =
+    let rules = rules_by m setting in
     let keyed = m.is_keyed job in
     let key = key_asked_by rules job in
     let needs = needs_key keyed key (session_of rules past) past in
     let Kept : Bool → Type 0 = λ b. KeptWith rules past table count held answers lane
     (drawn_if b (drawn past + 1) (key_for keyed key (session_of rules past) past) needs job) in
     elim (cases_Bool (is_refused keyed key (session_of rules past) past)) [
-      | inl refused ↦ subst Kept (sym refused) (kept_refused m seed past table count held answers lane job kept asked
+      | inl refused ↦ subst Kept (sym refused) (kept_refused m setting past table count held answers lane job kept asked
           small (and_left _ _ refused) (and_right _ _ refused))
-      | inr taken ↦ subst Kept (sym taken) (kept_admitted m seed past table count held answers lane job kept asked small
+      | inr taken ↦ subst Kept (sym taken) (kept_admitted m setting past table count held answers lane job kept asked
+          small
           taken)
     ]
 
@@ -173,15 +175,16 @@ joined m past lane job =
     ∙ ap (λ xs. entry ∷ xs) (sym (past_after_is past entries))
 
 -- a journal with a Tick where the job's moment is greater, and the entry of the job
-pub kept_after_job : (m : Meaning) (seed : List ℕ) (journal next : List Entry) (table : List (Option SessionState))
-    (count : ℕ) (held : AppState) (answers : List (ℕ × Answer)) (lane : ℕ) (job : Job) → let rules = rules_by m seed in
+pub kept_after_job : (m : Meaning) (setting : Setting) (journal next : List Entry) (table : List (Option SessionState))
+    (count : ℕ) (held : AppState) (answers : List (ℕ × Answer)) (lane : ℕ) (job : Job) → let rules = rules_by m
+    setting in
     let what = (entry_then rules (reverse journal) lane job).what in IsKept rules (reverse journal) table count held
     answers → is_stopping (reverse journal) ≡ false → is_page job.work ≡ true → IsSmall job
     → length (waiting_pages (reverse journal)) < MOST_WAITING → next ≡ journal ++ admit_entries rules (reverse journal)
     lane job → IsKept rules (reverse next) (with_place table (makes_key what)) count held
     (with_answer answers (told_of what).run (answer_for what))
-kept_after_job m seed journal next table count held answers lane job kept going page small few e =
-    let rules = rules_by m seed in
+kept_after_job m setting journal next table count held answers lane job kept going page small few e =
+    let rules = rules_by m setting in
     let past = reverse journal in
     let entries = tick_entries rules past lane job.moment in
     let then_past = past_after past entries in
@@ -189,7 +192,7 @@ kept_after_job m seed journal next table count held answers lane job kept going 
     let then_going : is_stopping then_past ≡ false = tick_stopping rules past lane job.moment ∙ going in
     let then_few : length (waiting_pages then_past) < MOST_WAITING = rw (tick_waiting rules past lane job.moment) few in
     let asked : IsAsked then_past now = record { «open» = then_going; page = page; moment = refl; few = then_few } in
-    let after = kept_drawn m seed then_past table count held answers lane now
+    let after = kept_drawn m setting then_past table count held answers lane now
     (kept_tick rules past table count held answers lane job.moment kept) asked small in
     rw (grown_past journal next (admit_entries rules past lane job) e ∙ joined rules past lane job) after
 
@@ -214,10 +217,10 @@ job_made m past table lane job right =
     ∙ ap (λ entry. entries ++ entry ∷ []) (job_entry m past table lane job right)
 
 -- a core's parts after a job that may have been refused
-pub kept_taken : {T E : Type 0} → (result : Result T E) (m : Meaning) (seed : List ℕ) (journal next : List Entry)
+pub kept_taken : {T E : Type 0} → (result : Result T E) (m : Meaning) (setting : Setting) (journal next : List Entry)
     (table then_table : List (Option SessionState)) (count : ℕ) (held : AppState)
     (answers then_answers : List (ℕ × Answer)) (lane : ℕ) (job : Job) (old new old_of new_of : ℕ)
-    → let rules = rules_by m seed in IsKept rules (reverse journal) table count held answers
+    → let rules = rules_by m setting in IsKept rules (reverse journal) table count held answers
     → IsWithin (reverse journal) → HasRoom (reverse journal) (length answers) old
     → HasAnswerRoom (reverse journal) (length answers) old_of → is_stopping (reverse journal) ≡ false → is_page job.work
     ≡ true → IsSmall job → length (waiting_pages (reverse journal)) < MOST_WAITING
@@ -226,12 +229,13 @@ pub kept_taken : {T E : Type 0} → (result : Result T E) (m : Meaning) (seed : 
     → OnErr result ((old ≤ new) × (old_of ≤ new_of)) → IsKept rules (reverse next) then_table count held then_answers
     × IsWithin (reverse next) × HasRoom (reverse next) (length then_answers) new × HasAnswerRoom (reverse next)
     (length then_answers) new_of
-kept_taken (Ok told) m seed journal next table then_table count held answers then_answers lane job old new old_of new_of
+kept_taken (Ok told) m setting journal next table then_table count held answers then_answers lane job old new old_of
+    new_of
     kept within room room_of going page small few taken same more =
-    let whole = kept_after_job m seed journal next table count held answers lane job kept going page small few
+    let whole = kept_after_job m setting journal next table count held answers lane job kept going page small few
     taken.journal_is in
     (rw (taken.table_is, taken.answers_are) whole, taken.within, taken.room, taken.answer_room)
-kept_taken (Err stop) m seed journal next table then_table count held answers then_answers lane job old new old_of
+kept_taken (Err stop) m setting journal next table then_table count held answers then_answers lane job old new old_of
     new_of kept within room room_of going page small few taken same more =
     let wide = more.0 in let wide_of = more.1 in
     let has : HasRoom (reverse journal) (length answers) new = omega arith in

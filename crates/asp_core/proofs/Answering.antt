@@ -127,7 +127,7 @@ ended_own m past lane (Take run) r all right h e = h
 ended_own m past lane Stop r all right h e = h
 ended_own m past lane Halt r all right h e = h
 
-ended_stays : (m : Rules) (past : List Entry) (lane : ℕ) (what : What) (r : ℕ) → AreRight m past
+pub ended_stays : (m : Rules) (past : List Entry) (lane : ℕ) (what : What) (r : ℕ) → AreRight m past
     → IsRight m past (with_lane lane what) → has_ended past r ≡ true → has_ended (with_lane lane what ∷ past) r ≡ true
 ended_stays m past lane what r all right h = elim (cases_Bool (run_in what == r)) [
   | inl own ↦ ended_own m past lane what r all right h (eqb-true (run_in what) r own)

@@ -42,6 +42,7 @@ use Rattle.asp_core.proofs.Kept.{may_follow}
 use Rattle.asp_core.proofs.Least.{AreNumbered, are_numbered}
 use Rattle.asp_core.proofs.Same.{view_of}
 use Rattle.asp_core.proofs.Opened.{valid_at, session_valid, serial_right, number_right, told_right}
+use Rattle.asp_core.specs.declared.setting.Setting.{Setting}
 
 one_more : (b : Bool) (n k : ℕ) → n ≤ k → (if b then n + 1 else n) ≤ k + 1
 one_more true n k h = omega arith
@@ -179,27 +180,27 @@ begun_running m past lane run =
     let own = own_number run in record { unfinished = rw own refl; begun_by = rw own refl }
 
 -- what was begun, where the run has this number
-pub has_begun : {State : Type 0} → (m : Meaning) (seed : List ℕ) (stands : State → Told → ℕ → Type 0) (lane : ℕ)
+pub has_begun : {State : Type 0} → (m : Meaning) (setting : Setting) (stands : State → Told → ℕ → Type 0) (lane : ℕ)
     (journal mid : List Entry) (table : List (Option SessionState)) (count then_count : ℕ)
     (answers : List (ℕ × Answer)) (run : RunView State) (next : ℕ) (number : SessionNumber)
-    (old capacity capacity_of : ℕ) → let rules = rules_by m seed in let past = reverse journal in
+    (old capacity capacity_of : ℕ) → let rules = rules_by m setting in let past = reverse journal in
     CanBegin rules past table count answers old → IsNextWith past table count answers next number →
     mid ≡ journal ++ with_lane lane (Begin next number.serial) ∷ [] →
     length journal + 2 + 2 * length (unfinished past) + length answers + 3 ≤ capacity →
     length answers + 2 + length (unfinished past) ≤ capacity_of →
     then_count ≡ (if number.is_new then count + 1 else count) →
-    HasOpened stands seed (draw_of past next) (session_at table (key_of past next)) number next run →
+    HasOpened stands setting.seed (draw_of past next) (session_at table (key_of past next)) number next run →
     HasBegun rules stands lane journal count answers mid then_count capacity capacity_of run
-has_begun m seed stands lane journal mid table count then_count answers run next number old capacity capacity_of can
+has_begun m setting stands lane journal mid table count then_count answers run next number old capacity capacity_of can
     is made room room_of counted opened_so =
-    let rules = rules_by m seed in
+    let rules = rules_by m setting in
     let past = reverse journal in
     let entry = with_lane lane (Begin next number.serial) in
     let right : AreRight rules past = can.kept.account.entries in
     let may = is.next.first.begins in
     let of : reverse mid ≡ entry ∷ past = ap reverse made ∙ past_push journal entry in
     let is_right = number_right rules past table count next number can.kept.sessions can.kept.opened_is is.number_is in
-    let same = told_right m seed past table count lane next number right may can.kept.sessions can.kept.opened_is
+    let same = told_right m setting past table count lane next number right may can.kept.sessions can.kept.opened_is
     is.number_is in
     let has_more = begin_room rules journal lane next number.serial (length answers) capacity right may room in
     let has : HasRoom (entry ∷ past) (length answers) capacity = omega arith in
@@ -257,14 +258,14 @@ kept_either_begun (Err stop) m stands lane journal next table count then_count h
 
 -- the run is one of the core
 pub begun_run : {R Site State : Type 0} → (meaning : R → Site → Meaning)
-    (stands : R → Site → State → Told → ℕ → Type 0) (runner : R) (site : Site) (seed : List ℕ) (lane : ℕ)
+    (stands : R → Site → State → Told → ℕ → Type 0) (runner : R) (site : Site) (setting : Setting) (lane : ℕ)
     (journal next : List Entry) (count then_count : ℕ) (answers : List (ℕ × Answer)) (capacity capacity_of : ℕ)
     (run : RunView State) →
-    HasBegun (rules_by (meaning runner site) seed) (stands runner site) lane journal count answers
+    HasBegun (rules_by (meaning runner site) setting) (stands runner site) lane journal count answers
     next then_count capacity capacity_of run →
-    IsRunOf meaning stands (view_of runner site seed next) lane run
-begun_run meaning stands runner site seed lane journal next count then_count answers capacity capacity_of run has =
-    let m = rules_by (meaning runner site) seed in
+    IsRunOf meaning stands (view_of runner site setting next) lane run
+begun_run meaning stands runner site setting lane journal next count then_count answers capacity capacity_of run has =
+    let m = rules_by (meaning runner site) setting in
     let past = reverse journal in
     let entry = begin_entry m past lane run.number in
     let of : reverse next ≡ entry ∷ past = ap reverse has.journal_is ∙ past_push journal entry in
@@ -311,7 +312,8 @@ memory_back event.Memory stop e out = refl
 
 -- the rules of the runner and the site that a core was given
 pub rules_same : {R Site : Type 0} → (meaning : R → Site → Meaning) (runner then_runner : R) (site then_site : Site)
-    (seed : List ℕ) → runner ≡ then_runner → site ≡ then_site →
-    rules_by (meaning runner site) seed ≡ rules_by (meaning then_runner then_site) seed
-rules_same meaning runner then_runner site then_site seed same_runner same_site =
-    ap (λ r. rules_by (meaning r site) seed) same_runner ∙ ap (λ s. rules_by (meaning then_runner s) seed) same_site
+    (setting : Setting) → runner ≡ then_runner → site ≡ then_site →
+    rules_by (meaning runner site) setting ≡ rules_by (meaning then_runner then_site) setting
+rules_same meaning runner then_runner site then_site setting same_runner same_site =
+    ap (λ r. rules_by (meaning r site) setting) same_runner ∙ ap (λ s. rules_by (meaning then_runner s) setting)
+    same_site

@@ -26,6 +26,7 @@ use Rattle.asp_journal.proofs.Past.{length_past, past_push}
 use Rattle.asp_core.proofs.Same.{view_of}
 use Rattle.asp_job.specs.Journal.{past_after}
 use Rattle.asp_core.proofs.Calling.{call_grown, run_called, not_fit}
+use Rattle.asp_core.specs.declared.setting.Setting.{Setting}
 
 -- ---- what the core's contract says of it
 
@@ -34,30 +35,31 @@ called_is : {R Site State : Type 0} → (core : CoreView R Site) (lane : ℕ) (r
 called_is core lane run c wants = rw (wants, called) refl
 
 -- the core has the entry of the call more
-pub core_called : {R Site State : Type 0} → (runner : R) (site : Site) (seed : List ℕ)
+pub core_called : {R Site State : Type 0} → (runner : R) (site : Site) (setting : Setting)
     (stands : Site → State → Told → ℕ → Type 0) (lane : ℕ) (journal : List Entry) (held : AppState) (answers : ℕ)
     (run : RunView State) (next : List Entry) (then_held : AppState) (capacity : ℕ) (then_run : RunView State) →
     held ≡ held_by (reverse journal) →
     HasCalled stands lane journal held answers run next then_held capacity then_run →
-    view_of runner site seed next
-    ≡ grown (view_of runner site seed journal) (called (view_of runner site seed journal) lane run)
-core_called runner site seed stands lane journal held answers run next then_held capacity then_run held_is has =
-    let core = view_of runner site seed journal in
+    view_of runner site setting next
+    ≡ grown (view_of runner site setting journal) (called (view_of runner site setting journal) lane run)
+core_called runner site setting stands lane journal held answers run next then_held capacity then_run held_is has =
+    let core = view_of runner site setting journal in
     let made = call_grown stands lane journal held answers run next then_held capacity then_run held_is has in
-    ap (view_of runner site seed) made ∙ ap (grown core) (sym (called_is core lane run has.call has.wanted))
+    ap (view_of runner site setting) made ∙ ap (grown core) (sym (called_is core lane run has.call has.wanted))
 
 -- the run that made it is the core's still
 pub run_of_called : {R Site State : Type 0} → (meaning : R → Site → Meaning)
-    (stands : R → Site → State → Told → ℕ → Type 0) (runner : R) (site : Site) (seed : List ℕ) (lane : ℕ)
+    (stands : R → Site → State → Told → ℕ → Type 0) (runner : R) (site : Site) (setting : Setting) (lane : ℕ)
     (journal : List Entry) (held : AppState) (answers : ℕ) (run : RunView State) (next : List Entry)
     (then_held : AppState) (capacity : ℕ) (then_run : RunView State) → held ≡ held_by (reverse journal) →
-    IsRunOf meaning stands (view_of runner site seed journal) lane run →
+    IsRunOf meaning stands (view_of runner site setting journal) lane run →
     HasCalled (stands runner) lane journal held answers run next then_held capacity then_run →
-    IsRunOf meaning stands (view_of runner site seed next) lane then_run
-run_of_called meaning stands runner site seed lane journal held answers run next then_held capacity then_run held_is is
+    IsRunOf meaning stands (view_of runner site setting next) lane then_run
+run_of_called meaning stands runner site setting lane journal held answers run next then_held capacity then_run
+    held_is is
     has =
     let made = call_grown (stands runner) lane journal held answers run next then_held capacity then_run held_is has in
-    run_called meaning stands (view_of runner site seed journal) lane run then_run next has.call
+    run_called meaning stands (view_of runner site setting journal) lane run then_run next has.call
     (apply held run.number has.call).1 is has.wanted made (ap (λ h. (apply h run.number has.call).1) held_is)
     has.number_is has.stand_ins_are has.progress_is (has.heard_so site)
 

@@ -51,6 +51,7 @@ use Rattle.asp_core.proofs.Answering.{page_answered}
 use Rattle.asp_core.proofs.Counts.{fewer_unfinished}
 use Rattle.asp_core.proofs.Kept.{may_follow}
 use Rattle.asp_core.proofs.Made.{keys_made}
+use Rattle.asp_core.specs.declared.setting.Setting.{Setting}
 
 -- ---- what the run leaves is what its meaning has
 
@@ -78,19 +79,21 @@ bounded_in c work.Start = tt
 bounded_in c work.SessionEnd = tt
 bounded_in c work.Stop = tt
 
-memory_in : (m : Meaning) (seed : List ℕ) (w : Work) → stand_in cause.OutOfMemory w ≡ unavailable_in (rules_by m seed)
+memory_in : (m : Meaning) (setting : Setting) (w : Work) → stand_in cause.OutOfMemory w ≡ unavailable_in (rules_by m
+    setting)
     OutOfMemory w
-memory_in m seed (work.Page request) = refl
-memory_in m seed work.Start = refl
-memory_in m seed work.SessionEnd = refl
-memory_in m seed work.Stop = refl
+memory_in m setting (work.Page request) = refl
+memory_in m setting work.Start = refl
+memory_in m setting work.SessionEnd = refl
+memory_in m setting work.Stop = refl
 
-full_in : (m : Meaning) (seed : List ℕ) (w : Work) → stand_in cause.JournalFull w ≡ unavailable_in (rules_by m seed)
+full_in : (m : Meaning) (setting : Setting) (w : Work) → stand_in cause.JournalFull w ≡ unavailable_in (rules_by m
+    setting)
     JournalFull w
-full_in m seed (work.Page request) = refl
-full_in m seed work.Start = refl
-full_in m seed work.SessionEnd = refl
-full_in m seed work.Stop = refl
+full_in m setting (work.Page request) = refl
+full_in m setting work.Start = refl
+full_in m setting work.SessionEnd = refl
+full_in m setting work.Stop = refl
 
 done_ending : (m : Rules) (past : List Entry) (lane run : ℕ) (finished : Option Finished) (ins : StandIns)
     → IsFinish Over finished (told m past run) (m.meaning.does (told m past run)) → IsEnding m past lane run how.Done
@@ -119,38 +122,38 @@ stands_wants (progress.Wants other) Stands outcome call w s = let same : other �
 stands_wants progress.Ended Stands outcome call w s = absurd cc
 stands_wants progress.Dead Stands outcome call w s = absurd cc
 
-pub ending : {State : Type 0} → (m : Meaning) (seed : List ℕ) (past : List Entry) (lane : ℕ) (run : RunView State)
-    (Stands : ℕ → Type 0) (kind : EndKind) (finished : Option Finished) → let rules = rules_by m seed in
+pub ending : {State : Type 0} → (m : Meaning) (setting : Setting) (past : List Entry) (lane : ℕ) (run : RunView State)
+    (Stands : ℕ → Type 0) (kind : EndKind) (finished : Option Finished) → let rules = rules_by m setting in
     IsEndOf past lane run kind → StandsAt run.progress Stands (m.does (told rules past run.number))
     → (run.progress ≡ progress.Ended → (spent : ℕ) → Stands spent → IsFinish Over finished (told rules past run.number)
     (m.does (told rules past run.number))) → run.stand_ins ≡ stand_ins (job_of past run.number).work
     → IsEnding rules past lane run.number kind (left_of kind finished run.stand_ins)
-ending m seed past lane run Stands how.Done finished of s told_at ins =
-    let rules = rules_by m seed in
+ending m setting past lane run Stands how.Done finished of s told_at ins =
+    let rules = rules_by m setting in
     let ended = subst (λ (p : Progress). StandsAt p Stands (m.does (told rules past run.number))) of s in
     done_ending rules past lane run.number finished run.stand_ins (told_at of ended.0.0 ended.0.1)
-ending m seed past lane run Stands how.Memory finished of s told_at ins =
+ending m setting past lane run Stands how.Memory finished of s told_at ins =
     let w = (job_of past run.number).work in
     let answer : run.stand_ins.memory ≡ stand_in cause.OutOfMemory w = ap (λ (i : StandIns). i.memory) ins in
     record {
       may = tt;
       session_is = λ done. absurd cc;
-      answer_is = answer ∙ memory_in m seed w;
+      answer_is = answer ∙ memory_in m setting w;
       made_is = refl;
       finished_is = refl;
       fail_is = refl;
-      answered = page_answered (rules_by m seed) OutOfMemory w;
+      answered = page_answered (rules_by m setting) OutOfMemory w;
       bounded = subst (λ (a : Option Answer). IfSome a IsBounded) (sym answer) (bounded_in cause.OutOfMemory w);
       valid = tt;
     }
-ending m seed past lane run Stands how.JournalFull finished of s told_at ins =
+ending m setting past lane run Stands how.JournalFull finished of s told_at ins =
     let w = (job_of past run.number).work in
-    let rules = rules_by m seed in
+    let rules = rules_by m setting in
     let answer : run.stand_ins.full ≡ stand_in cause.JournalFull w = ap (λ (i : StandIns). i.full) ins in
     record {
       may = (of.0, stands_wants run.progress Stands (m.does (told rules past run.number)) of.0 of.1 s, of.2);
       session_is = λ done. absurd cc;
-      answer_is = answer ∙ full_in m seed w;
+      answer_is = answer ∙ full_in m setting w;
       made_is = refl;
       finished_is = refl;
       fail_is = refl;
@@ -170,7 +173,7 @@ pub ending_of : {R Site State : Type 0} → (meaning : R → Site → Meaning)
     × IsEnding (rules_of meaning old) (past_of old) lane run.number kind left
 ending_of {R} {Site} meaning stands core old lane run kind finished left same is of finish leaves =
     let t = told (rules_of meaning core) (past_of core) run.number in
-    let ends = ending (meaning core.runner core.site) core.seed (past_of core) lane run
+    let ends = ending (meaning core.runner core.site) core.setting (past_of core) lane run
     (stands core.runner core.site run.state t) kind finished of is.stands_for (λ e spent. finish e t spent)
     is.stand_ins_are in
     let here = subst (IsEnding (rules_of meaning core) (past_of core) lane run.number kind) (sym leaves) ends in (

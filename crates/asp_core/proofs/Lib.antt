@@ -12,7 +12,7 @@ pub mod Starting
 pub mod Same
 pub mod Staying
 pub mod Locking
-pub mod Trimming
+pub mod Finding
 pub mod Ticking
 pub mod Admitting
 pub mod Coming
@@ -38,3 +38,7 @@ pub mod Ordering
 pub mod Alone
 pub mod Grouping
 pub mod Lanes
+pub mod Lengths
+pub mod Bearing
+pub mod Lasting
+pub mod Moved

@@ -22,6 +22,7 @@ use Rattle.asp_job.specs.declared.entry.Stage.TheVariants.{Waiting}
 use Rattle.asp_job.specs.declared.session.SessionState.{SessionState}
 use Rattle.asp_journal.proofs.Others.{own_number}
 use Rattle.asp_core.proofs.Right.{is_begun, may_begin_waits, no_replies}
+use Rattle.asp_core.specs.declared.setting.Setting.{Setting}
 
 -- ---- the session of a run
 
@@ -103,16 +104,16 @@ begun_told m past lane run right may =
     cc (ap (λ b. b.session) began, ap (λ b. b.is_new) began, replies)
 
 -- so it is told what the code gives it
-pub told_right : (m : Meaning) (seed : List ℕ) (past : List Entry) (table : List (Option SessionState))
+pub told_right : (m : Meaning) (setting : Setting) (past : List Entry) (table : List (Option SessionState))
     (count lane run : ℕ)
-    (number : SessionNumber) → let rules = rules_by m seed in AreRight rules past → may_begin past run ≡ true →
+    (number : SessionNumber) → let rules = rules_by m setting in AreRight rules past → may_begin past run ≡ true →
     session_at table ≡ session_of rules past → count ≡ opened rules past →
     IsNumberOf (draw_of past run) (session_at table (key_of past run)) count number →
     begun (job_of past run) (session_if number.is_new (session_at table (key_of past run)) number.serial) number.is_new
-    (cookie_if seed (is_fresh past run) (key_of past run))
+    (cookie_if setting.seed (is_fresh past run) (key_of past run))
     ≡ told rules (begin_entry rules past lane run ∷ past) run
-told_right m seed past table count lane run number right may sessions counted is =
-    let rules = rules_by m seed in
+told_right m setting past table count lane run number right may sessions counted is =
+    let rules = rules_by m setting in
     let draw = draw_of past run in
     let job = job_of past run in
     let letters = letters_of rules draw in

@@ -7,6 +7,7 @@ use Rattle.asp_job.specs.declared.session.SessionState.{SessionState}
 use Rattle.asp_job.specs.Application.{AppState}
 use Rattle.asp_job.specs.Rules.{Rules}
 use Rattle.asp_core.specs.Kernel.{CoreView, IsKept, IsWithin, HasRoom, HasAnswerRoom}
+use Rattle.asp_core.specs.declared.setting.Setting.{Setting}
 
 -- all of it, in a journal and a list of answers with as much room or more
 pub kept_either : {T E : Type 0} → (result : Result T E) (m : Rules) (journal next : List Entry)
@@ -41,8 +42,8 @@ on_err (Ok done) P Q f p = tt
 on_err (Err stop) P Q f p = f p
 
 -- what is seen of a core
-abbrev pub view_of : {R Site : Type 0} → R → Site → List ℕ → List Entry → CoreView R Site
-view_of runner site seed journal = record { journal = journal; runner = runner; site = site; seed = seed }
+abbrev pub view_of : {R Site : Type 0} → R → Site → Setting → List Entry → CoreView R Site
+view_of runner site setting journal = record { journal = journal; runner = runner; site = site; setting = setting }
 
 -- a fact of what was given becomes another
 pub on_each : {T E : Type 0} → (result : Result T E) (P Q : T → Type 0) → ((x : T) → P x → Q x) → IfOk result P

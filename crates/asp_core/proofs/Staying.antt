@@ -75,7 +75,7 @@ stays_one m past lane r entry right running e =
       same = told_other m past entry.lane r entry.what apart;
     }
 
-right_before : (m : Rules) (past entries : List Entry) → AreRight m (past_after past entries) → AreRight m past
+pub right_before : (m : Rules) (past entries : List Entry) → AreRight m (past_after past entries) → AreRight m past
 right_before m past [] right = right
 right_before m past (entry ∷ entries) right = (right_before m (entry ∷ past) entries right).1
 

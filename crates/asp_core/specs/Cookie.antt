@@ -1,28 +1,17 @@
 -- The key that the session cookie of a request names (RFC 6265, section 4.2; its name and letters are the profile's).
-use Rattle.std.specs.Prelude.{ℕ, ◌==◌, ◌||◌, Bool, if◌then◌else◌, nat_eq, List, [], ◌∷◌, length, reverse, map, drop}
+use Rattle.std.specs.Prelude.{ℕ, ◌==◌, Bool, if◌then◌else◌, nat_eq, List, [], length, map, drop}
 use Rattle.std.specs.Prelude.{codes, Option, Some, None}
 use Rattle.std.specs.List.{flat_map, slice_split, starts_with, find}
 use Rattle.vb_value.specs.Folding.{same_name}
+use Rattle.httparse.specs.Grammar.{trim_ows}
 use Rattle.asp_job.specs.declared.request.Header.{Header}
 use Rattle.asp_job.specs.declared.request.Request.{Request}
 use Rattle.asp_session.specs.Letters.{key_of_letters}
 
--- a space or a tab
-abbrev pub is_blank : ℕ → Bool
-is_blank b = b == 32 || b == 9
-
-abbrev pub after_blanks : List ℕ → List ℕ
-after_blanks [] = []
-after_blanks (b ∷ bytes) = if is_blank b then after_blanks bytes else b ∷ bytes
-
--- the bytes without the blanks around them
-abbrev pub trimmed : List ℕ → List ℕ
-trimmed bytes = reverse (after_blanks (reverse (after_blanks bytes)))
-
--- the pieces between the `;` of a Cookie field
+-- the pieces between the `;` of a Cookie field, without the blanks around each
 abbrev pub cookie_pieces : Header → List (List ℕ)
 cookie_pieces header =
-    if same_name (codes "Cookie") header.name then map trimmed (slice_split (λ b. b == 59) header.value) else []
+    if same_name (codes "Cookie") header.name then map trim_ows (slice_split (λ b. b == 59) header.value) else []
 
 -- what stands before the letters
 abbrev pub cookie_name : List ℕ

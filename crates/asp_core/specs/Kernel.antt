@@ -1,6 +1,6 @@
 -- What contracts see of a core, and of a run that was moved out of it. All of it is the profile's.
 use Rattle.std.specs.Prelude.{◌≡◌, ℕ, ◌+◌, ◌*◌, ◌-◌, ◌≤◌, ◌<◌, ◌==◌, ◌⊎◌, ◌++◌, ◌∷◌, true, false, if◌then◌else◌}
-use Rattle.std.specs.Prelude.{nat_lt, min, ◌^◌}
+use Rattle.std.specs.Prelude.{nat_lt, min, ◌^◌, Bool}
 use Rattle.std.specs.Prelude.{List, [], length, reverse, slice_set, slice_index_or, All, Option, Some, None, IfSome}
 use Rattle.std.specs.Prelude.{Result, Ok, Err}
 use Rattle.vb_value.specs.declared.application.AppCall.{AppCall}
@@ -40,6 +40,7 @@ use Rattle.asp_core.specs.declared.ready.TheConstants.{MOST_BODIES}
 use Rattle.asp_core.specs.declared.run.Progress.{Progress}
 use Rattle.asp_core.specs.declared.run.Progress.TheVariants as progress
 use Rattle.asp_core.specs.declared.run.StandIns.{StandIns}
+use Rattle.asp_core.specs.declared.setting.Setting.{Setting}
 
 -- ---- what a journal is held against
 
@@ -49,35 +50,39 @@ unavailable_by TooManySessions request = unavailable_of cause.TooManySessions (i
 unavailable_by OutOfMemory request = unavailable_of cause.OutOfMemory (is_head request.verb) request.close
 unavailable_by JournalFull request = unavailable_of cause.JournalFull (is_head request.verb) request.close
 
--- what the runs of a site do, and the letters of keys, with this seed
-abbrev pub rules_by : Meaning → List ℕ → Rules
-rules_by meaning seed = record {
+abbrev pub setting_of : List ℕ → Bool → Setting
+setting_of seed strict = record { seed = seed; strict = strict }
+
+-- what the runs of a site do, and the letters of keys, with this setting
+abbrev pub rules_by : Meaning → Setting → Rules
+rules_by meaning setting = record {
   meaning = meaning;
-  letters = letters_of seed;
-  cookie_key = cookie_key_in seed;
+  letters = letters_of setting.seed;
+  cookie_key = cookie_key_in setting.seed;
   unavailable = unavailable_by;
+  strict = setting.strict;
 }
 
 -- ---- a core
 
--- a core: its journal, oldest entry first, and the runner, the site and the seed that it was given
+-- a core: its journal, oldest entry first, and the runner, the site and the setting that it was given
 pub record CoreView (R Site : Type 0) : Type 0 where
   pub journal : List Entry
   pub runner : R
   pub site : Site
-  pub seed : List ℕ
+  pub setting : Setting
 
 abbrev pub past_of : {R Site : Type 0} → CoreView R Site → List Entry
 past_of core = reverse core.journal
 
 -- what the core's journal is held against
 abbrev pub rules_of : {R Site : Type 0} → (R → Site → Meaning) → CoreView R Site → Rules
-rules_of meaning core = rules_by (meaning core.runner core.site) core.seed
+rules_of meaning core = rules_by (meaning core.runner core.site) core.setting
 
 -- the core with these entries more
 abbrev pub grown : {R Site : Type 0} → CoreView R Site → List Entry → CoreView R Site
 grown core entries =
-    record { journal = core.journal ++ entries; runner = core.runner; site = core.site; seed = core.seed }
+    record { journal = core.journal ++ entries; runner = core.runner; site = core.site; setting = core.setting }
 
 -- the runner and the site are those that the core was given
 pub record IsHostOf {R Site : Type 0} (core : CoreView R Site) (runner : R) (site : Site) : Type 0 where

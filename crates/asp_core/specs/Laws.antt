@@ -1,5 +1,5 @@
 -- What stays while other entries come. All of it is the profile's.
-use Rattle.std.specs.Prelude.{◌≡◌, ◌≢◌, ℕ, ◌==◌, ◌&&◌, Bool, false, not, List, [], ◌∷◌}
+use Rattle.std.specs.Prelude.{◌≡◌, ◌≢◌, ℕ, ◌==◌, ◌&&◌, Bool, false, not, All, List, [], ◌∷◌}
 use Rattle.vb_value.specs.declared.application.AppCall.TheVariants.{Unlock}
 use Rattle.asp_job.specs.declared.entry.Entry.{Entry}
 use Rattle.asp_job.specs.declared.entry.What.{What}
@@ -8,6 +8,10 @@ use Rattle.asp_job.specs.Application.{is_guarded}
 use Rattle.asp_job.specs.Keys.{told}
 use Rattle.asp_job.specs.Rules.{Rules}
 use Rattle.asp_job.specs.Turns.{IsRunning}
+
+-- each entry bears the lane
+abbrev pub AreOfLane : ℕ → List Entry → Type 0
+AreOfLane lane entries = All (λ entry. entry.lane ≡ lane) entries
 
 -- each entry bears another lane
 abbrev pub AreOfOthers : ℕ → List Entry → Type 0

@@ -15,3 +15,4 @@ pub mod Given
 pub mod Alone
 pub mod Calm
 pub mod Start
+pub mod Slice

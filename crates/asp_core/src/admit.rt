@@ -19,6 +19,7 @@ use crate::admitted::Admitted;
 use crate::events::with_job;
 use crate::kernel::Core;
 use crate::places::{add_answer, add_place};
+use crate::setting::Setting;
 use crate::stop::{AdmitStop, EventStop, admit_stop};
 use asp_job::{Answer, Job, MOST_WAITING, Runner, SessionState};
 use asp_journal::Journal;
@@ -48,7 +49,7 @@ fn reserve_place(table: &mut Vec<Option<SessionState>>) -> Result<(), Memory>
 pub(crate) fn take_job<R: Runner>(
     runner: &R,
     site: &R::Site,
-    seed: &[u8; 32],
+    setting: &Setting,
     journal: &mut Journal,
     answers: &mut Vec<(u32, Answer)>,
     table: &mut Vec<Option<SessionState>>,
@@ -56,22 +57,22 @@ pub(crate) fn take_job<R: Runner>(
     job: &Job,
 ) -> Result<Admitted, EventStop>
     requires sessions { kernel.session_at table.old.items
-        ≡ spec.session_of (kernel.rules_by (R.meaning runner.now site.now) seed.now) (reverse journal.old.items) }
+        ≡ spec.session_of (kernel.rules_by (R.meaning runner.now site.now) setting.now) (reverse journal.old.items) }
     requires few { history.entries_in (reverse journal.old.items) ≤ MOST_ENTRIES }
     requires small { IsSmall job.now }
-    ensures ok { OnOk result (taking.HasTaken (kernel.rules_by (R.meaning runner.now site.now) seed.now)
+    ensures ok { OnOk result (taking.HasTaken (kernel.rules_by (R.meaning runner.now site.now) setting.now)
         lane job.now journal.old.items table.old.items answers.old.items
         journal.new.items table.new.items answers.new.items
         (journal.new.capacity) (vec_capacity answers.new)) }
     ensures told { IfOk result (λ told. told ≡ drawing.told_of (drawing.entry_then
-        (kernel.rules_by (R.meaning runner.now site.now) seed.now) (reverse journal.old.items) lane job.now).what) }
+        (kernel.rules_by (R.meaning runner.now site.now) setting.now) (reverse journal.old.items) lane job.now).what) }
     ensures err { OnErr result ((journal.new.items ≡ journal.old.items) × (table.new.items ≡ table.old.items)
         × (answers.new.items ≡ answers.old.items)) }
     ensures capacity { OnErr result ((journal.old.capacity ≤ journal.new.capacity)
         × (vec_capacity answers.old ≤ vec_capacity answers.new)) }
     ensures full { (entries weight : ℕ) → result ≡ Err (EventStop.JournalFull entries weight) →
         kernel.IsTooMuch (journals.past_after (reverse journal.old.items) (journals.admit_entries
-        (kernel.rules_by (R.meaning runner.now site.now) seed.now) (reverse journal.old.items) lane job.now))
+        (kernel.rules_by (R.meaning runner.now site.now) setting.now) (reverse journal.old.items) lane job.now))
         entries weight }
 {
     if reserve_place(table).is_err() {
@@ -80,7 +81,7 @@ pub(crate) fn take_job<R: Runner>(
     let drawn = match with_job(
         runner,
         site,
-        seed,
+        setting,
         journal,
         answers,
         table.as_slice(),
@@ -121,16 +122,16 @@ impl<R: Runner> Core<R> {
             (kernel.rules_of R.meaning self.old) (kernel.past_of self.old) lane job.now)) entries weight }
         ensures err { OnErr result (self.new ≡ self.old) }
     {
-        if let Some(stop) = refused_before(&self.journal) {
+        if let Some(stop) = refused_before(&self.kept.journal) {
             return Err(stop);
         }
         let made = take_job(
             runner,
             site,
-            &self.seed,
-            &mut self.journal,
-            &mut self.answers,
-            &mut self.table,
+            &self.house.setting,
+            &mut self.kept.journal,
+            &mut self.kept.answers,
+            &mut self.kept.table,
             lane,
             job,
         );

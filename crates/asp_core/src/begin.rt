@@ -22,6 +22,7 @@ use crate::opening::{Opening, SessionNumber, open_run, session_number};
 use crate::ready::has_body_room;
 use crate::room::room_for;
 use crate::run::{Progress, Run};
+use crate::setting::Setting;
 use crate::stop::{BeginStop, begin_stop};
 use asp_job::{Answer, Entry, Runner, SessionState, What};
 use asp_journal::Journal;
@@ -111,7 +112,7 @@ fn start_run<R: Runner>(
     runner: &R,
     site: &R::Site,
     alloc: Global,
-    seed: &[u8; 32],
+    setting: &Setting,
     journal: &Journal,
     table: &[Option<SessionState>],
     number: SessionNumber,
@@ -120,11 +121,11 @@ fn start_run<R: Runner>(
 ) -> Result<Run<R>, R::Store>
     requires { spec.CanOpen (runs.draw_of (reverse journal.now.items) run)
         (kernel.session_at table.now (runs.key_of (reverse journal.now.items) run)) number }
-    ensures { IfOk result (spec.HasOpened (R.stands runner.now site.now) seed.now
+    ensures { IfOk result (spec.HasOpened (R.stands runner.now site.now) setting.now.seed
         (runs.draw_of (reverse journal.now.items) run)
         (kernel.session_at table.now (runs.key_of (reverse journal.now.items) run)) number run) }
 {
-    let Ok(opening) = open_run(alloc, seed, journal, table, number, run as u64) else {
+    let Ok(opening) = open_run(alloc, &setting.seed, journal, table, number, run as u64) else {
         return Err(store);
     };
     let Opening {
@@ -149,7 +150,7 @@ fn start_run<R: Runner>(
 fn begin_run<R: Runner>(
     runner: &R,
     site: &R::Site,
-    seed: &[u8; 32],
+    setting: &Setting,
     journal: &mut Journal,
     answers: &mut Vec<(u32, Answer)>,
     table: &[Option<SessionState>],
@@ -157,9 +158,9 @@ fn begin_run<R: Runner>(
     lane: u32,
     store: R::Store,
 ) -> Result<Run<R>, (R::Store, BeginStop)>
-    requires { spec.CanBegin (kernel.rules_by (R.meaning runner.now site.now) seed.now)
+    requires { spec.CanBegin (kernel.rules_by (R.meaning runner.now site.now) setting.now)
         (reverse journal.old.items) table.now opened.old answers.old.items (journal.old.capacity) }
-    ensures ok { IfOk result (spec.HasBegun (kernel.rules_by (R.meaning runner.now site.now) seed.now)
+    ensures ok { IfOk result (spec.HasBegun (kernel.rules_by (R.meaning runner.now site.now) setting.now)
         (R.stands runner.now site.now) lane journal.old.items opened.old answers.old.items
         journal.new.items opened.new (journal.new.capacity) (vec_capacity answers.new)) }
     ensures err { OnErr result ((journal.new.items ≡ journal.old.items) × (opened.new ≡ opened.old)) }
@@ -169,10 +170,10 @@ fn begin_run<R: Runner>(
     ensures idle { IfErr result (λ stop. stop.1 ≡ BeginStop.Idle ↔
         spec.IsIdleWith answers.old.items (reverse journal.old.items)) }
     ensures full { (entries weight : ℕ) → IfErr result (λ stop. stop.1 ≡ BeginStop.JournalFull entries weight →
-        kernel.IsBeginTooMuch (kernel.rules_by (R.meaning runner.now site.now) seed.now)
+        kernel.IsBeginTooMuch (kernel.rules_by (R.meaning runner.now site.now) setting.now)
         (reverse journal.old.items) lane entries weight) }
     ensures fits { IfErr result (λ stop. stop.1 ≡ BeginStop.Memory →
-        kernel.NextFits (kernel.rules_by (R.meaning runner.now site.now) seed.now)
+        kernel.NextFits (kernel.rules_by (R.meaning runner.now site.now) setting.now)
         (reverse journal.old.items) lane) }
 {
     let (run, number) = match next_with_room(journal, answers, table, *opened) {
@@ -183,7 +184,7 @@ fn begin_run<R: Runner>(
         runner,
         site,
         journal.alloc(),
-        seed,
+        setting,
         journal,
         table,
         number,
@@ -232,11 +233,11 @@ impl<R: Runner> Core<R> {
         begin_run(
             runner,
             site,
-            &self.seed,
-            &mut self.journal,
-            &mut self.answers,
-            self.table.as_slice(),
-            &mut self.opened,
+            &self.house.setting,
+            &mut self.kept.journal,
+            &mut self.kept.answers,
+            self.kept.table.as_slice(),
+            &mut self.kept.opened,
             lane,
             store,
         )

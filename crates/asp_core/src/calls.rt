@@ -235,9 +235,9 @@ impl<R: Runner> Core<R> {
     {
         make_call(
             runner,
-            &mut self.journal,
-            self.answers.as_slice(),
-            &mut self.application,
+            &mut self.kept.journal,
+            self.kept.answers.as_slice(),
+            &mut self.kept.application,
             lane,
             run,
         )

@@ -4,46 +4,14 @@
 ghost use Rattle.std.specs.Prelude.{◌≡◌, ◌==◌, find, map, drop};
 ghost use Rattle.std.specs.List.{slice_split, flat_map};
 ghost use Rattle.std.specs.Option.{option_map, option_or};
+ghost use Rattle.httparse.specs.Grammar.{trim_ows};
 ghost use Rattle.asp_job.specs.Turns as turns;
 ghost use Rattle.asp_core.specs.Cookie as spec;
 
 use asp_job::{Asked, Header, Job, Request, Work};
 use asp_session::key_of_letters;
+use asp_text::trim_blanks;
 use vb_value::is_word;
-
-fn is_blank(b: u8) -> bool
-    ensures { result ≡ spec.is_blank b }
-{
-    b == b' ' || b == b'\t'
-}
-
-fn after_blanks(bytes: &[u8]) -> &[u8]
-    ensures { result.now ≡ spec.after_blanks bytes.now }
-{
-    let mut rest = bytes;
-    while let [first, more @ ..] = rest {
-        if !is_blank(*first) {
-            return rest;
-        }
-        rest = more;
-    }
-    rest
-}
-
-/// The bytes without the blanks around them.
-#[tactic(auto, using(crate::proofs::Trimming::one_back, crate::proofs::Trimming::none_back, crate::proofs::Trimming::nothing_back))]
-fn trimmed(bytes: &[u8]) -> &[u8]
-    ensures { result.now ≡ spec.trimmed bytes.now }
-{
-    let mut rest = after_blanks(bytes);
-    while let [more @ .., last] = rest {
-        if !is_blank(*last) {
-            return rest;
-        }
-        rest = more;
-    }
-    rest
-}
 
 fn is_cookie(piece: &[u8]) -> bool
     ensures { result ≡ spec.is_cookie piece.now }
@@ -63,14 +31,14 @@ fn first_of<'a>(found: Option<&'a [u8]>, piece: &'a [u8]) -> Option<&'a [u8]>
 }
 
 /// The session cookie among the pieces of a field.
-#[tactic(auto, using(crate::proofs::Trimming::find_push))]
+#[tactic(auto, using(crate::proofs::Finding::find_push))]
 fn cookie_in(value: &[u8]) -> Option<&[u8]>
     ensures { option_map (λ piece. piece.now) result
-        ≡ find spec.is_cookie (map spec.trimmed (slice_split (λ b. b == 59) value.now)) }
+        ≡ find spec.is_cookie (map trim_ows (slice_split (λ b. b == 59) value.now)) }
 {
     let mut found = None;
     for piece in value.split(|b| *b == b';') {
-        found = first_of(found, trimmed(piece));
+        found = first_of(found, trim_blanks(piece));
     }
     found
 }
@@ -97,7 +65,7 @@ fn first_in<'a>(found: Option<&'a [u8]>, header: &'a Header) -> Option<&'a [u8]>
 }
 
 /// The session cookie of a request.
-#[tactic(auto, using(crate::proofs::Trimming::find_more))]
+#[tactic(auto, using(crate::proofs::Finding::find_more))]
 fn find_cookie(headers: &[Header]) -> Option<&[u8]>
     ensures { option_map (λ piece. piece.now) result ≡ find spec.is_cookie (flat_map spec.cookie_pieces headers.now) }
 {
@@ -109,7 +77,7 @@ fn find_cookie(headers: &[Header]) -> Option<&[u8]>
 }
 
 /// What stands behind the name of the session cookie.
-#[tactic(auto, using(crate::proofs::Trimming::none_behind))]
+#[tactic(auto, using(crate::proofs::Finding::none_behind))]
 fn letters_in(cookie: &[u8]) -> &[u8]
     ensures { result.now ≡ drop 20 cookie.now }
 {

@@ -18,6 +18,7 @@ use crate::admitted::{Drawn, stand_in, told_of};
 use crate::cookie::asked_key;
 use crate::keys::{has_most_keys, is_askable};
 use crate::room::{entries_weight, room_for};
+use crate::setting::Setting;
 use crate::stop::EventStop;
 use asp_job::{Answer, Entry, Job, Runner, SessionState, What};
 use asp_journal::{Journal, work_weight};
@@ -91,19 +92,19 @@ fn job_now(journal: &Journal, job: Job) -> Job
 fn admission_of<R: Runner>(
     runner: &R,
     site: &R::Site,
-    seed: &[u8; 32],
+    setting: &Setting,
     journal: &Journal,
     table: &[Option<SessionState>],
     job: Job,
 ) -> What
     requires small { IsSmall job }
     requires few { history.entries_in (reverse journal.now.items) ≤ MOST_ENTRIES + MOST_ENTRIES + 1 }
-    ensures { result ≡ (drawing.drawn_by (kernel.rules_by (R.meaning runner.now site.now) seed.now)
+    ensures { result ≡ (drawing.drawn_by (kernel.rules_by (R.meaning runner.now site.now) setting.now)
         (kernel.session_at table.now) (reverse journal.now.items) 0 job).what }
 {
     let now = job_now(journal, job);
     let keyed = runner.keyed(site, &now);
-    let asked = asked_key(seed, &now);
+    let asked = asked_key(&setting.seed, &now);
     admission(journal, table, keyed, asked, now)
 }
 
@@ -121,7 +122,7 @@ pub fn prepared(alloc: Global, job: &Job) -> Result<(Job, Option<Answer>), Memor
 fn add_admission<R: Runner>(
     runner: &R,
     site: &R::Site,
-    seed: &[u8; 32],
+    setting: &Setting,
     journal: &mut Journal,
     table: &[Option<SessionState>],
     lane: u32,
@@ -133,14 +134,14 @@ fn add_admission<R: Runner>(
     requires answer { answer ≡ standing.stand_in Unavailable.TooManySessions job.work }
     requires room { length journal.old.items < journal.old.capacity }
     ensures items { journal.new.items ≡ journal.old.items
-        ++ drawing.drawn_by (kernel.rules_by (R.meaning runner.now site.now) seed.now)
+        ++ drawing.drawn_by (kernel.rules_by (R.meaning runner.now site.now) setting.now)
         (kernel.session_at table.now) (reverse journal.old.items) lane job ∷ [] }
     ensures drawn { drawing.IsDrawn
-        (drawing.drawn_by (kernel.rules_by (R.meaning runner.now site.now) seed.now)
+        (drawing.drawn_by (kernel.rules_by (R.meaning runner.now site.now) setting.now)
         (kernel.session_at table.now) (reverse journal.old.items) lane job).what result }
     ensures capacity { journal.new.capacity ≡ journal.old.capacity }
 {
-    let what = admission_of(runner, site, seed, journal, table, job);
+    let what = admission_of(runner, site, setting, journal, table, job);
     let drawn = drawn_of(&what, answer);
     journal.push_reserved(Entry { lane, what });
     drawn
@@ -159,7 +160,7 @@ fn job_weight(more: &[Entry], job: &Job) -> u64
 pub fn add_job<R: Runner>(
     runner: &R,
     site: &R::Site,
-    seed: &[u8; 32],
+    setting: &Setting,
     journal: &mut Journal,
     answers: &mut Vec<(u32, Answer)>,
     table: &[Option<SessionState>],
@@ -173,10 +174,10 @@ pub fn add_job<R: Runner>(
     requires tick { more ≡ drawing.tick_before (kernel.session_at table.now) (reverse journal.old.items) lane job }
     requires answer { answer ≡ standing.stand_in Unavailable.TooManySessions job.work }
     ensures entries { OnOk result (journal.new.items ≡ journal.old.items ++ drawing.entries_by
-        (kernel.rules_by (R.meaning runner.now site.now) seed.now) (kernel.session_at table.now)
+        (kernel.rules_by (R.meaning runner.now site.now) setting.now) (kernel.session_at table.now)
         (reverse journal.old.items) lane job) }
     ensures drawn { IfOk result (drawing.IsDrawn (drawing.drawn_then
-        (kernel.rules_by (R.meaning runner.now site.now) seed.now) (kernel.session_at table.now)
+        (kernel.rules_by (R.meaning runner.now site.now) setting.now) (kernel.session_at table.now)
         (reverse journal.old.items) lane job).what) }
     ensures err { OnErr result (journal.new.items ≡ journal.old.items) }
     ensures answers { answers.new.items ≡ answers.old.items }
@@ -189,7 +190,7 @@ pub fn add_job<R: Runner>(
         (length answers.old.items + 1) (vec_capacity answers.new)) }
     ensures full { (entries weight : ℕ) → result ≡ Err (EventStop.JournalFull entries weight) →
         kernel.IsTooMuch (journals.past_after (reverse journal.old.items) (drawing.entries_by
-        (kernel.rules_by (R.meaning runner.now site.now) seed.now) (kernel.session_at table.now)
+        (kernel.rules_by (R.meaning runner.now site.now) setting.now) (kernel.session_at table.now)
         (reverse journal.old.items) lane job)) entries weight }
 {
     let weight = job_weight(more.as_slice(), &job);
@@ -197,5 +198,5 @@ pub fn add_job<R: Runner>(
         return Err(stop);
     }
     journal.append_reserved(more);
-    Ok(add_admission(runner, site, seed, journal, table, lane, job, answer))
+    Ok(add_admission(runner, site, setting, journal, table, lane, job, answer))
 }

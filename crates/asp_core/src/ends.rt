@@ -166,12 +166,12 @@ impl<R: Runner> Core<R> {
         let number = run.number();
         let (told, store, stand_ins) = run.finish(runner);
         let left = left_of(kind, told, stand_ins);
-        self.application.free(number);
+        self.kept.application.free(number);
         end_run(
-            &mut self.journal,
-            &mut self.answers,
-            &mut self.table,
-            &mut self.start_fail,
+            &mut self.kept.journal,
+            &mut self.kept.answers,
+            &mut self.kept.table,
+            &mut self.kept.start_fail,
             lane,
             number,
             kind,

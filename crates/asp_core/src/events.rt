@@ -16,6 +16,7 @@ use crate::admitted::Drawn;
 use crate::drawing::{add_job, prepared};
 use crate::entries::{stop_entries, tick_entries};
 use crate::room::add_calm;
+use crate::setting::Setting;
 use crate::stop::EventStop;
 use asp_job::{Answer, Entry, Job, Runner, SessionState};
 use asp_journal::Journal;
@@ -48,7 +49,7 @@ fn ticked(
 pub fn with_tick<R: Runner>(
     runner: &Snapshot<R>,
     site: &Snapshot<R::Site>,
-    seed: &[u8; 32],
+    setting: &Setting,
     journal: &mut Journal,
     answers: &mut Vec<(u32, Answer)>,
     table: &[Option<SessionState>],
@@ -57,14 +58,14 @@ pub fn with_tick<R: Runner>(
 ) -> Result<u32, EventStop>
     requires sessions { kernel.session_at table.now
         ≡ spec.session_of
-        (kernel.rules_by (R.meaning runner.now.value site.now.value) seed.now) (reverse journal.old.items) }
+        (kernel.rules_by (R.meaning runner.now.value site.now.value) setting.now) (reverse journal.old.items) }
     requires small { history.entries_in (reverse journal.old.items) ≤ MOST_ENTRIES }
     ensures entries { OnOk result (journal.new.items ≡ journal.old.items
         ++ journals.tick_entries
-        (kernel.rules_by (R.meaning runner.now.value site.now.value) seed.now)
+        (kernel.rules_by (R.meaning runner.now.value site.now.value) setting.now)
         (reverse journal.old.items) lane moment) }
     ensures count { IfOk result (λ count. count ≡ kernel.expired
-        (kernel.rules_by (R.meaning runner.now.value site.now.value) seed.now) (reverse journal.old.items) moment) }
+        (kernel.rules_by (R.meaning runner.now.value site.now.value) setting.now) (reverse journal.old.items) moment) }
     ensures err { OnErr result (journal.new.items ≡ journal.old.items) }
     ensures answers { answers.new.items ≡ answers.old.items }
     ensures capacity { journal.old.capacity ≤ journal.new.capacity }
@@ -77,7 +78,8 @@ pub fn with_tick<R: Runner>(
     ensures full { (entries weight : ℕ) → result ≡ Err (EventStop.JournalFull entries weight) →
         kernel.IsTooMuch (journals.past_after (reverse journal.old.items)
         (journals.tick_entries
-        (kernel.rules_by (R.meaning runner.now.value site.now.value) seed.now) (reverse journal.old.items) lane moment))
+        (kernel.rules_by (R.meaning runner.now.value site.now.value) setting.now) (reverse journal.old.items) lane
+        moment))
         entries weight }
 {
     let (more, expired) = match ticked(journal.alloc(), journal, table, lane, moment) {
@@ -95,7 +97,7 @@ pub fn with_tick<R: Runner>(
 pub fn with_stop<R: Runner>(
     runner: &Snapshot<R>,
     site: &Snapshot<R::Site>,
-    seed: &[u8; 32],
+    setting: &Setting,
     journal: &mut Journal,
     answers: &mut Vec<(u32, Answer)>,
     table: &[Option<SessionState>],
@@ -103,11 +105,11 @@ pub fn with_stop<R: Runner>(
 ) -> Result<(), EventStop>
     requires sessions { kernel.session_at table.now
         ≡ spec.session_of
-        (kernel.rules_by (R.meaning runner.now.value site.now.value) seed.now) (reverse journal.old.items) }
+        (kernel.rules_by (R.meaning runner.now.value site.now.value) setting.now) (reverse journal.old.items) }
     requires small { history.entries_in (reverse journal.old.items) ≤ MOST_ENTRIES }
     ensures entries { OnOk result (journal.new.items ≡ journal.old.items
         ++ journals.stop_entries
-        (kernel.rules_by (R.meaning runner.now.value site.now.value) seed.now) (reverse journal.old.items) lane) }
+        (kernel.rules_by (R.meaning runner.now.value site.now.value) setting.now) (reverse journal.old.items) lane) }
     ensures err { OnErr result (journal.new.items ≡ journal.old.items) }
     ensures answers { answers.new.items ≡ answers.old.items }
     ensures capacity { journal.old.capacity ≤ journal.new.capacity }
@@ -120,7 +122,7 @@ pub fn with_stop<R: Runner>(
     ensures full { (entries weight : ℕ) → result ≡ Err (EventStop.JournalFull entries weight) →
         kernel.IsTooMuch (journals.past_after (reverse journal.old.items)
         (journals.stop_entries
-        (kernel.rules_by (R.meaning runner.now.value site.now.value) seed.now) (reverse journal.old.items) lane))
+        (kernel.rules_by (R.meaning runner.now.value site.now.value) setting.now) (reverse journal.old.items) lane))
         entries weight }
 {
     match stop_entries(journal.alloc(), journal, table, lane) {
@@ -134,7 +136,7 @@ pub fn with_stop<R: Runner>(
 pub fn with_job<R: Runner>(
     runner: &R,
     site: &R::Site,
-    seed: &[u8; 32],
+    setting: &Setting,
     journal: &mut Journal,
     answers: &mut Vec<(u32, Answer)>,
     table: &[Option<SessionState>],
@@ -142,13 +144,13 @@ pub fn with_job<R: Runner>(
     job: &Job,
 ) -> Result<Drawn, EventStop>
     requires sessions { kernel.session_at table.now
-        ≡ spec.session_of (kernel.rules_by (R.meaning runner.now site.now) seed.now) (reverse journal.old.items) }
+        ≡ spec.session_of (kernel.rules_by (R.meaning runner.now site.now) setting.now) (reverse journal.old.items) }
     requires few { history.entries_in (reverse journal.old.items) ≤ MOST_ENTRIES }
     requires small { IsSmall job.now }
     ensures entries { OnOk result (journal.new.items ≡ journal.old.items ++ journals.admit_entries
-        (kernel.rules_by (R.meaning runner.now site.now) seed.now) (reverse journal.old.items) lane job.now) }
+        (kernel.rules_by (R.meaning runner.now site.now) setting.now) (reverse journal.old.items) lane job.now) }
     ensures drawn { IfOk result (drawing.IsDrawn (drawing.entry_then
-        (kernel.rules_by (R.meaning runner.now site.now) seed.now) (reverse journal.old.items) lane job.now).what) }
+        (kernel.rules_by (R.meaning runner.now site.now) setting.now) (reverse journal.old.items) lane job.now).what) }
     ensures err { OnErr result (journal.new.items ≡ journal.old.items) }
     ensures answers { answers.new.items ≡ answers.old.items }
     ensures capacity { journal.old.capacity ≤ journal.new.capacity }
@@ -160,7 +162,7 @@ pub fn with_job<R: Runner>(
         (length answers.old.items + 1) (vec_capacity answers.new)) }
     ensures full { (entries weight : ℕ) → result ≡ Err (EventStop.JournalFull entries weight) →
         kernel.IsTooMuch (journals.past_after (reverse journal.old.items) (journals.admit_entries
-        (kernel.rules_by (R.meaning runner.now site.now) seed.now) (reverse journal.old.items) lane job.now))
+        (kernel.rules_by (R.meaning runner.now site.now) setting.now) (reverse journal.old.items) lane job.now))
         entries weight }
 {
     let more = match tick_entries(journal.alloc(), journal, table, lane, job.moment) {
@@ -169,7 +171,7 @@ pub fn with_job<R: Runner>(
     };
     match prepared(journal.alloc(), job) {
         Ok((job, answer)) => add_job(
-            runner, site, seed, journal, answers, table, lane, more, job, answer,
+            runner, site, setting, journal, answers, table, lane, more, job, answer,
         ),
         Err(_) => Err(EventStop::Memory),
     }

@@ -1,7 +1,7 @@
 //! The core: it keeps the journal, and tables of what the journal says.
 #![tactic(auto)]
 
-ghost use Rattle.std.specs.Prelude.{◌≡◌, ◌+◌, ◌-◌, ◌<◌, ◌≤◌, ◌++◌, ◌∷◌, [], ℕ, List as Items, reverse, length, OnOk};
+ghost use Rattle.std.specs.Prelude.{◌≡◌, ◌+◌, ◌-◌, ◌^◌, ◌<◌, ◌≤◌, ◌++◌, ◌∷◌, [], ℕ, List as Items, reverse, length, OnOk};
 ghost use Rattle.std.specs.Prelude.{OnErr, IfOk, IfErr, IsOk};
 ghost use Rattle.std.specs.Prelude.{Some, None, Err, true, false, ◌↔◌, ◌≢◌, IsSome, vec_capacity};
 ghost use Rattle.asp_job.specs.History as history;
@@ -9,56 +9,51 @@ ghost use Rattle.asp_job.specs.Journal as journals;
 ghost use Rattle.asp_job.specs.Runs as runs;
 ghost use Rattle.asp_core.specs.Kernel.{CoreView, RunView, past_of, rules_of, grown};
 ghost use Rattle.asp_core.specs.Kernel.{AreWellFormed, IsHostOf, IsTooMuch, IsWithin};
-ghost use Rattle.asp_core.specs.Kernel.{IsRunOf, HasRoom, HasAnswerRoom, expired};
+ghost use Rattle.asp_core.specs.Kernel.{IsRunOf, HasRoom, HasAnswerRoom, expired, setting_of};
 ghost use Rattle.asp_core.specs.Ready.{IsAnswered};
 
 use crate::events::{with_stop, with_tick};
+use crate::house::{House, HouseOf, Housed};
 use crate::room::make_room;
+use crate::setting::Setting;
 use crate::stop::EventStop;
+use crate::tables::{Keeps, Tables};
 use asp_app::Application;
-use asp_job::{Answer, Entry, Fail, Runner, SessionState, What, Work};
+use asp_job::{Answer, Entry, Runner, What, Work};
 use asp_journal::Journal;
 use std::alloc::Global;
 use std::marker::Model;
 use std::snapshot::Snapshot;
 use vb_value::Memory;
 
-/// The core of a host: the journal of the runs of a site.
+/// A core: what it keeps, and what it was given. It is generic in both, so that the check finds that it may go to another
+/// thread.
 #[derive(Drop)]
-pub struct Core<R: Runner> {
-    pub(crate) journal: Journal,
-    pub(crate) table: Vec<Option<SessionState>>,
-    pub(crate) opened: u32,
-    pub(crate) application: Application,
-    pub(crate) answers: Vec<(u32, Answer)>,
-    pub(crate) start_fail: Option<Fail>,
-    pub(crate) runner: Snapshot<R>,
-    pub(crate) site: Snapshot<R::Site>,
-    pub(crate) seed: [u8; 32],
+pub struct CoreOf<K: Keeps, H: Housed> {
+    pub(crate) kept: K,
+    pub(crate) house: H,
 }
 
-impl<R: Runner> Model for Core<R> {
-    ghost use Rattle.std.specs.Prelude.{◌≡◌, vec_capacity, reverse, length};
+/// The core of a host: the journal of the runs of a site.
+pub type Core<R> = CoreOf<Tables, House<R>>;
+
+impl<K: Keeps, H: Housed> Model for CoreOf<K, H> {
     ghost use Rattle.std.specs.Coded.{codes};
     ghost use Rattle.vb_value.specs.contracts.value.Value as contract;
-    ghost use Rattle.asp_core.specs.Kernel.{CoreView, IsKept, IsWithin, HasRoom, HasAnswerRoom, rules_by};
-    ghost use Rattle.asp_core.specs.Start as starts;
+    ghost use Rattle.asp_core.specs.Kernel.{CoreView};
 
-    ghost Value = { CoreView R R.Site };
+    ghost Value = { CoreView H.Host H.Site };
 
-    ghost coded = { Prim.hlevel (codes, contract.the_row.coded, R.code, R.Site.code) };
+    ghost coded = { Prim.hlevel (codes, contract.the_row.coded, H.Host.code, H.Site.code) };
 
-    ghost view = { λ c.
-        record { journal = c.journal.items; runner = c.runner.value; site = c.site.value; seed = c.seed } };
+    ghost view = { λ c. record {
+      journal = K.journal c.kept;
+      runner = H.runner c.house;
+      site = H.site c.house;
+      setting = H.setting c.house;
+    } };
 
-    ghost invariant = { λ c.
-        IsKept (rules_by (R.meaning c.runner.value c.site.value) c.seed) (reverse c.journal.items)
-        c.table.items c.opened c.application c.answers.items
-        × IsWithin (reverse c.journal.items)
-        × HasRoom (reverse c.journal.items) (length c.answers.items) c.journal.capacity
-        × HasAnswerRoom (reverse c.journal.items) (length c.answers.items) (vec_capacity c.answers)
-        × (c.start_fail ≡ starts.start_fail (rules_by (R.meaning c.runner.value c.site.value) c.seed)
-        (reverse c.journal.items)) };
+    ghost invariant = { λ c. K.keeps c.kept (H.rules c.house) };
 }
 
 fn first_journal(
@@ -95,23 +90,28 @@ impl<R: Runner> Core<R> {
         runner: &R,
         site: &R::Site,
         seed: [u8; 32],
+        strict: bool,
     ) -> Result<Core<R>, Memory>
         ensures journal { IfOk result (λ core. core.journal ≡ history.with_lane lane (What.Queue 1 Work.Start 0) ∷ []) }
         ensures host { IfOk result (λ core. IsHostOf core runner.now site.now) }
-        ensures seed { IfOk result (λ core. core.seed ≡ seed) }
+        ensures setting { IfOk result (λ core. core.setting ≡ setting_of seed strict) }
     {
         let mut answers = Vec::new(alloc);
         let journal = first_journal(alloc, lane, &mut answers)?;
-        Ok(Core {
-            journal,
-            table: Vec::new(alloc),
-            opened: 0,
-            application: Application::new(alloc),
-            answers,
-            start_fail: None,
-            runner: Snapshot::of(runner),
-            site: Snapshot::of(site),
-            seed,
+        Ok(CoreOf {
+            kept: Tables {
+                journal,
+                table: Vec::new(alloc),
+                opened: 0,
+                application: Application::new(alloc),
+                answers,
+                start_fail: None,
+            },
+            house: HouseOf {
+                runner: Snapshot::of(runner),
+                site: Snapshot::of(site),
+                setting: Setting { seed, strict },
+            },
         })
     }
 
@@ -123,42 +123,51 @@ impl<R: Runner> Core<R> {
         ensures within { IsWithin (past_of self.now) }
         ensures formed { AreWellFormed (past_of self.now) }
     {
-        self.journal.entries()
+        self.kept.journal.entries()
     }
 
     /// The moment of the last Tick, 0 before the first: seconds since 1970.
     pub fn moment(&self) -> u64
         ensures { result ≡ runs.moment_of (past_of self.now) }
     {
-        self.journal.moment()
+        self.kept.journal.moment()
     }
 
     /// How many entries the journal has. Those of hand-outs and of a Halt do not count.
     pub fn entries(&self) -> u64
         ensures { result ≡ history.entries_in (past_of self.now) }
     {
-        self.journal.entries_in()
+        self.kept.journal.entries_in()
+    }
+
+    /// How many entries the journal has, those of hand-outs and of a Halt too.
+    #[tactic(auto, using(crate::proofs::Lengths::short_journal))]
+    pub fn length(&self) -> u64
+        ensures length { result ≡ length self.now.journal }
+        ensures short { result < 2 ^ 32 }
+    {
+        self.kept.journal.len() as u64
     }
 
     /// How many runs are unfinished.
     pub fn unfinished(&self) -> u32
         ensures { result ≡ length (runs.unfinished (past_of self.now)) }
     {
-        self.journal.unfinished() as u32
+        self.kept.journal.unfinished() as u32
     }
 
     /// Whether a Stop stands.
     pub fn stopping(&self) -> bool
         ensures { result ≡ runs.is_stopping (past_of self.now) }
     {
-        self.journal.is_stopping()
+        self.kept.journal.is_stopping()
     }
 
     /// Whether a Halt stands.
     pub fn halted(&self) -> bool
         ensures { result ≡ runs.is_halted (past_of self.now) }
     {
-        self.journal.is_halted()
+        self.kept.journal.is_halted()
     }
 
     /// Time goes on to `moment`, in seconds since 1970, and sessions end: it answers how many keys' sessions. An earlier
@@ -174,16 +183,16 @@ impl<R: Runner> Core<R> {
         ensures early { moment ≤ runs.moment_of (past_of self.old) → IsOk result }
         ensures err { OnErr result (self.new ≡ self.old) }
     {
-        if moment <= self.journal.moment() {
+        if moment <= self.kept.journal.moment() {
             return Ok(0);
         }
         with_tick(
-            &self.runner,
-            &self.site,
-            &self.seed,
-            &mut self.journal,
-            &mut self.answers,
-            self.table.as_slice(),
+            &self.house.runner,
+            &self.house.site,
+            &self.house.setting,
+            &mut self.kept.journal,
+            &mut self.kept.answers,
+            self.kept.table.as_slice(),
             lane,
             moment,
         )
@@ -200,16 +209,16 @@ impl<R: Runner> Core<R> {
             (journals.stop_entries (rules_of R.meaning self.old) (past_of self.old) lane)) entries weight }
         ensures err { OnErr result (self.new ≡ self.old) }
     {
-        if self.journal.is_stopping() {
+        if self.kept.journal.is_stopping() {
             return Ok(());
         }
         with_stop(
-            &self.runner,
-            &self.site,
-            &self.seed,
-            &mut self.journal,
-            &mut self.answers,
-            self.table.as_slice(),
+            &self.house.runner,
+            &self.house.site,
+            &self.house.setting,
+            &mut self.kept.journal,
+            &mut self.kept.answers,
+            self.kept.table.as_slice(),
             lane,
         )
     }

@@ -8,24 +8,59 @@ ghost use Rattle.asp_job.specs.declared.entry.EndKind.TheVariants.{Memory};
 ghost use Rattle.asp_job.specs.declared.entry.Entry.{Entry};
 ghost use Rattle.asp_job.specs.declared.entry.What.TheVariants.{End, Take};
 ghost use Rattle.asp_job.specs.History.{calls_of_run, held_by, run_in, with_lane};
+ghost use Rattle.asp_job.specs.declared.job.Job.{Job};
 ghost use Rattle.asp_job.specs.Journal.{AreRight, IsValidJournal, end_entry, past_after};
+ghost use Rattle.asp_job.specs.Journal.{admit_entries, stop_entries, tick_entries};
 ghost use Rattle.asp_job.specs.Keys.{session_of, told};
+ghost use Rattle.asp_job.specs.Output.{answer_of_run};
 ghost use Rattle.asp_job.specs.Rules.{Rules};
-ghost use Rattle.asp_job.specs.Runs.{is_unfinished, key_of, unfinished, waiting};
+ghost use Rattle.asp_job.specs.Runs.{has_ended, is_unfinished, key_of, unfinished, waiting};
 ghost use Rattle.asp_job.specs.Turns.{IsRunning, may_begin};
 ghost use Rattle.asp_core.specs.Alone.{alone};
 ghost use Rattle.asp_core.specs.Given.{AreOfFirst, AreOfLaneFirst, for_lane, given, handed, hands_out, made_by};
-ghost use Rattle.asp_core.specs.Kernel.{IsWithin};
-ghost use Rattle.asp_core.specs.Laws.{AreOfOthers, RunStays, NoneIs, is_release_of, is_kept_out};
+ghost use Rattle.asp_core.specs.Kernel.{CoreView, IsRunOf, IsWithin, RunView, grown, past_of, rules_of};
+ghost use Rattle.asp_core.specs.Laws.{AreNoSteps, AreOfLane, AreOfOthers, RunStays, NoneIs, is_release_of, is_kept_out};
 ghost use Rattle.asp_core.specs.Waits.{AreThose, hand_outs};
 ghost use Rattle.asp_core.specs.Ready.{ready};
 ghost use Rattle.asp_core.specs.Wanted.{AreWanted};
+
+use asp_job::Runner;
 
 /// The entries of other lanes leave an unfinished run as it is: it stays unfinished, and is told nothing.
 pub fn runs_stay()
     ensures { (rules : Rules) (past entries : List Entry) (lane run : ℕ) →
         AreRight rules (past_after past entries) → IsRunning past lane run → AreOfOthers lane entries →
         RunStays rules past (past_after past entries) lane run }
+{}
+
+/// A run that was moved out stays one of the core's, whatever else comes: entries of its own lane that are no call and no
+/// End of it, and all entries of other lanes.
+pub fn run_stays<R: Runner>()
+    ensures steps { (core : CoreView R R.Site) (entries : List Entry) (lane : ℕ) (run : RunView R.State) →
+        AreRight (rules_of R.meaning core) (past_after (past_of core) entries) →
+        IsRunOf R.meaning R.stands core lane run → AreNoSteps run.number entries →
+        IsRunOf R.meaning R.stands (grown core entries) lane run }
+    ensures others { (core : CoreView R R.Site) (entries : List Entry) (lane : ℕ) (run : RunView R.State) →
+        AreRight (rules_of R.meaning core) (past_after (past_of core) entries) →
+        IsRunOf R.meaning R.stands core lane run → AreOfOthers lane entries →
+        IsRunOf R.meaning R.stands (grown core entries) lane run }
+{}
+
+/// A run that has ended or was refused stays so, and its answer stays.
+pub fn answer_stays()
+    ensures { (rules : Rules) (past entries : List Entry) (run : ℕ) →
+        AreRight rules (past_after past entries) → has_ended past run ≡ true →
+        (has_ended (past_after past entries) run ≡ true)
+        × (answer_of_run rules (past_after past entries) run ≡ answer_of_run rules past run) }
+{}
+
+/// The entries that an event adds bear the lane of the event.
+pub fn events_bear_lane()
+    ensures tick { (rules : Rules) (past : List Entry) (lane moment : ℕ) →
+        AreOfLane lane (tick_entries rules past lane moment) }
+    ensures admit { (rules : Rules) (past : List Entry) (lane : ℕ) (job : Job) →
+        AreOfLane lane (admit_entries rules past lane job) }
+    ensures stop { (rules : Rules) (past : List Entry) (lane : ℕ) → AreOfLane lane (stop_entries rules past lane) }
 {}
 
 /// While a run has the lock, no other run has a call that the lock keeps out: none writes, and none takes the lock.

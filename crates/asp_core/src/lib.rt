@@ -6,11 +6,13 @@ mod admitted;
 mod begin;
 mod calls;
 mod cookie;
+mod crossing;
 mod drawing;
 mod ends;
 mod entries;
 mod events;
 mod hands;
+mod house;
 mod kernel;
 mod keys;
 mod laws;
@@ -19,16 +21,23 @@ mod places;
 mod ready;
 mod room;
 mod run;
+mod setting;
 mod stop;
+mod tables;
 mod takes;
 mod tellers;
 
 pub use admitted::Admitted;
-pub use kernel::Core;
+pub use crossing::core_crosses;
+pub use house::{House, HouseOf, Housed};
+pub use kernel::{Core, CoreOf};
 pub use laws::{
-    answers_in_order, answers_wait, calls_follow, end_fits, handed_out_once, holder_is_unfinished,
-    lock_holds, runs_stay, sessions_apart, some_run_may_begin,
+    answer_stays, answers_in_order, answers_wait, calls_follow, end_fits, events_bear_lane,
+    handed_out_once, holder_is_unfinished, lock_holds, run_stays, runs_stay, sessions_apart,
+    some_run_may_begin,
 };
 pub use ready::{BODY_ROOM, MOST_BODIES};
 pub use run::{Progress, Run, StandIns};
+pub use setting::Setting;
 pub use stop::{AdmitStop, AppStepStop, BeginStop, CollectStop, EventStop};
+pub use tables::{Keeps, Tables};

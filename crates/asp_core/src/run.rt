@@ -8,6 +8,7 @@ ghost use Rattle.asp_job.specs.Calls.{IsAppCall, IsReply};
 ghost use Rattle.asp_job.specs.Running.{IsFinish, Over};
 ghost use Rattle.asp_job.specs.Told.{Told, heard};
 ghost use Rattle.asp_core.specs.Kernel as kernel;
+ghost use Rattle.asp_core.specs.Slice.{IsSlice};
 
 use asp_job::{Answer, Finished, Runner, Step, copy_call};
 use std::marker::Model;
@@ -113,6 +114,8 @@ impl<R: Runner> Run<R> {
         ensures turns { self.new.turns ≡ kernel.turns_after self.old.turns result }
         ensures stands { kernel.StandsAsBefore
             (R.stands runner.now site.now) (R.meaning runner.now site.now) self.old self.new }
+        ensures slice { IfOk result (IsSlice (R.pace runner.now) (R.meaning runner.now site.now)
+            (R.stands runner.now site.now) quantum self.old.state self.new.state) }
     {
         match runner.go(site, &mut self.state, quantum) {
             Ok(step) => match progress_after(&step) {

@@ -6,11 +6,12 @@ use Rattle.asp_job.specs.declared.entry.Entry.{Entry}
 use Rattle.asp_job.specs.Told.{Meaning}
 use Rattle.asp_journal.proofs.Past.{past_push}
 use Rattle.asp_lane.proofs.Turns.{grown_none}
+use Rattle.asp_core.specs.declared.setting.Setting.{Setting}
 
 grown_both : {R Site : Type 0} → (core : CoreView R Site) (first second : List Entry)
     → grown (grown core first) second ≡ grown core (first ++ second)
 grown_both core first second =
-    ap (λ journal. record { journal = journal; runner = core.runner; site = core.site; seed = core.seed })
+    ap (λ journal. record { journal = journal; runner = core.runner; site = core.site; setting = core.setting })
     (append_assoc core.journal first second)
 
 pub grows_not : {R Site : Type 0} → (core : CoreView R Site) → Grows core core
@@ -43,9 +44,9 @@ same_core old new entries grows none =
 
 -- what the journal of a core that was just made is held against
 pub rules_here : {R Site : Type 0} → (meaning : R → Site → Meaning) (core : CoreView R Site) (runner : R) (site : Site)
-    (seed : List ℕ) → IsHostOf core runner site → core.seed ≡ seed
-    → rules_of meaning core ≡ rules_by (meaning runner site) seed
-rules_here meaning core runner site seed host same =
-    ap (λ some. rules_by (meaning some core.site) core.seed) (sym host.runner_is)
-    ∙ ap (λ some. rules_by (meaning runner some) core.seed) (sym host.site_is)
-    ∙ ap (λ (some : List ℕ). rules_by (meaning runner site) some) same
+    (setting : Setting) → IsHostOf core runner site → core.setting ≡ setting
+    → rules_of meaning core ≡ rules_by (meaning runner site) setting
+rules_here meaning core runner site setting host same =
+    ap (λ some. rules_by (meaning some core.site) core.setting) (sym host.runner_is)
+    ∙ ap (λ some. rules_by (meaning runner some) core.setting) (sym host.site_is)
+    ∙ ap (λ (some : Setting). rules_by (meaning runner site) some) same

@@ -1,8 +1,8 @@
 //! One request is answered.
 #![tactic(auto)]
 
-ghost use Rattle.std.specs.Prelude.{◌≡◌, true, IfErr, IfOk};
-ghost use Rattle.asp_core.specs.Kernel.{IsHostOf, rules_by, rules_of};
+ghost use Rattle.std.specs.Prelude.{◌≡◌, true, false, IfErr, IfOk};
+ghost use Rattle.asp_core.specs.Kernel.{IsHostOf, rules_by, rules_of, setting_of};
 ghost use Rattle.asp_get.specs.Answered.{HasAnswered, IsGetStop, first_past};
 ghost use Rattle.asp_job.specs.Running.{is_page};
 ghost use Rattle.asp_job.specs.Size.{IsSmall};
@@ -59,14 +59,14 @@ where
     R::Store: Drop,
     requires page { is_page job.now.work ≡ true }
     requires small { IsSmall job.now }
-    ensures ok { IfOk result (HasAnswered (rules_by (R.meaning runner.now site.now) seed) job.now) }
-    ensures err { IfErr result (IsGetStop (rules_by (R.meaning runner.now site.now) seed) job.now) }
+    ensures ok { IfOk result (HasAnswered (rules_by (R.meaning runner.now site.now) (setting_of seed false)) job.now) }
+    ensures err { IfErr result (IsGetStop (rules_by (R.meaning runner.now site.now) (setting_of seed false)) job.now) }
 {
     let store = match runner.store() {
         Ok(store) => store,
         Err(_) => return Err(GetStop::Memory),
     };
-    let mut core = match Core::new(alloc, 0, runner, site, seed) {
+    let mut core = match Core::new(alloc, 0, runner, site, seed, false) {
         Ok(core) => core,
         Err(_) => {
             let_go::<R>(Hand::Free(store));

@@ -18,7 +18,7 @@ use Rattle.asp_job.specs.Output.{answer_by, unavailable_in}
 use Rattle.asp_job.specs.Rules.{Rules, TooManySessions}
 use Rattle.asp_job.specs.Running.{is_page}
 use Rattle.asp_job.specs.Runs.{job_in, job_of}
-use Rattle.asp_replay.specs.Shown.{Shown, shown_of, with_shown}
+use Rattle.asp_feed.specs.Shown.{Shown, shown_of, with_shown}
 use Rattle.asp_host.specs.Answered.{AreMarkedBy, AreMarks, AreSameMarks, IsMarked, leaves_answer, one_if}
 
 -- a place without a mark changes none

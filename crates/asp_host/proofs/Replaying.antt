@@ -18,12 +18,13 @@ use Rattle.asp_record.specs.Journal.{AreLines}
 use Rattle.asp_replay.specs.declared.stop.FeedStop.{FeedStop}
 use Rattle.asp_replay.specs.declared.stop.FeedStop.TheVariants as stop
 use Rattle.asp_replay.specs.Feed.{HasFed, HasFedPart}
-use Rattle.asp_replay.specs.Shown.{AreRecords, IsOutput, done_line, lines_of, shown_of}
+use Rattle.asp_feed.specs.Shown.{AreRecords, IsOutput, done_line, lines_of, shown_of}
 use Rattle.asp_replay.specs.Underway.{HasNotBegun, IsCoreOf, WritesText}
 use Rattle.asp_replay.proofs.FedBack.{rules_here}
 use Rattle.asp_replay.proofs.Pieces.{part_more, with_none, wrote_more}
 use Rattle.asp_host.specs.Replayed.{HasNotStarted, HasReplayed, HasReplayedPart, HasStopped}
 use Rattle.asp_host.proofs.Silent.{none_shown, none_written}
+use Rattle.asp_core.specs.declared.setting.Setting.{Setting}
 
 -- ---- a feed that stopped
 
@@ -101,17 +102,18 @@ whole_output rules other past journal records same are = record {
 }
 
 module _ {R Site : Type 0} (meaning : R → Site → Meaning) where
-  pub replay_ok : {T : Type 0} → (core : CoreView R Site) (runner : R) (site : Site) (seed : List ℕ) (items : List Item)
+  pub replay_ok : {T : Type 0} → (core : CoreView R Site) (runner : R) (site : Site) (setting : Setting)
+      (items : List Item)
       (journal : Bool) (before held after : Option (List ℕ)) (result : Result T FeedStop)
-      → IsCoreOf runner site seed core → IsValidJournal (rules_of meaning core) (past_of core)
-      → HasFed (rules_by (meaning runner site) seed) items (past_of core) before held
+      → IsCoreOf runner site setting core → IsValidJournal (rules_of meaning core) (past_of core)
+      → HasFed (rules_by (meaning runner site) setting) items (past_of core) before held
       → WritesText (lines_of journal (past_of core)
       ++ done_line (length (shown_of (rules_of meaning core) (past_of core)))) result held after
       → OnOk result (journal ≡ true → AreLines (lines_in (past_of core)))
-      → OnOk result (HasReplayed (rules_by (meaning runner site) seed) items journal before after)
-  replay_ok core runner site seed items journal before held after (Ok given) of valid fed wrote lines =
-      let same = rules_here meaning core runner site seed of in
-      let other = rules_by (meaning runner site) seed in
+      → OnOk result (HasReplayed (rules_by (meaning runner site) setting) items journal before after)
+  replay_ok core runner site setting items journal before held after (Ok given) of valid fed wrote lines =
+      let same = rules_here meaning core runner site setting of in
+      let other = rules_by (meaning runner site) setting in
       let past = past_of core in
       let written = fed.written in
       let text = lines_of journal past ++ done_line (length (shown_of (rules_of meaning core) past)) in
@@ -124,18 +126,18 @@ module _ {R Site : Type 0} (meaning : R → Site → Meaning) where
         lines = lines;
         wrote = wrote_more before held after written.records text written.wrote wrote;
       }
-  replay_ok core runner site seed items journal before held after (Err ended) of valid fed wrote lines = tt
+  replay_ok core runner site setting items journal before held after (Err ended) of valid fed wrote lines = tt
 
-  replay_part : (core : CoreView R Site) (runner : R) (site : Site) (seed : List ℕ) (items : List Item)
+  replay_part : (core : CoreView R Site) (runner : R) (site : Site) (setting : Setting) (items : List Item)
       (journal : Bool) (before held after : Option (List ℕ))
-      → IsCoreOf runner site seed core → IsValidJournal (rules_of meaning core) (past_of core)
-      → HasFed (rules_by (meaning runner site) seed) items (past_of core) before held
+      → IsCoreOf runner site setting core → IsValidJournal (rules_of meaning core) (past_of core)
+      → HasFed (rules_by (meaning runner site) setting) items (past_of core) before held
       → AddsPart held after (lines_of journal (past_of core)
       ++ done_line (length (shown_of (rules_of meaning core) (past_of core))))
-      → HasReplayedPart (rules_by (meaning runner site) seed) items journal before after
-  replay_part core runner site seed items journal before held after of valid fed part =
-      let same = rules_here meaning core runner site seed of in
-      let other = rules_by (meaning runner site) seed in
+      → HasReplayedPart (rules_by (meaning runner site) setting) items journal before after
+  replay_part core runner site setting items journal before held after of valid fed part =
+      let same = rules_here meaning core runner site setting of in
+      let other = rules_by (meaning runner site) setting in
       let past = past_of core in
       let written = fed.written in
       let text = lines_of journal past ++ done_line (length (shown_of (rules_of meaning core) past)) in
@@ -148,19 +150,20 @@ module _ {R Site : Type 0} (meaning : R → Site → Meaning) where
         wrote = part_more before held after written.records text written.wrote part;
       }
 
-  pub replay_err : {T : Type 0} → (core : CoreView R Site) (runner : R) (site : Site) (seed : List ℕ)
+  pub replay_err : {T : Type 0} → (core : CoreView R Site) (runner : R) (site : Site) (setting : Setting)
       (items : List Item) (journal : Bool) (before held after : Option (List ℕ)) (result : Result T FeedStop)
-      → IsCoreOf runner site seed core → IsValidJournal (rules_of meaning core) (past_of core)
-      → HasFed (rules_by (meaning runner site) seed) items (past_of core) before held
+      → IsCoreOf runner site setting core → IsValidJournal (rules_of meaning core) (past_of core)
+      → HasFed (rules_by (meaning runner site) setting) items (past_of core) before held
       → WritesText (lines_of journal (past_of core)
       ++ done_line (length (shown_of (rules_of meaning core) (past_of core)))) result held after
-      → IfErr result (HasStopped (rules_by (meaning runner site) seed) items journal before after)
-  replay_err core runner site seed items journal before held after (Ok given) of valid fed wrote = tt
-  replay_err core runner site seed items journal before held after (Err (stop.StartFailed fail)) of valid fed wrote =
+      → IfErr result (HasStopped (rules_by (meaning runner site) setting) items journal before after)
+  replay_err core runner site setting items journal before held after (Ok given) of valid fed wrote = tt
+  replay_err core runner site setting items journal before held after (Err (stop.StartFailed fail)) of valid fed wrote =
       absurd wrote
-  replay_err core runner site seed items journal before held after (Err (stop.JournalFull entries weight)) of valid fed
+  replay_err core runner site setting items journal before held after (Err (stop.JournalFull entries weight)) of valid
+      fed
       wrote = absurd wrote
-  replay_err core runner site seed items journal before held after (Err stop.WriteFault) of valid fed wrote =
-      replay_part core runner site seed items journal before held after of valid fed wrote
-  replay_err core runner site seed items journal before held after (Err stop.Memory) of valid fed wrote =
-      replay_part core runner site seed items journal before held after of valid fed wrote
+  replay_err core runner site setting items journal before held after (Err stop.WriteFault) of valid fed wrote =
+      replay_part core runner site setting items journal before held after of valid fed wrote
+  replay_err core runner site setting items journal before held after (Err stop.Memory) of valid fed wrote =
+      replay_part core runner site setting items journal before held after of valid fed wrote

@@ -19,8 +19,8 @@ use Rattle.asp_job.specs.Running.{is_page}
 use Rattle.asp_job.specs.Runs.{job_of, queued_job}
 use Rattle.asp_job.specs.Turns.{IsNext, MayFollow, owed}
 use Rattle.asp_replay.specs.Feed.{ArePartWritten}
-use Rattle.asp_replay.specs.Feeding.{events_of}
-use Rattle.asp_replay.specs.Shown.{AreRecords, Shown, shown_of, with_shown}
+use Rattle.asp_feed.specs.Feeding.{events_of}
+use Rattle.asp_feed.specs.Shown.{AreRecords, Shown, shown_of, with_shown}
 use Rattle.asp_replay.proofs.Pieces.{with_none}
 
 -- ---- each run is the first

@@ -13,13 +13,14 @@ use Rattle.asp_record.specs.declared.recording.Item.{Item}
 use Rattle.asp_replay.specs.declared.stop.FeedStop.{FeedStop}
 use Rattle.asp_replay.specs.declared.stop.FeedStop.TheVariants as stop
 use Rattle.asp_replay.specs.Feed.{HasFedPart, IsWhole}
-use Rattle.asp_replay.specs.Shown.{lines_of}
+use Rattle.asp_feed.specs.Shown.{lines_of}
 use Rattle.asp_replay.specs.Underway.{HasNotBegun, IsCoreOf, WritesText}
 use Rattle.asp_replay.proofs.FedBack.{rules_here}
 use Rattle.asp_summary.specs.Counted.{summary_of}
 use Rattle.asp_summary.specs.Lines.{summary_lines}
 use Rattle.asp_host.specs.Gen.{HasSummed, IsSumStop}
 use Rattle.asp_host.proofs.Replaying.{not_started}
+use Rattle.asp_core.specs.declared.setting.Setting.{Setting}
 
 -- ---- a feed that stopped
 
@@ -67,50 +68,52 @@ abbrev all_lines : ℕ → Bool → List Entry → List ℕ
 all_lines count journal past = lines_of journal past ++ summary_lines (summary_of count past)
 
 module _ {R Site : Type 0} (meaning : R → Site → Meaning) where
-  summed : (core : CoreView R Site) (runner : R) (site : Site) (seed : List ℕ) (items : List Item) (count : ℕ)
-      (journal : Bool) → IsCoreOf runner site seed core → IsValidJournal (rules_of meaning core) (past_of core)
-      → IsWhole (rules_by (meaning runner site) seed) items (past_of core)
-      → HasSummed (rules_by (meaning runner site) seed) items count journal (all_lines count journal (past_of core))
-  summed core runner site seed items count journal of valid whole =
+  summed : (core : CoreView R Site) (runner : R) (site : Site) (setting : Setting) (items : List Item) (count : ℕ)
+      (journal : Bool) → IsCoreOf runner site setting core → IsValidJournal (rules_of meaning core) (past_of core)
+      → IsWhole (rules_by (meaning runner site) setting) items (past_of core)
+      → HasSummed (rules_by (meaning runner site) setting) items count journal (all_lines count journal (past_of core))
+  summed core runner site setting items count journal of valid whole =
       let past = past_of core in
       record {
         past = past;
-        account = subst (λ some. IsValidJournal some past) (rules_here meaning core runner site seed of) valid;
+        account = subst (λ some. IsValidJournal some past) (rules_here meaning core runner site setting of) valid;
         whole = whole;
         output_is = refl;
       }
 
-  pub sum_ok : {T : Type 0} → (core : CoreView R Site) (runner : R) (site : Site) (seed : List ℕ) (items : List Item)
+  pub sum_ok : {T : Type 0} → (core : CoreView R Site) (runner : R) (site : Site) (setting : Setting)
+      (items : List Item)
       (count : ℕ) (journal : Bool) (held after : Option (List ℕ)) (result : Result T FeedStop)
-      → IsCoreOf runner site seed core → IsValidJournal (rules_of meaning core) (past_of core)
-      → IsWhole (rules_by (meaning runner site) seed) items (past_of core)
+      → IsCoreOf runner site setting core → IsValidJournal (rules_of meaning core) (past_of core)
+      → IsWhole (rules_by (meaning runner site) setting) items (past_of core)
       → WritesText (all_lines count journal (past_of core)) result held after
       → OnOk result ((output : List ℕ)
-      × HasSummed (rules_by (meaning runner site) seed) items count journal output
+      × HasSummed (rules_by (meaning runner site) setting) items count journal output
       × (after ≡ with_bytes held output))
-  sum_ok core runner site seed items count journal held after (Ok given) of valid whole wrote = (
+  sum_ok core runner site setting items count journal held after (Ok given) of valid whole wrote = (
     all_lines count journal (past_of core),
-    summed core runner site seed items count journal of valid whole,
+    summed core runner site setting items count journal of valid whole,
     wrote,
   )
-  sum_ok core runner site seed items count journal held after (Err ended) of valid whole wrote = tt
+  sum_ok core runner site setting items count journal held after (Err ended) of valid whole wrote = tt
 
-  pub sum_err : {T : Type 0} → (core : CoreView R Site) (runner : R) (site : Site) (seed : List ℕ) (items : List Item)
+  pub sum_err : {T : Type 0} → (core : CoreView R Site) (runner : R) (site : Site) (setting : Setting)
+      (items : List Item)
       (count : ℕ) (journal : Bool) (held after : Option (List ℕ)) (result : Result T FeedStop)
-      → IsCoreOf runner site seed core → IsValidJournal (rules_of meaning core) (past_of core)
-      → IsWhole (rules_by (meaning runner site) seed) items (past_of core)
+      → IsCoreOf runner site setting core → IsValidJournal (rules_of meaning core) (past_of core)
+      → IsWhole (rules_by (meaning runner site) setting) items (past_of core)
       → WritesText (all_lines count journal (past_of core)) result held after
-      → IfErr result (IsSumStop (rules_by (meaning runner site) seed) items count journal
+      → IfErr result (IsSumStop (rules_by (meaning runner site) setting) items count journal
       (record { before = held; after = after }))
-  sum_err core runner site seed items count journal held after (Ok given) of valid whole wrote = tt
-  sum_err core runner site seed items count journal held after (Err (stop.StartFailed fail)) of valid whole wrote =
+  sum_err core runner site setting items count journal held after (Ok given) of valid whole wrote = tt
+  sum_err core runner site setting items count journal held after (Err (stop.StartFailed fail)) of valid whole wrote =
       absurd wrote
-  sum_err core runner site seed items count journal held after (Err (stop.JournalFull entries weight)) of valid whole
+  sum_err core runner site setting items count journal held after (Err (stop.JournalFull entries weight)) of valid whole
       wrote = absurd wrote
-  sum_err core runner site seed items count journal held after (Err stop.WriteFault) of valid whole part =
-      (all_lines count journal (past_of core), summed core runner site seed items count journal of valid whole, part)
-  sum_err core runner site seed items count journal held after (Err stop.Memory) of valid whole part = inr (
+  sum_err core runner site setting items count journal held after (Err stop.WriteFault) of valid whole part =
+      (all_lines count journal (past_of core), summed core runner site setting items count journal of valid whole, part)
+  sum_err core runner site setting items count journal held after (Err stop.Memory) of valid whole part = inr (
     all_lines count journal (past_of core),
-    summed core runner site seed items count journal of valid whole,
+    summed core runner site setting items count journal of valid whole,
     part,
   )

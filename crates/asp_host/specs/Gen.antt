@@ -11,7 +11,7 @@ use Rattle.asp_record.specs.Generated.{count_files, generated}
 use Rattle.asp_replay.specs.declared.stop.FeedStop.{FeedStop}
 use Rattle.asp_replay.specs.declared.stop.FeedStop.TheVariants as feed
 use Rattle.asp_replay.specs.Feed.{IsWhole}
-use Rattle.asp_replay.specs.Shown.{lines_of}
+use Rattle.asp_feed.specs.Shown.{lines_of}
 use Rattle.asp_site.specs.declared.site.Site.{Site}
 use Rattle.asp_summary.specs.Counted.{summary_of}
 use Rattle.asp_summary.specs.Lines.{summary_lines}

@@ -1,14 +1,14 @@
 -- How `get` ends, by its status, and what it then leaves in the sink.
-use Rattle.std.specs.Prelude.{◌≡◌, ℕ, IfSome, List, Option, replicate}
+use Rattle.std.specs.Prelude.{◌≡◌, ℕ, IfSome, List, Option, false, replicate}
 use Rattle.vb_value.specs.declared.site_file.SiteFile.{SiteFile}
-use Rattle.asp_core.specs.Kernel.{rules_by}
+use Rattle.asp_core.specs.Kernel.{rules_by, setting_of}
 use Rattle.asp_get.specs.Answered.{HasAnswered, HasFailed, WasTooMuch}
 use Rattle.asp_io.specs.Copying.{AddsPart}
 use Rattle.asp_io.specs.Sink.{with_bytes}
 use Rattle.asp_job.specs.declared.answer.Answer.{Answer}
 use Rattle.asp_job.specs.declared.answer.Fail.{Fail}
 use Rattle.asp_job.specs.Rules.{Rules}
-use Rattle.asp_run.specs.Running.{meaning_of}
+use Rattle.asp_acts.specs.Running.{meaning_of}
 use Rattle.asp_site.specs.declared.site.Site.{Site}
 use Rattle.site_load.specs.Accepted.{IsAccepted, IsFolderFault}
 use Rattle.asp_host.specs.declared.status.Status.{Status}
@@ -23,7 +23,7 @@ zero_seed = replicate 32 0
 
 -- what the journal of a host of the site with that seed is held against
 abbrev pub site_rules : Site → Rules
-site_rules site = rules_by (meaning_of site) zero_seed
+site_rules site = rules_by (meaning_of site) (setting_of zero_seed false)
 
 -- The files that are told are a site, and on a host of it the request for the path with the query has this answer.
 pub record IsAnswer (path query : List ℕ) (files : Option (List SiteFile)) (answer : Answer) : Type 0 where

@@ -11,9 +11,9 @@ use Rattle.asp_host.specs.declared.recording.RecordingStop.TheVariants as stop
 
 -- ---- bytes
 
--- so many bytes are read of a source at the most: 64 MiB, and one more
+-- so many bytes are read of a source at the most: 66 MiB
 abbrev pub most_read : ℕ
-most_read = 67108865
+most_read = 69206016
 
 -- what was left is these bytes, and then what is left now
 abbrev pub AreTaken : Option (List ℕ) → Option (List ℕ) → List ℕ → Type 0
@@ -38,13 +38,11 @@ pub record IsAllRecording (before after : Option (List ℕ)) (recording : Record
   pub stands : IfSome before (λ all. Stands all recording (length all))
   pub none_left : IfSome after (λ rest. rest ≡ [])
 
--- The bytes of a source are refused there: behind 64 MiB, where there are more; where no recording stands at their front, at
--- its place; and where one ends and bytes stand behind it.
+-- The bytes of a source are refused there: where no recording stands at their front, at its place; and where one ends and
+-- bytes stand behind it.
 abbrev pub IsSourceRefusedAt : List ℕ → ℕ → Type 0
 IsSourceRefusedAt all offset =
-    ((67108864 < length all) × (offset ≡ 67108864))
-    ⊎ ((length all ≤ 67108864)
-    × (IsRefusedAt all offset ⊎ ((recording : Recording) × Stands all recording offset × (offset < length all))))
+    IsRefusedAt all offset ⊎ ((recording : Recording) × Stands all recording offset × (offset < length all))
 
 -- why bytes that were read are no recording
 abbrev pub IsStopOf : List ℕ → RecordingStop → Type 0

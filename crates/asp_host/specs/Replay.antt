@@ -1,11 +1,11 @@
 -- How `replay` ends, by its status, and what it then leaves in the sink.
-use Rattle.std.specs.Prelude.{◌⊎◌, ℕ, Bool, IfSome, List, Option}
+use Rattle.std.specs.Prelude.{◌⊎◌, ℕ, Bool, IfSome, List, Option, false}
 use Rattle.vb_value.specs.declared.site_file.SiteFile.{SiteFile}
-use Rattle.asp_core.specs.Kernel.{rules_by}
+use Rattle.asp_core.specs.Kernel.{rules_by, setting_of}
 use Rattle.asp_job.specs.declared.answer.Fail.{Fail}
 use Rattle.asp_job.specs.Rules.{Rules}
 use Rattle.asp_record.specs.declared.recording.Recording.{Recording}
-use Rattle.asp_run.specs.Running.{meaning_of}
+use Rattle.asp_acts.specs.Running.{meaning_of}
 use Rattle.asp_site.specs.declared.site.Site.{Site}
 use Rattle.site_load.specs.Accepted.{IsAccepted, IsFolderFault}
 use Rattle.asp_host.specs.declared.status.Status.{Status}
@@ -17,7 +17,7 @@ use Rattle.asp_host.specs.Replayed.{HasFilled, HasNotStarted, HasReplayed, HasRe
 
 -- what the journal of a replay is held against
 abbrev pub rules_for : Site → Recording → Rules
-rules_for site recording = rules_by (meaning_of site) recording.seed
+rules_for site recording = rules_by (meaning_of site) (setting_of recording.seed false)
 
 -- the files that are told are this site, and all that the source had is this recording
 pub record IsFor (files : Option (List SiteFile)) (source : Change) (site : Site) (recording : Recording) : Type 0 where

@@ -12,8 +12,8 @@ use Rattle.asp_record.specs.Journal.{AreLines}
 use Rattle.asp_replay.specs.declared.stop.FeedStop.{FeedStop}
 use Rattle.asp_replay.specs.declared.stop.FeedStop.TheVariants as stop
 use Rattle.asp_replay.specs.Feed.{HasFailed, HasFedPart, IsWhole}
-use Rattle.asp_replay.specs.Feeding.{IsFedPart}
-use Rattle.asp_replay.specs.Shown.{IsOutput, IsOutputPart}
+use Rattle.asp_feed.specs.Feeding.{IsFedPart}
+use Rattle.asp_feed.specs.Shown.{IsOutput, IsOutputPart}
 
 -- The items were replayed to their end, with this journal, which is a right account of all runs; and the bytes of its
 -- answers, of its lines where they are asked for, and of their count were written. Each of those lines is such as may

@@ -10,7 +10,7 @@ use Rattle.asp_job.specs.declared.answer.Fail.{Fail}
 use Rattle.asp_job.specs.declared.answer.Fail.TheVariants as fail
 use Rattle.asp_replay.specs.declared.stop.FeedStop.{FeedStop}
 use Rattle.asp_replay.specs.declared.stop.FeedStop.TheVariants as feed
-use Rattle.asp_run.specs.Failures.{limit_name}
+use Rattle.asp_acts.specs.Failures.{limit_name}
 use Rattle.site_load.specs.declared.stop.LoadStop.{LoadStop}
 use Rattle.site_load.specs.declared.stop.LoadStop.TheVariants.{Refused, ReadFault as FolderFault, Memory as NoMemory}
 use Rattle.asp_host.specs.declared.status.Status.{Status}

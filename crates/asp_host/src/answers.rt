@@ -3,7 +3,7 @@ ghost use Rattle.std.specs.Prelude.{◌≡◌, ◌+◌, ◌<◌, IfOk, OnOk, Opt
 ghost use Rattle.asp_core.specs.Ready.{IsAnswered};
 ghost use Rattle.asp_job.specs.Running as running;
 ghost use Rattle.asp_job.specs.Rules.{Rules};
-ghost use Rattle.asp_replay.specs.Shown.{shown_of};
+ghost use Rattle.asp_feed.specs.Shown.{shown_of};
 ghost use Rattle.asp_host.specs.Answered as spec;
 
 use asp_job::{Entry, What, Work};

@@ -1,7 +1,7 @@
 //! What the program says of an application that did not begin.
 ghost use Rattle.std.specs.Prelude.{◌≡◌, ◌++◌, codes, decimal};
 ghost use Rattle.vb_value.specs.Outcome.{Adds, Gives};
-ghost use Rattle.asp_run.specs.Failures.{limit_name as limit_name_of};
+ghost use Rattle.asp_acts.specs.Failures.{limit_name as limit_name_of};
 ghost use Rattle.asp_host.specs.Status as spec;
 
 use asp_job::Fail;

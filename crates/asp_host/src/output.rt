@@ -1,13 +1,13 @@
 //! What a replay writes behind the records of the answers, and in all.
-ghost use Rattle.std.specs.Prelude.{◌≡◌, ◌++◌, IfErr, OnOk, length, reverse, true};
-ghost use Rattle.asp_core.specs.Kernel.{past_of, rules_by, rules_of};
+ghost use Rattle.std.specs.Prelude.{◌≡◌, ◌++◌, IfErr, OnOk, length, reverse, true, false};
+ghost use Rattle.asp_core.specs.Kernel.{past_of, rules_by, rules_of, setting_of};
 ghost use Rattle.asp_io.specs.Faults.{HasCause};
 ghost use Rattle.asp_job.specs.Journal.{IsValidJournal};
 ghost use Rattle.asp_record.specs.EntryLines.{lines_in};
 ghost use Rattle.asp_record.specs.Journal.{AreLines};
 ghost use Rattle.asp_record.specs.Ranged.{AreRanged};
 ghost use Rattle.asp_record.specs.Recorded.{IsSound};
-ghost use Rattle.asp_replay.specs.Shown.{done_line, lines_of, shown_of};
+ghost use Rattle.asp_feed.specs.Shown.{done_line, lines_of, shown_of};
 ghost use Rattle.asp_replay.specs.Underway.{WritesText};
 ghost use Rattle.asp_host.specs.Replayed.{HasReplayed, HasStopped};
 
@@ -74,9 +74,11 @@ where
     R::Store: Drop,
     K: Sink,
     requires sound { IsSound recording.now }
-    ensures ok { OnOk result (HasReplayed (rules_by (R.meaning runner.now site.now) recording.now.seed)
+    ensures ok { OnOk result (HasReplayed (rules_by (R.meaning runner.now site.now)
+        (setting_of recording.now.seed false))
         recording.now.items journal (K.held sink.old) (K.held sink.new)) }
-    ensures err { IfErr result (HasStopped (rules_by (R.meaning runner.now site.now) recording.now.seed)
+    ensures err { IfErr result (HasStopped (rules_by (R.meaning runner.now site.now)
+        (setting_of recording.now.seed false))
         recording.now.items journal (K.held sink.old) (K.held sink.new)) }
     ensures cause { HasCause FeedStop.WriteFault (K.faults sink.old) (K.faults sink.new) result }
 {

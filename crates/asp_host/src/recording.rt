@@ -6,12 +6,9 @@ ghost use Rattle.asp_host.specs.Input.{IsAllRecording, IsRecordingStop, IsStopOf
 
 use crate::source::read_source;
 use asp_io::{IoStop, Source};
-use asp_record::{RecordStop, Recording, read_recording};
+use asp_record::{RecordStop, Recording, read_recording, refusals_stay};
 use std::alloc::Global;
 use vb_value::Bytes;
-
-/// A recording has so many bytes at the most: 64 MiB.
-const MOST_BYTES: u64 = 67_108_864;
 
 /// Why no recording was read.
 #[derive(Clone, Copy, Debug, PartialEq, Eq)]
@@ -54,6 +51,7 @@ impl From<RecordStop> for RecordingStop {
 }
 
 /// The recording that is all that the source has.
+#[tactic(auto, using(crate::proofs::Inputs::source_stop))]
 pub fn source_recording<S: Source>(
     alloc: Global,
     source: &mut S,
@@ -63,6 +61,7 @@ pub fn source_recording<S: Source>(
     ensures err { IfErr result (IsRecordingStop (S.left source.old)) }
     ensures cause { HasCause RecordingStop.ReadFault (S.faults source.old) (S.faults source.new) result }
 {
+    refusals_stay();
     let bytes = read_source(alloc, source)?;
     recording_of(alloc, &bytes)
 }
@@ -73,9 +72,6 @@ fn recording_of(alloc: Global, bytes: &Bytes) -> Result<Recording, RecordingStop
     ensures err { IfErr result (IsStopOf bytes.now) }
 {
     let length = bytes.len() as u64;
-    if length > MOST_BYTES {
-        return Err(RecordingStop::Refused { offset: MOST_BYTES });
-    }
     let (recording, end) = read_recording(alloc, bytes.as_slice())?;
     if end < length {
         return Err(RecordingStop::Refused { offset: end });

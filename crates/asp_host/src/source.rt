@@ -7,8 +7,8 @@ use asp_io::{IoStop, Source};
 use std::alloc::Global;
 use vb_value::{Bytes, List};
 
-/// So many bytes are read of a source at the most: 64 MiB, and one more.
-const MOST_READ: usize = 67_108_865;
+/// So many bytes are read of a source at the most: 66 MiB. They have all of each line that begins within 64.
+const MOST_READ: usize = 69_206_016;
 
 /// So many bytes are asked for at a time.
 const PIECE: usize = 65_536;

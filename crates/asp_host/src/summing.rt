@@ -1,12 +1,12 @@
 //! What `gen` writes: the lines of a journal, and its summary.
-ghost use Rattle.std.specs.Prelude.{◌≡◌, ◌++◌, ℕ, IfErr, IfOk, List, OnOk, reverse};
+ghost use Rattle.std.specs.Prelude.{◌≡◌, ◌++◌, ℕ, IfErr, IfOk, List, OnOk, reverse, false};
 ghost use Rattle.std.specs.String.{string_bytes};
-ghost use Rattle.asp_core.specs.Kernel.{past_of, rules_by, rules_of};
+ghost use Rattle.asp_core.specs.Kernel.{past_of, rules_by, rules_of, setting_of};
 ghost use Rattle.asp_io.specs.Faults.{HasCause};
 ghost use Rattle.asp_io.specs.Sink.{with_bytes};
 ghost use Rattle.asp_job.specs.Journal.{IsValidJournal};
 ghost use Rattle.asp_record.specs.Recorded.{IsSound};
-ghost use Rattle.asp_replay.specs.Shown.{lines_of};
+ghost use Rattle.asp_feed.specs.Shown.{lines_of};
 ghost use Rattle.asp_replay.specs.Underway.{WritesText};
 ghost use Rattle.asp_summary.specs.Counted.{summary_of as summary};
 ghost use Rattle.asp_summary.specs.Lines.{summary_lines};
@@ -77,9 +77,11 @@ where
     K: Sink,
     requires sound { IsSound recording.now }
     ensures ok { OnOk result ((output : List ℕ)
-        × spec.HasSummed (rules_by (R.meaning runner.now site.now) recording.now.seed) recording.now.items count journal
+        × spec.HasSummed (rules_by (R.meaning runner.now site.now) (setting_of recording.now.seed false))
+        recording.now.items count journal
         output × (K.held sink.new ≡ with_bytes (K.held sink.old) output)) }
-    ensures err { IfErr result (spec.IsSumStop (rules_by (R.meaning runner.now site.now) recording.now.seed)
+    ensures err { IfErr result (spec.IsSumStop (rules_by (R.meaning runner.now site.now)
+        (setting_of recording.now.seed false))
         recording.now.items count journal (record { before = K.held sink.old; after = K.held sink.new })) }
     ensures cause { HasCause FeedStop.WriteFault (K.faults sink.old) (K.faults sink.new) result }
 {

@@ -46,16 +46,20 @@ calls_of_run (entry ∷ past) r = calls_of_run past r ++ calls_in r entry.what
 -- ---- what a journal weighs
 
 -- 4 for each character
-abbrev pub text_weight : List ℕ → ℕ
-text_weight text = 4 * length text
+abbrev pub characters_weight : List ℕ → ℕ
+characters_weight text = 4 * length text
+
+-- the name in a call or in a reply weighs as every text does
+abbrev pub name_weight : List ℕ → ℕ
+name_weight name = characters_weight name + 32
 
 abbrev pub header_weight : Header → ℕ
-header_weight header = text_weight header.name + length header.value
+header_weight header = characters_weight header.name + length header.value
 
 -- 4 for each character and 1 for each byte of a request
 abbrev pub request_weight : Request → ℕ
 request_weight request =
-    text_weight request.path + length request.query + sum_by header_weight request.headers + length request.body
+    characters_weight request.path + length request.query + sum_by header_weight request.headers + length request.body
 
 abbrev pub work_weight : Work → ℕ
 work_weight (work.Page request) = request_weight request
@@ -63,15 +67,15 @@ work_weight _ = 0
 
 -- the names and the values of a call and of a reply
 abbrev pub call_weight : AppCall → ℕ
-call_weight (call.Get name) = text_weight name
-call_weight (call.Put name value) = text_weight name + weight_of value
-call_weight (call.Remove name) = text_weight name
+call_weight (call.Get name) = name_weight name
+call_weight (call.Put name value) = name_weight name + weight_of value
+call_weight (call.Remove name) = name_weight name
 call_weight _ = 0
 
 abbrev pub reply_weight : AppReply → ℕ
 reply_weight (reply.Value value) = weight_of value
-reply_weight (reply.Name name) = text_weight name
-reply_weight (reply.Names names) = sum_by text_weight names
+reply_weight (reply.Name name) = name_weight name
+reply_weight (reply.Names names) = sum_by name_weight names
 reply_weight _ = 0
 
 -- An entry weighs 64 and what its request, call and reply weigh. One that a hand-out or a Halt made neither counts nor

@@ -7,16 +7,22 @@ ghost use Rattle.asp_job.specs.History as history;
 use asp_job::{Header, Request, What, Work};
 use vb_value::{AppCall, AppReply, List, Text, weight};
 
-fn text_weight(text: &Text) -> u64
-    ensures { result ≡ min (history.text_weight text.now) (2 ^ 64 - 1) }
+fn characters_weight(text: &Text) -> u64
+    ensures { result ≡ min (history.characters_weight text.now) (2 ^ 64 - 1) }
 {
     (text.len() as u64).saturating_mul(4)
+}
+
+fn name_weight(name: &Text) -> u64
+    ensures { result ≡ min (history.name_weight name.now) (2 ^ 64 - 1) }
+{
+    characters_weight(name).saturating_add(32)
 }
 
 fn header_weight(header: &Header) -> u64
     ensures { result ≡ min (history.header_weight header.now) (2 ^ 64 - 1) }
 {
-    text_weight(&header.name).saturating_add(header.value.len() as u64)
+    characters_weight(&header.name).saturating_add(header.value.len() as u64)
 }
 
 #[tactic(auto, using(crate::proofs::Past::sum_more))]
@@ -33,7 +39,7 @@ fn headers_weight(headers: &[Header]) -> u64
 fn request_weight(request: &Request) -> u64
     ensures { result ≡ min (history.request_weight request.now) (2 ^ 64 - 1) }
 {
-    text_weight(&request.path)
+    characters_weight(&request.path)
         .saturating_add(request.query.len() as u64)
         .saturating_add(headers_weight(request.headers.as_slice()))
         .saturating_add(request.body.len() as u64)
@@ -54,19 +60,19 @@ pub fn call_weight(call: &AppCall) -> u64
     ensures { result ≡ min (history.call_weight call.now) (2 ^ 64 - 1) }
 {
     match call {
-        AppCall::Get(name) | AppCall::Remove(name) => text_weight(name),
-        AppCall::Put(name, value) => text_weight(name).saturating_add(weight(value)),
+        AppCall::Get(name) | AppCall::Remove(name) => name_weight(name),
+        AppCall::Put(name, value) => name_weight(name).saturating_add(weight(value)),
         _ => 0,
     }
 }
 
 #[tactic(auto, using(crate::proofs::Past::sum_more))]
 fn names_weight(names: &[Text]) -> u64
-    ensures { result ≡ min (sum_by history.text_weight names.now) (2 ^ 64 - 1) }
+    ensures { result ≡ min (sum_by history.name_weight names.now) (2 ^ 64 - 1) }
 {
     let mut total: u64 = 0;
     for name in names {
-        total = total.saturating_add(text_weight(name));
+        total = total.saturating_add(name_weight(name));
     }
     total
 }
@@ -77,7 +83,7 @@ pub fn reply_weight(reply: &AppReply) -> u64
 {
     match reply {
         AppReply::Value(value) => weight(value),
-        AppReply::Name(name) => text_weight(name),
+        AppReply::Name(name) => name_weight(name),
         AppReply::Names(names) => names_weight(names.as_slice()),
         _ => 0,
     }

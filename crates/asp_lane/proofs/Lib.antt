@@ -3,3 +3,4 @@ pub mod Turns
 pub mod Idle
 pub mod Many
 pub mod Started
+pub mod Slices

@@ -30,7 +30,7 @@ use Rattle.asp_lane.proofs.Unfinished.{begun_alone, ended_none, never_blocked}
 
 pub grown_none : {R Site : Type 0} → (core : CoreView R Site) → grown core [] ≡ core
 grown_none core =
-    ap (λ journal. record { journal = journal; runner = core.runner; site = core.site; seed = core.seed })
+    ap (λ journal. record { journal = journal; runner = core.runner; site = core.site; setting = core.setting })
     (append-nil core.journal)
 
 past_grown : {R Site : Type 0} → (old new : CoreView R Site) (entry : Entry) → new ≡ grown old (entry ∷ [])
@@ -55,6 +55,10 @@ wants_is progress.Dead call e = absurd cc
 pub some_is : {A : Type 0} → (o : Option A) → IsSome o → (x : A) × (o ≡ Some x)
 some_is None wants = absurd cc
 some_is (Some x) wants = (x, refl)
+
+no_holder : (holder : Option ℕ) → ((run : ℕ) → holder ≡ Some run → ⊥) → holder ≡ None
+no_holder None never = refl
+no_holder (Some run) never = absurd (never run refl)
 
 module _ {R Site State : Type 0} (meaning : R → Site → Meaning) (stands : R → Site → State → Told → ℕ → Type 0) where
   -- the call that the run wants is the one that its meaning wants
@@ -236,8 +240,17 @@ module _ {R Site State : Type 0} (meaning : R → Site → Meaning) (stands : R 
       one_call old lane run.number (wanted_by run.progress) call wanted in
       let too : IsTooMuch (entry ∷ past_of old) entries weight =
       subst (λ (list : List Entry). IsTooMuch (past_after (past_of old) list) entries weight) made much in
-      ended_turn lane old new run kind.JournalFull (turn.JournalFull entries weight) right alone new_is
-      ((call, wants_so old lane run call alone.is_of wanted, too), refl)
+      ended_turn lane old new run kind.JournalFull (turn.JournalFull entries weight) right alone new_is (
+        record {
+          running = alone.is_of.running;
+          call = call;
+          wants = wants_so old lane run call alone.is_of wanted;
+          free = no_holder (blocker_of (held_by (past_of old)) run.number call)
+              (λ holder e. never_blocked (rules_of meaning old) (past_of old) run.number holder call right alone.alone e);
+          much = too;
+        },
+        refl,
+      )
 
   -- what a run's turn adds depends on its number alone
   pub same_turn : (lane : ℕ) (old new : CoreView R Site) (run then_run : RunView State)

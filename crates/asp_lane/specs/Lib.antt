@@ -1,3 +1,4 @@
 pub mod Turns
 pub mod Rest
 pub mod Started
+pub mod Slice

@@ -3,13 +3,14 @@ use Rattle.std.specs.Prelude.{◌≡◌, ◌⊎◌, ℕ, List, [], ◌∷◌, Op
 use Rattle.vb_value.specs.declared.application.AppCall.{AppCall}
 use Rattle.asp_job.specs.declared.entry.EndKind.TheVariants as kind
 use Rattle.asp_job.specs.declared.entry.Entry.{Entry}
-use Rattle.asp_job.specs.History.{call_entry}
+use Rattle.asp_job.specs.Application.{blocker_of}
+use Rattle.asp_job.specs.History.{call_entry, held_by}
 use Rattle.asp_job.specs.Journal.{begin_entry, end_entry, MayEnd}
 use Rattle.asp_job.specs.Keys.{told}
 use Rattle.asp_job.specs.Rules.{Rules}
 use Rattle.asp_job.specs.Runs.{unfinished}
 use Rattle.asp_job.specs.Told.{Meaning, Told, Wants}
-use Rattle.asp_job.specs.Turns.{IsBegin, serial_of}
+use Rattle.asp_job.specs.Turns.{IsBegin, IsRunning, serial_of}
 use Rattle.asp_core.specs.declared.run.Progress.TheVariants as progress
 use Rattle.asp_core.specs.declared.stop.BeginStop.{BeginStop}
 use Rattle.asp_core.specs.declared.stop.BeginStop.TheVariants as stop
@@ -48,11 +49,14 @@ turn_of stop.Idle = turn.Idle
 turn_of (stop.JournalFull entries weight) = turn.JournalFull entries weight
 turn_of stop.Memory = turn.Memory
 
--- With the call that the run's meaning wants there would be so many entries of that weight, too many or too heavy.
-abbrev pub IsCallTooMuch : Rules → List Entry → ℕ → ℕ → ℕ → ℕ → Type 0
-IsCallTooMuch rules past lane run entries weight =
-    (call : AppCall) × (rules.meaning.does (told rules past run) ≡ Wants call)
-    × IsTooMuch (call_entry past lane run call ∷ past) entries weight
+-- The run is unfinished, and has begun on this lane. With the call that its meaning wants, which no lock keeps out, there
+-- would be so many entries of that weight, too many or too heavy.
+pub record IsCallTooMuch (rules : Rules) (past : List Entry) (lane run entries weight : ℕ) : Type 0 where
+  pub running : IsRunning past lane run
+  pub call : AppCall
+  pub wants : rules.meaning.does (told rules past run) ≡ Wants call
+  pub free : blocker_of (held_by past) run call ≡ None
+  pub much : IsTooMuch (call_entry past lane run call ∷ past) entries weight
 
 -- Where no run is in hand: the Begin of the next run; or nothing, where none is next, where that Begin does not fit, or
 -- for want of memory.

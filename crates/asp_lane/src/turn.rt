@@ -6,6 +6,7 @@ ghost use Rattle.asp_job.specs.Journal as journals;
 ghost use Rattle.asp_job.specs.Runs as runs;
 ghost use Rattle.asp_core.specs.Kernel as kernel;
 ghost use Rattle.asp_core.specs.Ready as waits;
+ghost use Rattle.asp_lane.specs.Slice.{SpendsTicks};
 ghost use Rattle.asp_lane.specs.Turns as spec;
 
 use asp_core::{AppStepStop, BeginStop, Core, Run};
@@ -87,7 +88,8 @@ fn call<R: Runner>(core: &mut Core<R>, runner: &R, lane: u32, mut run: Run<R>) -
     requires valid { journals.AreRight (kernel.rules_of R.meaning core.old) (kernel.past_of core.old) }
     requires hand { spec.IsAlone R.meaning R.stands core.old lane run }
     requires wants { IsSome (kernel.wanted_by run.progress) }
-    ensures { spec.IsTurn R.meaning R.stands lane core.old (Some run) core.new (spec.run_in result.0) result.1 }
+    ensures turn { spec.IsTurn R.meaning R.stands lane core.old (Some run) core.new (spec.run_in result.0) result.1 }
+    ensures made { result.1 ≡ Turn.More → ⊥ }
 {
     match core.app_step(lane, runner, &mut run) {
         Ok(()) => (Hand::Runs(run), Turn::Done),
@@ -114,7 +116,9 @@ fn go<R: Runner>(
     requires host { kernel.IsHostOf core.old runner.now site.now }
     requires valid { journals.AreRight (kernel.rules_of R.meaning core.old) (kernel.past_of core.old) }
     requires hand { spec.Fits R.meaning R.stands core.old lane (Some run) }
-    ensures { spec.IsTurn R.meaning R.stands lane core.old (Some run) core.new (spec.run_in result.0) result.1 }
+    ensures turn { spec.IsTurn R.meaning R.stands lane core.old (Some run) core.new (spec.run_in result.0) result.1 }
+    ensures ticks { SpendsTicks R.pace R.meaning R.stands lane
+        core.old (Some run) core.new (spec.run_in result.0) result.1 }
 {
     match run.go(runner, site, QUANTUM) {
         Ok(Step::More) => (Hand::Runs(run), Turn::More),
@@ -142,6 +146,10 @@ pub fn take_turn<R: Runner>(
     requires host { kernel.IsHostOf core.old runner.now site.now }
     requires hand { spec.Fits R.meaning R.stands core.old lane (spec.run_in hand) }
     ensures turn { spec.IsTurn R.meaning R.stands lane
+        core.old (spec.run_in hand) core.new (spec.run_in result.0) result.1 }
+
+    // A run in hand is taken no further than so many ticks, and stops before only where it wants a call or has ended.
+    ensures ticks { SpendsTicks R.pace R.meaning R.stands lane
         core.old (spec.run_in hand) core.new (spec.run_in result.0) result.1 }
 
     // Where it comes to idle with no answer left to hand out and no Halt, no run waits.

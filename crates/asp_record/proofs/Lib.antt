@@ -7,6 +7,7 @@ mod FieldLaws
 mod GeneratedSound
 mod ItemLaws
 mod Journals
+pub mod Lengths
 mod LineLaws
 mod LinesRead
 mod ListLaws

@@ -19,7 +19,7 @@ use Rattle.asp_record.specs.Journal.{IsLine, IsWhat, line_text}
 use Rattle.asp_record.specs.Values.{call_text, reply_text}
 use Rattle.asp_record.specs.ReadingLines.{admit_at, app_at, begin_at, end_at, kind_at, laned_at}
 use Rattle.asp_record.specs.ReadingLines.{line_at, narrow_at, queue_at, refuse_at}
-use Rattle.asp_record.specs.ReadingLines.{run_at, run_by, short_at, stop_at, time_at}
+use Rattle.asp_record.specs.ReadingLines.{run_at, run_by, session_key_at, short_at, stop_at, time_at}
 use Rattle.asp_record.proofs.CallLaws.{call_again, reply_again}
 use Rattle.asp_record.proofs.FieldLaws.{marked_again, marked_is, step_is}
 
@@ -49,6 +49,26 @@ narrow_right mark bytes n rest e =
     let text = marked_is (mark ∷ []) bytes a.0.0 a.0.1 a.1 in (
       text.0 ∙ ap (λ m. decimal m ++ mark ∷ a.0.1) same.0 ∙ ap (λ l. decimal n ++ mark ∷ l) same.1,
       subst (λ m. m < 2 ^ 32) same.0 (ltb-true a.0.0 4294967296 g.0),
+    )
+
+session_key_again : (key : ℕ) (rest : List ℕ) → 0 < key → key < 2 ^ 32
+    → session_key_at (decimal key ++ 10 ∷ rest) ≡ Some (key, rest)
+unfolding session_key_at
+session_key_again key rest some small =
+    let other : ltb 0 key ≡ true = lt-ltb 0 key some in
+    rw (narrow_again key 10 rest small refl, other) refl
+
+pub session_key_right : (bytes : List ℕ) (key : ℕ) (rest : List ℕ) → session_key_at bytes ≡ Some (key, rest)
+    → (bytes ≡ decimal key ++ 10 ∷ rest) × (0 < key) × (key < 2 ^ 32)
+unfolding session_key_at
+session_key_right bytes key rest e =
+    let a = step_is (narrow_at (codes "\n") bytes) (λ k. cond (ltb 0 k.0) (Some k) None) (key, rest) e in
+    let g = cond_some (ltb 0 a.0.0) a.0 (key, rest) a.2 in
+    let same = some_pair_parts a.0.0 key a.0.1 rest (ap (λ p. Some p) g.1) in
+    let text = narrow_right 10 bytes a.0.0 a.0.1 a.1 in (
+      text.0 ∙ ap (λ m. decimal m ++ 10 ∷ a.0.1) same.0 ∙ ap (λ l. decimal key ++ 10 ∷ l) same.1,
+      subst (λ m. 0 < m) same.0 (ltb-true 0 a.0.0 g.0),
+      subst (λ m. m < 2 ^ 32) same.0 text.1,
     )
 
 pub short_right : (mark : ℕ) (bytes : List ℕ) (n : ℕ) (rest : List ℕ) → short_at (mark ∷ []) bytes ≡ Some (n, rest)
@@ -181,7 +201,7 @@ run_again lane (what.Queue run work.SessionEnd key) rest low right =
     ap line_at (end_text lane run key rest)
     ∙ of_run_again 81 lane run (codes "end " ++ (decimal key ++ 10 ∷ rest)) rest
     (what.Queue run work.SessionEnd key) refl refl low right.0
-    (rw (narrow_again key 10 rest right.1 refl) refl)
+    (rw (session_key_again key rest right.1.0 right.1.1) refl)
 run_again lane (what.Queue run (work.Page request) key) rest low right = absurd right.1
 run_again lane (what.Admit run key moment) rest low right =
     let wide : moment < 18446744073709551616 = right.2 in

@@ -16,11 +16,13 @@ use Rattle.asp_record.specs.Journal.{IsLine, IsWhat, line_text}
 use Rattle.asp_record.specs.Values.{call_text}
 use Rattle.asp_record.specs.ReadingLines.{admit_at, app_at, begin_at, call_at, end_at, kind_at, laned_at}
 use Rattle.asp_record.specs.ReadingLines.{lettered, line_at, line_by, narrow_at, queue_at, refuse_at, reply_at}
+use Rattle.asp_record.specs.ReadingLines.{session_key_at}
 use Rattle.asp_record.specs.ReadingLines.{run_at, run_by, short_at, stop_at, time_at, what_by}
 use Rattle.asp_record.proofs.CallsRead.{call_right, chosen, reply_right}
 use Rattle.asp_record.proofs.FieldLaws.{behind_is, marked_is, step_is}
 use Rattle.asp_record.proofs.LineLaws.{admit_text, app_line, begin_text, end_text, ended_text, halt_text}
-use Rattle.asp_record.proofs.LineLaws.{narrow_right, of_run, refuse_text, short_right, start_text, stop_text, text_of}
+use Rattle.asp_record.proofs.LineLaws.{narrow_right, of_run, refuse_text, session_key_right, short_right, start_text}
+use Rattle.asp_record.proofs.LineLaws.{stop_text, text_of}
 use Rattle.asp_record.proofs.LineLaws.{tick_text}
 use Rattle.asp_record.proofs.ValuesRead.{letter_is, tested}
 
@@ -52,15 +54,15 @@ queue_right run bytes done rest small e = elim (chosen (behind (codes "start\n")
         (λ lane. ap (of_run 81 lane run) (behind_is (codes "stop\n") bytes b.0 b.1) ∙ sym (stop_text lane run 0 b.0))
         (small, refl) b.2
     | inr b ↦
-        let c = step_is (behind (codes "end ") bytes) (λ l. narrow_at (codes "\n") l >>= λ key. Some
+        let c = step_is (behind (codes "end ") bytes) (λ l. session_key_at l >>= λ key. Some
         (what.Queue run work.SessionEnd key.0, key.1)) (done, rest) b in
-        let d = step_is (narrow_at (codes "\n") c.0) (λ key. Some (what.Queue run work.SessionEnd key.0, key.1))
+        let d = step_is (session_key_at c.0) (λ key. Some (what.Queue run work.SessionEnd key.0, key.1))
         (done, rest) c.2 in
-        let key = narrow_right 10 c.0 d.0.0 d.0.1 d.1 in
+        let key = session_key_right c.0 d.0.0 d.0.1 d.1 in
         run_from 81 run bytes (what.Queue run work.SessionEnd d.0.0) done d.0.1 rest
         (λ lane. ap (of_run 81 lane run) (behind_is (codes "end ") bytes c.0 c.1 ∙ ap (λ l. codes "end " ++ l) key.0)
         ∙ sym (end_text lane run d.0.0 d.0.1))
-        (small, key.1) d.2
+        (small, (key.1, key.2)) d.2
   ]
 ]
 

@@ -80,10 +80,10 @@ reply_ranged (reply.Name name) = scalars name
 reply_ranged (reply.Names names) = list_all scalars names
 reply_ranged _ = true
 
--- work of the host's own, with its key: none but for the end of a session
+-- work of the host's own, with its key: none but for the end of a session, and keys are numbered from 1
 abbrev pub IsOwnWork : Work → ℕ → Type 0
 IsOwnWork work.Start key = key ≡ 0
-IsOwnWork work.SessionEnd key = key < 2 ^ 32
+IsOwnWork work.SessionEnd key = (0 < key) × (key < 2 ^ 32)
 IsOwnWork work.Stop key = key ≡ 0
 IsOwnWork (work.Page request) key = ⊥
 

@@ -109,12 +109,18 @@ reply_at bytes =
 
 -- ---- what stands behind the lane and the run
 
+-- the key of a session, and the end of the line
+unfoldable pub session_key_at : List ℕ → Option (ℕ × List ℕ)
+session_key_at bytes = do
+  key ← narrow_at (codes "\n") bytes
+  if nat_lt 0 key.0 then Some key else None
+
 unfoldable pub queue_at : ℕ → List ℕ → Option (LineWhat × List ℕ)
 queue_at run bytes =
     choose (behind (codes "start\n") bytes) (λ rest. Some (what.Queue run work.Start 0, rest)) (
     choose (behind (codes "stop\n") bytes) (λ rest. Some (what.Queue run work.Stop 0, rest)) (do
       rest ← behind (codes "end ") bytes
-      key ← narrow_at (codes "\n") rest
+      key ← session_key_at rest
       Some (what.Queue run work.SessionEnd key.0, key.1)))
 
 unfoldable pub admit_at : ℕ → List ℕ → Option (LineWhat × List ℕ)

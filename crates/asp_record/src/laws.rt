@@ -29,6 +29,12 @@ pub fn recording_not_refused()
         → IsRefusedAt bytes offset → ⊥ }
 {}
 
+/// Where bytes of at least 66 MiB are refused, they are refused there whatever follows: no line has 2 MiB.
+pub fn refusals_stay()
+    ensures { (bytes more : List ℕ) (offset : ℕ) → 69206016 ≤ length bytes → IsRefusedAt bytes offset
+        → IsRefusedAt (bytes ++ more) offset }
+{}
+
 /// What is generated is sound.
 pub fn generated_sound()
     ensures { (count : ℕ) → count ≤ 10000 → IsSound (generated count) }

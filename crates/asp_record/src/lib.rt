@@ -25,7 +25,7 @@ pub use generated::generate;
 pub use journal::{Line, LineWhat, read_lines};
 pub use laws::{
     entries_have_lines, generated_sound, journal_not_refused, one_journal, one_recording,
-    recording_not_refused, text_stands,
+    recording_not_refused, refusals_stay, text_stands,
 };
 pub use reading::read_recording;
 pub use recording::{Item, Recording};

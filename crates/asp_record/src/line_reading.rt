@@ -36,6 +36,15 @@ fn short_at<'a>(word: &[u8], bytes: &'a [u8]) -> Option<(u16, &'a [u8])>
     }
 }
 
+/// The key of a session at the front of bytes, with the end of the line behind it.
+#[tactic(auto, unfolding(crate::specs::ReadingLines::session_key_at))]
+fn session_key_at(bytes: &[u8]) -> Option<(u32, &[u8])>
+    ensures { Reads (λ read. (read.0, read.1.now)) result (spec.session_key_at bytes.now) }
+{
+    let (key, rest) = narrow_at(b"\n", bytes)?;
+    if 0 < key { Some((key, rest)) } else { None }
+}
+
 #[tactic(auto, unfolding(crate::specs::ReadingLines::queue_at))]
 fn queue_at(run: u32, bytes: &[u8]) -> Option<(LineWhat, &[u8])>
     ensures { Reads (λ read. (read.0, read.1.now)) result (spec.queue_at run bytes.now) }
@@ -57,7 +66,7 @@ fn queue_at(run: u32, bytes: &[u8]) -> Option<(LineWhat, &[u8])>
         return Some((what, rest));
     }
     let rest = behind(b"end ", bytes)?;
-    let (key, rest) = narrow_at(b"\n", rest)?;
+    let (key, rest) = session_key_at(rest)?;
     let what = LineWhat::Queue {
         run,
         work: Work::SessionEnd,

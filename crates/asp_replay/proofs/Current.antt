@@ -23,7 +23,7 @@ use Rattle.asp_job.specs.Running.{is_page}
 use Rattle.asp_job.specs.Runs.{asking_lane_of, drawn, is_open, is_stage_unfinished, is_stage_waiting, is_unfinished}
 use Rattle.asp_job.specs.Runs.{is_waiting, job_of, moment_of, numbers, stage_of, unfinished, waiting}
 use Rattle.asp_job.specs.Turns.{owed}
-use Rattle.asp_replay.specs.Feeding.{is_calm}
+use Rattle.asp_feed.specs.Feeding.{is_calm}
 use Rattle.asp_replay.specs.Underway.{AreCurrent}
 
 -- ---- where nothing is under way

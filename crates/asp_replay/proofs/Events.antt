@@ -27,8 +27,8 @@ use Rattle.asp_job.specs.Turns.{key_asked_by, key_for, needs_key, owed, waiting_
 use Rattle.asp_record.specs.declared.recording.Item.{Item}
 use Rattle.asp_record.specs.declared.recording.Item.TheVariants as item
 use Rattle.asp_record.specs.Recorded as recorded
-use Rattle.asp_replay.specs.Feeding.{AreCalm, AreItems, CameFrom, Clients, HasCome, IsCalmBefore, IsFed, IsJobOf}
-use Rattle.asp_replay.specs.Feeding.{asked_by, clients_after, comes, events_of, is_calm, moment_by, tick_to}
+use Rattle.asp_feed.specs.Feeding.{AreCalm, AreItems, CameFrom, Clients, HasCome, IsCalmBefore, IsFed, IsJobOf}
+use Rattle.asp_feed.specs.Feeding.{asked_by, clients_after, comes, events_of, is_calm, moment_by, tick_to}
 use Rattle.asp_replay.specs.Sequential.{AddsItem, hand_outs, may_come}
 
 -- ---- entries that do not come from outside

@@ -10,24 +10,26 @@ use Rattle.asp_record.specs.declared.recording.Item.{Item}
 use Rattle.asp_replay.specs.declared.stop.FeedStop.{FeedStop}
 use Rattle.asp_replay.specs.Feed.{HasFed, HasFedPart, IsWoundUp}
 use Rattle.asp_replay.specs.Underway.{AfterAll, HasNotBegun, IsCoreOf, IsHandedBack}
+use Rattle.asp_core.specs.declared.setting.Setting.{Setting}
 
--- the core is still that of the runner, the site and the seed
-pub core_still : {R Site : Type 0} → (old new : CoreView R Site) (runner : R) (site : Site) (seed : List ℕ)
-    → IsHostOf old runner site → old.seed ≡ seed → ((entries : List Entry) × (new ≡ grown old entries))
-    → IsCoreOf runner site seed new
-core_still old new runner site seed host same grows = rw grows.1 (record {
+-- the core is still that of the runner, the site and the setting
+pub core_still : {R Site : Type 0} → (old new : CoreView R Site) (runner : R) (site : Site) (setting : Setting)
+    → IsHostOf old runner site → old.setting ≡ setting → ((entries : List Entry) × (new ≡ grown old entries))
+    → IsCoreOf runner site setting new
+core_still old new runner site setting host same grows = rw grows.1 (record {
   runner_is = sym host.runner_is;
   site_is = sym host.site_is;
-  seed_is = same;
+  setting_is = same;
 })
 
 -- what its journal is held against
 pub rules_here : {R Site : Type 0} → (meaning : R → Site → Meaning) (core : CoreView R Site) (runner : R) (site : Site)
-    (seed : List ℕ) → IsCoreOf runner site seed core → rules_of meaning core ≡ rules_by (meaning runner site) seed
-rules_here meaning core runner site seed is =
-    ap (λ some. rules_by (meaning some core.site) core.seed) is.runner_is
-    ∙ ap (λ some. rules_by (meaning runner some) core.seed) is.site_is
-    ∙ ap (λ some. rules_by (meaning runner site) some) is.seed_is
+    (setting : Setting) → IsCoreOf runner site setting core → rules_of meaning core ≡ rules_by (meaning runner site)
+    setting
+rules_here meaning core runner site setting is =
+    ap (λ some. rules_by (meaning some core.site) core.setting) is.runner_is
+    ∙ ap (λ some. rules_by (meaning runner some) core.setting) is.site_is
+    ∙ ap (λ some. rules_by (meaning runner site) some) is.setting_is
 
 pub core_handed : {T Core : Type 0} → (fed : Result T FeedStop) (core : Core) (back : Result Core FeedStop)
     (P : Core → Type 0) → IsHandedBack core fed back → P core → IfOk back P

@@ -12,7 +12,7 @@ use Rattle.asp_job.specs.Running.{is_page}
 use Rattle.asp_job.specs.Runs.{job_of, queued_job}
 use Rattle.asp_record.specs.declared.recording.Item.{Item}
 use Rattle.asp_record.specs.Recorded as recorded
-use Rattle.asp_replay.specs.Feeding.{Clients}
+use Rattle.asp_feed.specs.Feeding.{Clients}
 use Rattle.asp_replay.specs.Underway.{AreCurrent, IsUnderWay}
 use Rattle.asp_replay.proofs.Pieces.{with_none}
 

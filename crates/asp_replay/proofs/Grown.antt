@@ -24,9 +24,9 @@ use Rattle.asp_record.specs.Recorded as recorded
 use Rattle.asp_replay.specs.declared.stop.FeedStop.{FeedStop}
 use Rattle.asp_replay.specs.declared.stop.FeedStop.TheVariants as stop
 use Rattle.asp_replay.specs.Feed.{HasCause}
-use Rattle.asp_replay.specs.Feeding.{Clients, HasCome, IsFedPart, comes, is_calm, moment_by}
+use Rattle.asp_feed.specs.Feeding.{Clients, HasCome, IsFedPart, comes, is_calm, moment_by}
 use Rattle.asp_replay.specs.Sequential.{AddsItem, HasInHand, IsBusy, hand_outs, handed_out, may_come}
-use Rattle.asp_replay.specs.Shown.{AreRecords, Shown, shown_of}
+use Rattle.asp_feed.specs.Shown.{AreRecords, Shown, shown_of}
 use Rattle.asp_replay.specs.Underway.{After, AreTurnsTo, EndsSo, HandsOut, IsOfOneLane, IsOfWriting}
 use Rattle.asp_replay.specs.Underway.{IsUnderWay, StandsAt, WorkAdds, stamped}
 use Rattle.asp_replay.proofs.Aside.{AreAside, aside_admitted, aside_ticked}

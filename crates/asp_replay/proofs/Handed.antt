@@ -11,7 +11,7 @@ use Rattle.asp_job.specs.Journal.{past_after}
 use Rattle.asp_job.specs.Rules.{Rules}
 use Rattle.asp_job.specs.Runs.{is_halted, is_open, is_stopping, job_of, moment_of, stage_of, unfinished, waiting}
 use Rattle.asp_replay.specs.Sequential.{hand_outs}
-use Rattle.asp_replay.specs.Shown.{shown_of}
+use Rattle.asp_feed.specs.Shown.{shown_of}
 use Rattle.asp_replay.specs.Underway.{AreCurrent}
 
 -- the new past is the old one but for hand-outs

@@ -9,7 +9,7 @@ use Rattle.asp_job.specs.Told.{Meaning}
 use Rattle.asp_replay.specs.declared.stop.FeedStop.{FeedStop}
 use Rattle.asp_replay.specs.declared.stop.FeedStop.TheVariants as stop
 use Rattle.asp_replay.specs.Sequential.{hand_outs}
-use Rattle.asp_replay.specs.Shown.{AreRecords, Shown}
+use Rattle.asp_feed.specs.Shown.{AreRecords, Shown}
 use Rattle.asp_replay.specs.Underway.{HandsOut, WritesPart, WritesRecord, stamped}
 use Rattle.asp_replay.proofs.HandingOut.{HandsOne, IsHanding, left_first, more_records, none_first, split_more}
 use Rattle.asp_replay.proofs.Pieces.{part_more, part_whole}

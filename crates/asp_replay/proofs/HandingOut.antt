@@ -25,7 +25,7 @@ use Rattle.asp_job.specs.Rules.{Rules}
 use Rattle.asp_job.specs.Runs.{asking_lane_of, has_ended, is_taken, moment_of}
 use Rattle.asp_job.specs.Told.{Meaning}
 use Rattle.asp_replay.specs.Sequential.{hand_outs}
-use Rattle.asp_replay.specs.Shown.{AreRecords, IsRecord, Shown}
+use Rattle.asp_feed.specs.Shown.{AreRecords, IsRecord, Shown}
 use Rattle.asp_replay.specs.Underway.{AreOfLane}
 use Rattle.asp_replay.proofs.Handed.{first_handed, ready_handed, shown_handed}
 use Rattle.asp_replay.proofs.Pieces.{wrote_more}
@@ -180,7 +180,7 @@ grown_more : {R Site : Type 0} → (old now new : CoreView R Site) (taken : List
     → new ≡ grown old (hand_outs (taken ++ first ∷ []))
 grown_more old now new taken first is took =
     took ∙ ap (λ core. grown core (with_lane 0 (Take first.0) ∷ [])) is
-    ∙ ap (λ journal. record { journal = journal; runner = old.runner; site = old.site; seed = old.seed })
+    ∙ ap (λ journal. record { journal = journal; runner = old.runner; site = old.site; setting = old.setting })
     (append_assoc old.journal (hand_outs taken) (with_lane 0 (Take first.0) ∷ [])
     ∙ ap (λ entries. old.journal ++ entries) (sym (hand_outs_more taken first)))
 

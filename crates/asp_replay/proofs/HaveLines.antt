@@ -1,5 +1,8 @@
 -- The lines of a valid journal may stand in one.
-use Rattle.std.proofs.Common.{◌≡◌, ℕ, ◌^◌, ◌<◌, List, [], ◌∷◌, ◌++◌, drop, refl, subst}
+use Rattle.std.proofs.Common.{◌≡◌, ℕ, zero, suc, ◌^◌, ◌<◌, Bool, true, false, if◌then◌else◌, List, [], ◌∷◌, ◌++◌, drop}
+use Rattle.std.proofs.Common.{filter, refl, subst, arith}
+use Rattle.std.specs.List.{All}
+use Rattle.std.proofs.lemmas.List.Elements.{All-filter, All-head, All-nil, All-push, All-tail}
 use Rattle.asp_job.specs.declared.entry.Entry.{Entry}
 use Rattle.asp_job.specs.declared.entry.What.{What}
 use Rattle.asp_job.specs.declared.entry.What.TheVariants as entry
@@ -7,8 +10,9 @@ use Rattle.asp_job.specs.declared.job.Work.{Work}
 use Rattle.asp_job.specs.declared.job.Work.TheVariants as work
 use Rattle.asp_job.specs.History.{with_lane}
 use Rattle.asp_job.specs.Journal.{AreRight, IsRight}
-use Rattle.asp_job.specs.Keys.{due_at, live, session_of}
+use Rattle.asp_job.specs.Keys.{is_due_key, is_live, live, made, session_of}
 use Rattle.asp_job.specs.Rules.{Rules}
+use Rattle.asp_job.specs.Runs.{is_stopping, numbers}
 use Rattle.asp_job.specs.Turns.{MayFollow, closing_runs, owed}
 use Rattle.asp_record.specs.EntryLines.{lines_in}
 use Rattle.asp_record.specs.Journal.{AreLines, IsOwnWork}
@@ -20,7 +24,7 @@ use Rattle.asp_core.specs.Kernel.{AreWellFormed, IsWellFormed}
 -- work of the host's own, which has a key for the end of a session alone
 abbrev IsOwed : Work → ℕ → Type 0
 IsOwed work.Start key = key ≡ 0
-IsOwed work.SessionEnd key = Unit {0}
+IsOwed work.SessionEnd key = 0 < key
 IsOwed work.Stop key = key ≡ 0
 IsOwed (work.Page request) key = ⊥
 
@@ -28,9 +32,23 @@ abbrev AreOwed : List (Work × ℕ) → Type 0
 AreOwed [] = Unit {0}
 AreOwed (first ∷ rest) = IsOwed first.0 first.1 × AreOwed rest
 
-owed_closing : (keys : List ℕ) → AreOwed (closing_runs keys)
-owed_closing [] = tt
-owed_closing (k ∷ keys) = (tt, owed_closing keys)
+numbers_from_one : (n : ℕ) → All (λ k. 0 < k) (numbers n)
+numbers_from_one zero = All-nil (λ k. 0 < k)
+numbers_from_one (suc n) = All-push (λ k. 0 < k) (numbers n) (suc n) (numbers_from_one n) (omega arith)
+
+owed_closing : (keys : List ℕ) → All (λ k. 0 < k) keys → AreOwed (closing_runs keys)
+owed_closing [] some = tt
+owed_closing (k ∷ keys) some =
+    (All-head (λ k. 0 < k) k keys some, owed_closing keys (All-tail (λ k. 0 < k) k keys some))
+
+owed_picked : (picks : ℕ → Bool) (n : ℕ) → AreOwed (closing_runs (filter picks (numbers n)))
+owed_picked picks n =
+    owed_closing (filter picks (numbers n)) (All-filter picks (λ k. 0 < k) (numbers n) (numbers_from_one n))
+
+owed_unless : (stopping : Bool) (picks : ℕ → Bool) (n : ℕ)
+    → AreOwed (closing_runs (if stopping then [] else filter picks (numbers n)))
+owed_unless true picks n = tt
+owed_unless false picks n = owed_picked picks n
 
 owed_last : (list : List (Work × ℕ)) → AreOwed list → AreOwed (list ++ (work.Stop, 0) ∷ [])
 owed_last [] are = (refl, tt)
@@ -45,13 +63,15 @@ owed_more : (rules : Rules) (past : List Entry) (lane : ℕ) (done : What) → A
 owed_more rules past lane (entry.Queue run work key) are = owed_drop (owed rules past) are
 owed_more rules past lane (entry.Admit run key fresh job) are = tt
 owed_more rules past lane (entry.Refuse run job) are = tt
-owed_more rules past lane (entry.Tick moment) are = owed_closing (due_at (session_of rules past) past moment)
+owed_more rules past lane (entry.Tick moment) are =
+    owed_unless (is_stopping past) (is_due_key (session_of rules past) past moment) (made past)
 owed_more rules past lane (entry.Begin run serial) are = tt
 owed_more rules past lane (entry.App run call reply) are = tt
 owed_more rules past lane (entry.End run kind status size made finished) are = tt
 owed_more rules past lane (entry.Take run) are = tt
 owed_more rules past lane entry.Stop are =
-    owed_last (closing_runs (live (session_of rules past) past)) (owed_closing (live (session_of rules past) past))
+    owed_last (closing_runs (live (session_of rules past) past))
+    (owed_picked (is_live (session_of rules past) past) (made past))
 owed_more rules past lane entry.Halt are = tt
 
 are_owed : (rules : Rules) (past : List Entry) → AreOwed (owed rules past)
@@ -71,7 +91,7 @@ first_owed rules past lane run work key (first ∷ rest) may are =
 
 own_work : (work : Work) (key : ℕ) → IsOwed work key → key < 2 ^ 32 → IsOwnWork work key
 own_work work.Start key is small = is
-own_work work.SessionEnd key is small = small
+own_work work.SessionEnd key is small = (is, small)
 own_work work.Stop key is small = is
 own_work (work.Page request) key is small = is
 

@@ -13,7 +13,7 @@ use Rattle.asp_job.specs.Runs.{drawn, is_waiting, job_of, moment_of, numbers}
 use Rattle.asp_job.specs.Turns.{waiting_pages}
 use Rattle.asp_record.specs.declared.recording.Item.{Item}
 use Rattle.asp_replay.specs.declared.stop.FeedStop.{FeedStop}
-use Rattle.asp_replay.specs.Feeding.{Clients, is_calm}
+use Rattle.asp_feed.specs.Feeding.{Clients, is_calm}
 use Rattle.asp_replay.specs.Sequential.{may_come}
 use Rattle.asp_replay.specs.Underway.{After, AfterTurn, IsHandedBack}
 use Rattle.asp_replay.proofs.Current.{calm_waiting}

@@ -1,6 +1,6 @@
 -- Records of answers, one behind the other.
 use Rattle.std.proofs.Common.{ℕ, List, [], ◌∷◌, ◌++◌, refl, ap, sym, ◌∙◌, subst, append_assoc, append-nil}
-use Rattle.asp_replay.specs.Shown.{AreRecords, IsRecord, Shown}
+use Rattle.asp_feed.specs.Shown.{AreRecords, IsRecord, Shown}
 
 pub records_both : (earlier later : List Shown) (front back : List ℕ) → AreRecords earlier front
     → AreRecords later back → AreRecords (earlier ++ later) (front ++ back)

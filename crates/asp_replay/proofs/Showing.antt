@@ -24,8 +24,8 @@ use Rattle.asp_job.specs.Output.{answer_by, unavailable_in}
 use Rattle.asp_job.specs.Rules.{Rules, TooManySessions}
 use Rattle.asp_job.specs.Runs.{drawn, is_open, is_unfinished, is_waiting, job_of, moment_of}
 use Rattle.asp_job.specs.Turns.{IsRefuse, MayFollow, key_asked_by, owed}
-use Rattle.asp_replay.specs.Feeding.{is_calm}
-use Rattle.asp_replay.specs.Shown.{Shown, shown_of, with_shown}
+use Rattle.asp_feed.specs.Feeding.{is_calm}
+use Rattle.asp_feed.specs.Shown.{Shown, shown_of, with_shown}
 use Rattle.asp_replay.specs.Underway.{AreCurrent, stamped}
 use Rattle.asp_replay.proofs.Current.{current_grows, current_ticked, is_tick_or_take}
 

@@ -12,7 +12,7 @@ use Rattle.asp_record.specs.declared.recording.Item.{Item}
 use Rattle.asp_replay.specs.declared.stop.FeedStop.{FeedStop}
 use Rattle.asp_replay.specs.declared.stop.FeedStop.TheVariants as stop
 use Rattle.asp_replay.specs.Feed as feed
-use Rattle.asp_replay.specs.Feeding.{Clients, events_of, is_calm}
+use Rattle.asp_feed.specs.Feeding.{Clients, events_of, is_calm}
 use Rattle.asp_replay.specs.Sequential.{IsBusy}
 use Rattle.asp_replay.specs.Underway.{After, IsStartStop, IsUnderWay, is_starting}
 use Rattle.asp_replay.proofs.Grown.{ends_here}
@@ -20,7 +20,7 @@ use Rattle.asp_replay.proofs.Turning.{grown_both}
 
 pub grown_none : {R Site : Type 0} → (core : CoreView R Site) → core ≡ grown core []
 grown_none core =
-    ap (λ journal. record { journal = journal; runner = core.runner; site = core.site; seed = core.seed })
+    ap (λ journal. record { journal = journal; runner = core.runner; site = core.site; setting = core.setting })
     (sym (append-nil core.journal))
 
 pub host_grown : {R Site : Type 0} → (old new : CoreView R Site) (entries : List Entry) (runner : R) (site : Site)

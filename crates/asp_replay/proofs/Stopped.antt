@@ -17,7 +17,7 @@ use Rattle.asp_replay.specs.declared.stop.FeedStop.{FeedStop}
 use Rattle.asp_replay.specs.declared.stop.FeedStop.TheVariants as stop
 use Rattle.asp_replay.specs.Feed.{HasCause}
 use Rattle.asp_replay.specs.Feed.IsTooMuchNext.{OfBegin, OfCall}
-use Rattle.asp_replay.specs.Feeding.{Clients, events_of}
+use Rattle.asp_feed.specs.Feeding.{Clients, events_of}
 use Rattle.asp_replay.specs.Sequential.{hand_outs}
 use Rattle.asp_replay.specs.Underway.{EndsSo, HandsOut, IsUnderWay, StandsAt, WorkAdds, Works, turn_stop}
 use Rattle.asp_replay.proofs.Events.{IsAsBefore, hand_outs_quiet, quiet_all, quiet_one}

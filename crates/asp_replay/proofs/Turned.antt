@@ -10,7 +10,7 @@ use Rattle.asp_job.specs.Runs.{is_stopping}
 use Rattle.asp_lane.specs.Turns.{IsStep}
 use Rattle.asp_record.specs.declared.recording.Item.{Item}
 use Rattle.asp_record.specs.Recorded as recorded
-use Rattle.asp_replay.specs.Feeding.{Clients, is_calm}
+use Rattle.asp_feed.specs.Feeding.{Clients, is_calm}
 use Rattle.asp_replay.specs.Sequential.{AddsItem, IsBusy, IsNextStep, hand_outs, handed_out, is_memory_end, may_come}
 use Rattle.asp_replay.specs.Underway.{AreTurnsTo, WorkAdds}
 

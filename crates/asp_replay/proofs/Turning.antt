@@ -19,7 +19,7 @@ use Rattle.asp_replay.specs.declared.stop.FeedStop.{FeedStop}
 use Rattle.asp_replay.specs.declared.stop.FeedStop.TheVariants as stop
 use Rattle.asp_replay.specs.Feed.{HasAllCome, HasCause, IsNext}
 use Rattle.asp_replay.specs.Feed.IsTooMuchNext.{OfItem, OfStop}
-use Rattle.asp_replay.specs.Feeding.{Clients, is_calm}
+use Rattle.asp_feed.specs.Feeding.{Clients, is_calm}
 use Rattle.asp_replay.specs.Sequential.{AddsItem, IsBusy, hand_outs, may_come}
 use Rattle.asp_replay.specs.Underway.{After, AreOfLane, EndsSo, HandsOut, IsItemTooMuch, IsOfOneLane, IsOfWriting}
 use Rattle.asp_replay.specs.Underway.{IsUnderWay, StandsAt, WorkAdds, Works, turn_stop}
@@ -32,7 +32,7 @@ use Rattle.asp_replay.proofs.Plain.{plain_stopped, stays_plain, stays_worked}
 pub grown_both : {R Site : Type 0} → (core : CoreView R Site) (first second : List Entry)
     → grown (grown core first) second ≡ grown core (first ++ second)
 grown_both core first second =
-    ap (λ journal. record { journal = journal; runner = core.runner; site = core.site; seed = core.seed })
+    ap (λ journal. record { journal = journal; runner = core.runner; site = core.site; setting = core.setting })
     (append_assoc core.journal first second)
 
 module _ {R Site : Type 0} (meaning : R → Site → Meaning) where

@@ -13,7 +13,7 @@ use Rattle.asp_job.specs.Runs.{is_stopping}
 use Rattle.asp_lane.specs.Started.{HasStarted}
 use Rattle.asp_record.specs.declared.recording.Item.{Item}
 use Rattle.asp_replay.specs.Feed.{HasFed}
-use Rattle.asp_replay.specs.Feeding.{Clients, IsFed, is_calm}
+use Rattle.asp_feed.specs.Feeding.{Clients, IsFed, is_calm}
 use Rattle.asp_replay.specs.Underway.{IsUnderWay, StandsAt, is_over}
 use Rattle.std.specs.Option.{option_or}
 

@@ -22,8 +22,8 @@ use Rattle.asp_record.specs.declared.recording.Item.{Item}
 use Rattle.asp_replay.specs.declared.stop.FeedStop.{FeedStop}
 use Rattle.asp_replay.specs.declared.stop.FeedStop.TheVariants as stop
 use Rattle.asp_replay.specs.Feed.{ArePartWritten, HasCause, HasFailed, HasWoundUp, IsWoundUp, WasTooMuch}
-use Rattle.asp_replay.specs.Feeding.{IsFedPart, comes}
-use Rattle.asp_replay.specs.Shown.{Shown, shown_of}
+use Rattle.asp_feed.specs.Feeding.{IsFedPart, comes}
+use Rattle.asp_feed.specs.Shown.{Shown, shown_of}
 use Rattle.asp_replay.specs.Underway.{EndsSo, GrowsQuietly}
 use Rattle.asp_replay.proofs.Aside.{fits_still}
 use Rattle.asp_replay.proofs.Events.{IsAsBefore, come_as_before, fed_as_before, quiet_all}

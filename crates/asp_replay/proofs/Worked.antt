@@ -14,7 +14,7 @@ use Rattle.asp_lane.specs.declared.turn.Turn.TheVariants as turn
 use Rattle.asp_lane.specs.Turns.{AddsBegin, AddsStep, Fits, IsTurn}
 use Rattle.asp_lane.proofs.Turns.{grown_none}
 use Rattle.asp_lane.proofs.Unfinished.{begun_alone}
-use Rattle.asp_replay.specs.Feeding.{is_calm}
+use Rattle.asp_feed.specs.Feeding.{is_calm}
 use Rattle.asp_replay.specs.Sequential.{HasInHand}
 use Rattle.asp_replay.specs.Underway.{HasStepped, HasWorked, Steps, Works, is_done, is_more}
 
@@ -25,7 +25,7 @@ first_is a b e = cc
 grown_twice : {R Site : Type 0} → (core : CoreView R Site) (entry : Entry) (more : List Entry)
     → grown (grown core (entry ∷ [])) more ≡ grown core (entry ∷ more)
 grown_twice core entry more =
-    ap (λ journal. record { journal = journal; runner = core.runner; site = core.site; seed = core.seed })
+    ap (λ journal. record { journal = journal; runner = core.runner; site = core.site; setting = core.setting })
     (append_assoc core.journal (entry ∷ []) more)
 
 module _ {R Site State : Type 0} (meaning : R → Site → Meaning) (stands : R → Site → State → Told → ℕ → Type 0) where

@@ -14,7 +14,7 @@ use Rattle.asp_job.specs.Runs.{job_of}
 use Rattle.asp_lane.specs.Turns.{IsStep}
 use Rattle.asp_replay.specs.Feed.{ArePartWritten, AreWritten}
 use Rattle.asp_replay.specs.Sequential.{HasInHand}
-use Rattle.asp_replay.specs.Shown.{Shown, shown_of, with_shown}
+use Rattle.asp_feed.specs.Shown.{Shown, shown_of, with_shown}
 use Rattle.asp_replay.specs.Underway.{WorkAdds}
 use Rattle.asp_replay.proofs.Current.{is_tick_or_take}
 use Rattle.asp_replay.proofs.Pieces.{part_whole}

@@ -20,9 +20,9 @@ use Rattle.asp_record.specs.declared.recording.Item.{Item}
 use Rattle.asp_record.specs.Recorded.{moment_of}
 use Rattle.asp_replay.specs.declared.stop.FeedStop.{FeedStop}
 use Rattle.asp_replay.specs.declared.stop.FeedStop.TheVariants as stop
-use Rattle.asp_replay.specs.Feeding.{Clients, HasCome, IsFed, IsFedPart, events_of, is_calm}
+use Rattle.asp_feed.specs.Feeding.{Clients, HasCome, IsFed, IsFedPart, events_of, is_calm}
 use Rattle.asp_replay.specs.Sequential.{AddsItem, IsSequential, is_memory_end, may_come}
-use Rattle.asp_replay.specs.Shown.{AreRecords, Shown, shown_of}
+use Rattle.asp_feed.specs.Shown.{AreRecords, Shown, shown_of}
 
 -- ---- records
 
@@ -79,8 +79,8 @@ pub record HasAllCome (items : List Item) (past : List Entry) : Type 0 where
   pub came : HasCome (reverse items) past clients
   pub calm : is_calm past ≡ true
 
--- with what comes next, the next item, the Stop, a Begin or a call, there would be so many entries of that weight, too
--- many or too heavy
+-- with what comes next, the next item, the Stop, a Begin, or the call that an unfinished run wants, there would be so many
+-- entries of that weight, too many or too heavy
 pub data IsTooMuchNext (rules : Rules) (items : List Item) (past : List Entry) (entries weight : ℕ) : Type 0 where
   OfItem : (clients then_clients : Clients) (next : Item) (added : List Entry) → IsNext items past clients next
       → AddsItem rules past clients next added then_clients

@@ -24,7 +24,7 @@ use Rattle.asp_record.specs.declared.recording.Item.{Item}
 use Rattle.asp_record.specs.declared.recording.Item.TheVariants as item
 use Rattle.asp_record.specs.Recorded as recorded
 use Rattle.asp_core.specs.Drawing.{entry_then}
-use Rattle.asp_replay.specs.Feeding.{Clients, IsJobOf, clients_after, is_calm}
+use Rattle.asp_feed.specs.Feeding.{Clients, IsJobOf, clients_after, is_calm}
 
 -- where a lane stands: the journal, newest entry first, the items that are still to come, and what clients go by
 pub record Place : Type 0 where

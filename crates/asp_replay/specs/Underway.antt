@@ -29,9 +29,10 @@ use Rattle.asp_record.specs.Recorded.{AreItems}
 use Rattle.asp_replay.specs.declared.stop.FeedStop.{FeedStop}
 use Rattle.asp_replay.specs.declared.stop.FeedStop.TheVariants as stop
 use Rattle.asp_replay.specs.Feed.{ArePartWritten, AreWritten, HasCause, HasFed, is_full_end}
-use Rattle.asp_replay.specs.Feeding.{Clients, HasCome, IsFed, IsFedPart, comes, is_calm, moment_by}
+use Rattle.asp_feed.specs.Feeding.{Clients, HasCome, IsFed, IsFedPart, comes, is_calm, moment_by}
 use Rattle.asp_replay.specs.Sequential.{AddsItem, AreTurns, HasInHand, first_place, hand_outs, is_memory_end}
-use Rattle.asp_replay.specs.Shown.{AreRecords, IsRecord, Shown}
+use Rattle.asp_feed.specs.Shown.{AreRecords, IsRecord, Shown}
+use Rattle.asp_core.specs.declared.setting.Setting.{Setting}
 
 -- ---- stops
 
@@ -314,8 +315,9 @@ abbrev pub AfterAll : {T : Type 0} → Result T FeedStop → Rules → List Item
 AfterAll (Ok given) rules items past before after = HasFed rules items past before after
 AfterAll (Err ended) rules items past before after = EndsSo rules items past ended before after
 
--- the core is that of the runner, the site and the seed
-pub record IsCoreOf {R Site : Type 0} (runner : R) (site : Site) (seed : List ℕ) (core : CoreView R Site) : Type 0 where
-  pub runner_is : core.runner ≡ runner
-  pub site_is : core.site ≡ site
-  pub seed_is : core.seed ≡ seed
+-- the core is that of the runner, the site and the setting
+pub record IsCoreOf {R Site : Type 0} (runner : R) (site : Site) (setting : Setting) (core : CoreView R Site) : Type 0
+  where
+    pub runner_is : core.runner ≡ runner
+    pub site_is : core.site ≡ site
+    pub setting_is : core.setting ≡ setting

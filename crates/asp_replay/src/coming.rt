@@ -11,14 +11,13 @@ ghost use Rattle.asp_core.specs.Drawing as drawing;
 ghost use Rattle.asp_journal.specs.Telling.{end_kind};
 ghost use Rattle.asp_core.specs.Kernel.{IsHostOf, IsTooMuch, grown, past_of, rules_of};
 ghost use Rattle.asp_record.specs.Recorded as recorded;
-ghost use Rattle.asp_replay.specs.Feeding as feeding;
+ghost use Rattle.asp_feed.specs.Feeding as feeding;
 ghost use Rattle.asp_replay.specs.Sequential as spec;
 ghost use Rattle.asp_replay.specs.Underway as way;
 
-use crate::clients::{Clients, reserve_one};
-use crate::job::job_of;
 use crate::stop::FeedStop;
 use asp_core::{AdmitStop, Admitted, Core, EventStop};
+use asp_feed::{Clients, job_of, reserve_one};
 use asp_job::{MOST_WAITING, Runner};
 use asp_record::Item;
 use std::alloc::Global;

@@ -2,7 +2,7 @@
 #![tactic(auto)]
 
 ghost use Rattle.std.specs.Prelude.{◌≡◌, ◌⊎◌, ◌∷◌, [], ℕ, true, false, IfErr, IfOk, List, OnOk, Option, is_some};
-ghost use Rattle.asp_core.specs.Kernel.{IsHostOf, grown, past_of, rules_by, rules_of};
+ghost use Rattle.asp_core.specs.Kernel.{IsHostOf, grown, past_of, rules_by, rules_of, setting_of};
 ghost use Rattle.asp_journal.specs.Telling.{end_kind};
 ghost use Rattle.asp_io.specs.Faults.{HasCause};
 ghost use Rattle.asp_job.specs.declared.entry.Entry.{Entry};
@@ -13,16 +13,16 @@ ghost use Rattle.asp_lane.specs.Started.{HasStarted};
 ghost use Rattle.asp_lane.specs.Turns.{Fits, run_in};
 ghost use Rattle.asp_record.specs.declared.recording.Item.{Item as ItemView};
 ghost use Rattle.asp_record.specs.Recorded.{IsSound};
+ghost use Rattle.asp_feed.specs.Feeding.{Clients as ClientsView, events_of};
 ghost use Rattle.asp_replay.specs.Feed as spec;
-ghost use Rattle.asp_replay.specs.Feeding.{Clients as ClientsView, events_of};
 ghost use Rattle.asp_replay.specs.Underway as way;
 
-use crate::clients::Clients;
 use crate::coming::{is_calm, may_come, moment_of};
 use crate::stop::FeedStop;
 use crate::turns::{come_turn, stop_turn, work_turn};
 use crate::winding_up::wind_up;
 use asp_core::Core;
+use asp_feed::Clients;
 use asp_io::Sink;
 use asp_job::{EndKind, Runner};
 use asp_lane::{Hand, let_go};
@@ -303,16 +303,18 @@ where
     R::Store: Drop,
     K: Sink,
     requires sound { IsSound recording.now }
-    ensures core { IfOk result (way.IsCoreOf runner.now site.now recording.now.seed) }
-    ensures ok { IfOk result (λ core. spec.HasFed (rules_by (R.meaning runner.now site.now) recording.now.seed)
+    ensures core { IfOk result (way.IsCoreOf runner.now site.now (setting_of recording.now.seed false)) }
+    ensures ok { IfOk result (λ core. spec.HasFed (rules_by (R.meaning runner.now site.now)
+        (setting_of recording.now.seed false))
         recording.now.items (past_of core) (K.held sink.old) (K.held sink.new)) }
     ensures err { IfErr result (λ stop. way.HasNotBegun stop (K.held sink.old) (K.held sink.new)
-        ⊎ ((past : List Entry) × spec.HasFedPart (rules_by (R.meaning runner.now site.now) recording.now.seed)
+        ⊎ ((past : List Entry) × spec.HasFedPart (rules_by (R.meaning runner.now site.now)
+        (setting_of recording.now.seed false))
         recording.now.items past stop (K.held sink.old) (K.held sink.new))) }
     ensures cause { HasCause FeedStop.WriteFault (K.faults sink.old) (K.faults sink.new) result }
 {
     let store = runner.store()?;
-    let mut core = match Core::new(alloc, 0, runner, site, recording.seed) {
+    let mut core = match Core::new(alloc, 0, runner, site, recording.seed, false) {
         Ok(core) => core,
         Err(memory) => {
             let_go::<R>(Hand::Free(store));

@@ -1,11 +1,9 @@
 //! A recording is fed to a site by one lane, and the answers are written as they come.
 #![tactic(auto)]
 
-mod clients;
 mod coming;
 mod feeding;
 mod handing;
-mod job;
 mod laws;
 mod stop;
 mod turns;

@@ -9,16 +9,16 @@ ghost use Rattle.asp_job.specs.Runs.{is_stopping};
 ghost use Rattle.asp_lane.specs.Turns.{Fits, run_in};
 ghost use Rattle.asp_record.specs.declared.recording.Item.{Item as ItemView};
 ghost use Rattle.asp_record.specs.Recorded as recorded;
-ghost use Rattle.asp_replay.specs.Feeding.{Clients as ClientsView, events_of, is_calm};
+ghost use Rattle.asp_feed.specs.Feeding.{Clients as ClientsView, events_of, is_calm};
 ghost use Rattle.asp_replay.specs.Sequential.{IsBusy, may_come};
 ghost use Rattle.asp_replay.specs.Underway as spec;
 
-use crate::clients::Clients;
 use crate::coming::{come, stop};
 use crate::handing::hand_out;
 use crate::stop::FeedStop;
 use crate::working::work;
 use asp_core::Core;
+use asp_feed::Clients;
 use asp_io::Sink;
 use asp_job::Runner;
 use asp_lane::{Hand, Turn};

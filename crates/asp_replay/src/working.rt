@@ -7,7 +7,7 @@ ghost use Rattle.asp_job.specs.Runs.{is_halted, unfinished};
 ghost use Rattle.asp_core.specs.Kernel.{IsHostOf, past_of, rules_of};
 ghost use Rattle.asp_core.specs.Ready.{ready};
 ghost use Rattle.asp_lane.specs.Turns.{Fits, run_in};
-ghost use Rattle.asp_replay.specs.Feeding.{is_calm};
+ghost use Rattle.asp_feed.specs.Feeding.{is_calm};
 ghost use Rattle.asp_replay.specs.Underway as spec;
 
 use asp_core::Core;

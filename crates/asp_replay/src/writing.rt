@@ -8,7 +8,7 @@ ghost use Rattle.std.specs.String.{string_bytes};
 ghost use Rattle.asp_io.specs.Faults.{HasCause};
 ghost use Rattle.asp_record.specs.Entries.{entry_text};
 ghost use Rattle.asp_record.specs.Ranged.{AreRanged};
-ghost use Rattle.asp_replay.specs.Shown as spec;
+ghost use Rattle.asp_feed.specs.Shown as spec;
 ghost use Rattle.asp_replay.specs.Underway as way;
 
 use crate::stop::FeedStop;

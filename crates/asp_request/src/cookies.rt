@@ -15,7 +15,7 @@ use crate::collection::Collection;
 use crate::place::place_of;
 use crate::text::decoded;
 use asp_job::Header;
-use http_front::trim_blanks;
+use asp_text::trim_blanks;
 use std::alloc::Global;
 use std::collections::BTreeMap;
 use vb_value::{Bytes, Copied, Memory, Text, is_word};

@@ -9,7 +9,7 @@ use crate::collection::Collection;
 use crate::place::place_of;
 use crate::query::collect_query;
 use asp_job::{Header, Request, Verb};
-use http_front::trim_blanks;
+use asp_text::trim_blanks;
 use std::alloc::Global;
 use vb_value::{Memory, is_word};
 

@@ -8,7 +8,7 @@ use Rattle.asp_job.specs.Told.{Told, Outcome, Ends}
 use Rattle.asp_site.specs.declared.site.Site.{Site}
 use Rattle.asp_run.specs.declared.run.At.TheVariants as at
 use Rattle.asp_run.specs.declared.run.PlainRun.{PlainRun}
-use Rattle.asp_run.specs.Running.{does, work_of}
+use Rattle.asp_acts.specs.Running.{does, work_of}
 use Rattle.asp_run.specs.Stands.{Stands, told_of}
 use Rattle.asp_run.proofs.Left.{answered, has_answer}
 

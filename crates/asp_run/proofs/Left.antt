@@ -11,11 +11,11 @@ use Rattle.asp_job.specs.Told.{Told, Outcome, Wants, Ends}
 use Rattle.asp_site.specs.declared.site.Page.{Page}
 use Rattle.asp_site.specs.declared.site.Site.{Site}
 use Rattle.asp_site.specs.Lookup.{page_at, static_at}
-use Rattle.asp_run.specs.declared.course.Way.{Way}
-use Rattle.asp_run.specs.declared.course.Way.TheVariants.{Wants as WantsReply, On}
-use Rattle.asp_run.specs.Events.{event_came, session_end}
-use Rattle.asp_run.specs.Pages.{page_takes, page_came, found_work}
-use Rattle.asp_run.specs.Running.{work_of}
+use Rattle.asp_acts.specs.declared.course.Way.{Way}
+use Rattle.asp_acts.specs.declared.course.Way.TheVariants.{Wants as WantsReply, On}
+use Rattle.asp_acts.specs.Events.{event_came, session_end}
+use Rattle.asp_acts.specs.Pages.{page_takes, page_came, found_work}
+use Rattle.asp_acts.specs.Running.{work_of}
 
 -- whether there is an answer; what has not ended counts as it should
 abbrev pub has_answer : Bool → Outcome → Bool

@@ -1,8 +1,1 @@
-pub mod Acts
-pub mod Events
-pub mod Failures
-pub mod Lines
-pub mod Pages
-pub mod Running
 pub mod Stands
-pub mod Ticks

@@ -10,7 +10,7 @@ use Rattle.asp_run.specs.declared.ended.Came.TheVariants as came
 use Rattle.asp_run.specs.declared.run.At.{At}
 use Rattle.asp_run.specs.declared.run.At.TheVariants as at
 use Rattle.asp_run.specs.declared.run.PlainRun.{PlainRun}
-use Rattle.asp_run.specs.Running.{does}
+use Rattle.asp_acts.specs.Running.{does}
 
 -- how far a run came
 abbrev pub outcome_of : Came → Outcome

@@ -2,11 +2,12 @@
 ghost use Rattle.std.specs.Prelude.{◌≡◌, Some, IfOk, None, codes};
 ghost use Rattle.std.specs.Option.{option_copied};
 ghost use Rattle.vb_value.specs.Outcome.{Gives};
-ghost use Rattle.asp_run.specs.Acts as spec;
+ghost use Rattle.asp_acts.specs.Acts as spec;
 ghost use Rattle.asp_run.specs.Stands.{told_of};
 
-use crate::course::{Course, Way, act};
+use crate::course::act;
 use crate::run::PlainRun;
+use asp_acts::{Course, Way};
 use asp_site::{Page, Site};
 use std::alloc::Global;
 use vb_syntax::Act;
@@ -166,7 +167,7 @@ fn opens(
 }
 
 /// The acts of a page.
-#[tactic(auto, unfolding(crate::specs::Acts::page_acts))]
+#[tactic(auto, unfolding(asp_acts::specs::Acts::page_acts))]
 pub(crate) fn page_acts(
     alloc: Global,
     site: &Site,

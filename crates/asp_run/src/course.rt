@@ -2,49 +2,17 @@
 ghost use Rattle.std.specs.Prelude.{◌≡◌, Some, IfOk, drop};
 ghost use Rattle.std.specs.Option.{option_or};
 ghost use Rattle.vb_value.specs.Outcome.{Gives};
-ghost use Rattle.asp_run.specs.Acts as spec;
+ghost use Rattle.asp_acts.specs.Acts as spec;
 
 use crate::failure::{fail_of, failure_text};
-use asp_job::Fail;
+use asp_acts::{Course, Tally, Way};
 use asp_objects::PageObjects;
 use asp_site::Page;
 use std::alloc::Global;
 use vb_meaning::PlainEnd;
 use vb_plain::run_act;
 use vb_syntax::{Act, ActDone, ActEnd};
-use vb_value::{AppCall, AppReply, Memory, Text};
-
-/// What the acts of a run came to, beside their objects.
-#[derive(Debug, Drop)]
-pub struct Tally {
-    /// Why the first failing act failed, if one did.
-    pub fail: Option<Fail>,
-    /// What the answer says of it.
-    pub failure: Option<Text>,
-    /// Whether the last act came to its end.
-    pub goes_on: bool,
-    /// How many objects the acts made.
-    pub made: u32,
-    /// How many objects the acts ended.
-    pub finished: u32,
-}
-
-/// What the acts of a run have come to so far.
-#[derive(Debug, Drop)]
-pub struct Course {
-    /// The objects: with the session, and with what was said of the answer.
-    pub objects: PageObjects,
-    pub tally: Tally,
-}
-
-/// How far the acts of a run came.
-#[derive(Debug, Drop)]
-pub enum Way {
-    /// The reply to this call is needed.
-    Wants(AppCall),
-    /// They came so far, and nothing is needed.
-    On(Course),
-}
+use vb_value::{AppReply, Memory};
 
 /// Before any act.
 pub(crate) fn course_of(objects: PageObjects) -> Course
@@ -114,7 +82,7 @@ fn left_of(replies: &[AppReply], heard: usize) -> &[AppReply]
 }
 
 /// An act of a page's program.
-#[tactic(auto, unfolding(crate::specs::Acts::act))]
+#[tactic(auto, unfolding(asp_acts::specs::Acts::act))]
 pub(crate) fn act(
     alloc: Global,
     replies: &[AppReply],

@@ -1,8 +1,8 @@
 //! What an answer says of an act that failed.
 ghost use Rattle.std.specs.Prelude.{◌≡◌, ◌<◌, ◌++◌, codes};
 ghost use Rattle.vb_value.specs.Outcome.{Adds, Gives};
-ghost use Rattle.asp_run.specs.Failures as spec;
-ghost use Rattle.asp_run.specs.Lines as lines;
+ghost use Rattle.asp_acts.specs.Failures as spec;
+ghost use Rattle.asp_acts.specs.Lines as lines;
 
 use crate::text::{ascii, push_ascii};
 use asp_job::Fail;

@@ -4,7 +4,7 @@ ghost use Rattle.std.specs.Option.{option_copied};
 ghost use Rattle.asp_site.specs.Endings.{media_type_of};
 ghost use Rattle.vb_value.specs.Outcome.{Gives};
 ghost use Rattle.asp_response.specs.Fixed.{status_answer_of, not_allowed_of};
-ghost use Rattle.asp_run.specs.Pages as spec;
+ghost use Rattle.asp_acts.specs.Pages as spec;
 ghost use Rattle.asp_run.specs.Stands.{told_of};
 
 use crate::ended::Ended;

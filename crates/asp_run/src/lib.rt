@@ -1,4 +1,4 @@
-//! What a request's run does, and what runs it.
+//! What runs the jobs of a site, by what their runs mean.
 #![tactic(auto)]
 
 mod acting;
@@ -12,7 +12,6 @@ mod run;
 mod text;
 mod work;
 
-pub use course::{Course, Tally, Way};
 pub use ended::{Came, Ended};
 pub use plain::{NoStore, PlainRunner};
 pub use run::{At, PlainRun};

@@ -2,14 +2,15 @@
 ghost use Rattle.std.specs.Prelude.{◌≡◌, IfOk, None, Some, if◌then◌else◌};
 ghost use Rattle.std.specs.Option.{option_copied};
 ghost use Rattle.vb_value.specs.Outcome.{Gives};
-ghost use Rattle.asp_run.specs.Pages as spec;
+ghost use Rattle.asp_acts.specs.Pages as spec;
 ghost use Rattle.asp_run.specs.Stands.{outcome_of, told_of};
 
 use crate::acting::page_acts;
-use crate::course::{Course, Way, course_of};
+use crate::course::course_of;
 use crate::ended::{Came, Ended};
 use crate::file::{copy_kept, is_head, refused_work};
 use crate::run::PlainRun;
+use asp_acts::{Course, Way};
 use asp_job::{Request, Verb};
 use asp_objects::{HeldSession, PageObjects};
 use asp_response::Draft;

@@ -2,7 +2,7 @@
 ghost use Rattle.std.specs.Prelude.{◌≡◌, IsTrue, IfSome, IfOk, OnOk, None};
 ghost use Rattle.std.specs.Option.{option_copied};
 ghost use Rattle.asp_job.specs.Running.{IsBounded};
-ghost use Rattle.asp_run.specs.Running as spec;
+ghost use Rattle.asp_acts.specs.Running as spec;
 ghost use Rattle.asp_job.specs.Session.{IsSession};
 ghost use Rattle.asp_run.specs.Stands.{MayCome, outcome_of, told_of};
 
@@ -72,7 +72,7 @@ fn held(session: Option<SessionState>) -> Option<HeldSession>
 }
 
 impl Runner for PlainRunner {
-    ghost use Rattle.asp_run.specs.Running.{meaning_of};
+    ghost use Rattle.asp_acts.specs.Running.{meaning_of};
     ghost use Rattle.asp_run.specs.Stands.{Stands, phase_at};
     ghost use Rattle.asp_job.specs.Running.{Never};
 

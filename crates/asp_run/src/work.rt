@@ -2,18 +2,19 @@
 ghost use Rattle.std.specs.Prelude.{◌≡◌, IfOk, None, Some};
 ghost use Rattle.std.specs.Option.{option_copied};
 ghost use Rattle.vb_value.specs.Outcome.{Gives};
-ghost use Rattle.asp_run.specs.Pages.{request_work as request_work_of};
-ghost use Rattle.asp_run.specs.Events as events;
-ghost use Rattle.asp_run.specs.Running as spec;
+ghost use Rattle.asp_acts.specs.Pages.{request_work as request_work_of};
+ghost use Rattle.asp_acts.specs.Events as events;
+ghost use Rattle.asp_acts.specs.Running as spec;
 ghost use Rattle.asp_run.specs.Stands.{outcome_of, told_of};
 
 use crate::acting::event;
-use crate::course::{Course, Way, course_of};
+use crate::course::course_of;
 use crate::ended::{Came, Ended};
 use crate::file::{copy_kept, file_work, missing_work};
 use crate::page::{page_takes, page_work};
 use crate::run::PlainRun;
 use crate::text::ascii;
+use asp_acts::{Course, Way};
 use asp_job::{Job, Request, Verb, Work};
 use asp_objects::{HeldSession, PageObjects};
 use asp_site::{Found, Site, find};
@@ -139,7 +140,7 @@ fn is_keyed_request(site: &Site, request: &Request) -> bool
 }
 
 /// Whether a job has a session.
-#[tactic(auto, unfolding(crate::specs::Running::is_keyed))]
+#[tactic(auto, unfolding(asp_acts::specs::Running::is_keyed))]
 pub(crate) fn is_keyed(site: &Site, job: &Job) -> bool
     ensures { result ≡ spec.is_keyed site.now job.now }
 {

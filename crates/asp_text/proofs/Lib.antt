@@ -3,3 +3,4 @@ mod HtmlLaws
 mod PathLaws
 pub mod Places
 mod Segments
+mod Trimming

@@ -1,6 +1,7 @@
-//! Texts as the web writes them: HTML and URL coding, and the paths of requests.
+//! Texts as the web writes them: HTML and URL coding, blanks around a part of a field, and the paths of requests.
 #![tactic(auto)]
 
+mod blanks;
 mod html;
 mod laws;
 mod names;
@@ -8,6 +9,7 @@ mod path;
 mod segment;
 mod url;
 
+pub use blanks::trim_blanks;
 pub use html::html_encode;
 pub use laws::{html_reads_back, normal_paths_are_normal, normal_paths_stay, urls_read_back};
 pub use names::same_path;

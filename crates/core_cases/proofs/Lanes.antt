@@ -1,111 +1,74 @@
 -- The runs of other lanes stay while a lane makes a call.
-use Rattle.std.proofs.Common.{◌≡◌, ℕ, zero, suc, ◌+◌, ◌<◌, Bool, true, false, if◌then◌else◌, List, [], ◌∷◌, ◌++◌}
-use Rattle.std.proofs.Common.{length, get_or, reverse, refl, ap, sym, ◌∙◌, subst, append-nil, inl, inr, Option}
-use Rattle.std.proofs.Common.{Some, None, Result, Ok, Err, OnOk, OnErr, IsOk, IfSome, IfNone, nat_lt}
+use Rattle.std.proofs.Common.{◌≡◌, ℕ, zero, suc, ◌<◌, true, false, List, [], ◌∷◌, ◌++◌, length, get_or, reverse}
+use Rattle.std.proofs.Common.{refl, ap, sym, ◌∙◌, subst, append-nil, inl, inr, Option, Some, None, Result, Ok, Err}
+use Rattle.std.proofs.Common.{OnOk, OnErr, IsOk, IfSome, IfNone}
 use Rattle.std.proofs.lemmas.Bool.{cases_Bool, cases_eq}
 use Rattle.std.proofs.lemmas.List.{get_or-set_same, get_or-set_other, length-set}
+use Rattle.std.proofs.lemmas.List.Elements.{All-head, All-tail}
 use Rattle.std.proofs.lemmas.Grind.{get_or-set_at}
 use Rattle.std.proofs.Math.ListN.{set}
 use Rattle.vb_value.specs.declared.application.AppCall.{AppCall}
 use Rattle.asp_job.specs.declared.answer.Answer.{Answer}
 use Rattle.asp_job.specs.declared.entry.Entry.{Entry}
 use Rattle.asp_job.specs.declared.entry.What.{What}
-use Rattle.asp_job.specs.declared.entry.What.TheVariants.{Take, Halt, Tick, Stop}
-use Rattle.asp_job.specs.declared.job.Job.{Job}
-use Rattle.asp_job.specs.declared.job.Work.{Work}
+use Rattle.asp_job.specs.declared.entry.What.TheVariants.{Take, Halt}
 use Rattle.asp_job.specs.History.{call_entry, with_lane}
-use Rattle.asp_job.specs.Journal.{AreRight, IsValidJournal, past_after, queue_entries, with_owed, tick_entries, stop_entries}
-use Rattle.asp_job.specs.Journal.{admit_entries, admit_entry}
+use Rattle.asp_job.specs.Journal.{AreRight, IsValidJournal, past_after, stop_entries}
 use Rattle.asp_job.specs.Keys.{told}
 use Rattle.asp_job.specs.Rules.{Rules}
-use Rattle.asp_job.specs.Runs.{drawn, moment_of, is_stopping, is_halted}
+use Rattle.asp_job.specs.Runs.{is_stopping, is_halted}
 use Rattle.asp_job.specs.Told.{Told, Meaning}
-use Rattle.asp_job.specs.Turns.{IsRunning, owed}
-use Rattle.asp_core.specs.Kernel.{CoreView, RunView, IsHostOf, IsRunOf, StandsFor, called, grown, past_of}
+use Rattle.asp_core.specs.Kernel.{CoreView, RunView, IsHostOf, IsRunOf, called, grown, past_of}
 use Rattle.asp_core.specs.Kernel.{rules_of, wanted_by, HasNotFitFor}
-use Rattle.asp_core.specs.Laws.{AreOfOthers, RunStays}
+use Rattle.asp_core.specs.Laws.{AreOfLane, AreOfOthers}
 use Rattle.asp_core.specs.Standing.{stand_ins}
-use Rattle.asp_core.proofs.Same.{on_ok}
+use Rattle.asp_core.proofs.Bearing.{none_of, one_of, stop_of}
 use Rattle.asp_core.proofs.Kept.{past_of_more}
-use Rattle.asp_core.proofs.Staying.{stays_lane}
+use Rattle.asp_core.proofs.Moved.{of_others as still}
+use Rattle.asp_core.proofs.Same.{on_ok}
 use Rattle.core_cases.specs.Lanes.{IsDesk, IsFree, IsTaken, HasGone, AreNone}
-
--- ---- runs of other lanes
-
--- they stay in a journal with entries of others
-stays_journal : (m : Rules) (journal entries : List Entry) (lane r : ℕ) → AreRight m (reverse (journal ++ entries))
-    → IsRunning (reverse journal) lane r → AreOfOthers lane entries
-    → RunStays m (reverse journal) (reverse (journal ++ entries)) lane r
-stays_journal m journal entries lane r right running others =
-    let of = past_of_more journal entries in
-    let right' : AreRight m (past_after (reverse journal) entries) = subst (AreRight m) of right in
-    rw of (stays_lane m (reverse journal) entries lane r right' running others)
 
 -- ---- entries of a lane
 
--- each entry bears the lane
-abbrev pub AreOf : ℕ → List Entry → Type 0
-AreOf lane [] = Unit {0}
-AreOf lane (entry ∷ entries) = (entry.lane ≡ lane) × AreOf lane entries
-
-of_others : (lane other : ℕ) (entries : List Entry) → AreOf lane entries → (other ≡ lane → ⊥)
+-- they are of others for each other lane
+of_others : (lane other : ℕ) (entries : List Entry) → AreOfLane lane entries → (other ≡ lane → ⊥)
     → AreOfOthers other entries
 of_others lane other [] all apart = tt
 of_others lane other (entry ∷ entries) all apart =
-    (λ e. apart (sym e ∙ all.0), of_others lane other entries all.1 apart)
-
-append_of : (lane : ℕ) (xs ys : List Entry) → AreOf lane xs → AreOf lane ys → AreOf lane (xs ++ ys)
-append_of lane [] ys of_xs of_ys = of_ys
-append_of lane (x ∷ xs) ys of_xs of_ys = (of_xs.0, append_of lane xs ys of_xs.1 of_ys)
-
-queue_of : (lane run : ℕ) (list : List (Work × ℕ)) → AreOf lane (queue_entries lane run list)
-queue_of lane run [] = tt
-queue_of lane run (first ∷ rest) = (refl, queue_of lane (run + 1) rest)
-
-owed_of : (rules : Rules) (past : List Entry) (entry : Entry) → AreOf entry.lane (with_owed rules past entry)
-owed_of rules past entry = (refl, queue_of entry.lane (drawn (entry ∷ past) + 1) (owed rules (entry ∷ past)))
-
-if_of : (test : Bool) (lane : ℕ) (xs : List Entry) → AreOf lane xs → AreOf lane (if test then xs else [])
-if_of true lane xs of_xs = of_xs
-if_of false lane xs of_xs = tt
-
-pub tick_of : (rules : Rules) (past : List Entry) (lane moment : ℕ) → AreOf lane (tick_entries rules past lane moment)
-tick_of rules past lane moment =
-    if_of (nat_lt (moment_of past) moment) lane (with_owed rules past (with_lane lane (Tick moment)))
-    (owed_of rules past (with_lane lane (Tick moment)))
-
-pub admit_of : (rules : Rules) (past : List Entry) (lane : ℕ) (job : Job)
-    → AreOf lane (admit_entries rules past lane job)
-admit_of rules past lane job =
-    append_of lane (tick_entries rules past lane job.moment)
-    (admit_entry rules (past_after past (tick_entries rules past lane job.moment)) lane job ∷ [])
-    (tick_of rules past lane job.moment) (refl, tt)
+    let bears = λ (one : Entry). one.lane ≡ lane in (
+      λ e. apart (sym e ∙ All-head bears entry entries all),
+      of_others lane other entries (All-tail bears entry entries all) apart,
+    )
 
 -- ---- what a call leaves of a core
 
 -- the core has entries of the lane more, or none
 pub record HasGrown {R Site : Type 0} (lane : ℕ) (old new : CoreView R Site) : Type 0 where
   pub entries : List Entry
-  pub of_lane : AreOf lane entries
+  pub of_lane : AreOfLane lane entries
   pub new_is : new ≡ grown old entries
 
 grown_none : {R Site : Type 0} → (core : CoreView R Site) → grown core [] ≡ core
 grown_none core =
-    ap (λ journal. record { journal = journal; runner = core.runner; site = core.site; seed = core.seed })
+    ap (λ journal. record { journal = journal; runner = core.runner; site = core.site; setting = core.setting })
     (append-nil core.journal)
 
 pub same_grown : {R Site : Type 0} → (lane : ℕ) (old new : CoreView R Site) → new ≡ old → HasGrown lane old new
-same_grown lane old new same = record { entries = []; of_lane = tt; new_is = same ∙ sym (grown_none old) }
+same_grown lane old new same = record { entries = []; of_lane = none_of lane; new_is = same ∙ sym (grown_none old) }
 
 pub ok_grown : {T E R Site : Type 0} → (result : Result T E) (lane : ℕ) (old new : CoreView R Site)
-    (entries : List Entry) → AreOf lane entries → OnOk result (new ≡ grown old entries) → OnErr result (new ≡ old)
+    (entries : List Entry) → AreOfLane lane entries → OnOk result (new ≡ grown old entries) → OnErr result (new ≡ old)
     → HasGrown lane old new
 ok_grown (Ok done) lane old new entries of_lane ok err = record { entries = entries; of_lane = of_lane; new_is = ok }
 ok_grown (Err stop) lane old new entries of_lane ok err = same_grown lane old new err
 
 pub one_grown : {R Site : Type 0} → (lane : ℕ) (old new : CoreView R Site) (what : What)
     → new ≡ grown old (with_lane lane what ∷ []) → HasGrown lane old new
-one_grown lane old new what e = record { entries = with_lane lane what ∷ []; of_lane = (refl, tt); new_is = e }
+one_grown lane old new what e = record {
+  entries = with_lane lane what ∷ [];
+  of_lane = one_of lane (with_lane lane what) refl;
+  new_is = e;
+}
 
 pub halt_grown : {R Site : Type 0} → (lane : ℕ) (old new : CoreView R Site)
     → (is_halted (past_of old) ≡ false → new ≡ grown old (with_lane lane Halt ∷ []))
@@ -121,7 +84,7 @@ pub stop_grown : {T E R Site : Type 0} → (result : Result T E) (rules : Rules)
 stop_grown result rules lane old new ok again err = elim (cases_Bool (is_stopping (past_of old))) [
   | inl stopped ↦ same_grown lane old new (again stopped).1
   | inr going ↦ ok_grown result lane old new (stop_entries rules (past_of old) lane)
-      (owed_of rules (past_of old) (with_lane lane Stop)) (on_ok result _ _ (λ made. made going) ok) err
+      (stop_of rules (past_of old) lane) (on_ok result _ _ (λ made. made going) ok) err
 ]
 
 pub first_grown : {R Site : Type 0} → (told : Option (ℕ × Answer)) (lane : ℕ) (old new : CoreView R Site)
@@ -131,15 +94,19 @@ first_grown None lane old new some none = same_grown lane old new none
 first_grown (Some given) lane old new some none = one_grown lane old new (Take given.0) some
 
 wanted_of : {R Site : Type 0} → (core : CoreView R Site) (lane run : ℕ) (wanted : Option AppCall)
-    → AreOf lane (elim wanted [ Some call ↦ call_entry (past_of core) lane run call ∷ [] | None ↦ [] ])
-wanted_of core lane run None = tt
-wanted_of core lane run (Some call) = (refl, tt)
+    → AreOfLane lane (elim wanted [ Some call ↦ call_entry (past_of core) lane run call ∷ [] | None ↦ [] ])
+wanted_of core lane run None = none_of lane
+wanted_of core lane run (Some call) = one_of lane (call_entry (past_of core) lane run call) refl
 
 pub called_of : {R Site State : Type 0} → (core : CoreView R Site) (lane : ℕ) (run : RunView State)
-    → AreOf lane (called core lane run)
+    → AreOfLane lane (called core lane run)
 called_of core lane run = wanted_of core lane run.number (wanted_by run.progress)
 
 -- ---- the runs of lanes
+
+right_after : (rules : Rules) (journal entries : List Entry) → IsValidJournal rules (reverse (journal ++ entries))
+    → AreRight rules (past_after (reverse journal) entries)
+right_after rules journal entries valid = subst (AreRight rules) (past_of_more journal entries) valid.entries
 
 -- a list to which None is added still has none
 pub none_more : {A : Type 0} → (xs : List (Option A)) → ((i : ℕ) → get_or xs i None ≡ None) → (i : ℕ)
@@ -155,23 +122,9 @@ gone : {State : Type 0} → (runs : List (Option (RunView State))) (lane : ℕ) 
 gone runs lane within = get_or-set_same runs lane None None within
 
 module _ {R Site State : Type 0} (meaning : R → Site → Meaning) (stands : R → Site → State → Told → ℕ → Type 0) where
-  -- a run of another lane stays one of the core's
-  run_stays : (core : CoreView R Site) (entries : List Entry) (lane : ℕ) (run : RunView State)
-      → IsValidJournal (rules_of meaning core) (reverse (core.journal ++ entries)) → AreOfOthers lane entries
-      → IsRunOf meaning stands core lane run → IsRunOf meaning stands (grown core entries) lane run
-  run_stays core entries lane run valid others one =
-      let still = stays_journal (rules_of meaning core) core.journal entries lane run.number valid.entries one.running
-      others in
-      record {
-        running = still.running;
-        stands_for = subst (λ t. StandsFor (stands core.runner core.site) (meaning core.runner core.site) run t)
-            (sym still.same) one.stands_for;
-        stand_ins_are = one.stand_ins_are ∙ ap (λ (t : Told). stand_ins t.job.work) (sym still.same);
-      }
-
   grown_desk : (core : CoreView R Site) (entries : List Entry) (lane : ℕ) (runner : R) (site : Site)
       (runs : List (Option (RunView State)))
-      → IsValidJournal (rules_of meaning (grown core entries)) (past_of (grown core entries)) → AreOf lane entries
+      → IsValidJournal (rules_of meaning (grown core entries)) (past_of (grown core entries)) → AreOfLane lane entries
       → get_or runs lane None ≡ None → IsDesk meaning stands core runner site runs
       → IsDesk meaning stands (grown core entries) runner site runs
   grown_desk core entries lane runner site runs valid of_lane free desk =
@@ -180,8 +133,8 @@ module _ {R Site State : Type 0} (meaning : R → Site → Meaning) (stands : R 
         runs_are = λ other run at.
             let apart : other ≡ lane → ⊥ = λ same. (let moved : get_or runs other None ≡ get_or runs lane None =
             ap (λ n. get_or runs n None) same in cc) in
-            run_stays core entries other run valid (of_others lane other entries of_lane apart)
-            (desk.runs_are other run at);
+            still meaning stands core entries other run (right_after (rules_of meaning core) core.journal entries valid)
+            (desk.runs_are other run at) (of_others lane other entries of_lane apart);
       }
 
   -- a call of a lane that has no run under way leaves each lane's run

@@ -131,7 +131,7 @@ where
     /// A new core with a seed of noughts, and no runs.
     pub fn new(alloc: Global, runner: R, site: R::Site) -> Result<Desk<R>, CaseStop> {
         let runs = no_runs(alloc)?;
-        let core = Core::new(alloc, 0, &runner, &site, [0; 32])?;
+        let core = Core::new(alloc, 0, &runner, &site, [0; 32], false)?;
         Ok(Desk {
             core,
             runner,

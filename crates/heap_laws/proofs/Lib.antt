@@ -3,3 +3,8 @@ pub mod Indices
 pub mod Reading
 pub mod Stored
 pub mod Sums
+pub mod Oldest
+pub mod Made
+pub mod Entries
+pub mod Keys
+pub mod Moves

@@ -7,11 +7,11 @@ use Rattle.vb_heap.specs.Counts.{count_of}
 use Rattle.vb_heap.specs.References.{object_references, references, references_to}
 use Rattle.heap_laws.specs.Laws.{ReferencesAddUp}
 
-count_both : (object : ℕ) (numbers others : List ℕ)
+pub count_both : (object : ℕ) (numbers others : List ℕ)
     → count_of object (numbers ++ others) ≡ count_of object numbers + count_of object others
 count_both object numbers others = sum_by-append (λ other. cond (other == object) 1 0) numbers others
 
-counted : {T : Type 0} (object : ℕ) (part : T → List ℕ) (things : List T)
+pub counted : {T : Type 0} (object : ℕ) (part : T → List ℕ) (things : List T)
     → count_of object (flat_map part things) ≡ sum_by (λ thing. count_of object (part thing)) things
 counted object part [] = refl
 counted object part (thing ∷ things) =

@@ -1,1 +1,4 @@
 pub mod Laws
+pub mod Objects
+pub mod Dictionaries
+pub mod Moves

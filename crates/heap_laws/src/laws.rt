@@ -1,5 +1,9 @@
 //! Laws of the data of a page. The functions do nothing: their contracts are the laws.
 ghost use Rattle.heap_laws.specs.Laws.{OthersStay, ReferencesAddUp, StoredIsRead};
+ghost use Rattle.heap_laws.specs.Moves.{DroppedCellRefers, HeldRefers, LetGoRefers, NewCellRefers, NewObjectRefers};
+ghost use Rattle.heap_laws.specs.Moves.{NewTableRefers, StoredRefers};
+ghost use Rattle.heap_laws.specs.Objects.{ArrayRefersByItems, EndedIsLoose, LastIsOldest, NoneIsLive, NoneIsLoose};
+ghost use Rattle.heap_laws.specs.Objects.{NumbersAreNew, ObjectRefersToItself, OlderAreHeld, OthersReferToNone};
 
 /// What is stored at a place is read there.
 pub fn stored_is_read()
@@ -15,4 +19,41 @@ pub fn others_stay()
 /// The references to an object are those in each cell, in each dictionary, and held.
 pub fn references_add_up()
     ensures { ReferencesAddUp }
+{}
+
+/// An object that a release point ends has no reference, and each live object of a smaller number has one. Where it ends
+/// none, each live object has one.
+pub fn loose_objects_end()
+    ensures ended { EndedIsLoose }
+    ensures older { OlderAreHeld }
+    ensures none { NoneIsLoose }
+{}
+
+/// The page's end ends the oldest live object, until none is live.
+pub fn oldest_ends_first()
+    ensures older { LastIsOldest }
+    ensures none { NoneIsLive }
+{}
+
+/// An object refers to itself, an array to what its items refer to, in their order, and every other value to nothing.
+pub fn references_of_values()
+    ensures object { ObjectRefersToItself }
+    ensures array { ArrayRefersByItems }
+    ensures others { OthersReferToNone }
+{}
+
+/// The number of a new object is one that no object had.
+pub fn numbers_are_new()
+    ensures { NumbersAreNew }
+{}
+
+/// After a call the references to an object are those before, less what went and with what came.
+pub fn references_move()
+    ensures new_cell { NewCellRefers }
+    ensures dropped_cell { DroppedCellRefers }
+    ensures stored { StoredRefers }
+    ensures held { HeldRefers }
+    ensures let_go { LetGoRefers }
+    ensures new_object { NewObjectRefers }
+    ensures new_table { NewTableRefers }
 {}

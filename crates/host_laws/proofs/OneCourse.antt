@@ -44,9 +44,9 @@ module _ (rules : Rules) where
       → IsWithin (call_entry past 0 run call ∷ past) → IsStuck run past → ⊥
   not_stuck run past call wants within (inl ends) = let both : Wants call ≡ Ends ends.0 = sym wants ∙ ends.1 in cc
   not_stuck run past call wants within (inr (entries, weight, much)) =
-      let same : much.0 ≡ call = one_call much.0 call (sym much.1 ∙ wants) in
+      let same : much.call ≡ call = one_call much.call call (sym much.wants ∙ wants) in
       no_room (call_entry past 0 run call ∷ past) entries weight within
-      (subst (λ some. IsTooMuch (call_entry past 0 run some ∷ past) entries weight) same much.2)
+      (subst (λ some. IsTooMuch (call_entry past 0 run some ∷ past) entries weight) same much.much)
 
   -- the calls of a run lead to one place where it is stuck
   one_place : (run n k : ℕ) (from mid other : List Entry) → Calls rules run n from mid → Calls rules run k from other
@@ -96,7 +96,7 @@ module _ (rules : Rules) where
       let ends : rules.meaning.does (told rules other number) ≡ Ends is.ends.0 =
       subst (λ some. rules.meaning.does (told rules some number) ≡ Ends is.ends.0) same.1
       (subst (λ some. rules.meaning.does (told rules is.mid some) ≡ Ends is.ends.0) same.0 is.ends.1) in
-      let both : Wants much.0 ≡ Ends is.ends.0 = sym much.1 ∙ ends in
+      let both : Wants much.call ≡ Ends is.ends.0 = sym much.wants ∙ ends in
       cc
 
   pub one_much : (from : List Entry) (entries weight count total : ℕ) → IsRunTooMuch rules from entries weight
@@ -115,6 +115,6 @@ module _ (rules : Rules) where
       let here : IsCallTooMuch rules mid 0 run count total =
       subst (λ some. IsCallTooMuch rules some 0 run count total) (sym same.1)
       (subst (λ some. IsCallTooMuch rules other 0 some count total) (sym same.0) also) in
-      let call : here.0 ≡ much.0 = one_call here.0 much.0 (sym here.1 ∙ much.1) in
-      one_load (call_entry mid 0 run much.0 ∷ mid) entries weight count total much.2
-      (subst (λ some. IsTooMuch (call_entry mid 0 run some ∷ mid) count total) call here.2)
+      let call : here.call ≡ much.call = one_call here.call much.call (sym here.wants ∙ much.wants) in
+      one_load (call_entry mid 0 run much.call ∷ mid) entries weight count total much.much
+      (subst (λ some. IsTooMuch (call_entry mid 0 run some ∷ mid) count total) call here.much)

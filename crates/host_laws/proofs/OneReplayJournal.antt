@@ -6,8 +6,8 @@ use Rattle.asp_host.specs.Replay.{ReplaysAll, rules_for}
 use Rattle.asp_io.specs.Sink.{with_bytes}
 use Rattle.asp_record.specs.declared.recording.Recording.{Recording}
 use Rattle.asp_record.specs.EntryLines.{printed}
-use Rattle.asp_replay.specs.Feeding.{IsFed}
-use Rattle.asp_replay.specs.Shown.{IsOutput}
+use Rattle.asp_feed.specs.Feeding.{IsFed}
+use Rattle.asp_feed.specs.Shown.{IsOutput}
 use Rattle.replay_laws.specs.Laws.{OneJournal}
 use Rattle.host_laws.specs.Laws.{TellsOutput}
 use Rattle.host_laws.proofs.OneReplayOutput.{same_recording}

@@ -181,11 +181,9 @@ module _ (sites : OneSite) (faultless : SiteOrFault) where
     -- a recording that is told is not refused
     recording_stands : (bytes : List ℕ) (recording : Recording) (offset : ℕ) → Stands bytes recording (length bytes)
         → IsSourceRefusedAt bytes offset → ⊥
-    recording_stands bytes recording offset stands (inl behind) =
-        absurd (let short : length bytes ≤ 67108864 = stands.short in omega (arith, short, behind.0))
-    recording_stands bytes recording offset stands (inr (short, inl refused)) =
+    recording_stands bytes recording offset stands (inl refused) =
         not_refused bytes recording (length bytes) offset stands refused
-    recording_stands bytes recording offset stands (inr (short, inr (other, also, more))) =
+    recording_stands bytes recording offset stands (inr (other, also, more)) =
         let ends = (recordings bytes recording other (length bytes) offset stands also).1 in
         absurd (omega (arith, ends, more))
 

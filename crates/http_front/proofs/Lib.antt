@@ -4,8 +4,7 @@ mod Fronts
 mod HeaderFields
 mod Marks
 mod OpenTargets
-mod Shortest
+pub mod Shortest
 mod Streams
 mod Targets
-mod Trimming
 mod Utf8

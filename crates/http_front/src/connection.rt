@@ -4,7 +4,7 @@ ghost use Rattle.std.specs.List.{list_any, slice_split};
 ghost use Rattle.httparse.specs.Grammar.{trim_ows};
 ghost use Rattle.http_front.specs.Fields as spec;
 
-use crate::blanks::trim_blanks;
+use asp_text::trim_blanks;
 
 fn is_close(part: &[u8]) -> bool
     ensures { result ≡ spec.same_name (trim_ows part.now) (codes "close") }

@@ -1,7 +1,6 @@
 //! Requests from the bytes of a connection, however the bytes are cut (RFC 9112).
 #![tactic(auto)]
 
-mod blanks;
 mod connection;
 mod fields;
 mod found;
@@ -14,7 +13,6 @@ mod status;
 mod stream;
 mod target;
 
-pub use crate::blanks::trim_blanks;
 pub use crate::laws::{front_by_shortest, front_stays, one_front, one_stream, stream_of_join};
 pub use crate::reader::{Next, Reader};
 pub use crate::stream::{End, read_pieces, take_requests};

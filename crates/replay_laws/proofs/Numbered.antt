@@ -10,7 +10,7 @@ use Rattle.asp_job.specs.Rules.{Rules, TooManySessions}
 use Rattle.asp_job.specs.Runs.{job_of}
 use Rattle.asp_record.specs.EntryLines.{lines_in}
 use Rattle.asp_record.specs.Journal.{AreLines}
-use Rattle.asp_replay.specs.Shown.{Shown, shown_of, with_shown}
+use Rattle.asp_feed.specs.Shown.{Shown, shown_of, with_shown}
 use Rattle.replay_laws.proofs.Records.{AreNumbered}
 
 one_more : (shown : List Shown) (last : Shown) → AreNumbered shown → last.run < 2 ^ 64

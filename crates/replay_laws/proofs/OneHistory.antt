@@ -4,7 +4,7 @@ use Rattle.std.proofs.lemmas.Bool.{cases_lt}
 use Rattle.asp_job.specs.declared.entry.Entry.{Entry}
 use Rattle.asp_job.specs.Rules.{Rules}
 use Rattle.asp_record.specs.declared.recording.Item.{Item}
-use Rattle.asp_replay.specs.Feeding.{Clients}
+use Rattle.asp_feed.specs.Feeding.{Clients}
 use Rattle.asp_replay.specs.Sequential.{AreTurns, IsSequential, IsTurn, Place, first_place}
 use Rattle.replay_laws.proofs.OneJob.{OneFront}
 use Rattle.replay_laws.proofs.OneTurn.{IsOver, none_after, one_turn}

@@ -9,7 +9,7 @@ use Rattle.asp_job.specs.declared.job.Job.{Job}
 use Rattle.asp_job.specs.declared.job.Work.TheVariants.{Page}
 use Rattle.asp_job.specs.declared.request.Header.{Header}
 use Rattle.asp_job.specs.declared.request.Request.{Request}
-use Rattle.asp_replay.specs.Feeding.{Clients, IsJobOf, IsRequestOf, asked_by}
+use Rattle.asp_feed.specs.Feeding.{Clients, IsJobOf, IsRequestOf, asked_by}
 
 -- bytes give one thing first: the law of http_front
 abbrev pub OneFront : Type 0

@@ -7,7 +7,7 @@ use Rattle.asp_job.specs.History.{with_lane}
 use Rattle.asp_job.specs.Rules.{Rules}
 use Rattle.asp_record.specs.declared.recording.Item.{Item}
 use Rattle.asp_record.specs.EntryLines.{lines_in, printed}
-use Rattle.asp_replay.specs.Feeding.{comes, events_of}
+use Rattle.asp_feed.specs.Feeding.{comes, events_of}
 use Rattle.replay_laws.specs.Laws.{IsJournalOf}
 use Rattle.replay_laws.proofs.OneJob.{OneFront}
 use Rattle.replay_laws.proofs.Rebuilt.{all_rebuilt, bare, bare_entry, bare_job, is_rebuilt}

@@ -6,7 +6,7 @@ use Rattle.asp_job.specs.declared.answer.Answer.{Answer}
 use Rattle.asp_job.specs.declared.entry.Entry.{Entry}
 use Rattle.asp_job.specs.Rules.{Rules}
 use Rattle.asp_response.specs.AnswerText.{IsAnswerText, IsDateOf, answer_text}
-use Rattle.asp_replay.specs.Shown.{AreRecords, IsOutput, IsRecord, Shown, done_line, lines_of, record_text, shown_of}
+use Rattle.asp_feed.specs.Shown.{AreRecords, IsOutput, IsRecord, Shown, done_line, lines_of, record_text, shown_of}
 
 -- a moment has one date
 one_date : (moment : ℕ) (text other : List ℕ) → IsDateOf moment text → IsDateOf moment other → text ≡ other

@@ -4,7 +4,7 @@ use Rattle.asp_job.specs.Rules.{Rules}
 use Rattle.asp_record.specs.declared.recording.Item.{Item}
 use Rattle.asp_record.specs.declared.recording.Recording.{Recording}
 use Rattle.asp_record.specs.Recorded.{Stands}
-use Rattle.asp_replay.specs.Shown.{IsOutput}
+use Rattle.asp_feed.specs.Shown.{IsOutput}
 use Rattle.replay_laws.specs.Laws.{IsReplay, IsReplayOfBytes}
 use Rattle.replay_laws.proofs.OneHistory.{one_history}
 use Rattle.replay_laws.proofs.OneJob.{OneFront}

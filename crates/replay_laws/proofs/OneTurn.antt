@@ -9,7 +9,7 @@ use Rattle.asp_job.specs.Runs.{is_stopping}
 use Rattle.asp_record.specs.declared.recording.Item.{Item}
 use Rattle.asp_record.specs.declared.recording.Item.TheVariants as item
 use Rattle.asp_record.specs.Recorded as recorded
-use Rattle.asp_replay.specs.Feeding.{Clients, clients_after, is_calm}
+use Rattle.asp_feed.specs.Feeding.{Clients, clients_after, is_calm}
 use Rattle.asp_replay.specs.Sequential.{AddsItem, IsBusy, IsComing, IsStopping, IsTurn, IsWorking, Place, handed_out}
 use Rattle.asp_replay.specs.Sequential.{may_come}
 use Rattle.replay_laws.proofs.OneJob.{OneFront, one_job}

@@ -7,7 +7,7 @@ use Rattle.std.specs.Fmt.{decimal}
 use Rattle.std.specs.Str.Parse.{AllDigits}
 use Rattle.std.proofs.lemmas.Fmt.{decimal_injective, decimal_is_IsNumeral}
 use Rattle.std.proofs.lemmas.List.{append_cancel_left, drop_at, length-append}
-use Rattle.asp_replay.specs.Shown.{AreRecords, Shown, record_text}
+use Rattle.asp_feed.specs.Shown.{AreRecords, Shown, record_text}
 
 -- ---- one record
 

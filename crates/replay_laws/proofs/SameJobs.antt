@@ -5,7 +5,7 @@ use Rattle.asp_job.specs.declared.entry.What.TheVariants as entry
 use Rattle.asp_job.specs.declared.job.Job.{Job}
 use Rattle.asp_record.specs.declared.recording.Item.{Item}
 use Rattle.asp_record.specs.declared.recording.Item.TheVariants as item
-use Rattle.asp_replay.specs.Feeding.{AreItems, CameFrom, Clients, IsJobOf, clients_after, moment_by, tick_to}
+use Rattle.asp_feed.specs.Feeding.{AreItems, CameFrom, Clients, IsJobOf, clients_after, moment_by, tick_to}
 use Rattle.replay_laws.proofs.OneJob.{OneFront, one_job}
 use Rattle.replay_laws.proofs.Rebuilt.{bare}
 

@@ -7,7 +7,7 @@ use Rattle.asp_job.specs.declared.entry.Entry.{Entry}
 use Rattle.asp_job.specs.Rules.{Rules}
 use Rattle.asp_record.specs.EntryLines.{lines_in}
 use Rattle.asp_record.specs.Journal.{AreLines}
-use Rattle.asp_replay.specs.Shown.{IsOutput, done_line, lines_of, shown_of}
+use Rattle.asp_feed.specs.Shown.{IsOutput, done_line, lines_of, shown_of}
 use Rattle.replay_laws.proofs.LineTexts.{LinesAreOne, NoneRefused}
 use Rattle.replay_laws.proofs.Numbered.{are_numbered}
 use Rattle.replay_laws.proofs.Records.{HasNoRecord, same_tails}

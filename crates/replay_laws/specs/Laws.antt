@@ -8,9 +8,9 @@ use Rattle.asp_record.specs.declared.recording.Recording.{Recording}
 use Rattle.asp_record.specs.EntryLines.{lines_in, printed}
 use Rattle.asp_record.specs.Journal.{AreLines, HasNoLine}
 use Rattle.asp_record.specs.Recorded.{Stands}
-use Rattle.asp_replay.specs.Feeding.{IsFed}
+use Rattle.asp_feed.specs.Feeding.{IsFed}
 use Rattle.asp_replay.specs.Sequential.{IsSequential}
-use Rattle.asp_replay.specs.Shown.{IsOutput, lines_of}
+use Rattle.asp_feed.specs.Shown.{IsOutput, lines_of}
 
 -- two journals that are the history of one lane for the same items are the same
 abbrev pub OneHistory : Type 0

@@ -3,7 +3,7 @@ use Rattle.std.specs.List.{flat_map, find}
 use Rattle.std.specs.Option.{option_or}
 use Rattle.asp_job.specs.declared.request.Header.{Header}
 use Rattle.asp_core.specs.Cookie.{cookie_pieces, is_cookie}
-use Rattle.asp_core.proofs.Trimming.{find_more}
+use Rattle.asp_core.proofs.Finding.{find_more}
 use Rattle.asp_core.proofs.cookie.find_cookie.Goals as goal
 
 pub loop-header-preserved : goal.loop-header-preserved

@@ -9,14 +9,14 @@ use Rattle.asp_core.proofs.drawing.add_admission.Goals as goal
 
 pub push_reserved-requires-clause-fit : goal.push_reserved-requires-clause-fit
 push_reserved-requires-clause-fit g c =
-    let m = rules_by (g.R.Runner.meaning c.args.runner.now c.args.site.now) c.args.seed.now in
+    let m = rules_by (g.R.Runner.meaning c.args.runner.now c.args.site.now) c.args.setting.now in
     let past = reverse c.args.journal.now.items in
     subst (λ (what : What). IsFit past what) (sym c.admission_of-what.ensures)
     (drawn_fit m (session_at c.args.table.now) past 0 c.args.job)
 
 pub returns-clause-drawn : goal.returns-clause-drawn
 returns-clause-drawn g c =
-    let m = rules_by (g.R.Runner.meaning c.args.runner.now c.args.site.now) c.args.seed.now in
+    let m = rules_by (g.R.Runner.meaning c.args.runner.now c.args.site.now) c.args.setting.now in
     let past = reverse c.args.journal.now.items in
     let sessions = session_at c.args.table.now in
     let drawn = c.drawn_of-drawn.ensures in

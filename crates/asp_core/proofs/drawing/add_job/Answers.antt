@@ -16,7 +16,7 @@ use Rattle.asp_core.proofs.drawing.add_job.Goals as goal
 pub returns-in-Err-clause-full : goal.returns-in-Err-clause-full
 returns-in-Err-clause-full g c entries total e =
     let same : c.in-Err.stop ≡ JournalFull entries total = cc in
-    let m = rules_by (g.R.Runner.meaning c.args.runner.now c.args.site.now) c.args.seed.now in
+    let m = rules_by (g.R.Runner.meaning c.args.runner.now c.args.site.now) c.args.setting.now in
     let sessions = session_at c.args.table.now in
     let past = reverse c.args.journal.now.items in
     let count : c.len.result ≡ length c.args.more = grind (arith, common_steps) in
@@ -43,7 +43,7 @@ add_admission-requires-clause-few g c =
 
 pub returns-clause-entries : goal.returns-clause-entries
 returns-clause-entries g c =
-    let m = rules_by (g.R.Runner.meaning c.args.runner.now c.args.site.now) c.args.seed.now in
+    let m = rules_by (g.R.Runner.meaning c.args.runner.now c.args.site.now) c.args.setting.now in
     let sessions = session_at c.args.table.now in
     let mid = tick_added c.args.journal.now.items c.room_for.new.journal.items c.append_reserved.new.self.items
     c.args.more (tick_before sessions (reverse c.args.journal.now.items) c.args.lane c.args.job)
@@ -53,7 +53,7 @@ returns-clause-entries g c =
 
 pub returns-clause-drawn : goal.returns-clause-drawn
 returns-clause-drawn g c =
-    let m = rules_by (g.R.Runner.meaning c.args.runner.now c.args.site.now) c.args.seed.now in
+    let m = rules_by (g.R.Runner.meaning c.args.runner.now c.args.site.now) c.args.setting.now in
     let sessions = session_at c.args.table.now in
     let mid = tick_added c.args.journal.now.items c.room_for.new.journal.items c.append_reserved.new.self.items
     c.args.more (tick_before sessions (reverse c.args.journal.now.items) c.args.lane c.args.job)
@@ -64,7 +64,7 @@ returns-clause-drawn g c =
 
 pub returns-clause-within : goal.returns-clause-within
 returns-clause-within g c =
-    let m = rules_by (g.R.Runner.meaning c.args.runner.now c.args.site.now) c.args.seed.now in
+    let m = rules_by (g.R.Runner.meaning c.args.runner.now c.args.site.now) c.args.setting.now in
     let sessions = session_at c.args.table.now in
     let past = reverse c.args.journal.now.items in
     let mid = tick_added c.args.journal.now.items c.room_for.new.journal.items c.append_reserved.new.self.items
@@ -81,7 +81,7 @@ returns-clause-within g c =
 
 pub returns-clause-room : goal.returns-clause-room
 returns-clause-room g c =
-    let m = rules_by (g.R.Runner.meaning c.args.runner.now c.args.site.now) c.args.seed.now in
+    let m = rules_by (g.R.Runner.meaning c.args.runner.now c.args.site.now) c.args.setting.now in
     let sessions = session_at c.args.table.now in
     let past = reverse c.args.journal.now.items in
     let mid = tick_added c.args.journal.now.items c.room_for.new.journal.items c.append_reserved.new.self.items
@@ -99,7 +99,7 @@ returns-clause-room g c =
 
 pub returns-clause-answer_room : goal.returns-clause-answer_room
 returns-clause-answer_room g c =
-    let m = rules_by (g.R.Runner.meaning c.args.runner.now c.args.site.now) c.args.seed.now in
+    let m = rules_by (g.R.Runner.meaning c.args.runner.now c.args.site.now) c.args.setting.now in
     let sessions = session_at c.args.table.now in
     let mid = tick_added c.args.journal.now.items c.room_for.new.journal.items c.append_reserved.new.self.items
     c.args.more (tick_before sessions (reverse c.args.journal.now.items) c.args.lane c.args.job)

@@ -8,7 +8,7 @@ use Rattle.asp_core.proofs.events.with_job.Goals as goal
 
 pub returns-in-Ok-prepared-clause-entries : goal.returns-in-Ok-prepared-clause-entries
 returns-in-Ok-prepared-clause-entries g c =
-    let m = rules_by (g.R.Runner.meaning c.args.runner.now c.args.site.now) c.args.seed.now in
+    let m = rules_by (g.R.Runner.meaning c.args.runner.now c.args.site.now) c.args.setting.now in
     let past = reverse c.args.journal.now.items in
     let made = job_made m past c.args.table.now c.args.lane c.in-Ok-prepared.job c.requires.sessions
     ∙ ap (admit_entries m past c.args.lane) c.in-Ok-prepared.ensures.job in
@@ -18,7 +18,7 @@ returns-in-Ok-prepared-clause-entries g c =
 
 pub returns-in-Ok-prepared-clause-drawn : goal.returns-in-Ok-prepared-clause-drawn
 returns-in-Ok-prepared-clause-drawn g c =
-    let m = rules_by (g.R.Runner.meaning c.args.runner.now c.args.site.now) c.args.seed.now in
+    let m = rules_by (g.R.Runner.meaning c.args.runner.now c.args.site.now) c.args.setting.now in
     let past = reverse c.args.journal.now.items in
     let made = job_entry m past c.args.table.now c.args.lane c.in-Ok-prepared.job c.requires.sessions
     ∙ ap (entry_then m past c.args.lane) c.in-Ok-prepared.ensures.job in
@@ -26,7 +26,7 @@ returns-in-Ok-prepared-clause-drawn g c =
 
 pub returns-in-Ok-prepared-clause-full : goal.returns-in-Ok-prepared-clause-full
 returns-in-Ok-prepared-clause-full g c entries weight e =
-    let m = rules_by (g.R.Runner.meaning c.args.runner.now c.args.site.now) c.args.seed.now in
+    let m = rules_by (g.R.Runner.meaning c.args.runner.now c.args.site.now) c.args.setting.now in
     let past = reverse c.args.journal.now.items in
     let made = job_made m past c.args.table.now c.args.lane c.in-Ok-prepared.job c.requires.sessions
     ∙ ap (admit_entries m past c.args.lane) c.in-Ok-prepared.ensures.job in

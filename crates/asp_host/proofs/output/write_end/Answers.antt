@@ -4,7 +4,7 @@ use Rattle.asp_core.specs.Ready.{IsAnswered}
 use Rattle.asp_io.specs.Sink.{with_bytes}
 use Rattle.asp_job.specs.declared.entry.Entry.{Entry}
 use Rattle.asp_record.specs.Ranged.{AreRanged}
-use Rattle.asp_replay.specs.Shown.{done_line, lines_of, shown_of}
+use Rattle.asp_feed.specs.Shown.{done_line, lines_of, shown_of}
 use Rattle.asp_replay.specs.Underway.{WritesText}
 use Rattle.asp_replay.proofs.Ranged.{ranged_reverse}
 use Rattle.asp_host.proofs.Outputs.{on_ok, text_then}

@@ -1,6 +1,7 @@
+use Rattle.std.specs.Prelude.{false}
 use Rattle.std.proofs.Common.{subst, sym}
 use Rattle.std.proofs.lemmas.Result.{err_from_is_err_and}
-use Rattle.asp_core.specs.Kernel.{rules_by}
+use Rattle.asp_core.specs.Kernel.{rules_by, setting_of}
 use Rattle.asp_replay.specs.declared.stop.FeedStop.TheVariants.{WriteFault}
 use Rattle.asp_host.specs.Replayed.{HasStopped}
 use Rattle.asp_host.proofs.Causes.{cause_after}
@@ -9,7 +10,8 @@ use Rattle.asp_host.proofs.output.write_replay.Goals as goal
 
 pub returns-in_err-core-clause-err : goal.returns-in_err-core-clause-err
 returns-in_err-core-clause-err g c =
-    let m = rules_by (g.R.Runner.meaning c.args.runner.now c.args.site.now) c.args.recording.now.seed in
+    let m = rules_by (g.R.Runner.meaning c.args.runner.now c.args.site.now)
+    (setting_of c.args.recording.now.seed false) in
     let items = c.args.recording.now.items in
     let before = g.K.Sink.held c.args.sink.now in
     let after = g.K.Sink.held c.feed.new.sink in
@@ -19,7 +21,8 @@ returns-in_err-core-clause-err g c =
 
 pub returns-clause-ok : goal.returns-clause-ok
 returns-clause-ok g c =
-    replay_ok g.R.Runner.meaning c.in_ok-core.core c.args.runner.now c.args.site.now c.args.recording.now.seed
+    replay_ok g.R.Runner.meaning c.in_ok-core.core c.args.runner.now c.args.site.now
+    (setting_of c.args.recording.now.seed false)
     c.args.recording.now.items c.args.journal (g.K.Sink.held c.args.sink.now) (g.K.Sink.held c.feed.new.sink)
     (g.K.Sink.held c.write_end-written.new.sink) c.write_end-written.result
     c.in_ok-core.ensures.core c.write_end-written.ensures.valid
@@ -27,7 +30,8 @@ returns-clause-ok g c =
 
 pub returns-clause-err : goal.returns-clause-err
 returns-clause-err g c =
-    replay_err g.R.Runner.meaning c.in_ok-core.core c.args.runner.now c.args.site.now c.args.recording.now.seed
+    replay_err g.R.Runner.meaning c.in_ok-core.core c.args.runner.now c.args.site.now
+    (setting_of c.args.recording.now.seed false)
     c.args.recording.now.items c.args.journal (g.K.Sink.held c.args.sink.now) (g.K.Sink.held c.feed.new.sink)
     (g.K.Sink.held c.write_end-written.new.sink) c.write_end-written.result
     c.in_ok-core.ensures.core c.write_end-written.ensures.valid

@@ -1,4 +1,5 @@
-use Rattle.asp_core.specs.Kernel.{rules_by}
+use Rattle.std.specs.Prelude.{false}
+use Rattle.asp_core.specs.Kernel.{rules_by, setting_of}
 use Rattle.asp_host.specs.Gen.{IsSumStop}
 use Rattle.asp_host.proofs.Causes.{handed_on}
 use Rattle.asp_host.proofs.Summed.{no_cause, sum_err, sum_ok, sum_stopped}
@@ -6,7 +7,8 @@ use Rattle.asp_host.proofs.summing.write_generated.Goals as goal
 
 pub returns-in_err-core-clause-err : goal.returns-in_err-core-clause-err
 returns-in_err-core-clause-err g c =
-    let rules = rules_by (g.R.Runner.meaning c.args.runner.now c.args.site.now) c.args.recording.now.seed in
+    let rules = rules_by (g.R.Runner.meaning c.args.runner.now c.args.site.now)
+    (setting_of c.args.recording.now.seed false) in
     let items = c.args.recording.now.items in
     let held = g.K.Sink.held c.args.sink.now in
     let ended = c.in_err-core.field-0.0 in
@@ -22,7 +24,8 @@ returns-in_err-core-clause-cause g c =
 
 pub returns-clause-ok : goal.returns-clause-ok
 returns-clause-ok g c =
-    sum_ok g.R.Runner.meaning c.in_ok-core.core c.args.runner.now c.args.site.now c.args.recording.now.seed
+    sum_ok g.R.Runner.meaning c.in_ok-core.core c.args.runner.now c.args.site.now
+    (setting_of c.args.recording.now.seed false)
     c.args.recording.now.items c.args.count c.args.journal (g.K.Sink.held c.args.sink.now)
     (g.K.Sink.held c.write_summary-written.new.sink) c.write_summary-written.result
     c.in_ok-core.ensures.core c.write_summary-written.ensures.valid
@@ -30,7 +33,8 @@ returns-clause-ok g c =
 
 pub returns-clause-err : goal.returns-clause-err
 returns-clause-err g c =
-    sum_err g.R.Runner.meaning c.in_ok-core.core c.args.runner.now c.args.site.now c.args.recording.now.seed
+    sum_err g.R.Runner.meaning c.in_ok-core.core c.args.runner.now c.args.site.now
+    (setting_of c.args.recording.now.seed false)
     c.args.recording.now.items c.args.count c.args.journal (g.K.Sink.held c.args.sink.now)
     (g.K.Sink.held c.write_summary-written.new.sink) c.write_summary-written.result
     c.in_ok-core.ensures.core c.write_summary-written.ensures.valid

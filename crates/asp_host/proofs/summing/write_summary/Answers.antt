@@ -3,7 +3,7 @@ use Rattle.std.specs.String.{string_bytes}
 use Rattle.asp_core.specs.Kernel.{past_of}
 use Rattle.asp_io.specs.Sink.{with_bytes}
 use Rattle.asp_job.specs.declared.entry.Entry.{Entry}
-use Rattle.asp_replay.specs.Shown.{lines_of}
+use Rattle.asp_feed.specs.Shown.{lines_of}
 use Rattle.asp_replay.specs.Underway.{WritesText}
 use Rattle.asp_summary.specs.Counted.{summary_of}
 use Rattle.asp_summary.specs.Lines.{summary_lines}

@@ -13,9 +13,12 @@ unreachable-requires g c =
 pub returns-in-Ok : goal.returns-in-Ok
 returns-in-Ok g c =
     let wants = some_is (wanted_by c.args.run.progress) c.requires.wants in
-    called_turn g.R.Runner.meaning g.R.Runner.stands c.args.lane c.args.core.now c.app_step.new.self c.args.run
-    c.app_step.new.run wants.0 c.requires.hand wants.1 c.in-Ok.ensures.ok c.in-Ok.ensures.run
-    c.in-Ok.ensures.going.0 c.in-Ok.ensures.going.1
+    record {
+      turn = called_turn g.R.Runner.meaning g.R.Runner.stands c.args.lane c.args.core.now c.app_step.new.self
+          c.args.run c.app_step.new.run wants.0 c.requires.hand wants.1 c.in-Ok.ensures.ok c.in-Ok.ensures.run
+          c.in-Ok.ensures.going.0 c.in-Ok.ensures.going.1;
+      made = λ e. absurd cc;
+    }
 
 pub returns-in-Err-JournalFull : goal.returns-in-Err-JournalFull
 returns-in-Err-JournalFull g c =
@@ -24,13 +27,19 @@ returns-in-Err-JournalFull g c =
     let weight = c.in-Err-JournalFull.weight in
     let same = c.in-Err-JournalFull.ensures.err in
     let ended = rw (same.0, same.1) at c.end-store.ensures in
-    full_turn g.R.Runner.meaning g.R.Runner.stands c.args.lane c.args.core.now c.end-store.new.self c.args.run wants.0
-    entries weight c.requires.valid c.requires.hand wants.1
-    (c.app_step.ensures.full entries weight (c.in-Err-JournalFull.is ∙ ap Err c.in-Err-JournalFull.field-0-is)) ended
+    record {
+      turn = full_turn g.R.Runner.meaning g.R.Runner.stands c.args.lane c.args.core.now c.end-store.new.self c.args.run
+          wants.0 entries weight c.requires.valid c.requires.hand wants.1 (c.app_step.ensures.full entries weight
+          (c.in-Err-JournalFull.is ∙ ap Err c.in-Err-JournalFull.field-0-is)) ended;
+      made = λ e. absurd cc;
+    }
 
 pub returns-in-Err-Memory : goal.returns-in-Err-Memory
 returns-in-Err-Memory g c =
     let same = c.in-Err-Memory.ensures.err in
     let ended = rw (same.0, same.1) at c.end-store-in-Err-Memory.ensures in
-    dead_turn g.R.Runner.meaning g.R.Runner.stands c.args.lane c.args.core.now c.end-store-in-Err-Memory.new.self
-    c.args.run c.requires.valid c.requires.hand ended
+    record {
+      turn = dead_turn g.R.Runner.meaning g.R.Runner.stands c.args.lane c.args.core.now
+          c.end-store-in-Err-Memory.new.self c.args.run c.requires.valid c.requires.hand ended;
+      made = λ e. absurd cc;
+    }

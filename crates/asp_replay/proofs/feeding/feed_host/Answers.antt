@@ -2,7 +2,7 @@ use Rattle.std.proofs.Common.{OnOk, ap, reverse, subst, sym}
 use Rattle.asp_core.specs.Kernel.{past_of, rules_of}
 use Rattle.asp_job.specs.Runs.{unfinished}
 use Rattle.asp_lane.specs.Started.{HasStarted}
-use Rattle.asp_replay.specs.Feeding.{events_of}
+use Rattle.asp_feed.specs.Feeding.{events_of}
 use Rattle.asp_replay.specs.Underway.{After, AfterAll}
 use Rattle.asp_replay.proofs.FirstPlace.{core_under}
 use Rattle.asp_replay.proofs.Starting.{grown_more, host_grown, rules_grown, under_rules}

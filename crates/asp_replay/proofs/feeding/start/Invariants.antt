@@ -3,7 +3,7 @@ use Rattle.asp_core.specs.Kernel.{grown, past_of, rules_of}
 use Rattle.asp_job.specs.declared.entry.Entry.{Entry}
 use Rattle.asp_lane.specs.Turns.{Fits, run_in}
 use Rattle.asp_record.specs.declared.recording.Item.{Item}
-use Rattle.asp_replay.specs.Feeding.{Clients, events_of}
+use Rattle.asp_feed.specs.Feeding.{Clients, events_of}
 use Rattle.asp_replay.specs.Underway.{IsUnderWay}
 use Rattle.asp_replay.proofs.feeding.start.Given as goal
 

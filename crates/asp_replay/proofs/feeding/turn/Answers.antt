@@ -1,7 +1,7 @@
 use Rattle.std.proofs.Common.{◌≡◌, ◌∷◌, [], false, subst, sym}
 use Rattle.asp_core.specs.Kernel.{past_of, rules_of}
 use Rattle.asp_record.specs.Recorded as recorded
-use Rattle.asp_replay.specs.Feeding.{is_calm}
+use Rattle.asp_feed.specs.Feeding.{is_calm}
 use Rattle.asp_replay.specs.Sequential.{IsBusy, may_come}
 use Rattle.asp_replay.specs.Underway.{After, IsUnderWay}
 use Rattle.asp_replay.proofs.OneTurn.{kept_out_busy, nothing_is, turn_back}

@@ -2,7 +2,7 @@ use Rattle.std.proofs.Common.{◌≡◌, ap, arith, sym, ◌∙◌}
 use Rattle.std.proofs.lemmas.Result.{err_from_is_err_and}
 use Rattle.asp_core.specs.Kernel.{past_of}
 use Rattle.asp_job.specs.Runs.{moment_of}
-use Rattle.asp_replay.specs.Shown.{Shown}
+use Rattle.asp_feed.specs.Shown.{Shown}
 use Rattle.asp_replay.proofs.HandedOut.{handed_all, handed_part}
 use Rattle.asp_replay.proofs.HandingOut.{handing_goes_on, handing_smaller, handing_starts, hands_one}
 use Rattle.asp_replay.proofs.Pieces.{with_none}

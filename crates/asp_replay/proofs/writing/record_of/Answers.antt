@@ -1,5 +1,5 @@
 use Rattle.std.proofs.Common.{◌∷◌, ◌++◌, [], length, ap, ◌∙◌}
-use Rattle.asp_replay.specs.Shown.{head_line}
+use Rattle.asp_feed.specs.Shown.{head_line}
 use Rattle.asp_replay.proofs.writing.record_of.Goals as goal
 
 pub returns : goal.returns

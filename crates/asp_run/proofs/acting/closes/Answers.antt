@@ -1,6 +1,6 @@
 use Rattle.std.proofs.Common.{◌∙◌, ℕ, List, Option, Some, ap, sym}
-use Rattle.asp_run.specs.declared.course.Way.{Way}
-use Rattle.asp_run.specs.Acts as spec
+use Rattle.asp_acts.specs.declared.course.Way.{Way}
+use Rattle.asp_acts.specs.Acts as spec
 use Rattle.asp_run.proofs.acting.closes.Goals as goal
 
 pub returns-in_ok-way-in-Ok : goal.returns-in_ok-way-in-Ok

@@ -1,7 +1,8 @@
 use Rattle.std.proofs.Common.{refl}
 use Rattle.asp_job.specs.Journal.{admit_entries}
 use Rattle.asp_core.specs.Kernel.{past_of, rules_of}
-use Rattle.core_cases.proofs.Lanes.{stays, ok_grown, admit_of}
+use Rattle.asp_core.proofs.Bearing.{admit_of}
+use Rattle.core_cases.proofs.Lanes.{stays, ok_grown}
 use Rattle.core_cases.proofs.desk.Desk.admit.Goals as goal
 
 pub invariant_of-self : goal.invariant_of-self

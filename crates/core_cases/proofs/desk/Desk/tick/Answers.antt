@@ -1,7 +1,8 @@
 use Rattle.std.proofs.Common.{refl}
 use Rattle.asp_job.specs.Journal.{tick_entries}
 use Rattle.asp_core.specs.Kernel.{past_of, rules_of}
-use Rattle.core_cases.proofs.Lanes.{stays, ok_grown, tick_of}
+use Rattle.asp_core.proofs.Bearing.{tick_of}
+use Rattle.core_cases.proofs.Lanes.{stays, ok_grown}
 use Rattle.core_cases.proofs.desk.Desk.tick.Goals as goal
 
 pub invariant_of-self : goal.invariant_of-self

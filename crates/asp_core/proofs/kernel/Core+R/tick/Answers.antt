@@ -1,0 +1,63 @@
+use Rattle.std.proofs.Common.{◌≡◌, ◌++◌, IfOk, reverse, ap, refl, subst, ◌∙◌, vec_capacity}
+use Rattle.asp_job.specs.Journal.{tick_entries, past_after}
+use Rattle.asp_core.specs.Kernel.{CoreView, rules_by, rules_of, past_of, grown, expired, IsTooMuch, IsKept}
+use Rattle.asp_job.specs.Keys.{session_of}
+use Rattle.asp_core.proofs.Failing.{fail_calm, fail_either}
+use Rattle.asp_core.proofs.Fits.{tick_calm}
+use Rattle.asp_core.proofs.Kept.{kept_after_tick}
+use Rattle.asp_core.proofs.Same.{kept_either, on_ok, view_of}
+use Rattle.asp_core.proofs.kernel.Core+R.tick.Goals as goal
+
+pub invariant_of-self : goal.invariant_of-self
+invariant_of-self g c =
+    let core = c.self.inside.kept in
+    let house = c.self.inside.house in
+    let m = rules_by (g.R.Runner.meaning house.runner.value house.site.value) house.setting in
+    let past = reverse core.journal.items in
+    let next = c.with_tick.new.journal.items in
+    let kept = on_ok c.with_tick.result (next ≡ core.journal.items ++ tick_entries m past c.args.lane c.args.moment)
+    (IsKept m (reverse next) core.table.items core.opened core.application core.answers.items)
+    (λ made. kept_after_tick m core.journal.items next core.table.items core.opened core.application core.answers.items
+    c.args.lane c.args.moment c.self.invariant.0 made) c.with_tick.ensures.entries in
+    let all = kept_either c.with_tick.result m core.journal.items next core.table.items core.opened core.application
+    core.answers.items c.with_tick.new.answers.items core.journal.capacity
+    c.with_tick.new.journal.capacity (vec_capacity core.answers) (vec_capacity c.with_tick.new.answers)
+    c.self.invariant.0 c.self.invariant.1 c.self.invariant.2 c.self.invariant.3 kept c.with_tick.ensures.within
+    c.with_tick.ensures.room c.with_tick.ensures.answer_room c.with_tick.ensures.err c.with_tick.ensures.capacity
+    c.with_tick.ensures.capacity_of_answers c.with_tick.ensures.answers in
+    let more = tick_entries m past c.args.lane c.args.moment in
+    let same = on_ok c.with_tick.result _ _ (λ made. fail_calm m core.journal.items next more made
+    (tick_calm (session_of m past) past more c.args.lane c.args.moment refl)) c.with_tick.ensures.entries in (
+      all.0,
+      all.1,
+      all.2,
+      all.3,
+      fail_either c.with_tick.result m core.journal.items next core.start_fail
+          c.self.invariant.4 same c.with_tick.ensures.err,
+    )
+
+pub returns-clause-ok : goal.returns-clause-ok
+returns-clause-ok g c =
+    let core = c.self.inside.kept in
+    let house = c.self.inside.house in
+    let m = rules_by (g.R.Runner.meaning house.runner.value house.site.value) house.setting in
+    let past = reverse core.journal.items in
+    let old = ap (λ (v : CoreView g.row.R.Denot g.row.R-Site.Denot). grown v
+    (tick_entries (rules_of g.R.Runner.meaning v) (past_of v) c.args.lane c.args.moment)) c.self.view_is in
+    on_ok c.with_tick.result (c.with_tick.new.journal.items ≡ core.journal.items ++ tick_entries m past c.args.lane
+    c.args.moment) _
+    (λ made. ap (λ items. view_of house.runner.value house.site.value house.setting items) made ∙ old)
+    c.with_tick.ensures.entries
+
+pub returns-clause-full : goal.returns-clause-full
+returns-clause-full g c entries weight e =
+    subst (λ (v : CoreView g.row.R.Denot g.row.R-Site.Denot). IsTooMuch
+    (past_after (past_of v) (tick_entries (rules_of g.R.Runner.meaning v) (past_of v) c.args.lane c.args.moment))
+    entries weight) c.self.view_is
+    (c.with_tick.ensures.full entries weight e)
+
+pub returns-clause-count : goal.returns-clause-count
+returns-clause-count g c =
+    subst (λ (v : CoreView g.row.R.Denot g.row.R-Site.Denot). IfOk c.with_tick.result
+    (λ count. count ≡ expired (rules_of g.R.Runner.meaning v) (past_of v) c.args.moment)) c.self.view_is
+    c.with_tick.ensures.count

@@ -1,0 +1,3 @@
+mod OneRequest
+mod Paths
+mod Small
