@@ -1,7 +1,8 @@
--- Lanes of a desk, in lists: of a new desk, and of one from which the last is taken.
-use Rattle.std.proofs.Common.{◌≡◌, refl, ℕ, List, [], ◌∷◌, ◌++◌, All, subst}
-use Rattle.std.proofs.lemmas.List.Elements.{All-map}
+-- Lanes of a desk, in lists: of a new desk, and of one from which the last is taken; and a turn that adds nothing.
+use Rattle.std.proofs.Common.{◌≡◌, refl, sym, ◌∙◌, ℕ, List, [], ◌∷◌, ◌++◌, All, append-nil, subst}
+use Rattle.std.proofs.lemmas.List.Elements.{All-map, All-nil}
 use Rattle.turn_desk.proofs.Gathering.{All-front, All-last}
+use Rattle.turn_desk.specs.Histories.{GrowsBy}
 use Rattle.turn_desk.specs.Shown.{DeskView, IsLaneOf, lane_view, new_lanes}
 use Rattle.turn_desk.specs.Steps.{fresh_lanes}
 
@@ -19,3 +20,9 @@ module _ {A : Type 0} (Fact : A → Type 0) where
   -- and so has the one that was taken
   pub taken : (whole items : List A) (last : A) → whole ≡ items ++ last ∷ [] → All Fact whole → Fact last
   taken whole items last is all = All-last Fact items last (subst (λ xs. All Fact xs) is all)
+
+-- a history that stays as it was has grown by no entry
+pub added_nothing : {E : Type 0} (lane_of : E → ℕ) (lane : ℕ) (before after : List E) → after ≡ before
+    → GrowsBy lane_of lane before after
+added_nothing lane_of lane before after same =
+    ([], same ∙ sym (append-nil before), All-nil (λ entry. lane_of entry ≡ lane))

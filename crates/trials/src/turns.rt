@@ -128,6 +128,19 @@ fn note<T, R: Wait>(rt: &R, desk: &Desk<Log<T>>, lane: Lane<Log<T>>, place: u32)
     turn.give()
 }
 
+/// A turn that adds nothing, and lasts so many rounds of a loop.
+#[tactic(auto, using(crate::proofs::Lanes::added_nothing))]
+fn empty_turn<T, R: Wait>(rt: &R, desk: &Desk<Log<T>>, lane: Lane<Log<T>>, rounds: u32) -> Lane<Log<T>>
+    requires { IsLaneOf desk.now lane }
+    ensures { IsLaneOf desk.now result × (result.number ≡ lane.number) }
+{
+    let turn = desk.take(rt, lane);
+    for _ in 0..rounds {
+        spin_loop();
+    }
+    turn.give()
+}
+
 /// So many turns of a lane. With `rests` every third of them adds nothing.
 fn notes<T, R: Wait>(
     rt: &R,
@@ -141,7 +154,7 @@ fn notes<T, R: Wait>(
 {
     for place in 0..turns {
         lane = if rests && place % 3 == 0 {
-            desk.take(rt, lane).give()
+            empty_turn(rt, desk, lane, 0)
         } else {
             note(rt, desk, lane, place)
         };
@@ -234,7 +247,7 @@ fn a_turn_that_changes_nothing(rt: HostRuntime) -> Result<(), Fail> {
     let (desk, mut lanes) = opened(rt.alloc(), 5u8, 1)?;
     let lane = popped(&desk, &mut lanes)?;
     let lane = note(&rt, &desk, lane, 3);
-    let lanes = pushed(&desk, lanes, desk.take(&rt, lane).give())?;
+    let lanes = pushed(&desk, lanes, empty_turn(&rt, &desk, lane, 0))?;
     let Ok(log) = desk.close(lanes) else {
         panic!(rt; "the lane is there")
     };
@@ -261,18 +274,6 @@ fn the_most_and_the_fewest_lanes(rt: HostRuntime) -> Result<(), Fail> {
     Ok(())
 }
 
-/// A turn that is so long that others sleep meanwhile, and that adds nothing.
-fn long_turn<T, R: Wait>(rt: &R, desk: &Desk<Log<T>>, lane: Lane<Log<T>>) -> Lane<Log<T>>
-    requires { IsLaneOf desk.now lane }
-    ensures { IsLaneOf desk.now result × (result.number ≡ lane.number) }
-{
-    let turn = desk.take(rt, lane);
-    for _ in 0..20_000_000u32 {
-        spin_loop();
-    }
-    turn.give()
-}
-
 /// Who sleeps gets its turn, though the turn before it added nothing.
 #[test]
 fn a_sleeper_gets_its_turn(rt: HostRuntime) -> Result<(), Fail> {
@@ -281,8 +282,8 @@ fn a_sleeper_gets_its_turn(rt: HostRuntime) -> Result<(), Fail> {
     let first = popped(&desk, &mut lanes)?;
     let (first, second) = join(
         &rt,
-        || long_turn(&rt, &desk, first),
-        || long_turn(&rt, &desk, second),
+        || empty_turn(&rt, &desk, first, 20_000_000),
+        || empty_turn(&rt, &desk, second, 20_000_000),
     );
     assert!(rt; first.number() == 0 && second.number() == 1);
     Ok(())
