@@ -130,7 +130,12 @@ fn note<T, R: Wait>(rt: &R, desk: &Desk<Log<T>>, lane: Lane<Log<T>>, place: u32)
 
 /// A turn that adds nothing, and lasts so many rounds of a loop.
 #[tactic(auto, using(crate::proofs::Lanes::added_nothing))]
-fn empty_turn<T, R: Wait>(rt: &R, desk: &Desk<Log<T>>, lane: Lane<Log<T>>, rounds: u32) -> Lane<Log<T>>
+fn empty_turn<T, R: Wait>(
+    rt: &R,
+    desk: &Desk<Log<T>>,
+    lane: Lane<Log<T>>,
+    rounds: u32,
+) -> Lane<Log<T>>
     requires { IsLaneOf desk.now lane }
     ensures { IsLaneOf desk.now result × (result.number ≡ lane.number) }
 {
