@@ -130,7 +130,12 @@ fn note<T, R: Wait>(rt: &R, desk: &Desk<Log<T>>, lane: Lane<Log<T>>, place: u32)
 
 /// A turn that adds nothing, and lasts so many rounds of a loop.
 #[tactic(auto, using(crate::proofs::Lanes::added_nothing))]
-fn empty_turn<T, R: Wait>(rt: &R, desk: &Desk<Log<T>>, lane: Lane<Log<T>>, rounds: u32) -> Lane<Log<T>>
+fn empty_turn<T, R: Wait>(
+    rt: &R,
+    desk: &Desk<Log<T>>,
+    lane: Lane<Log<T>>,
+    rounds: u32,
+) -> Lane<Log<T>>
     requires { IsLaneOf desk.now lane }
     ensures { IsLaneOf desk.now result × (result.number ≡ lane.number) }
 {
@@ -263,7 +268,7 @@ fn two_lanes_in_two_threads(rt: HostRuntime) -> Result<(), Fail> {
 
 #[test]
 fn sixteen_lanes_of_which_each_third_turn_adds_nothing(rt: HostRuntime) -> Result<(), Fail> {
-    assert!(rt; all_come_out(&rt, rt.alloc(), 16, 1_000, true)?);
+    assert!(rt; all_come_out(&rt, rt.alloc(), 16, 3_000, true)?);
     Ok(())
 }
 
