@@ -268,7 +268,7 @@ fn two_lanes_in_two_threads(rt: HostRuntime) -> Result<(), Fail> {
 
 #[test]
 fn sixteen_lanes_of_which_each_third_turn_adds_nothing(rt: HostRuntime) -> Result<(), Fail> {
-    assert!(rt; all_come_out(&rt, rt.alloc(), 16, 3_000, true)?);
+    assert!(rt; all_come_out(&rt, rt.alloc(), 16, 10_000, true)?);
     Ok(())
 }
 
