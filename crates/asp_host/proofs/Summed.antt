@@ -91,6 +91,7 @@ module _ {R Site : Type 0} (meaning : R → Site → Meaning) where
       → OnOk result (journal ≡ true → AreLines (lines_in (past_of core)))
       → OnOk result (HasSummedAll (rules_by (meaning runner site) setting) items count journal
       (record { before = held; after = after }))
+  unfolding summed
   sum_ok core runner site setting items count journal held after (Ok given) of valid whole wrote lines = record {
     output = all_lines count journal (past_of core);
     summed = summed core runner site setting items count journal of valid whole;

@@ -58,7 +58,8 @@ feed_items-fed-requires-clause-under g c =
 
 pub returns-in-Ok-clause-grows : goal.returns-in-Ok-clause-grows
 returns-in-Ok-clause-grows g c =
-    grown_more c.args.core.now c.start-hand.new.core c.feed_items-fed.new.core c.start-hand.ensures.grows c.feed_items-fed.ensures.grows
+    grown_more c.args.core.now c.start-hand.new.core c.feed_items-fed.new.core c.start-hand.ensures.grows
+    c.feed_items-fed.ensures.grows
 
 pub returns-in-Ok-clause-passed : goal.returns-in-Ok-clause-passed
 returns-in-Ok-clause-passed g c =
