@@ -3,5 +3,5 @@ mod Drafts
 mod Finishing
 mod Heads
 mod Lines
-mod Printable
+pub mod Printable
 mod Reasons

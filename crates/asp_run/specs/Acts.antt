@@ -1,6 +1,6 @@
 -- The acts of a run, one after another, over one session and one draft. Each takes the replies that those before it left.
 use Rattle.std.specs.Prelude.{ℕ, ◌+◌, ◌-◌, ◌^◌, min, Bool, true, false, if◌then◌else◌, List, codes, drop, position}
-use Rattle.std.specs.Prelude.{Option, Some, None}
+use Rattle.std.specs.Prelude.{◌≢◌, Option, Some, None, refl}
 use Rattle.std.specs.Option.{option_or}
 use Rattle.vb_value.specs.declared.application.AppReply.{AppReply}
 use Rattle.vb_value.specs.Folding.{same_name}
@@ -122,3 +122,8 @@ leaves site told course = if course.objects.is_abandoned then closes site told c
 -- the acts of a page
 unfoldable pub page_acts : Site → Told → Page → Course → Option Way
 page_acts site told page course = and_then (opens site told page course) (leaves site told)
+
+-- how far acts came that came somewhere: each act has an end or wants a call, by the law of this crate
+abbrev pub way_in : (found : Option Way) → found ≢ None → Way
+way_in (Some way) comes = way
+way_in None comes = absurd (comes refl)

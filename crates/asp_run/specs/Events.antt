@@ -11,7 +11,8 @@ use Rattle.asp_site.specs.declared.site.Site.{Site}
 use Rattle.asp_run.specs.declared.course.Course.{Course}
 use Rattle.asp_run.specs.declared.course.Way.{Way}
 use Rattle.asp_run.specs.declared.course.Way.TheVariants.{Wants as WantsReply, On}
-use Rattle.asp_run.specs.Acts.{course_of, event}
+use Rattle.asp_run.specs.Acts.{course_of, event, way_in}
+use Rattle.asp_run.proofs.Coming.{event_comes}
 
 -- what stands in the place of a request
 abbrev pub no_request : Request
@@ -43,18 +44,22 @@ event_ended session course = record {
 }
 
 -- what an event comes to, with the session that it leaves
-abbrev pub event_came : Option SessionState → Option Way → Outcome
-event_came session (Some (On course)) = Ends (event_ended session course)
-event_came session (Some (WantsReply call)) = Wants call
-event_came session None = Ends (without_acts session)
+abbrev pub event_came : Option SessionState → Way → Outcome
+event_came session (On course) = Ends (event_ended session course)
+event_came session (WantsReply call) = Wants call
+
+-- how far an event comes, with the objects that it is given
+abbrev pub event_way : Site → Told → List ℕ → PageObjects → Way
+event_way site told word objects = way_in (event told.replies site.events word (course_of objects))
+    (event_comes told.replies site.events word (course_of objects))
 
 -- an event of the application, which leaves its run's session as it was
 abbrev pub application_event : Site → Told → List ℕ → Outcome
 application_event site told word =
-    event_came told.session (event told.replies site.events word (course_of (event_objects None)))
+    event_came told.session (event_way site told word (event_objects None))
 
 -- the end of a session, which leaves none; without a session it has no act
 abbrev pub session_end : Site → Told → Option SessionState → Outcome
 session_end site told (Some session) =
-    event_came None (event told.replies site.events (codes "Session_OnEnd") (course_of (event_objects (Some session))))
+    event_came None (event_way site told (codes "Session_OnEnd") (event_objects (Some session)))
 session_end site told None = Ends (without_acts None)

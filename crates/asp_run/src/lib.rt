@@ -6,6 +6,7 @@ mod course;
 mod ended;
 mod failure;
 mod file;
+mod laws;
 mod page;
 mod plain;
 mod run;
@@ -14,5 +15,6 @@ mod work;
 
 pub use course::{Course, Tally, Way};
 pub use ended::{Came, Ended};
+pub use laws::{acts_come, objects_end_in_runs, runs_answer_sound};
 pub use plain::{NoStore, PlainRunner};
 pub use run::{At, PlainRun};
