@@ -6,3 +6,5 @@ pub mod Refusals
 pub mod OneReplayOutput
 pub mod OneReplayJournal
 pub mod OneGetOutput
+mod ObjectsEnd
+mod Heads
