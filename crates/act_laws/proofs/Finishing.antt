@@ -42,6 +42,7 @@ alone E host = record {
   other = host;
   now = λ env replies other others. ⊥;
   both_want = λ env replies other others. ⊥;
+  both_lack = λ env replies other others. ⊥;
   past = λ call other others. Unit {0};
 }
 
