@@ -1,18 +1,19 @@
 -- An act, in two environments side by side.
-use Rattle.std.proofs.Common.{◌≡◌, refl, List, [], Option, Some, None, slice_get}
+use Rattle.std.proofs.Common.{List, [], Option, Some, None, slice_get}
 use Rattle.vb_value.specs.declared.application.AppCall.{AppCall}
 use Rattle.vb_value.specs.declared.application.AppReply.{AppReply}
 use Rattle.vb_value.specs.declared.value.Value.{Value}
 use Rattle.vb_value.specs.Errors.{undefined_variable}
 use Rattle.vb_syntax.specs.declared.act.Act.{Act}
 use Rattle.vb_syntax.specs.declared.act.Act.TheVariants as act
+use Rattle.vb_syntax.specs.declared.act.ActDone.{ActDone}
 use Rattle.vb_syntax.specs.declared.act.ActEnd.{ActEnd}
 use Rattle.vb_syntax.specs.declared.act.ActEnd.TheVariants as end
 use Rattle.vb_syntax.specs.declared.member.Member.{Member}
 use Rattle.vb_syntax.specs.declared.program.Program.{Program}
 use Rattle.vb_syntax.specs.declared.program.unit.Procedure.{Procedure}
 use Rattle.vb_meaning.specs.declared.plain_end.PlainEnd.{PlainEnd}
-use Rattle.vb_meaning.specs.declared.plain_end.PlainEnd.TheVariants.{Wants}
+use Rattle.vb_meaning.specs.declared.plain_end.PlainEnd.TheVariants.{Wants, Ends as Ended}
 use Rattle.vb_meaning.specs.declared.stop.Stop.TheVariants as stop
 use Rattle.vb_meaning.specs.declared.world.World.{World}
 use Rattle.vb_meaning.specs.Acts as acts
@@ -22,7 +23,6 @@ use Rattle.vb_meaning.specs.Meaning.{most_levels}
 use Rattle.vb_meaning.specs.Releases.{settle_last, end_all}
 use Rattle.vb_meaning.specs.State.{State, on_world}
 use Rattle.vb_meaning.specs.Step.{Step, Returns, Ends, ◌>>◌}
-use Rattle.act_laws.specs.Calls.{wanted}
 use Rattle.act_laws.proofs.Calling.{block_fits}
 use Rattle.act_laws.proofs.Inside.{Inners, one, two, Same}
 use Rattle.act_laws.proofs.Joined.{Link, Alike, Joined, Past, gives, ends, gone, then_joined}
@@ -34,10 +34,16 @@ use Rattle.act_laws.proofs.Releasing.{settle_last_joined, end_all_joined}
 use Rattle.act_laws.proofs.Turning.{line_turns}
 use Rattle.act_laws.proofs.WantlessScopes.{page_begins_wantless}
 
+-- what an act says of itself that ended so in this world
+abbrev done_of : ActEnd → World → ActDone
+done_of how world = record { end = how; made = world.heap.objects_made; finished = world.finished }
+
 -- how an act ends in the one, and how in the other
 pub data ActsAlike (l : Link) : Option PlainEnd × l.E → Option PlainEnd × l.F → Type 0 where
-  both_end : (how : Option PlainEnd) → wanted how ≡ None → (env : l.E) (replies : List AppReply) (other_env : l.F)
-      (others : List AppReply) → l.now env replies other_env others → ActsAlike l (how, env) (how, other_env)
+  both_end : (done : ActDone) (env : l.E) (replies : List AppReply) (other_env : l.F) (others : List AppReply)
+      → l.now env replies other_env others → ActsAlike l (Some (Ended done), env) (Some (Ended done), other_env)
+  both_lack : (env : l.E) (replies : List AppReply) (other_env : l.F) (others : List AppReply)
+      → l.both_lack env replies other_env others → ActsAlike l (None, env) (None, other_env)
   both_want : (call : AppCall) (env : l.E) (replies : List AppReply) (other_env : l.F) (others : List AppReply)
       → l.both_want env replies other_env others
       → ActsAlike l (Some (Wants call), env) (Some (Wants call), other_env)
@@ -60,19 +66,17 @@ module _ (l : Link) (i : Inners l) where
       → Alike l first second
       → ActsAlike l (acts.closed l.E (one i) how first) (acts.closed l.F (two i) how second)
   closed_alike how _ _ (gives done world env replies other_env others now) =
-      both_end (Some (acts.done l.E (one i) how world)) refl env replies other_env others now
+      both_end (done_of how world) env replies other_env others now
   closed_alike how _ _ (ends (stop.Limit kind line) world env replies other_env others now) =
-      both_end (Some (acts.done l.E (one i) (end.Limit kind (acts.line_or_none line)) world)) refl
-      env replies other_env others now
+      both_end (done_of (end.Limit kind (acts.line_or_none line)) world) env replies other_env others now
   closed_alike how _ _ (ends (stop.Error what line) world env replies other_env others now) =
-      both_end (Some (acts.done l.E (one i) (acts.error_end (raised_by what) (acts.line_or_none line)) world)) refl
-      env replies other_env others now
+      both_end (done_of (acts.error_end (raised_by what) (acts.line_or_none line)) world) env replies other_env others now
   closed_alike how _ _ (ends stop.Page world env replies other_env others now) =
-      both_end (Some (acts.done l.E (one i) end.Stopped world)) refl env replies other_env others now
+      both_end (done_of end.Stopped world) env replies other_env others now
   closed_alike how _ _ (ends (stop.Wants call) world env replies other_env others want) =
       both_want call env replies other_env others want
   closed_alike how _ _ (ends stop.Memory world env replies other_env others now) =
-      both_end None refl env replies other_env others now
+      both_lack env replies other_env others now
   closed_alike how _ second (gone call s _ past) = one_wants call s.env (acts.closed l.F (two i) how second)
       (state_of second).replies (closed_past how call second past)
 
@@ -117,12 +121,11 @@ module _ (l : Link) (i : Inners l) where
   ends_alike _ _ (ends (stop.Error what line) world env replies other_env others now) =
       page_alike (acts.error_end (raised_by what) (acts.line_or_none line)) world env replies other_env others now
   ends_alike _ _ (ends (stop.Limit kind line) world env replies other_env others now) =
-      both_end (Some (acts.done l.E (one i) (end.Limit kind (acts.line_or_none line)) world)) refl
-      env replies other_env others now
+      both_end (done_of (end.Limit kind (acts.line_or_none line)) world) env replies other_env others now
   ends_alike _ _ (ends (stop.Wants call) world env replies other_env others want) =
       both_want call env replies other_env others want
   ends_alike _ _ (ends stop.Memory world env replies other_env others now) =
-      both_end None refl env replies other_env others now
+      both_lack env replies other_env others now
   ends_alike _ second (gone call s _ past) =
       let after = act_past call second past in
       one_wants call s.env (acts.ends_act l.F (two i) second) after.0 after.1

@@ -2,8 +2,10 @@
 use Rattle.std.proofs.Common.{◌≡◌, Bool, IsTrue, List, [], ◌∷◌, Option, Ok, Err, refl, sym, subst}
 use Rattle.vb_value.specs.declared.application.AppReply.{AppReply}
 use Rattle.vb_value.specs.declared.value.Value.{Value}
+use Rattle.vb_syntax.specs.declared.act.Act.{Act}
 use Rattle.vb_syntax.specs.declared.act.Given.TheVariants as given
 use Rattle.vb_syntax.specs.declared.member.Member.{Member}
+use Rattle.vb_syntax.specs.declared.program.Program.{Program}
 use Rattle.vb_heap.specs.DictionaryCalls.{array_of}
 use Rattle.vb_meaning.specs.declared.plain_end.PlainEnd.{PlainEnd}
 use Rattle.vb_meaning.specs.declared.stop.Stop.TheVariants as stop
@@ -12,28 +14,34 @@ use Rattle.vb_meaning.specs.Acts.{act_of}
 use Rattle.vb_meaning.specs.Asking.{Host, Said, ask, heard, name_values}
 use Rattle.act_laws.specs.Calls.{LeavesOnly}
 use Rattle.act_laws.specs.Laws.{OnlyAskingChanges}
-use Rattle.act_laws.proofs.Acting.{ActsAlike, both_end, both_want, one_wants, acts_alike}
+use Rattle.act_laws.proofs.Acting.{ActsAlike, both_end, both_lack, both_want, one_wants, acts_alike}
 use Rattle.act_laws.proofs.Joined.{Link, Joined, Alike, gives, ends}
 use Rattle.act_laws.proofs.Links.{ends_for}
 
-module _ (E : Type 0) (host : Host E) (test : E → Bool)
-    (asked : (member : Member) (arguments : List Value) (env : E) → IsTrue (test env)
-    → LeavesOnly test (host.asked member arguments env))
-    (answered : (member : Member) (arguments : List Value) (reply : AppReply) (env : E) → IsTrue (test env)
-    → LeavesOnly test (host.answered member arguments reply env)) where
+-- what is true of the objects after a question
+abbrev pub Leaves : {E : Type 0} → (E → Type 0) → Said E → Type 0
+Leaves holds (Ok (what, env)) = holds env
+Leaves holds (Err (why, env)) = holds env
+
+module _ (E : Type 0) (host : Host E) (Holds : E → Type 0)
+    (asked : (member : Member) (arguments : List Value) (env : E) → Holds env
+    → Leaves Holds (host.asked member arguments env))
+    (answered : (member : Member) (arguments : List Value) (reply : AppReply) (env : E) → Holds env
+    → Leaves Holds (host.answered member arguments reply env)) where
   abbrev beside_itself : Link
   beside_itself = record {
     E = E;
     F = E;
     host = host;
     other = host;
-    now = λ env replies other others. (other ≡ env) × (others ≡ replies) × IsTrue (test env);
-    both_want = λ env replies other others. IsTrue (test env);
+    now = λ env replies other others. (other ≡ env) × (others ≡ replies) × Holds env;
+    both_want = λ env replies other others. Holds env;
+    both_lack = λ env replies other others. Holds env;
     past = λ call other others. ⊥;
   }
 
   heard_alike : (member : Member) (arguments : List Value) (world : World) (replies : List AppReply) (said : Said E)
-      → LeavesOnly test said → Alike beside_itself (heard host member arguments world replies said)
+      → Leaves Holds said → Alike beside_itself (heard host member arguments world replies said)
       (heard host member arguments world replies said)
   heard_alike member arguments world replies (Ok (given.Value value, env)) holds =
       gives value world env replies env replies (refl, refl, holds)
@@ -45,14 +53,14 @@ module _ (E : Type 0) (host : Host E) (test : E → Bool)
       heard_alike member arguments world replies (host.answered member arguments reply env)
       (answered member arguments reply env holds)
   heard_alike member arguments world replies (Err (reason, env)) holds =
-      ends_for beside_itself reason world env replies env replies (refl, refl, holds)
+      ends_for beside_itself reason world env replies env replies (refl, refl, holds) (λ is. holds)
 
   asks_alike : (member : Member) (arguments : List Value)
       → Joined beside_itself (ask host member arguments) (ask host member arguments)
   unfolding ask
   asks_alike member arguments = record {
     alike = λ world env replies other others now.
-        let holds : IsTrue (test other) = subst (λ found. IsTrue (test found)) (sym now.0) now.2 in
+        let holds : Holds other = subst (λ found. Holds found) (sym now.0) now.2 in
         subst (λ found. Alike beside_itself
         (heard host member arguments world replies (host.asked member arguments found))
         (heard host member arguments world others (host.asked member arguments other)))
@@ -65,14 +73,33 @@ module _ (E : Type 0) (host : Host E) (test : E → Bool)
   }
 
   holds_after : (first : Option PlainEnd × E) (second : Option PlainEnd × E) → ActsAlike beside_itself first second
-      → IsTrue (test first.1)
-  holds_after _ _ (both_end how none env replies other others now) = now.2
+      → Holds first.1
+  holds_after _ _ (both_end done env replies other others now) = now.2
+  holds_after _ _ (both_lack env replies other others holds) = holds
   holds_after _ _ (both_want call env replies other others holds) = holds
   holds_after _ _ (one_wants call env other others past) = absurd past
 
-pub asking_alone : (E : Type 0) → OnlyAskingChanges E
-asking_alone E host test asked answered program which env replies holds =
-    holds_after E host test asked answered (act_of E host program which env replies)
+-- what each question keeps true of an environment, an act keeps
+pub asking_keeps : (E : Type 0) (host : Host E) (Holds : E → Type 0)
+    → ((member : Member) (arguments : List Value) (env : E) → Holds env
+    → Leaves Holds (host.asked member arguments env))
+    → ((member : Member) (arguments : List Value) (reply : AppReply) (env : E) → Holds env
+    → Leaves Holds (host.answered member arguments reply env))
+    → (program : Program) (which : Act) (env : E) (replies : List AppReply) → Holds env
+    → Holds (act_of E host program which env replies).1
+asking_keeps E host Holds asked answered program which env replies holds =
+    holds_after E host Holds asked answered (act_of E host program which env replies)
     (act_of E host program which env replies)
-    (acts_alike (beside_itself E host test asked answered) (asks_alike E host test asked answered) program which env
+    (acts_alike (beside_itself E host Holds asked answered) (asks_alike E host Holds asked answered) program which env
     replies env replies (refl, refl, holds))
+
+left : {E : Type 0} (test : E → Bool) (said : Said E) → LeavesOnly test said
+    → Leaves (λ env. IsTrue (test env)) said
+left test (Ok (what, env)) holds = holds
+left test (Err (why, env)) holds = holds
+
+pub asking_alone : (E : Type 0) → OnlyAskingChanges E
+asking_alone E host test asked answered = asking_keeps E host (λ env. IsTrue (test env))
+    (λ member arguments env holds. left test (host.asked member arguments env) (asked member arguments env holds))
+    (λ member arguments reply env holds.
+    left test (host.answered member arguments reply env) (answered member arguments reply env holds))

@@ -17,6 +17,7 @@ use Rattle.vb_syntax.specs.declared.program.name.Slot.TheVariants as slot
 use Rattle.vb_syntax.specs.declared.program.unit.Class.{Class}
 use Rattle.vb_syntax.specs.declared.program.unit.Procedure.{Procedure}
 use Rattle.vb_heap.specs.declared.place.Place.{Place}
+use Rattle.vb_meaning.specs.declared.reached.Argument.{Argument}
 use Rattle.vb_meaning.specs.declared.reached.Argument.TheVariants.{Value as OfValue}
 use Rattle.vb_meaning.specs.declared.reached.Assigned.{Assigned}
 use Rattle.vb_meaning.specs.declared.reached.Reached.{Reached}
@@ -35,16 +36,21 @@ use Rattle.act_laws.proofs.Reading.{values_fit, arguments_fit, field_fits, held_
 use Rattle.act_laws.proofs.Reading.{unknown_fits, name_fits, groups_fit, from_page_fits, me_wantless, subject_wantless}
 use Rattle.act_laws.proofs.Wantless.{seeing_wantless}
 use Rattle.act_laws.proofs.WantlessPlaces.{variable_wantless, store_wantless, store_element_wantless, set_err_wantless}
-use Rattle.act_laws.proofs.WantlessPlaces.{reached_wantless, set_member_wantless}
+use Rattle.act_laws.proofs.WantlessPlaces.{hold_reached_wantless, reached_wantless, set_member_wantless}
 
 module _ (l : Link) (i : Inners l) (how : Assigned) where
   -- ---- members of objects
 
-  property_fits : (owner : Owner) (found : Option Procedure) (supplied : List Expression) (value : Value)
-      → Same l i (λ E m. assigning.property E m how owner found supplied value)
-  property_fits owner (Some procedure) supplied value = then_fits (arguments_fit l i [] supplied) (λ found.
-      then_fits (i.enter_fits owner procedure (found ++ OfValue value ∷ [])) (λ given. value_fits l tt))
-  property_fits owner None supplied value = fails_fit l unsupported
+  into_property_fits : (owner : Owner) (procedure : Option Procedure) (found : List Argument)
+      → Same l i (λ E m. assigning.into_property E m how owner procedure found)
+  into_property_fits owner (Some procedure) found =
+      then_fits (i.enter_fits owner procedure found) (λ given. value_fits l tt)
+  into_property_fits owner None found = fails_fit l unsupported
+
+  property_fits : (owner : Owner) (procedure : Option Procedure) (supplied : List Expression) (value : Value)
+      → Same l i (λ E m. assigning.property E m how owner procedure supplied value)
+  property_fits owner procedure supplied value = then_fits (arguments_fit l i [] supplied) (λ found.
+      into_property_fits owner procedure (found ++ OfValue value ∷ []))
 
   into_field_fits : (supplied : Option (List Expression)) (from : Reached) (value : Value)
       → Same l i (λ E m. assigning.into_field E m how supplied from value)
@@ -87,7 +93,8 @@ module _ (l : Link) (i : Inners l) (how : Assigned) where
   into_access_fits : (from : Reached) (found : Access) (value : Value)
       → Same l i (λ E m. assigning.into_access E m how from found value)
   into_access_fits from (Group indices) value =
-      then_fits (values_fit l i [] indices) (λ found. world_fits l (store_element_wantless from found value))
+      then_fits (then_fits (world_fits l (hold_reached_wantless from)) (λ done. values_fit l i [] indices))
+      (λ found. world_fits l (store_element_wantless from found value))
   into_access_fits from (Member name supplied) value =
       then_fits (world_fits l (reached_wantless from)) (λ whole. into_member_fits whole name supplied value)
 

@@ -21,7 +21,7 @@ use Rattle.act_laws.proofs.Inside.{Inners, one, two, Same, seen_fits}
 use Rattle.act_laws.specs.Objects.{Account, Kept, Settled, account_at, account_of}
 use Rattle.act_laws.proofs.Joined.{Link, Alike, JoinedTurn, Past, gives, ends, gone}
 use Rattle.act_laws.proofs.Keeping.{kept_from, kept_moved}
-use Rattle.act_laws.proofs.Linked.{Fits, Turns, turned, then_fits, value_fits}
+use Rattle.act_laws.proofs.Linked.{Fits, Turns, turned, then_fits, letting_fits, value_fits}
 use Rattle.act_laws.proofs.Marks.{dropped_still}
 use Rattle.act_laws.proofs.Linked.{fails_fit, error_fits, moved_fits, world_fits, choice_fits, either_fits}
 use Rattle.act_laws.proofs.Releasing.{settle_fits}
@@ -46,12 +46,12 @@ module _ (l : Link) (i : Inners l) where
       dropped_still (world.frame.own ++ calling.cell_of world.frame.result) world.heap world.finished
 
   returned_fits : (caller : World) → Same l i (λ E m. calling.returned E m caller)
-  returned_fits caller = then_fits
+  returned_fits caller = letting_fits (then_fits
       (world_fits l (seeing_wantless (λ world. calling.result_value world.frame.result)
       (λ world. result_wantless world.frame.result))) (λ value.
       then_fits (then_fits (then_fits (world_fits l (hold_wantless value))
       (λ done. moved_fits (calling.left caller) (left_still caller) (value_fits l tt)))
-      (λ done. settle_fits l i)) (λ done. value_fits l value))
+      (λ done. settle_fits l i)) (λ done. value_fits l value)))
 
   abandoned_joined : (caller : World)
       → JoinedTurn l (calling.abandoned l.E (one i) caller) (calling.abandoned l.F (two i) caller)

@@ -1,10 +1,10 @@
 -- What comes of terminators, of release points and of the page's end: how the account of objects goes on.
-use Rattle.std.proofs.Common.{ℕ, ◌+◌, ◌≡◌, ◌<◌, Some, None, sym, subst, arith}
+use Rattle.std.proofs.Common.{ℕ, ◌+◌, ◌≡◌, ◌<◌, Bool, true, false, Some, None, sym, subst, arith}
 use Rattle.vb_value.specs.declared.value.Value.{Value}
 use Rattle.vb_meaning.specs.declared.stop.Stop.TheVariants as stop
 use Rattle.vb_meaning.specs.declared.world.World.{World}
 use Rattle.vb_meaning.specs.Errors.{in_line}
-use Rattle.vb_meaning.specs.Releases.{ended, terminated, without_page_stop}
+use Rattle.vb_meaning.specs.Releases.{ended, in_world, stopped, terminated}
 use Rattle.vb_meaning.specs.State.{State, Does}
 use Rattle.vb_meaning.specs.Step.{Step, Returns, Ends, and_then}
 use Rattle.act_laws.specs.Objects.{Account, AddsUp, IsEnding, IsLive, Kept, Onward, Settled, account_at, account_of}
@@ -46,15 +46,45 @@ module _ {E : Type 0} where
   Outcome object before (Ends (stop.Wants call) s) = Onward before (account_at s)
   Outcome object before (Ends stop.Memory s) = Onward before (account_at s)
 
+  stopped_out : (object : ℕ) (a : Account) (page_ended : Bool) (s : State E) → Ran object a (account_at s)
+      → Outcome object a (stopped E page_ended s)
+  stopped_out object a true s ran = ran
+  stopped_out object a false s ran = ran
+
   pub terminated_out : (object : ℕ) (before : World) (a : Account) → IsEnding object a → (step : Step (State E) Value)
       → Kept account_at a step → Outcome object a (terminated E object before step)
   terminated_out object before a ends (Returns value s) kept = ended_ran object before a s.world ends kept
   terminated_out object before a ends (Ends (stop.Error what line) s) kept =
       ended_ran object before a s.world ends kept
-  terminated_out object before a ends (Ends stop.Page s) kept = ended_ran object before a s.world ends kept
+  terminated_out object before a ends (Ends stop.Page s) kept = stopped_out object a before.page_ended
+      (in_world E (ended object before s.world) s) (ended_ran object before a s.world ends kept)
   terminated_out object before a ends (Ends (stop.Limit kind line) s) kept = kept
   terminated_out object before a ends (Ends (stop.Wants call) s) kept = kept
   terminated_out object before a ends (Ends stop.Memory s) kept = kept
+
+  -- a step that no page stop ended
+  abbrev pub NoStop : Step (State E) (Unit {0}) → Type 0
+  NoStop (Returns done s) = Unit {0}
+  NoStop (Ends stop.Page s) = ⊥
+  NoStop (Ends (stop.Error what line) s) = Unit {0}
+  NoStop (Ends (stop.Limit kind line) s) = Unit {0}
+  NoStop (Ends (stop.Wants call) s) = Unit {0}
+  NoStop (Ends stop.Memory s) = Unit {0}
+
+  stopped_here : (page_ended : Bool) (s : State E) → page_ended ≡ true → NoStop (stopped E page_ended s)
+  stopped_here true s is = tt
+  stopped_here false s is = absurd (cc)
+
+  -- a terminator behind the page's end
+  pub ends_alone : (object : ℕ) (before : World) (step : Step (State E) Value) → before.page_ended ≡ true
+      → NoStop (terminated E object before step)
+  ends_alone object before (Returns value s) is = tt
+  ends_alone object before (Ends (stop.Error what line) s) is = tt
+  ends_alone object before (Ends stop.Page s) is =
+      stopped_here before.page_ended (in_world E (ended object before s.world) s) is
+  ends_alone object before (Ends (stop.Limit kind line) s) is = tt
+  ends_alone object before (Ends (stop.Wants call) s) is = tt
+  ends_alone object before (Ends stop.Memory s) is = tt
 
   -- what comes of a live object that ends
   abbrev pub One : Account → Step (State E) (Unit {0}) → Type 0
@@ -128,13 +158,13 @@ module _ {E : Type 0} where
   one_comes before (Ends (stop.Wants call) s) one = one
   one_comes before (Ends stop.Memory s) one = one
 
-  -- the same in a line of its own, where a page stop goes no further
-  pub one_closes : (line : ℕ) (before : Account) (step : Step (State E) (Unit {0})) → One before step
-      → Comes ⊥ (λ s. before.finished < s.world.finished) before (in_line line (without_page_stop E step))
-  one_closes line before (Returns done s) one = one
-  one_closes line before (Ends stop.Page s) one = one
-  one_closes line before (Ends (stop.Error what at) s) one = absurd one
-  one_closes line before (Ends (stop.Limit kind None) s) one = one
-  one_closes line before (Ends (stop.Limit kind (Some at)) s) one = one
-  one_closes line before (Ends (stop.Wants call) s) one = one
-  one_closes line before (Ends stop.Memory s) one = one
+  -- the same in a line of its own, where no page stop comes
+  pub one_closes : (line : ℕ) (before : Account) (step : Step (State E) (Unit {0})) → One before step → NoStop step
+      → Comes ⊥ (λ s. before.finished < s.world.finished) before (in_line line step)
+  one_closes line before (Returns done s) one none = one
+  one_closes line before (Ends stop.Page s) one none = absurd none
+  one_closes line before (Ends (stop.Error what at) s) one none = absurd one
+  one_closes line before (Ends (stop.Limit kind None) s) one none = one
+  one_closes line before (Ends (stop.Limit kind (Some at)) s) one none = one
+  one_closes line before (Ends (stop.Wants call) s) one none = one
+  one_closes line before (Ends stop.Memory s) one none = one

@@ -1,7 +1,7 @@
 -- Release points and the page's end keep the account of objects. A release point leaves no live object without
 -- references, and the page's end leaves none at all.
-use Rattle.std.proofs.Common.{ℕ, zero, suc, ◌+◌, ◌-◌, ◌≡◌, ◌<◌, ◌≤◌, Bool, List, [], ◌∷◌, length, Option, Some, None}
-use Rattle.std.proofs.Common.{refl, sym, subst, arith}
+use Rattle.std.proofs.Common.{ℕ, zero, suc, ◌+◌, ◌-◌, ◌≡◌, ◌<◌, ◌≤◌, Bool, true, List, [], ◌∷◌, length}
+use Rattle.std.proofs.Common.{Option, Some, None, refl, sym, subst, ◌∙◌, arith}
 use Rattle.vb_value.specs.declared.value.Value.{Empty}
 use Rattle.vb_syntax.specs.declared.program.unit.Procedure.{Procedure}
 use Rattle.vb_heap.specs.Limits.{most_objects}
@@ -9,16 +9,17 @@ use Rattle.vb_heap.specs.declared.object.Object.{Object}
 use Rattle.vb_heap.specs.Releases.{is_loose, oldest, oldest_live, oldest_loose, with_ending}
 use Rattle.vb_heap.specs.Store.{numbered}
 use Rattle.vb_meaning.specs.declared.reached.Argument.{Argument}
+use Rattle.vb_meaning.specs.declared.world.World.{World}
 use Rattle.vb_meaning.specs.Errors.{in_line}
 use Rattle.vb_meaning.specs.Inner.{Inner, Owner}
 use Rattle.vb_meaning.specs.Objects.{class_at}
 use Rattle.vb_meaning.specs.Releases as releases
 use Rattle.vb_meaning.specs.State.{State, Does, with_heap}
 use Rattle.vb_meaning.specs.Step.{◌>>◌}
-use Rattle.act_laws.specs.Objects.{AddsUp, IsEnding, IsLive, Settled, account_at, marks}
+use Rattle.act_laws.specs.Objects.{AddsUp, IsEnding, IsLive, Settled, account_at, account_of, marks}
 use Rattle.act_laws.proofs.Accounts.{mark_onward, marked, settled_still, with_mark}
 use Rattle.act_laws.proofs.Coming.{Comes, One, Outcome, comes_kept, comes_then, one_closes, one_comes, one_out}
-use Rattle.act_laws.proofs.Coming.{terminated_out}
+use Rattle.act_laws.proofs.Coming.{NoStop, ends_alone, terminated_out}
 use Rattle.act_laws.proofs.Keeping.{Keeps, still_gives}
 use Rattle.act_laws.proofs.Marks.{ending_marks, loose_is_live, none_is_left, oldest_is_live}
 
@@ -62,22 +63,38 @@ module _ (E : Type 0) (m : Inner E)
       terminated_out object s.world (account_at s) ends (releases.terminator_of E m object class t)
       (terminator_keeps object class (releases.terminator_in (class_at m.program class)) t right)
 
-  -- a live object's terminator begins and is run
-  abbrev ended_one : ℕ → Does E (Unit {0})
-  ended_one object s = releases.terminate E m object
-      (releases.in_world E (with_heap (with_ending (Some object)) s.world) s)
+  pub terminates_alone : (object : ℕ) (s : State E) → s.world.page_ended ≡ true
+      → NoStop (releases.terminate E m object s)
+  unfolding releases.terminate
+  terminates_alone object s is =
+      let class = releases.class_number (numbered object s.world.heap.objects) in
+      ends_alone object s.world
+      (releases.terminator_of E m object class (releases.in_world E (releases.terminating s.world) s)) is
 
-  one_ends : (object : ℕ) (s : State E) → AddsUp (account_at s) → IsLive object (account_at s)
-      → One (account_at s) (ended_one object s)
-  one_ends object s right live =
-      let t = releases.in_world E (with_heap (with_ending (Some object)) s.world) s in
+  -- a live object's terminator begins and is run, in a world that has the same account of objects
+  abbrev ended_in : (World → World) → ℕ → Does E (Unit {0})
+  ended_in change object s = releases.terminate E m object
+      (releases.in_world E (change (with_heap (with_ending (Some object)) s.world)) s)
+
+  one_ends : (change : World → World) → ((world : World) → account_of (change world) ≡ account_of world)
+      → (object : ℕ) (s : State E) → AddsUp (account_at s) → IsLive object (account_at s)
+      → One (account_at s) (ended_in change object s)
+  one_ends change same object s right live =
+      let t = releases.in_world E (change (with_heap (with_ending (Some object)) s.world)) s in
       let is : account_at t ≡ with_mark object (account_at s) =
-      ending_marks s.world.heap object s.world.finished live in
+      same (with_heap (with_ending (Some object)) s.world) ∙ ending_marks s.world.heap object s.world.finished live in
       let mid = mark_onward (account_at s) object right live in
-      one_out object (account_at s) right live (ended_one object s)
-      (subst (λ account. Outcome object account (ended_one object s)) is (terminate_out object t
+      one_out object (account_at s) right live (ended_in change object s)
+      (subst (λ account. Outcome object account (ended_in change object s)) is (terminate_out object t
       (subst AddsUp (sym is) mid.adds_up)
       (subst (λ account. IsEnding object account) (sym is) (marked (account_at s) object right live))))
+
+  -- in a release point, and at the page's end
+  abbrev ended_one : ℕ → Does E (Unit {0})
+  ended_one = ended_in (λ world. world)
+
+  abbrev ended_last : ℕ → Does E (Unit {0})
+  ended_last = ended_in releases.behind_page
 
   -- ---- a release point
 
@@ -90,7 +107,8 @@ module _ (E : Type 0) (m : Inner E)
   one_released P more None s right live last after = (settled_still (account_at s) right, last refl)
   one_released P more (Some object) s right live last after = comes_then (Unit {0})
       (λ t. s.world.finished < t.world.finished) P more (account_at s) (ended_one object s)
-      (one_comes (account_at s) (ended_one object s) (one_ends object s right (live object refl))) after
+      (one_comes (account_at s) (ended_one object s)
+      (one_ends (λ world. world) (λ world. refl) object s right (live object refl))) after
 
   settle_times_comes : (times : ℕ) (s : State E) → AddsUp (account_at s) → most_objects ≤ s.world.finished + times
       → Comes (Unit {0}) HasNoneLoose (account_at s) (releases.settle_times E m times s)
@@ -120,9 +138,11 @@ module _ (E : Type 0) (m : Inner E)
   one_closed P more None s right live last after = (settled_still (account_at s) right, last refl)
   one_closed P more (Some object) s right live last after = comes_then ⊥
       (λ t. s.world.finished < t.world.finished) P more (account_at s)
-      (in_line (releases.line_of E m object s.world) (releases.without_page_stop E (ended_one object s)))
-      (one_closes (releases.line_of E m object s.world) (account_at s) (ended_one object s)
-      (one_ends object s right (live object refl))) after
+      (in_line (releases.line_of E m object s.world) (ended_last object s))
+      (one_closes (releases.line_of E m object s.world) (account_at s) (ended_last object s)
+      (one_ends releases.behind_page (λ world. refl) object s right (live object refl))
+      (terminates_alone object
+      (releases.in_world E (releases.behind_page (with_heap (with_ending (Some object)) s.world)) s) refl)) after
 
   settle_last_times_comes : (times : ℕ) (s : State E) → AddsUp (account_at s)
       → most_objects ≤ s.world.finished + times

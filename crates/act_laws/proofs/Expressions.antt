@@ -23,7 +23,8 @@ use Rattle.vb_meaning.specs.State.{Does}
 use Rattle.vb_meaning.specs.Values.{literal_value}
 use Rattle.act_laws.proofs.Inside.{Inners, Same}
 use Rattle.act_laws.proofs.Joined.{Link}
-use Rattle.act_laws.proofs.Linked.{Fits, then_fits, value_fits, fails_fit, given_fits, world_fits, choice_fits}
+use Rattle.act_laws.proofs.Linked.{Fits, then_fits, letting_fits, value_fits, fails_fit, given_fits, world_fits}
+use Rattle.act_laws.proofs.Linked.{choice_fits}
 use Rattle.act_laws.proofs.Reading.{path_value_fits, reached_fits}
 use Rattle.act_laws.proofs.Wantless.{then_wantless}
 use Rattle.act_laws.proofs.WantlessPlaces.{holding_wantless, reached_wantless}
@@ -46,8 +47,9 @@ module _ (l : Link) (i : Inners l) where
   initialized_fits object number None = value_fits l (Obj object)
 
   made_of_fits : (number : Option ℕ) (class : Option Class) → Same l i (λ E m. making.made_of E m number class)
-  made_of_fits (Some number) (Some class) = then_fits (world_fits l (object_made_wantless number class.fields))
-      (λ object. initialized_fits object number (option_and_then (slice_get class.procedures) class.initialize))
+  made_of_fits (Some number) (Some class) =
+      letting_fits (then_fits (world_fits l (object_made_wantless number class.fields))
+      (λ object. initialized_fits object number (option_and_then (slice_get class.procedures) class.initialize)))
   made_of_fits _ _ = fails_fit l undefined_class
 
   new_fits : (number : Option ℕ) → Same l i (λ E m. making.new_of E m number)

@@ -28,7 +28,7 @@ use Rattle.act_laws.proofs.Ending.{IsEmptied, page_comes}
 use Rattle.act_laws.proofs.Inside.{Inners}
 use Rattle.act_laws.proofs.Joined.{Joined, Link}
 use Rattle.act_laws.proofs.Keeping.{Keeps}
-use Rattle.act_laws.proofs.Marks.{dropped_still}
+use Rattle.act_laws.proofs.Marks.{emptied_still}
 use Rattle.act_laws.proofs.Meaning.{each_level, inners}
 
 -- ---- one environment
@@ -42,6 +42,7 @@ alone E host = record {
   other = host;
   now = λ env replies other others. ⊥;
   both_want = λ env replies other others. ⊥;
+  both_lack = λ env replies other others. ⊥;
   past = λ call other others. Unit {0};
 }
 
@@ -108,7 +109,7 @@ module _ (E : Type 0) (m : Inner E)
   page_tells how before none s settled =
       let t = in_world E (acts.page_left s.world) s in
       let same : account_at t ≡ account_at s =
-      dropped_still s.world.page (let_go_to 0 s.world.heap) s.world.finished in
+      emptied_still s.world.page (let_go_to 0 s.world.heap) s.world.finished in
       let still : Settled before (account_at t) = subst (λ account. Settled before account) (sym same) settled in
       closed_tells how (account_at t) (λ number ends. none number (still.stood number ends))
       ((settle_last E m >> end_all E m) t) (page_comes E m enter t still.onward.adds_up)

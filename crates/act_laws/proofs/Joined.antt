@@ -14,7 +14,8 @@ use Rattle.act_laws.proofs.Keeping.{state_of}
 use Rattle.act_laws.proofs.Wantless.{Wantless, NoWant}
 
 -- Two environments with what they do, and how they and the replies that are left belong together: while what is done
--- in the one is done in the other, where both want the same call, and where only the first stopped for a call.
+-- in the one is done in the other, where both want the same call, where both ran out of memory, and where only the first
+-- stopped for a call.
 pub record Link : Type 1 where
   pub E : Type 0
   pub F : Type 0
@@ -22,6 +23,7 @@ pub record Link : Type 1 where
   pub other : Host F
   pub now : E → List AppReply → F → List AppReply → Type 0
   pub both_want : E → List AppReply → F → List AppReply → Type 0
+  pub both_lack : E → List AppReply → F → List AppReply → Type 0
   pub past : AppCall → F → List AppReply → Type 0
 
 -- how they belong together where both have ended for this reason
@@ -30,7 +32,7 @@ Ended l (stop.Wants call) env replies other_env others = l.both_want env replies
 Ended l (stop.Error what line) env replies other_env others = l.now env replies other_env others
 Ended l (stop.Limit kind line) env replies other_env others = l.now env replies other_env others
 Ended l stop.Page env replies other_env others = l.now env replies other_env others
-Ended l stop.Memory env replies other_env others = l.now env replies other_env others
+Ended l stop.Memory env replies other_env others = l.both_lack env replies other_env others
 
 -- the second is past the call for which the first stopped
 abbrev pub Past : {A : Type 0} (l : Link) → AppCall → Step (State l.F) A → Type 0
@@ -139,8 +141,7 @@ lifted_alike l env replies other_env others now (Ends (stop.Limit kind line) wor
     ends (stop.Limit kind line) world env replies other_env others now
 lifted_alike l env replies other_env others now (Ends stop.Page world) none =
     ends stop.Page world env replies other_env others now
-lifted_alike l env replies other_env others now (Ends stop.Memory world) none =
-    ends stop.Memory world env replies other_env others now
+lifted_alike l env replies other_env others now (Ends stop.Memory world) none = absurd none
 
 lifted_past : {A : Type 0} (l : Link) (call : AppCall) (env : l.F) (replies : List AppReply) → l.past call env replies
     → (step : Step World A) → Past l call (lifted env replies step)

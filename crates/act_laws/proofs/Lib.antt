@@ -1,3 +1,4 @@
+pub mod Roomy
 pub mod Wantless
 pub mod WantlessPlaces
 pub mod WantlessScopes
@@ -28,3 +29,5 @@ pub mod Links
 pub mod Replies
 pub mod Wanting
 pub mod Asking
+pub mod Lacking
+pub mod Settled

@@ -1,14 +1,15 @@
 -- Two environments side by side: what is done in the one is done in the other, until a call that the one wants, and it
 -- keeps the account of objects.
-use Rattle.std.proofs.Common.{ℕ, Bool, true, false, if◌then◌else◌, Result, Ok, Err, Option, None, ◌≡◌}
+use Rattle.std.proofs.Common.{ℕ, Bool, true, false, if◌then◌else◌, Result, Ok, Err, Option, None, ◌≡◌, refl}
 use Rattle.vb_value.specs.declared.fault.VbError.{VbError}
 use Rattle.vb_value.specs.declared.limit.LimitKind.{LimitKind}
 use Rattle.vb_meaning.specs.declared.cause.Cause.{Cause}
 use Rattle.vb_meaning.specs.declared.cause.Cause.TheVariants.{Language}
 use Rattle.vb_meaning.specs.declared.stop.Stop.TheVariants as stop
 use Rattle.vb_meaning.specs.declared.world.World.{World}
+use Rattle.vb_meaning.specs.Places.{held_so_far, let_go, letting_go}
 use Rattle.vb_meaning.specs.State.{State, Does, on_world}
-use Rattle.vb_meaning.specs.Step.{Step, Run, and_then, ◌>>=◌, pure, ends as step_ends, given, fails}
+use Rattle.vb_meaning.specs.Step.{Step, Returns, Run, and_then, ◌>>=◌, pure, ends as step_ends, given, fails}
 use Rattle.act_laws.specs.Objects.{Account, Kept, account_at, account_of}
 use Rattle.act_laws.proofs.Joined as sides
 use Rattle.act_laws.proofs.Joined.{Link, Joined, JoinedTurn}
@@ -124,3 +125,11 @@ seeing_fits first second each = record {
   joined = sides.seeing_joined first second (λ world. (each world).joined);
   keeps = λ s right. (each s.world).keeps s right;
 }
+
+-- what is done, and what it held is held no more
+pub letting_fits : {A : Type 0} {l : Link} {first : Does l.E A} {second : Does l.F A} → Fits l first second
+    → Fits l (letting_go first) (letting_go second)
+letting_fits {l} {first} {second} fit = seeing_fits
+    (λ world. first >>= (λ value s. Returns value (record s { world = let_go (held_so_far world) s.world })))
+    (λ world. second >>= (λ value s. Returns value (record s { world = let_go (held_so_far world) s.world })))
+    (λ world. then_fits fit (λ value. moved_fits (let_go (held_so_far world)) (λ other. refl) (value_fits l value)))

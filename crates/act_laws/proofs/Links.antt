@@ -31,15 +31,16 @@ ended_for reason world env replies =
 
 pub ends_for : (l : Link) (reason : AskStop) (world : World) (env : l.E) (replies : List AppReply) (other_env : l.F)
     (others : List AppReply) → l.now env replies other_env others
+    → (reason ≡ why.Memory → l.both_lack env replies other_env others)
     → Alike l (ended_for reason world env replies) (ended_for reason world other_env others)
-ends_for l (why.Error number) world env replies other_env others now =
+ends_for l (why.Error number) world env replies other_env others now lack =
     ends (ask_stop (why.Error number)) world env replies other_env others now
-ends_for l why.PageStop world env replies other_env others now =
+ends_for l why.PageStop world env replies other_env others now lack =
     ends stop.Page world env replies other_env others now
-ends_for l (why.Limit kind) world env replies other_env others now =
+ends_for l (why.Limit kind) world env replies other_env others now lack =
     ends (stop.Limit kind None) world env replies other_env others now
-ends_for l why.Memory world env replies other_env others now =
-    ends stop.Memory world env replies other_env others now
+ends_for l why.Memory world env replies other_env others now lack =
+    ends stop.Memory world env replies other_env others (lack refl)
 
 module _ (E : Type 0) (host : Host E) (n : ℕ) where
   -- ---- with the same replies
@@ -53,6 +54,8 @@ module _ (E : Type 0) (host : Host E) (n : ℕ) where
     now = λ env replies other others.
         (other.0 ≡ env) × (others ≡ replies) × (length other.1 + length replies ≡ n);
     both_want = λ env replies other others. (other.0 ≡ env) × (length other.1 ≡ n + 1);
+    both_lack = λ env replies other others.
+        (other.0 ≡ env) × (others ≡ replies) × (length other.1 + length replies ≡ n);
     past = λ call other others. ⊥;
   }
 
@@ -71,7 +74,7 @@ module _ (E : Type 0) (host : Host E) (n : ℕ) where
       heard_same member arguments world replies (host.answered member arguments reply env) (calls ++ call ∷ [])
       (let one = one_more_noted calls call (length calls) refl in omega (arith, count, one))
   heard_same member arguments world replies (Err (reason, env)) calls count =
-      ends_for the_same reason world env replies (env, calls) replies (refl, refl, count)
+      ends_for the_same reason world env replies (env, calls) replies (refl, refl, count) (λ is. (refl, refl, count))
 
   pub asks_same : (member : Member) (arguments : List Value)
       → Joined the_same (ask host member arguments) (ask (noting host) member arguments)
@@ -100,6 +103,8 @@ module _ (E : Type 0) (host : Host E) (n : ℕ) where
       now = λ env replies other others.
           (other.0 ≡ env) × (others ≡ replies ++ more) × (length other.1 + length replies ≡ n);
       both_want = λ env replies other others. ⊥;
+      both_lack = λ env replies other others.
+          (other.0 ≡ env) × (others ≡ replies ++ more) × (length other.1 + length replies ≡ n);
       past = λ call other others. slice_get other.1 n ≡ Some call;
     }
 
@@ -139,6 +144,7 @@ module _ (E : Type 0) (host : Host E) (n : ℕ) where
         (let one = one_more_noted calls call (length calls) refl in omega (arith, count, one))
     heard_first member arguments world replies (Err (reason, env)) calls count =
         ends_for the_first reason world env replies (env, calls) (replies ++ more) (refl, refl, count)
+        (λ is. (refl, refl, count))
 
     pub asks_first : (member : Member) (arguments : List Value)
         → Joined the_first (ask host member arguments) (ask (noting host) member arguments)

@@ -6,14 +6,14 @@ use Rattle.std.proofs.lemmas.Bool.Decides.{nat_tests}
 use Rattle.std.proofs.lemmas.Map.Steps.{set_value_same}
 use Rattle.std.specs.Option.{option_map, option_map_or}
 use Rattle.vb_value.specs.declared.value.ObjNo.{ObjNo}
-use Rattle.vb_value.specs.declared.value.Value.{Value}
+use Rattle.vb_value.specs.declared.value.Value.{Value, Empty}
 use Rattle.vb_value.specs.declared.limit.LimitKind.TheVariants.{Data}
 use Rattle.vb_heap.specs.declared.fault.HeapStop.{HeapStop}
 use Rattle.vb_heap.specs.declared.fault.HeapStop.TheVariants.{Limit}
 use Rattle.vb_heap.specs.declared.object.Content.{Content}
 use Rattle.vb_heap.specs.declared.object.Content.TheVariants.{Entries, Fields}
 use Rattle.vb_heap.specs.declared.place.CellNo.{CellNo}
-use Rattle.vb_heap.specs.Cells.{without_cell}
+use Rattle.vb_heap.specs.Cells.{with_stored, without_cell}
 use Rattle.vb_heap.specs.declared.object.Object.{Object}
 use Rattle.vb_heap.specs.Dictionary.{Dictionary, no_entries}
 use Rattle.vb_heap.specs.DictionaryCalls as dictionary
@@ -26,7 +26,7 @@ use Rattle.vb_heap.specs.References.{references_to}
 use Rattle.vb_heap.specs.Releases.{ending, ends_now, finished as finished_object, oldest, oldest_live}
 use Rattle.vb_heap.specs.Releases.{is_loose, oldest_loose, with_ending}
 use Rattle.vb_heap.specs.Store.{Store, is_number, numbered, replaced, without}
-use Rattle.vb_meaning.specs.Places.{cells_dropped}
+use Rattle.vb_meaning.specs.Places.{cell_place, cells_dropped, cells_emptied}
 use Rattle.act_laws.specs.Objects.{Account, AddsUp, Differ, IsEnding, IsLive, Settled, marks}
 use Rattle.act_laws.proofs.Accounts.{made_live, with_mark}
 use Rattle.act_laws.proofs.Numbers.{compared, itself}
@@ -130,6 +130,12 @@ pub dropped_still : (cells : List CellNo) (store : Store) (count : ℕ)
     → account_in (cells_dropped cells store) count ≡ account_in store count
 dropped_still [] store count = refl
 dropped_still (cell ∷ cells) store count = dropped_still cells (without_cell cell store) count
+
+-- the values of cells go
+pub emptied_still : (cells : List CellNo) (store : Store) (count : ℕ)
+    → account_in (cells_emptied cells store) count ≡ account_in store count
+emptied_still [] store count = refl
+emptied_still (cell ∷ cells) store count = emptied_still cells (with_stored (cell_place cell) Empty store) count
 
 -- ---- an object is made
 

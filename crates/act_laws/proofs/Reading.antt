@@ -37,7 +37,7 @@ use Rattle.act_laws.proofs.Linked.{Fits, then_fits, value_fits, fails_fit, given
 use Rattle.act_laws.proofs.Wantless.{Wantless, then_wantless, pure_wantless, given_wantless}
 use Rattle.act_laws.proofs.Wantless.{seeing_wantless}
 use Rattle.act_laws.proofs.WantlessPlaces.{hold_wantless, variable_wantless, named_member_wantless, element_wantless}
-use Rattle.act_laws.proofs.WantlessPlaces.{reached_wantless, err_wantless}
+use Rattle.act_laws.proofs.WantlessPlaces.{hold_reached_wantless, reached_wantless, err_wantless}
 use Rattle.act_laws.proofs.WantlessScopes.{create_object_wantless, type_name_wantless}
 
 pub me_wantless : (owner : Owner) → Wantless (reading.me_value owner)
@@ -60,11 +60,15 @@ module _ (l : Link) (i : Inners l) where
   arguments_fit done (first ∷ others) =
       then_fits (i.argument_fits first) (λ argument. arguments_fit (done ++ argument ∷ []) others)
 
-  called_fits : (owner : Owner) (found : Option Procedure) (supplied : List Expression)
-      → Same l i (λ E m. reading.called E m owner found supplied)
-  called_fits owner (Some procedure) supplied = then_fits (arguments_fit [] supplied) (λ found.
-      then_fits (i.enter_fits owner procedure found) (λ value. value_fits l (AtValue value)))
-  called_fits owner None supplied = fails_fit l unsupported
+  entered_fits : (owner : Owner) (procedure : Option Procedure) (found : List Argument)
+      → Same l i (λ E m. reading.entered E m owner procedure found)
+  entered_fits owner (Some procedure) found =
+      then_fits (i.enter_fits owner procedure found) (λ value. value_fits l (AtValue value))
+  entered_fits owner None found = fails_fit l unsupported
+
+  called_fits : (owner : Owner) (procedure : Option Procedure) (supplied : List Expression)
+      → Same l i (λ E m. reading.called E m owner procedure supplied)
+  called_fits owner procedure supplied = then_fits (arguments_fit [] supplied) (entered_fits owner procedure)
 
   -- ---- members of objects
 
@@ -121,7 +125,8 @@ module _ (l : Link) (i : Inners l) where
 
   pub access_fits : (from : Reached) (found : Access) → Same l i (λ E m. reading.access E m from found)
   access_fits from (Group indices) =
-      then_fits (values_fit [] indices) (λ found. world_fits l (element_wantless from found))
+      then_fits (then_fits (world_fits l (hold_reached_wantless from)) (λ done. values_fit [] indices))
+      (λ found. world_fits l (element_wantless from found))
   access_fits from (Member name supplied) =
       then_fits (world_fits l (reached_wantless from)) (λ value. member_fits value name supplied)
 

@@ -22,7 +22,7 @@ use Rattle.act_laws.proofs.Joined.{Link, Alike, Joined, JoinedTurn, Past, gives,
 use Rattle.act_laws.proofs.Joined.{moved_joined, seeing_joined, value_joined}
 use Rattle.act_laws.proofs.Keeping.{kept_from}
 use Rattle.act_laws.proofs.Linked.{Turns, then_fits, value_fits, error_fits}
-use Rattle.act_laws.proofs.Turning.{line_joined, terminated_joined, without_stop_joined}
+use Rattle.act_laws.proofs.Turning.{line_joined, terminated_joined}
 
 module _ (l : Link) (i : Inners l) where
   -- a rule does in the one what it does in the other
@@ -136,16 +136,15 @@ module _ (l : Link) (i : Inners l) where
       → Joined l first second
       → Joined l (releases.end_one l.E (one i) first found) (releases.end_one l.F (two i) second found)
   end_one_joined {first} {second} (Some object) fit = seeing_joined
-      (λ world s. and_then (in_line (releases.line_of l.E (one i) object world) (releases.without_page_stop l.E
-      (releases.terminate l.E (one i) object
-      (releases.in_world l.E (with_heap (with_ending (Some object)) s.world) s)))) (λ done. first))
-      (λ world s. and_then (in_line (releases.line_of l.F (two i) object world) (releases.without_page_stop l.F
-      (releases.terminate l.F (two i) object
-      (releases.in_world l.F (with_heap (with_ending (Some object)) s.world) s)))) (λ done. second))
+      (λ world s. and_then (in_line (releases.line_of l.E (one i) object world) (releases.terminate l.E (one i) object
+      (releases.in_world l.E (ends_last s.world) s))) (λ done. first))
+      (λ world s. and_then (in_line (releases.line_of l.F (two i) object world) (releases.terminate l.F (two i) object
+      (releases.in_world l.F (ends_last s.world) s))) (λ done. second))
       (λ world. then_joined (turn_joined (line_joined l (releases.line_of l.E (one i) object world))
-      (turn_joined (without_stop_joined l)
-      (moved_joined (with_heap (with_ending (Some object))) (terminate_joined object))))
-      (λ done. fit))
+      (moved_joined ends_last (terminate_joined object))) (λ done. fit))
+    where
+      ends_last : World → World
+      ends_last world = releases.behind_page (with_heap (with_ending (Some object)) world)
   end_one_joined None fit = value_joined l tt
 
   settle_last_times_joined : (times : ℕ) → Both (λ E m. releases.settle_last_times E m times)

@@ -7,12 +7,12 @@ use Rattle.vb_value.specs.declared.application.AppReply.{AppReply}
 use Rattle.vb_syntax.specs.declared.act.Act.{Act}
 use Rattle.vb_syntax.specs.declared.program.Program.{Program}
 use Rattle.vb_meaning.specs.declared.plain_end.PlainEnd.{PlainEnd}
-use Rattle.vb_meaning.specs.declared.plain_end.PlainEnd.TheVariants.{Wants}
+use Rattle.vb_meaning.specs.declared.plain_end.PlainEnd.TheVariants.{Wants, Ends as Ended}
 use Rattle.vb_meaning.specs.Acts.{act_of}
 use Rattle.vb_meaning.specs.Asking.{Host}
 use Rattle.act_laws.specs.Calls.{Noting, noting, calls_of, wanted}
 use Rattle.act_laws.specs.Laws.{RepliesBeyond, CallsInOrder, CallsStay, NotesChangeNothing}
-use Rattle.act_laws.proofs.Acting.{ActsAlike, both_end, both_want, one_wants, acts_alike}
+use Rattle.act_laws.proofs.Acting.{ActsAlike, both_end, both_lack, both_want, one_wants, acts_alike}
 use Rattle.act_laws.proofs.Getting.{begins_with}
 use Rattle.act_laws.proofs.Links.{the_same, asks_same, the_first, asks_first}
 
@@ -21,27 +21,32 @@ use Rattle.act_laws.proofs.Links.{the_same, asks_same, the_first, asks_first}
 module _ (E : Type 0) (host : Host E) (n : ℕ) where
   same_act : (first : Option PlainEnd × E) (second : Option PlainEnd × Noting E)
       → ActsAlike (the_same E host n) first second → second ≡ (first.0, (first.1, second.1.1))
-  same_act _ _ (both_end how none env replies other others now) = ap (λ found. (how, (found, other.1))) now.0
+  same_act _ _ (both_end done env replies other others now) = ap (λ found. (Some (Ended done), (found, other.1))) now.0
+  same_act _ _ (both_lack env replies other others now) = ap (λ found. (None, (found, other.1))) now.0
   same_act _ _ (both_want call env replies other others now) = ap (λ found. (Some (Wants call), (found, other.1))) now.0
   same_act _ _ (one_wants call env other others past) = absurd past
 
   few_calls : (first : Option PlainEnd × E) (second : Option PlainEnd × Noting E)
       → ActsAlike (the_same E host n) first second → length second.1.1 ≤ n + 1
-  few_calls _ _ (both_end how none env replies other others now) = let count = now.2 in omega arith
+  few_calls _ _ (both_end done env replies other others now) = let count = now.2 in omega arith
+  few_calls _ _ (both_lack env replies other others now) = let count = now.2 in omega arith
   few_calls _ _ (both_want call env replies other others now) = let count = now.1 in omega arith
   few_calls _ _ (one_wants call env other others past) = absurd past
 
   next_call : (more : List AppReply) (first : Option PlainEnd × E) (second : Option PlainEnd × Noting E)
       → ActsAlike (the_first E host n more) first second → wanted first.0 ≡ slice_get second.1.1 n
-  next_call more _ _ (both_end how none env replies other others now) =
-      let count = now.2 in none ∙ sym (slice_get_past other.1 n (omega arith))
+  next_call more _ _ (both_end done env replies other others now) =
+      let count = now.2 in sym (slice_get_past other.1 n (omega arith))
+  next_call more _ _ (both_lack env replies other others now) =
+      let count = now.2 in sym (slice_get_past other.1 n (omega arith))
   next_call more _ _ (both_want call env replies other others now) = absurd now
   next_call more _ _ (one_wants call env other others past) = sym past
 
   ended_act : (more : List AppReply) (first : Option PlainEnd × E) (second : Option PlainEnd × Noting E)
       → ActsAlike (the_first E host n more) first second → wanted first.0 ≡ None
       → (second.0 ≡ first.0) × (second.1.0 ≡ first.1)
-  ended_act more _ _ (both_end how none env replies other others now) is = (refl, now.0)
+  ended_act more _ _ (both_end done env replies other others now) is = (refl, now.0)
+  ended_act more _ _ (both_lack env replies other others now) is = (refl, now.0)
   ended_act more _ _ (both_want call env replies other others now) is = absurd now
   ended_act more _ _ (one_wants call env other others past) is = absurd (cc)
 

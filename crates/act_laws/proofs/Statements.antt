@@ -119,6 +119,9 @@ module _ (l : Link) (i : Inners l) where
   call_head_fits : (found : Head) (more : List Access) → Same l i (λ E m. statements.call_head E m found more)
   call_head_fits (head.Named (named.Place found)) [] = then_fits (then_fits (world_fits l (variable_wantless found))
       (λ place. world_fits l (element_wantless (AtPlace place) []))) (λ done. value_fits l tt)
+  call_head_fits (head.Named (named.PageConstant number)) [] = fails_fit l type_mismatch
+  call_head_fits (head.Named (named.LocalConstant number)) [] = fails_fit l type_mismatch
+  call_head_fits (head.Named (named.Value literal)) [] = fails_fit l type_mismatch
   call_head_fits (head.Named named.Unknown) [] = fails_fit l type_mismatch
   call_head_fits found more = then_fits (head_fits l i found more) (λ done. value_fits l tt)
 

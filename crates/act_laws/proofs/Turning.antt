@@ -8,7 +8,7 @@ use Rattle.vb_meaning.specs.declared.stop.Stop.TheVariants as stop
 use Rattle.vb_meaning.specs.declared.world.World.{World}
 use Rattle.vb_meaning.specs.Errors.{in_line, resumed, with_err, raised_by}
 use Rattle.vb_meaning.specs.Inner.{Inner}
-use Rattle.vb_meaning.specs.Releases.{terminated, ended, without_page_stop}
+use Rattle.vb_meaning.specs.Releases.{terminated, ended, stopped}
 use Rattle.vb_meaning.specs.State.{State}
 use Rattle.vb_meaning.specs.Statements.{out_of_with, with_subjects}
 use Rattle.vb_meaning.specs.Step.{Step, Returns, Ends}
@@ -104,14 +104,27 @@ pub terminated_joined : (l : Link) (object : ℕ) (before : World)
     → JoinedTurn l (terminated l.E object before) (terminated l.F object before)
 terminated_joined l object before = record { alike = alike; goes_on = goes_on }
   where
+    past_stop : (call : AppCall) (page_ended : Bool) (s : State l.F) → l.past call s.env s.replies
+        → Past l call (stopped l.F page_ended s)
+    past_stop call true s past = past
+    past_stop call false s past = past
+
     goes_on : (call : AppCall) (second : Step (State l.F) Value) → Past l call second
         → Past l call (terminated l.F object before second)
     goes_on call (Returns value s) past = past
     goes_on call (Ends (stop.Error what line) s) past = past
     goes_on call (Ends (stop.Limit kind line) s) past = past
-    goes_on call (Ends stop.Page s) past = past
+    goes_on call (Ends stop.Page s) past =
+        past_stop call before.page_ended (record s { world = ended object before s.world }) past
     goes_on call (Ends (stop.Wants other) s) past = past
     goes_on call (Ends stop.Memory s) past = past
+
+    stops : (page_ended : Bool) (world : World) (env : l.E) (replies : List AppReply) (other_env : l.F)
+        (others : List AppReply) → l.now env replies other_env others
+        → Alike l (stopped l.E page_ended (record { world = world; env = env; replies = replies }))
+        (stopped l.F page_ended (record { world = world; env = other_env; replies = others }))
+    stops true world env replies other_env others now = gives tt world env replies other_env others now
+    stops false world env replies other_env others now = ends stop.Page world env replies other_env others now
 
     alike : (first : Step (State l.E) Value) (second : Step (State l.F) Value) → Alike l first second
         → Alike l (terminated l.E object before first) (terminated l.F object before second)
@@ -124,38 +137,11 @@ terminated_joined l object before = record { alike = alike; goes_on = goes_on }
     alike _ _ (ends (stop.Wants call) world env replies other_env others want) =
         ends (stop.Wants call) world env replies other_env others want
     alike _ _ (ends stop.Page world env replies other_env others now) =
-        ends stop.Page (ended object before world) env replies other_env others now
+        stops before.page_ended (ended object before world) env replies other_env others now
     alike _ _ (ends stop.Memory world env replies other_env others now) =
         ends stop.Memory world env replies other_env others now
     alike _ second (gone call s _ past) =
         gone call s (terminated l.F object before second) (goes_on call second past)
-
--- a page stop that goes no further
-pub without_stop_joined : (l : Link) → JoinedTurn l (without_page_stop l.E) (without_page_stop l.F)
-without_stop_joined l = record { alike = alike; goes_on = goes_on }
-  where
-    goes_on : (call : AppCall) (second : Step (State l.F) (Unit {0})) → Past l call second
-        → Past l call (without_page_stop l.F second)
-    goes_on call (Returns value s) past = past
-    goes_on call (Ends (stop.Error what line) s) past = past
-    goes_on call (Ends (stop.Limit kind line) s) past = past
-    goes_on call (Ends stop.Page s) past = past
-    goes_on call (Ends (stop.Wants other) s) past = past
-    goes_on call (Ends stop.Memory s) past = past
-
-    alike : (first : Step (State l.E) (Unit {0})) (second : Step (State l.F) (Unit {0})) → Alike l first second
-        → Alike l (without_page_stop l.E first) (without_page_stop l.F second)
-    alike _ _ (gives value world env replies other_env others now) = gives value world env replies other_env others now
-    alike _ _ (ends (stop.Error what line) world env replies other_env others now) =
-        ends (stop.Error what line) world env replies other_env others now
-    alike _ _ (ends (stop.Limit kind line) world env replies other_env others now) =
-        ends (stop.Limit kind line) world env replies other_env others now
-    alike _ _ (ends (stop.Wants call) world env replies other_env others want) =
-        ends (stop.Wants call) world env replies other_env others want
-    alike _ _ (ends stop.Page world env replies other_env others now) = gives tt world env replies other_env others now
-    alike _ _ (ends stop.Memory world env replies other_env others now) =
-        ends stop.Memory world env replies other_env others now
-    alike _ second (gone call s _ past) = gone call s (without_page_stop l.F second) (goes_on call second past)
 
 -- the end of a With
 with_joined : {A : Type 0} (l : Link) (m : Inner l.E) (other : Inner l.F) (subjects : List Value)

@@ -1,5 +1,5 @@
 -- An environment beside itself: an act wants only calls that the environment wants.
-use Rattle.std.proofs.Common.{◌≡◌, Bool, IsTrue, List, [], ◌∷◌, Option, Some, None, Ok, Err, refl, sym, subst, ◌∙◌}
+use Rattle.std.proofs.Common.{◌≡◌, Bool, IsTrue, List, [], ◌∷◌, Option, Some, Ok, Err, refl, sym, subst}
 use Rattle.vb_value.specs.declared.application.AppCall.{AppCall}
 use Rattle.vb_value.specs.declared.application.AppReply.{AppReply}
 use Rattle.vb_value.specs.declared.value.Value.{Value}
@@ -12,7 +12,7 @@ use Rattle.vb_meaning.specs.Acts.{act_of}
 use Rattle.vb_meaning.specs.Asking.{Host, Said, ask, heard, name_values}
 use Rattle.act_laws.specs.Calls.{WantsOnly, wanted}
 use Rattle.act_laws.specs.Laws.{OnlyObjectsWant}
-use Rattle.act_laws.proofs.Acting.{ActsAlike, both_end, both_want, one_wants, acts_alike}
+use Rattle.act_laws.proofs.Acting.{ActsAlike, both_end, both_lack, both_want, one_wants, acts_alike}
 use Rattle.act_laws.proofs.Joined.{Link, Joined, Alike, gives, gone}
 use Rattle.act_laws.proofs.Links.{ends_for}
 
@@ -28,6 +28,7 @@ module _ (E : Type 0) (host : Host E) (test : AppCall → Bool)
     other = host;
     now = λ env replies other others. (other ≡ env) × (others ≡ replies);
     both_want = λ env replies other others. ⊥;
+    both_lack = λ env replies other others. Unit {0};
     past = λ call other others. IsTrue (test call);
   }
 
@@ -45,7 +46,7 @@ module _ (E : Type 0) (host : Host E) (test : AppCall → Bool)
       heard_alike member arguments world replies (host.answered member arguments reply env)
       (answered member arguments reply env)
   heard_alike member arguments world replies (Err (reason, env)) only =
-      ends_for beside_itself reason world env replies env replies (refl, refl)
+      ends_for beside_itself reason world env replies env replies (refl, refl) (λ is. tt)
 
   asks_alike : (member : Member) (arguments : List Value)
       → Joined beside_itself (ask host member arguments) (ask host member arguments)
@@ -65,8 +66,8 @@ module _ (E : Type 0) (host : Host E) (test : AppCall → Bool)
 
   passes : (first : Option PlainEnd × E) (second : Option PlainEnd × E) → ActsAlike beside_itself first second
       → (call : AppCall) → wanted first.0 ≡ Some call → IsTrue (test call)
-  passes _ _ (both_end how none env replies other others now) call is =
-      let never : None ≡ Some call = sym none ∙ is in absurd (cc)
+  passes _ _ (both_end done env replies other others now) call is = absurd (cc)
+  passes _ _ (both_lack env replies other others now) call is = absurd (cc)
   passes _ _ (both_want other_call env replies other others now) call is = absurd now
   passes _ _ (one_wants found env other others past) call is =
       let same : found ≡ call = cc in subst (λ x. IsTrue (test x)) same past

@@ -1,4 +1,4 @@
--- What scripts do to the world alone wants no call, and keeps the account of objects.
+-- What scripts do to the world alone wants no call, lacks no memory, and keeps the account of objects.
 use Rattle.std.proofs.Common.{ℕ, ◌-◌, nat_lt, pos, Bool, true, false, if◌then◌else◌}
 use Rattle.std.proofs.Common.{Option, Some, None, Result, Ok, Err}
 use Rattle.std.proofs.Common.{◌≡◌, IsTrue, refl, subst, sym, is_ok}
@@ -22,17 +22,18 @@ use Rattle.act_laws.proofs.Accounts.{onward_still, settled_still}
 use Rattle.act_laws.proofs.Keeping.{Keeps, goes_settled, kept_moved, line_keeps, next_keeps, still_ends}
 use Rattle.act_laws.proofs.Keeping.{still_gives}
 use Rattle.act_laws.proofs.Marks.{account_in}
+use Rattle.act_laws.proofs.Roomy.{IsRoomy}
 
--- a step that no call stopped
+-- a step that ended for no call, and not because memory ran out
 abbrev pub NoWant : {S A : Type 0} → Step S A → Type 0
 NoWant (Returns value s) = Unit {0}
 NoWant (Ends (stop.Wants call) s) = ⊥
 NoWant (Ends (stop.Error what line) s) = Unit {0}
 NoWant (Ends (stop.Limit kind line) s) = Unit {0}
 NoWant (Ends stop.Page s) = Unit {0}
-NoWant (Ends stop.Memory s) = Unit {0}
+NoWant (Ends stop.Memory s) = ⊥
 
--- what no call stops, and what keeps the account of objects
+-- what neither a call nor memory stops, and what keeps the account of objects
 pub record Wantless {A : Type 0} (run : Run World A) : Type 0 where
   pub no_want : (world : World) → NoWant (run world)
   pub keeps : Keeps account_of run
@@ -52,7 +53,7 @@ then_wantless {A} {B} {first} {next} one other = record {
     go (Ends (stop.Error what line) world) none = tt
     go (Ends (stop.Limit kind line) world) none = tt
     go (Ends stop.Page world) none = tt
-    go (Ends stop.Memory world) none = tt
+    go (Ends stop.Memory world) none = none
 
 pub pure_wantless : {A : Type 0} (value : A) → Wantless (pure value)
 pure_wantless value = record { no_want = λ world. tt; keeps = still_gives account_of value }
@@ -91,12 +92,12 @@ pub change_wantless : {A : Type 0} (value : A) (change : World → World)
     → ((world : World) → account_of (change world) ≡ account_of world) → Wantless (λ world. Returns value (change world))
 change_wantless value change same = changing_wantless change same (pure_wantless value)
 
-heap_no_want : {A : Type 0} (world changed : World) (found : Result A HeapStop)
+heap_no_want : {A : Type 0} (world changed : World) (found : Result A HeapStop) → IsRoomy found
     → NoWant (heap_answer found changed world)
-heap_no_want world changed (Ok value) = tt
-heap_no_want world changed (Err (heap.Error number)) = tt
-heap_no_want world changed (Err (heap.Limit kind)) = tt
-heap_no_want world changed (Err heap.Memory) = tt
+heap_no_want world changed (Ok value) roomy = tt
+heap_no_want world changed (Err (heap.Error number)) roomy = tt
+heap_no_want world changed (Err (heap.Limit kind)) roomy = tt
+heap_no_want world changed (Err heap.Memory) roomy = roomy
 
 heap_keeps : {A : Type 0} (world changed : World) (found : Result A HeapStop) → AddsUp (account_of world)
     → (IsTrue (is_ok found) → Settled (account_of world) (account_of changed))
@@ -111,19 +112,21 @@ framed_wantless change = change_wantless tt (with_frame change) (λ world. refl)
 
 -- a call on the data of the page that settles its objects where it is not refused
 pub settling_wantless : {A : Type 0} (answer : Store → Result A HeapStop) (change : Store → Store)
+    → ((store : Store) → IsRoomy (answer store))
     → ((world : World) → AddsUp (account_of world) → IsTrue (is_ok (answer world.heap))
     → Settled (account_of world) (account_of (with_heap change world)))
     → Wantless (on_heap answer change)
-settling_wantless answer change settles = record {
-  no_want = λ world. heap_no_want world (with_heap change world) (answer world.heap);
+settling_wantless answer change roomy settles = record {
+  no_want = λ world. heap_no_want world (with_heap change world) (answer world.heap) (roomy world.heap);
   keeps = λ world right. heap_keeps world (with_heap change world) (answer world.heap) right (settles world right);
 }
 
 -- one that leaves the account of objects
 pub heap_wantless : {A : Type 0} (answer : Store → Result A HeapStop) (change : Store → Store)
+    → ((store : Store) → IsRoomy (answer store))
     → ((store : Store) (count : ℕ) → account_in (change store) count ≡ account_in store count)
     → Wantless (on_heap answer change)
-heap_wantless answer change same = settling_wantless answer change (λ world right done.
+heap_wantless answer change roomy same = settling_wantless answer change roomy (λ world right done.
     subst (λ account. Settled (account_of world) account) (sym (same world.heap world.finished))
     (settled_still (account_of world) right))
 
@@ -143,7 +146,7 @@ line_wantless {A} line {run} one = record {
     go (Ends (stop.Limit kind None) world) none = tt
     go (Ends (stop.Limit kind (Some at)) world) none = tt
     go (Ends stop.Page world) none = tt
-    go (Ends stop.Memory world) none = tt
+    go (Ends stop.Memory world) none = none
 
 -- one of two
 pub choice_wantless : {A : Type 0} (test : Bool) {one other : Run World A} → Wantless one → Wantless other

@@ -5,7 +5,7 @@ use Rattle.vb_value.specs.declared.value.ObjNo.{ObjNo}
 use Rattle.vb_value.specs.declared.value.Value.{Value, Empty, Long, Str, Bool as Boolean}
 use Rattle.vb_value.specs.Conversions.{to_long_of, to_str_of}
 use Rattle.vb_value.specs.Errors.{type_mismatch, illegal_assignment, object_not_set, unsupported, wrong_number}
-use Rattle.vb_value.specs.Errors.{and_then}
+use Rattle.vb_value.specs.Errors.{undefined_variable, and_then}
 use Rattle.vb_syntax.specs.declared.program.name.DictionaryMember.{DictionaryMember}
 use Rattle.vb_syntax.specs.declared.program.name.DictionaryMember.TheVariants as word
 use Rattle.vb_syntax.specs.declared.program.name.ErrMember.{ErrMember}
@@ -31,13 +31,15 @@ use Rattle.vb_meaning.specs.Dictionaries.{asking, has_items, item, item_by, put_
 use Rattle.vb_meaning.specs.Dictionaries.{named_member, set_member}
 use Rattle.vb_meaning.specs.ErrObject.{raise_of, raise, err_value, set_err}
 use Rattle.vb_meaning.specs.Paths.{item_in, element_in, element_at, element_of_place}
-use Rattle.vb_meaning.specs.Paths.{element, reached_value, kind_of}
+use Rattle.vb_meaning.specs.Paths.{element, hold_reached, reached_value, kind_of}
 use Rattle.vb_meaning.specs.Places.{new_cell, hold, holding, variable, slot_place, target_variable, indices_of}
 use Rattle.vb_meaning.specs.Places.{element_place, held_at, read_place, is_fixed, store_place}
 use Rattle.vb_meaning.specs.Errors.{cleared, with_err}
 use Rattle.vb_meaning.specs.Step.{given, pure}
 use Rattle.vb_meaning.specs.Values.{copied}
 use Rattle.act_laws.proofs.Wantless.{Wantless, then_wantless, pure_wantless, fails_wantless, given_wantless}
+use Rattle.act_laws.proofs.Roomy.{add_roomy, get_roomy, hold_roomy, mode_roomy, new_cell_roomy, put_roomy}
+use Rattle.act_laws.proofs.Roomy.{remove_all_roomy, remove_roomy, store_roomy}
 use Rattle.act_laws.proofs.Marks.{dictionary_still, got_still, put_still, removed_still}
 use Rattle.act_laws.proofs.Wantless.{seeing_wantless, heap_wantless, choice_wantless, change_wantless, error_wantless}
 
@@ -45,11 +47,12 @@ use Rattle.act_laws.proofs.Wantless.{seeing_wantless, heap_wantless, choice_want
 
 pub new_cell_wantless : (value : Value) → Wantless (new_cell value)
 unfolding new_cell
-new_cell_wantless value = heap_wantless (new_cell_of value) (with_new_cell value) (λ store count. refl)
+new_cell_wantless value =
+    heap_wantless (new_cell_of value) (with_new_cell value) (new_cell_roomy value) (λ store count. refl)
 
 pub hold_wantless : (value : Value) → Wantless (hold value)
 unfolding hold
-hold_wantless value = heap_wantless (hold_of value) (with_held value) (λ store count. refl)
+hold_wantless value = heap_wantless (hold_of value) (with_held value) (hold_roomy value) (λ store count. refl)
 
 pub holding_wantless : (value : Value) → Wantless (holding value)
 holding_wantless value = then_wantless (hold_wantless value) (λ done. pure_wantless value)
@@ -61,6 +64,7 @@ variable_wantless found = seeing_wantless (λ world. given (slot_place found wor
 
 pub target_wantless : (found : Named) → Wantless (target_variable found)
 target_wantless (named.Place found) = variable_wantless found
+target_wantless named.Unknown = fails_wantless undefined_variable
 target_wantless _ = fails_wantless illegal_assignment
 
 pub held_wantless : (place : Place) → Wantless (held_at place)
@@ -75,7 +79,7 @@ pub store_wantless : (place : Place) (value : Value) → Wantless (store_place p
 unfolding store_place
 store_wantless place value = then_wantless (held_wantless place) (λ old.
     choice_wantless (is_fixed old) (fails_wantless type_mismatch)
-    (heap_wantless (store_of place value) (with_stored place value) (λ store count. refl)))
+    (heap_wantless (store_of place value) (with_stored place value) (store_roomy place value) (λ store count. refl)))
 
 -- ---- dictionaries
 
@@ -86,7 +90,8 @@ asking_wantless question = seeing_wantless (λ world. given (question world.heap
 pub item_wantless : (object : ObjNo) (key : Value) → Wantless (item object key)
 unfolding item
 item_wantless object key =
-    heap_wantless (dictionary.get_of object key) (dictionary.with_got object key) (got_still object key)
+    heap_wantless (dictionary.get_of object key) (dictionary.with_got object key)
+    (get_roomy object key) (got_still object key)
 
 pub item_by_wantless : (object : ObjNo) (keys : List Value) → Wantless (item_by object keys)
 item_by_wantless object (key ∷ []) = item_wantless object key
@@ -96,7 +101,7 @@ put_item_wantless : (object : ObjNo) (key value : Value) → Wantless (put_item 
 unfolding put_item
 put_item_wantless object key value =
     heap_wantless (dictionary.put_of object key value) (dictionary.with_put object key value)
-    (put_still object key value)
+    (put_roomy object key value) (put_still object key value)
 
 pub put_by_wantless : (object : ObjNo) (keys : List Value) (value : Value) → Wantless (put_by object keys value)
 put_by_wantless object (key ∷ []) value = put_item_wantless object key value
@@ -105,25 +110,25 @@ put_by_wantless object _ value = fails_wantless wrong_number
 set_mode_wantless : (object : ObjNo) (value : Value) → Wantless (set_mode object value)
 set_mode_wantless object value = then_wantless (given_wantless (to_long_of value)) (λ mode.
     heap_wantless (dictionary.set_mode_of object mode) (with_mode object mode)
-    (dictionary_still (mode_set mode) object))
+    (mode_roomy object mode) (dictionary_still (mode_set mode) object))
 
 member_wantless : (object : ObjNo) (found : DictionaryMember) (arguments : List Value)
     → Wantless (member object found arguments)
 unfolding member
 member_wantless object word.Add (key ∷ value ∷ []) =
     then_wantless (heap_wantless (add_entry_of object key value) (with_entry object key value)
-    (dictionary_still (entry_added key value) object))
+    (add_roomy object key value) (dictionary_still (entry_added key value) object))
     (λ done. pure_wantless Empty)
 member_wantless object word.Item (key ∷ []) = item_wantless object key
 member_wantless object word.Exists (key ∷ []) =
     then_wantless (asking_wantless (dictionary.exists_of object key)) (λ truth. pure_wantless (Boolean truth))
 member_wantless object word.Remove (key ∷ []) =
     then_wantless (heap_wantless (dictionary.remove_of object key) (dictionary.with_removed object key)
-    (removed_still object key))
+    (remove_roomy object key) (removed_still object key))
     (λ done. pure_wantless Empty)
 member_wantless object word.RemoveAll [] =
     then_wantless (heap_wantless (dictionary.remove_all_of object) (without_entries object)
-    (dictionary_still emptied object))
+    (remove_all_roomy object) (dictionary_still emptied object))
     (λ done. pure_wantless Empty)
 member_wantless object word.Keys [] = asking_wantless (dictionary.keys_of object)
 member_wantless object word.Items [] = asking_wantless (dictionary.items_of object)
@@ -183,6 +188,10 @@ pub reached_wantless : (from : Reached) → Wantless (reached_value from)
 unfolding reached_value
 reached_wantless (AtPlace place) = read_wantless place
 reached_wantless (AtValue value) = pure_wantless value
+
+pub hold_reached_wantless : (from : Reached) → Wantless (hold_reached from)
+hold_reached_wantless (AtPlace place) = pure_wantless tt
+hold_reached_wantless (AtValue value) = hold_wantless value
 
 put_wantless : (object : ObjNo) (keys : List Value) (value : Value) → Wantless (put_in_object object keys value)
 put_wantless object keys value =

@@ -50,8 +50,9 @@ use Rattle.vb_meaning.specs.Values.{constant_value, declared_array, literal_valu
 use Rattle.act_laws.proofs.Wantless.{Wantless, then_wantless, pure_wantless, fails_wantless, given_wantless}
 use Rattle.act_laws.proofs.Wantless.{seeing_wantless, heap_wantless, choice_wantless, line_wantless}
 use Rattle.act_laws.proofs.Wantless.{changing_wantless, framed_wantless, settling_wantless}
+use Rattle.act_laws.proofs.Roomy.{object_roomy, store_roomy, table_roomy}
 use Rattle.act_laws.proofs.Marks.{object_settles, table_settles}
-use Rattle.act_laws.proofs.WantlessPlaces.{new_cell_wantless, hold_wantless, holding_wantless, variable_wantless}
+use Rattle.act_laws.proofs.WantlessPlaces.{new_cell_wantless, hold_wantless, variable_wantless}
 use Rattle.act_laws.proofs.WantlessPlaces.{target_wantless, held_wantless, read_wantless, store_wantless}
 
 -- ---- declarations
@@ -133,8 +134,8 @@ result_wantless None = pure_wantless Empty
 
 created_wantless : (name : List ℕ) → Wantless (created name)
 created_wantless name = choice_wantless (same_name (codes "scripting.dictionary") name)
-    (then_wantless (settling_wantless new_table_of with_new_table (λ world right fitting.
-    table_settles world.heap world.finished right fitting)) (λ object. holding_wantless (Obj object)))
+    (then_wantless (settling_wantless new_table_of with_new_table table_roomy (λ world right fitting.
+    table_settles world.heap world.finished right fitting)) (λ object. pure_wantless (Obj object)))
     (fails_wantless cannot_create_object)
 
 pub create_object_wantless : (arguments : List Value) → Wantless (create_object arguments)
@@ -156,7 +157,8 @@ field_made_wantless object field (Some array) = line_wantless array.line
     (then_wantless (seeing_wantless (λ world. given (field_of field (numbered object.0 world.heap.objects)))
     (λ world. given_wantless (field_of field (numbered object.0 world.heap.objects)))) (λ cell.
     then_wantless (given_wantless (declared_array array.bounds)) (λ value.
-    heap_wantless (store_of (cell_place cell) value) (with_stored (cell_place cell) value) (λ store count. refl))))
+    heap_wantless (store_of (cell_place cell) value) (with_stored (cell_place cell) value)
+    (store_roomy (cell_place cell) value) (λ store count. refl))))
 field_made_wantless object field None = pure_wantless tt
 
 fields_made_wantless : (object : ObjNo) (number : ℕ) (fields : List Field)
@@ -171,7 +173,8 @@ pub object_made_wantless : (number : ℕ) (fields : List Field) → Wantless (
     hold (Obj object) >> making.fields_made object 0 fields >> pure object))
 object_made_wantless number fields =
     then_wantless (settling_wantless (new_object_of number (length fields)) (with_new_object number (length fields))
-    (λ world right fitting. object_settles number (length fields) world.heap world.finished right fitting))
+    (object_roomy number (length fields)) (λ world right fitting.
+    object_settles number (length fields) world.heap world.finished right fitting))
     (λ object. then_wantless (then_wantless (hold_wantless (Obj object)) (λ done. fields_made_wantless object 0 fields))
     (λ done. pure_wantless object))
 
@@ -201,13 +204,15 @@ resize_wantless preserve bounds place old =
     (λ done. given_wantless (indices_of bounds))) (λ found.
     then_wantless (then_wantless (given_wantless (statements.good_bounds found))
     (λ done. given_wantless (statements.resized_array preserve (out-Value old) found))) (λ array.
-    heap_wantless (store_of place (Arr array)) (with_stored place (Arr array)) (λ store count. refl)))
+    heap_wantless (store_of place (Arr array)) (with_stored place (Arr array)) (store_roomy place (Arr array))
+    (λ store count. refl)))
 
 erase_wantless : (found : Named) → Wantless (statements.erase found)
 erase_wantless (named.Place found) = then_wantless (variable_wantless found) (λ place.
     then_wantless (held_wantless place) (λ old.
     then_wantless (given_wantless (statements.erased (out-Value old))) (λ value.
-    heap_wantless (store_of place value) (with_stored place value) (λ store count. refl))))
+    heap_wantless (store_of place value) (with_stored place value) (store_roomy place value) (λ store count. refl))))
+erase_wantless named.Unknown = fails_wantless undefined_variable
 erase_wantless _ = fails_wantless type_mismatch
 
 pub erase_all_wantless : (names : List Named) → Wantless (statements.erase_all names)

@@ -1,18 +1,23 @@
 -- Laws of an act, of the replies that it is given, and of the objects that it makes, for the objects of a host whatever
 -- they do.
-use Rattle.std.specs.Prelude.{ℕ, ◌≡◌, Bool, IsTrue, List, [], ◌++◌, length, slice_get, Some, None}
+use Rattle.std.specs.Prelude.{ℕ, ◌≡◌, ◌≢◌, Bool, IsTrue, List, [], ◌++◌, length, slice_get, Some, None, Err}
 use Rattle.vb_value.specs.declared.application.AppCall.{AppCall}
 use Rattle.vb_value.specs.declared.application.AppReply.{AppReply}
 use Rattle.vb_value.specs.declared.value.Value.{Value}
 use Rattle.vb_syntax.specs.declared.act.Act.{Act}
 use Rattle.vb_syntax.specs.declared.act.ActDone.{ActDone}
+use Rattle.vb_syntax.specs.declared.act.AskStop.TheVariants as why
 use Rattle.vb_syntax.specs.declared.member.Member.{Member}
 use Rattle.vb_syntax.specs.declared.program.Program.{Program}
+use Rattle.vb_heap.specs.Releases.{oldest_loose}
 use Rattle.vb_meaning.specs.declared.plain_end.PlainEnd.TheVariants.{Ends}
 use Rattle.vb_meaning.specs.Acts.{act_of, fresh_world}
 use Rattle.vb_meaning.specs.Asking.{Host}
+use Rattle.vb_meaning.specs.Inner.{Inner}
 use Rattle.vb_meaning.specs.Meaning.{inside}
+use Rattle.vb_meaning.specs.Releases.{settle}
 use Rattle.vb_meaning.specs.State.{State}
+use Rattle.vb_meaning.specs.Step.{Returns}
 use Rattle.act_laws.specs.Calls.{LeavesOnly, Noting, WantsOnly, calls_of, noting, wanted}
 use Rattle.act_laws.specs.Objects.{AddsUp, account_at, account_of}
 use Rattle.act_laws.specs.Terminators.{HaveEnded, KeepsAll, RunsEach}
@@ -63,6 +68,17 @@ OnlyAskingChanges E = (host : Host E) (test : E → Bool)
     → (program : Program) (which : Act) (env : E) (replies : List AppReply) → IsTrue (test env)
     → IsTrue (test (act_of E host program which env replies).1)
 
+-- Memory runs out in an act only where it runs out for the objects of the page: where it never does, the act has ended
+-- or wants a call.
+abbrev pub OnlyObjectsLack : Type 0 → Type 0
+OnlyObjectsLack E = (host : Host E)
+    → ((member : Member) (arguments : List Value) (env after : E)
+    → host.asked member arguments env ≢ Err (why.Memory, after))
+    → ((member : Member) (arguments : List Value) (reply : AppReply) (env after : E)
+    → host.answered member arguments reply env ≢ Err (why.Memory, after))
+    → (program : Program) (which : Act) (env : E) (replies : List AppReply)
+    → (act_of E host program which env replies).0 ≢ None
+
 -- When an act has ended, all objects that it made have ended, unless a limit ended it; then no more than were made.
 abbrev pub ObjectsEnd : Type 0 → Type 0
 ObjectsEnd E = (host : Host E) (program : Program) (which : Act) (env : E) (replies : List AppReply) (done : ActDone)
@@ -74,3 +90,14 @@ abbrev pub TerminatorsRunOnce : Type 0 → Type 0
 TerminatorsRunOnce E = AddsUp (account_of fresh_world) × ((host : Host E) (program : Program) (levels : ℕ) (s : State E)
     → AddsUp (account_at s)
     → RunsEach E (inside E host program levels) s × KeepsAll E (inside E host program levels) s)
+
+-- A release point where each live object has a reference does nothing, and neither does a second one right behind the
+-- first.
+pub record ReleasesOnce (E : Type 0) (m : Inner E) (s : State E) : Type 0 where
+  pub still : oldest_loose s.world.heap ≡ None → settle E m s ≡ Returns tt s
+  pub again : AddsUp (account_at s) → (after : State E) → settle E m s ≡ Returns tt after
+      → settle E m after ≡ Returns tt after
+
+abbrev pub ReleasePointsSettle : Type 0 → Type 0
+ReleasePointsSettle E = (host : Host E) (program : Program) (levels : ℕ) (s : State E)
+    → ReleasesOnce E (inside E host program levels) s

@@ -1,7 +1,8 @@
 //! Laws of an act, of the replies that it is given, and of the objects that it makes. The functions do nothing: their
 //! contracts are the laws.
 ghost use Rattle.act_laws.specs.Laws.{CallsInOrder, CallsStay, NotesChangeNothing, ObjectsEnd};
-ghost use Rattle.act_laws.specs.Laws.{OnlyAskingChanges, OnlyObjectsWant, RepliesBeyond, TerminatorsRunOnce};
+ghost use Rattle.act_laws.specs.Laws.{OnlyAskingChanges, OnlyObjectsLack, OnlyObjectsWant};
+ghost use Rattle.act_laws.specs.Laws.{ReleasePointsSettle, RepliesBeyond, TerminatorsRunOnce};
 
 /// An act that has ended takes no account of more replies.
 pub fn replies_beyond<E>()
@@ -33,6 +34,11 @@ pub fn only_asking_changes<E>()
     ensures { OnlyAskingChanges E }
 {}
 
+/// Memory runs out in an act only where it runs out for the objects of the page.
+pub fn only_objects_lack<E>()
+    ensures { OnlyObjectsLack E }
+{}
+
 /// When an act has ended, all objects that it made have ended, unless a limit ended it.
 pub fn objects_end<E>()
     ensures { ObjectsEnd E }
@@ -41,4 +47,10 @@ pub fn objects_end<E>()
 /// Each object ends once: its terminator begins only while it is live, and it is not live again.
 pub fn terminators_run_once<E>()
     ensures { TerminatorsRunOnce E }
+{}
+
+/// A release point where each live object has a reference does nothing, and neither does a second one right behind the
+/// first.
+pub fn release_points_settle<E>()
+    ensures { ReleasePointsSettle E }
 {}

@@ -43,10 +43,9 @@ event_ended session course = record {
 }
 
 -- what an event comes to, with the session that it leaves
-abbrev pub event_came : Option SessionState → Option Way → Outcome
-event_came session (Some (On course)) = Ends (event_ended session course)
-event_came session (Some (WantsReply call)) = Wants call
-event_came session None = Ends (without_acts session)
+abbrev pub event_came : Option SessionState → Way → Outcome
+event_came session (On course) = Ends (event_ended session course)
+event_came session (WantsReply call) = Wants call
 
 -- an event of the application, which leaves its run's session as it was
 abbrev pub application_event : Site → Told → List ℕ → Outcome

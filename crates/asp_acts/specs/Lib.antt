@@ -1,3 +1,4 @@
+pub mod ActEnds
 pub mod Acts
 pub mod Events
 pub mod Failures

@@ -10,9 +10,8 @@ use Rattle.asp_job.specs.declared.session.SessionState.{SessionState}
 use Rattle.asp_job.specs.Told.{Told, Outcome, Wants, Ends}
 use Rattle.asp_objects.specs.declared.objects.PageObjects.{PageObjects}
 use Rattle.asp_objects.specs.Members.{fresh_objects}
-use Rattle.asp_response.specs.declared.fixed.Unavailable.TheVariants.{OutOfMemory}
 use Rattle.asp_response.specs.Finish.{finished}
-use Rattle.asp_response.specs.Fixed.{status_answer_of, not_allowed_of, unavailable_of}
+use Rattle.asp_response.specs.Fixed.{status_answer_of, not_allowed_of}
 use Rattle.asp_site.specs.declared.site.Page.{Page}
 use Rattle.asp_site.specs.declared.site.Site.{Site}
 use Rattle.asp_site.specs.Endings.{media_type_of}
@@ -87,16 +86,10 @@ page_ended told request page course = record {
   finished = course.tally.finished;
 }
 
--- a page that could not run
-abbrev pub unavailable : Told → Request → Finished
-unavailable told request = only_answers told (unavailable_of OutOfMemory (is_head request.verb) request.close)
-
--- What the acts of a page come to. Its objects do not run out of memory: a page whose objects would has the answer of one
--- that could not run.
-abbrev pub page_came : Told → Request → Page → Option Way → Outcome
-page_came told request page (Some (On course)) = Ends (page_ended told request page course)
-page_came told request page (Some (WantsReply call)) = Wants call
-page_came told request page None = Ends (unavailable told request)
+-- what the acts of a page come to
+abbrev pub page_came : Told → Request → Page → Way → Outcome
+page_came told request page (On course) = Ends (page_ended told request page course)
+page_came told request page (WantsReply call) = Wants call
 
 abbrev pub page_run : Site → Told → Request → Page → Outcome
 page_run site told request page =

@@ -23,7 +23,7 @@ use Rattle.asp_site.specs.declared.site.Site.{Site}
 use Rattle.asp_site.specs.Lookup.{page_at}
 use Rattle.asp_acts.specs.declared.course.Course.{Course}
 use Rattle.asp_acts.specs.declared.course.Way.{Way}
-use Rattle.asp_acts.specs.declared.course.Way.TheVariants.{On}
+use Rattle.asp_acts.specs.declared.course.Way.TheVariants.{On, Wants}
 use Rattle.asp_acts.specs.Acts.{course_of, number_of, starts, opens, outside}
 use Rattle.asp_acts.specs.Events.{event_objects}
 use Rattle.asp_acts.specs.Pages.{page_takes, page_begins as course_of_page}
@@ -59,9 +59,9 @@ ticks_in replies page which course = act_ticks PageObjects
     })
 
 -- the ticks of what follows, none where a call is wanted
-abbrev pub and_then_ticks : Option Way → (Course → ℕ) → ℕ
-and_then_ticks (Some (On course)) spends = spends course
-and_then_ticks _ spends = 0
+abbrev pub and_then_ticks : Way → (Course → ℕ) → ℕ
+and_then_ticks (On course) spends = spends course
+and_then_ticks (Wants call) spends = 0
 
 abbrev pub ticks_of_event_in : List AppReply → Page → Option ℕ → Course → ℕ
 ticks_of_event_in replies page (Some number) course = ticks_in replies page (act.Proc number) course

@@ -42,3 +42,10 @@ pub mod Lengths
 pub mod Bearing
 pub mod Lasting
 pub mod Moved
+pub mod Rising
+pub mod Accounts
+pub mod Steadying
+pub mod Steps
+pub mod Stepping
+pub mod Finishing
+pub mod Owing

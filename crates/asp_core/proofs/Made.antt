@@ -80,7 +80,7 @@ owed_more m past lane Stop a = keys_last (made past) (closing_runs (live (sessio
     (within_filter (made past) (is_live (session_of m past) past) (numbers (made past)) (within_numbers (made past))))
 owed_more m past lane Halt a = tt
 
-owed_keys : (m : Rules) (past : List Entry) → KeysWithin (made past) (owed m past)
+pub owed_keys : (m : Rules) (past : List Entry) → KeysWithin (made past) (owed m past)
 owed_keys m [] = (omega arith, tt)
 owed_keys m (entry ∷ past) = owed_more m past entry.lane entry.what (owed_keys m past)
 
@@ -127,7 +127,7 @@ made_grows past lane Stop = omega arith
 made_grows past lane Halt = omega arith
 
 -- the key of a queued run is that of the first run that is owed
-queue_key : (m : Rules) (past : List Entry) (lane run : ℕ) (work : Work) (key : ℕ) (list : List (Work × ℕ))
+pub queue_key : (m : Rules) (past : List Entry) (lane run : ℕ) (work : Work) (key : ℕ) (list : List (Work × ℕ))
     → MayFollow m past list (with_lane lane (Queue run work key)) → KeysWithin (made past) list → key ≤ made past
 queue_key m past lane run work key [] may a = absurd may
 queue_key m past lane run work key (first ∷ rest) may a = let is = may.0 in let same : key ≡ first.1 = cc in let small =

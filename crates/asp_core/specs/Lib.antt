@@ -16,3 +16,4 @@ pub mod Alone
 pub mod Calm
 pub mod Start
 pub mod Slice
+pub mod Sessions

@@ -1,21 +1,26 @@
 //! Laws of valid journals. Each is the contract of a function that does nothing.
 #![tactic(auto)]
 
-ghost use Rattle.std.specs.Prelude.{◌≡◌, ◌≢◌, ◌≤◌, ℕ, true, false, List, [], ◌∷◌, ◌++◌, Some};
+ghost use Rattle.std.specs.Prelude.{◌≡◌, ◌≢◌, ◌≤◌, ℕ, true, false, List, [], ◌∷◌, ◌++◌, Some, filter, length, nat_lt, not};
 ghost use Rattle.asp_job.specs.declared.answer.Answer.{Answer};
 ghost use Rattle.asp_job.specs.declared.entry.EndKind.{EndKind};
 ghost use Rattle.asp_job.specs.declared.entry.EndKind.TheVariants.{Memory};
 ghost use Rattle.asp_job.specs.declared.entry.Entry.{Entry};
+ghost use Rattle.asp_job.specs.declared.entry.What.{What as Said};
 ghost use Rattle.asp_job.specs.declared.entry.What.TheVariants.{End, Take};
 ghost use Rattle.asp_job.specs.History.{calls_of_run, held_by, run_in, with_lane};
 ghost use Rattle.asp_job.specs.declared.job.Job.{Job};
-ghost use Rattle.asp_job.specs.Journal.{AreRight, IsValidJournal, end_entry, past_after};
+ghost use Rattle.asp_job.specs.Journal.{AreRight, IsRight, IsValidJournal, end_entry, past_after};
 ghost use Rattle.asp_job.specs.Journal.{admit_entries, stop_entries, tick_entries};
-ghost use Rattle.asp_job.specs.Keys.{session_of, told};
+ghost use Rattle.asp_job.specs.Keys.{is_askable, is_due_key, live, made, session_of, told};
 ghost use Rattle.asp_job.specs.Output.{answer_of_run};
 ghost use Rattle.asp_job.specs.Rules.{Rules};
-ghost use Rattle.asp_job.specs.Runs.{has_ended, is_unfinished, key_of, unfinished, waiting};
-ghost use Rattle.asp_job.specs.Turns.{IsRunning, may_begin};
+ghost use Rattle.asp_job.specs.Runs.{has_ended, is_unfinished, key_of, numbers, unfinished, waiting};
+ghost use Rattle.asp_job.specs.Turns.{IsRunning, has_most_keys, may_begin};
+ghost use Rattle.asp_session.specs.Account as keys;
+ghost use Rattle.asp_session.specs.Account.{Account};
+ghost use Rattle.asp_session.specs.Steps.{most_live};
+ghost use Rattle.asp_core.specs.Sessions.{Tells, account_after, account_of, sessions_in};
 ghost use Rattle.asp_core.specs.Alone.{alone};
 ghost use Rattle.asp_core.specs.Given.{AreOfFirst, AreOfLaneFirst, for_lane, given, handed, hands_out, made_by};
 ghost use Rattle.asp_core.specs.Kernel.{CoreView, IsRunOf, IsWithin, RunView, grown, past_of, rules_of};
@@ -142,4 +147,24 @@ pub fn sessions_apart()
         AreRight rules past → session_of rules past key ≡ session_of rules (alone past key) key }
     ensures told { (rules : Rules) (past : List Entry) (run : ℕ) →
         AreRight rules past → told rules past run ≡ told rules (alone past (key_of past run)) run }
+{}
+
+/// Each entry makes one step of the account of the session keys, and the account tells of the keys what the journal does:
+/// the session of each, which are live, which may be asked for, whether as many are live as may be, and which are due.
+pub fn account_steps()
+    ensures step { (rules : Rules) (seed : List ℕ) (past : List Entry) (lane : ℕ) (what : Said) →
+        AreRight rules past → IsRight rules past (with_lane lane what) →
+        account_of rules seed (with_lane lane what ∷ past)
+        ≡ account_after rules past what (account_of rules seed past) }
+    ensures told { (rules : Rules) (past : List Entry) (account : Account) →
+        AreRight rules past → account ≡ account_of rules account.seed past →
+        Tells account past × (sessions_in account ≡ session_of rules past) }
+    ensures live { (account : Account) (past : List Entry) →
+        Tells account past → keys.live account ≡ live (sessions_in account) past }
+    ensures askable { (account : Account) (past : List Entry) (key : ℕ) →
+        Tells account past → keys.is_askable key account ≡ is_askable (sessions_in account) past key }
+    ensures full { (account : Account) (past : List Entry) → Tells account past →
+        not (nat_lt (length account.keys) most_live) ≡ has_most_keys (sessions_in account) past }
+    ensures due { (account : Account) (past : List Entry) (moment : ℕ) → Tells account past →
+        keys.due moment account ≡ filter (is_due_key (sessions_in account) past moment) (numbers (made past)) }
 {}

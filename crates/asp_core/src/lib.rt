@@ -32,9 +32,9 @@ pub use crossing::core_crosses;
 pub use house::{House, HouseOf, Housed};
 pub use kernel::{Core, CoreOf};
 pub use laws::{
-    answer_stays, answers_in_order, answers_wait, calls_follow, end_fits, events_bear_lane,
-    handed_out_once, holder_is_unfinished, lock_holds, run_stays, runs_stay, sessions_apart,
-    some_run_may_begin,
+    account_steps, answer_stays, answers_in_order, answers_wait, calls_follow, end_fits,
+    events_bear_lane, handed_out_once, holder_is_unfinished, lock_holds, run_stays, runs_stay,
+    sessions_apart, some_run_may_begin,
 };
 pub use ready::{BODY_ROOM, MOST_BODIES};
 pub use run::{Progress, Run, StandIns};

@@ -34,10 +34,8 @@ where
     ensures ok { IfOk result (HasAnswered (rules_of R.meaning core.old) job.now) }
     ensures err { IfErr result (IsGetStop (rules_of R.meaning core.old) job.now) }
 {
-    match start(core, runner, site, store) {
-        Ok(store) => answer_job(core, runner, site, store, job),
-        Err(stop) => Err(stop),
-    }
+    let store = start(core, runner, site, store)?;
+    answer_job(core, runner, site, store, job)
 }
 
 /// Lets a core go.
@@ -62,15 +60,12 @@ where
     ensures ok { IfOk result (HasAnswered (rules_by (R.meaning runner.now site.now) (setting_of seed false)) job.now) }
     ensures err { IfErr result (IsGetStop (rules_by (R.meaning runner.now site.now) (setting_of seed false)) job.now) }
 {
-    let store = match runner.store() {
-        Ok(store) => store,
-        Err(_) => return Err(GetStop::Memory),
-    };
+    let store = runner.store()?;
     let mut core = match Core::new(alloc, 0, runner, site, seed, false) {
         Ok(core) => core,
-        Err(_) => {
+        Err(memory) => {
             let_go::<R>(Hand::Free(store));
-            return Err(GetStop::Memory);
+            return Err(GetStop::from(memory));
         }
     };
     let answered = answer_over(&mut core, runner, site, store, job);

@@ -10,7 +10,7 @@ ghost use Rattle.asp_job.specs.Running.{is_page};
 ghost use Rattle.asp_job.specs.Size.{IsSmall};
 
 use crate::running::go_through;
-use crate::stop::{GetStop, admit_stop};
+use crate::stop::GetStop;
 use asp_core::Core;
 use asp_job::{Answer, Job, Runner};
 use asp_lane::{Hand, let_go};
@@ -75,7 +75,7 @@ where
         }
         Err(stop) => {
             let_go::<R>(Hand::Free(store));
-            Err(admit_stop(stop))
+            Err(GetStop::from(stop))
         }
     }
 }
@@ -99,8 +99,6 @@ where
     ensures ok { IfOk result (answered.HasAnswered (rules_of R.meaning core.old) job.now) }
     ensures err { IfErr result (answered.IsGetStop (rules_of R.meaning core.old) job.now) }
 {
-    match ask(core, runner, site, store, job) {
-        Ok(run) => hand_out(core, run),
-        Err(stop) => Err(stop),
-    }
+    let run = ask(core, runner, site, store, job)?;
+    hand_out(core, run)
 }

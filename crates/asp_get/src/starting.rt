@@ -58,12 +58,8 @@ where
     ensures ok { OnOk result (spec.IsReady (rules_of R.meaning core.old) (past_of core.new)) }
     ensures err { (job : JobView) → IfErr result (answered.IsGetStop (rules_of R.meaning core.old) job) }
 {
-    match go_through(core, runner, site, store, 1) {
-        Ok(store) => {
-            // The journal is valid.
-            let _ = core.journal();
-            store_kept::<R>(store, start_stop(core))
-        }
-        Err(stop) => Err(stop),
-    }
+    let store = go_through(core, runner, site, store, 1)?;
+    // The journal is valid.
+    let _ = core.journal();
+    store_kept::<R>(store, start_stop(core))
 }

@@ -7,6 +7,9 @@ ghost use Rattle.asp_get.specs.Underway as spec;
 use asp_core::AdmitStop;
 use asp_job::Fail;
 use asp_lane::Turn;
+use std::error::Error;
+use std::fmt;
+use vb_value::Memory;
 
 /// Why a request was not answered.
 #[derive(Clone, Copy, Debug, PartialEq, Eq)]
@@ -24,6 +27,44 @@ pub enum GetStop {
     Memory,
 }
 
+impl fmt::Display for GetStop {
+    fn fmt<W: fmt::Write>(&self, f: &mut fmt::Formatter<W>) -> fmt::Result {
+        match self {
+            GetStop::StartFailed(_) => write!(f, "Application_OnStart failed"),
+            GetStop::JournalFull { entries, weight } => {
+                write!(f, "journal full: {entries} entries, {weight} bytes")
+            }
+            GetStop::Memory => write!(f, "{}", Memory),
+        }
+    }
+}
+
+impl Error for GetStop {}
+
+/// A host that was just made neither stops nor has pages that wait.
+impl From<AdmitStop> for GetStop {
+    ghost use Rattle.asp_get.specs.Underway.{admit_stop};
+
+    ghost from_gives = { λ stop given. given ≡ admit_stop stop };
+
+    fn from(stop: AdmitStop) -> GetStop {
+        match stop {
+            AdmitStop::JournalFull { entries, weight } => GetStop::JournalFull { entries, weight },
+            AdmitStop::Memory | AdmitStop::Stopping | AdmitStop::WaitingFull => GetStop::Memory,
+        }
+    }
+}
+
+impl From<Memory> for GetStop {
+    ghost use Rattle.asp_get.specs.declared.stop.GetStop.TheVariants.{Memory as OutOfMemory};
+
+    ghost from_gives = { λ _ stop. stop ≡ OutOfMemory };
+
+    fn from(_: Memory) -> GetStop {
+        GetStop::Memory
+    }
+}
+
 /// Why a run does not go on after a turn that came to this. A run that waits alone is not idle.
 pub(crate) fn turn_stop(turn: Turn) -> Option<GetStop>
     ensures { result ≡ spec.turn_stop turn }
@@ -32,15 +73,5 @@ pub(crate) fn turn_stop(turn: Turn) -> Option<GetStop>
         Turn::Done | Turn::More => None,
         Turn::JournalFull { entries, weight } => Some(GetStop::JournalFull { entries, weight }),
         Turn::Idle | Turn::Memory => Some(GetStop::Memory),
-    }
-}
-
-/// The same for a job that was not admitted. A host that was just made neither stops nor has pages that wait.
-pub(crate) fn admit_stop(stop: AdmitStop) -> GetStop
-    ensures { result ≡ spec.admit_stop stop }
-{
-    match stop {
-        AdmitStop::JournalFull { entries, weight } => GetStop::JournalFull { entries, weight },
-        AdmitStop::Memory | AdmitStop::Stopping | AdmitStop::WaitingFull => GetStop::Memory,
     }
 }

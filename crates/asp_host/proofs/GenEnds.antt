@@ -1,6 +1,5 @@
 -- What `gen` ran and wrote.
-use Rattle.std.proofs.Common.{◌≡◌, ℕ, Bool, List, subst, inl, inr}
-use Rattle.asp_io.specs.Sink.{with_bytes}
+use Rattle.std.proofs.Common.{◌≡◌, ℕ, Bool, subst, inl, inr}
 use Rattle.asp_record.specs.declared.recording.Recording.{Recording}
 use Rattle.asp_record.specs.Generated.{count_files, generated}
 use Rattle.asp_replay.specs.declared.stop.FeedStop.{FeedStop}
@@ -8,7 +7,7 @@ use Rattle.asp_replay.specs.declared.stop.FeedStop.TheVariants as feed
 use Rattle.asp_site.specs.declared.site.Site.{Site}
 use Rattle.site_load.specs.Accepted.{IsAccepted}
 use Rattle.asp_host.specs.Around.{Change}
-use Rattle.asp_host.specs.Gen.{GenWrites, HasSummed, IsSumStop}
+use Rattle.asp_host.specs.Gen.{GenWrites, HasSummedAll, IsSumStop}
 use Rattle.asp_host.specs.Replay.{rules_for}
 use Rattle.asp_host.specs.Status.{feed_status_of}
 use Rattle.asp_host.specs.declared.status.Status.TheVariants as status
@@ -16,20 +15,14 @@ use Rattle.asp_host.specs.declared.status.Status.TheVariants as status
 -- the output is that of the recording, fed to the site, and the sink has it
 abbrev Done : ℕ → Bool → Site → Change → Recording → Type 0
 Done count journal site sink recording =
-    (output : List ℕ) × HasSummed (rules_for site recording) recording.items count journal output
-    × (sink.after ≡ with_bytes sink.before output)
-
-made_done : (count : ℕ) (journal : Bool) (site : Site) (sink : Change) → IsAccepted count_files site
-    → Done count journal site sink (generated count) → GenWrites count journal sink status.Ok
-made_done count journal site sink accepted done =
-    (done.0, record { site = site; accepted = accepted; summed = done.1 }, done.2)
+    HasSummedAll (rules_for site recording) recording.items count journal sink
 
 -- what was made was replayed to its end
 pub gen_done : (count : ℕ) (journal : Bool) (site : Site) (recording : Recording) (sink : Change)
     → recording ≡ generated count → IsAccepted count_files site → Done count journal site sink recording
     → GenWrites count journal sink status.Ok
 gen_done count journal site recording sink same accepted done =
-    made_done count journal site sink accepted (subst (Done count journal site sink) same done)
+    record { site = site; accepted = accepted; all = subst (Done count journal site sink) same done }
 
 made_stopped : (count : ℕ) (journal : Bool) (site : Site) (sink : Change) (stop : FeedStop)
     → IsAccepted count_files site

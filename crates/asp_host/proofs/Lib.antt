@@ -7,5 +7,4 @@ mod Marks
 mod Outputs
 mod ReplayEnds
 pub mod Replaying
-mod Silent
 mod Summed

@@ -23,7 +23,7 @@ use Rattle.asp_replay.specs.Underway.{HasNotBegun, IsCoreOf, WritesText}
 use Rattle.asp_replay.proofs.FedBack.{rules_here}
 use Rattle.asp_replay.proofs.Pieces.{part_more, with_none, wrote_more}
 use Rattle.asp_host.specs.Replayed.{HasNotStarted, HasReplayed, HasReplayedPart, HasStopped}
-use Rattle.asp_host.proofs.Silent.{none_shown, none_written}
+use Rattle.asp_replay.proofs.Silent.{none_shown, none_written}
 use Rattle.asp_core.specs.declared.setting.Setting.{Setting}
 
 -- ---- a feed that stopped
@@ -33,11 +33,12 @@ first_past = with_lane 0 (Queue 1 Start 0) ∷ []
 
 -- nothing was written, and nothing came to the journal
 nothing_part : (rules : Rules) (items : List Item) (journal : Bool) (before after : Option (List ℕ)) → after ≡ before
-    → HasReplayedPart rules items journal before after
+    → HasReplayedPart rules items journal stop.Memory before after
 nothing_part rules items journal before after same = record {
   past = first_past;
   account = record { entries = (record { turn = (refl, tt); legal = tt; follows = tt }, tt); settled = refl };
   fed = inr ([], items, [], refl, record { items_are = (refl, refl); calm = (tt, tt) });
+  passed = inr (refl, λ e. absurd cc);
   bytes = [];
   is_part = inr ([], [], refl, refl);
   wrote = record { count = 0; within = omega arith; added = same ∙ sym (with_none before) };
@@ -45,13 +46,14 @@ nothing_part rules items journal before after same = record {
 
 part_of : (rules : Rules) (items : List Item) (journal : Bool) (past : List Entry) (ended : FeedStop)
     (before after : Option (List ℕ)) → HasFedPart rules items past ended before after
-    → HasReplayedPart rules items journal before after
+    → HasReplayedPart rules items journal ended before after
 part_of rules items journal past ended before after part =
     let written = part.written in
     record {
       past = past;
       account = part.account;
       fed = part.fed;
+      passed = part.passed;
       bytes = written.records;
       is_part = inr (written.first, written.later, written.shown_are, written.are_records);
       wrote = written.wrote;
@@ -129,13 +131,13 @@ module _ {R Site : Type 0} (meaning : R → Site → Meaning) where
   replay_ok core runner site setting items journal before held after (Err ended) of valid fed wrote lines = tt
 
   replay_part : (core : CoreView R Site) (runner : R) (site : Site) (setting : Setting) (items : List Item)
-      (journal : Bool) (before held after : Option (List ℕ))
+      (journal : Bool) (ended : FeedStop) (before held after : Option (List ℕ))
       → IsCoreOf runner site setting core → IsValidJournal (rules_of meaning core) (past_of core)
       → HasFed (rules_by (meaning runner site) setting) items (past_of core) before held
       → AddsPart held after (lines_of journal (past_of core)
       ++ done_line (length (shown_of (rules_of meaning core) (past_of core))))
-      → HasReplayedPart (rules_by (meaning runner site) setting) items journal before after
-  replay_part core runner site setting items journal before held after of valid fed part =
+      → HasReplayedPart (rules_by (meaning runner site) setting) items journal ended before after
+  replay_part core runner site setting items journal ended before held after of valid fed part =
       let same = rules_here meaning core runner site setting of in
       let other = rules_by (meaning runner site) setting in
       let past = past_of core in
@@ -145,6 +147,7 @@ module _ {R Site : Type 0} (meaning : R → Site → Meaning) where
         past = past;
         account = subst (λ some. IsValidJournal some past) same valid;
         fed = inl fed.whole.fed;
+        passed = inl fed.whole.started;
         bytes = written.records ++ text;
         is_part = inl (whole_output (rules_of meaning core) other past journal written.records same written.are_records);
         wrote = part_more before held after written.records text written.wrote part;
@@ -164,6 +167,6 @@ module _ {R Site : Type 0} (meaning : R → Site → Meaning) where
       fed
       wrote = absurd wrote
   replay_err core runner site setting items journal before held after (Err stop.WriteFault) of valid fed wrote =
-      replay_part core runner site setting items journal before held after of valid fed wrote
+      replay_part core runner site setting items journal stop.WriteFault before held after of valid fed wrote
   replay_err core runner site setting items journal before held after (Err stop.Memory) of valid fed wrote =
-      replay_part core runner site setting items journal before held after of valid fed wrote
+      replay_part core runner site setting items journal stop.Memory before held after of valid fed wrote

@@ -1,15 +1,16 @@
 -- What a recording that is made comes to, whose answers are let go.
-use Rattle.std.proofs.Common.{◌≡◌, ◌⊎◌, ℕ, Bool, List, ◌++◌, refl, ap, ◌∙◌, subst, inl, inr, arith, Option, None}
+use Rattle.std.proofs.Common.{◌≡◌, ◌⊎◌, ℕ, Bool, true, List, ◌++◌, refl, ap, ◌∙◌, subst, inl, inr, arith, Option, None}
 use Rattle.std.proofs.Common.{Result, Ok, Err, IfErr, IsErrAnd, OnOk}
 use Rattle.std.proofs.lemmas.Result.{err_from_is_err_and}
 use Rattle.asp_core.specs.Kernel.{CoreView, past_of, rules_by, rules_of}
 use Rattle.asp_io.specs.Faults.{HasCause}
-use Rattle.asp_io.specs.Sink.{with_bytes}
 use Rattle.asp_job.specs.declared.entry.Entry.{Entry}
 use Rattle.asp_job.specs.Journal.{IsValidJournal}
 use Rattle.asp_job.specs.Rules.{Rules}
 use Rattle.asp_job.specs.Told.{Meaning}
 use Rattle.asp_record.specs.declared.recording.Item.{Item}
+use Rattle.asp_record.specs.EntryLines.{lines_in}
+use Rattle.asp_record.specs.Journal.{AreLines}
 use Rattle.asp_replay.specs.declared.stop.FeedStop.{FeedStop}
 use Rattle.asp_replay.specs.declared.stop.FeedStop.TheVariants as stop
 use Rattle.asp_replay.specs.Feed.{HasFedPart, IsWhole}
@@ -18,7 +19,7 @@ use Rattle.asp_replay.specs.Underway.{HasNotBegun, IsCoreOf, WritesText}
 use Rattle.asp_replay.proofs.FedBack.{rules_here}
 use Rattle.asp_summary.specs.Counted.{summary_of}
 use Rattle.asp_summary.specs.Lines.{summary_lines}
-use Rattle.asp_host.specs.Gen.{HasSummed, IsSumStop}
+use Rattle.asp_host.specs.Gen.{HasSummed, HasSummedAll, IsSumStop}
 use Rattle.asp_host.proofs.Replaying.{not_started}
 use Rattle.asp_core.specs.declared.setting.Setting.{Setting}
 
@@ -87,15 +88,17 @@ module _ {R Site : Type 0} (meaning : R → Site → Meaning) where
       → IsCoreOf runner site setting core → IsValidJournal (rules_of meaning core) (past_of core)
       → IsWhole (rules_by (meaning runner site) setting) items (past_of core)
       → WritesText (all_lines count journal (past_of core)) result held after
-      → OnOk result ((output : List ℕ)
-      × HasSummed (rules_by (meaning runner site) setting) items count journal output
-      × (after ≡ with_bytes held output))
-  sum_ok core runner site setting items count journal held after (Ok given) of valid whole wrote = (
-    all_lines count journal (past_of core),
-    summed core runner site setting items count journal of valid whole,
-    wrote,
-  )
-  sum_ok core runner site setting items count journal held after (Err ended) of valid whole wrote = tt
+      → OnOk result (journal ≡ true → AreLines (lines_in (past_of core)))
+      → OnOk result (HasSummedAll (rules_by (meaning runner site) setting) items count journal
+      (record { before = held; after = after }))
+  unfolding summed
+  sum_ok core runner site setting items count journal held after (Ok given) of valid whole wrote lines = record {
+    output = all_lines count journal (past_of core);
+    summed = summed core runner site setting items count journal of valid whole;
+    lines = lines;
+    wrote = wrote;
+  }
+  sum_ok core runner site setting items count journal held after (Err ended) of valid whole wrote lines = tt
 
   pub sum_err : {T : Type 0} → (core : CoreView R Site) (runner : R) (site : Site) (setting : Setting)
       (items : List Item)

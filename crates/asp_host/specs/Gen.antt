@@ -1,5 +1,5 @@
 -- How `gen` ends, by its status, and what it then leaves in the sink.
-use Rattle.std.specs.Prelude.{◌≡◌, ◌⊎◌, ℕ, Bool, List, ◌++◌, None}
+use Rattle.std.specs.Prelude.{◌≡◌, ◌⊎◌, ℕ, Bool, true, List, ◌++◌, None}
 use Rattle.asp_io.specs.Copying.{AddsPart}
 use Rattle.asp_io.specs.Sink.{with_bytes}
 use Rattle.asp_job.specs.declared.answer.Fail.{Fail}
@@ -7,7 +7,9 @@ use Rattle.asp_job.specs.declared.entry.Entry.{Entry}
 use Rattle.asp_job.specs.Journal.{IsValidJournal}
 use Rattle.asp_job.specs.Rules.{Rules}
 use Rattle.asp_record.specs.declared.recording.Item.{Item}
+use Rattle.asp_record.specs.EntryLines.{lines_in}
 use Rattle.asp_record.specs.Generated.{count_files, generated}
+use Rattle.asp_record.specs.Journal.{AreLines}
 use Rattle.asp_replay.specs.declared.stop.FeedStop.{FeedStop}
 use Rattle.asp_replay.specs.declared.stop.FeedStop.TheVariants as feed
 use Rattle.asp_replay.specs.Feed.{IsWhole}
@@ -38,6 +40,13 @@ abbrev pub HasSummedPart : Rules → List Item → ℕ → Bool → Change → T
 HasSummedPart rules items count journal sink =
     (output : List ℕ) × HasSummed rules items count journal output × AddsPart sink.before sink.after output
 
+-- So they were, and all of that was written. Each of the lines is such as may stand in a journal.
+pub record HasSummedAll (rules : Rules) (items : List Item) (count : ℕ) (journal : Bool) (sink : Change) : Type 0 where
+  pub output : List ℕ
+  pub summed : HasSummed rules items count journal output
+  pub lines : journal ≡ true → AreLines (lines_in summed.past)
+  pub wrote : sink.after ≡ with_bytes sink.before output
+
 -- why they were not, or their summary was not written whole. The answers go to a sink that tells nothing.
 abbrev pub IsSumStop : Rules → List Item → ℕ → Bool → Change → FeedStop → Type 0
 IsSumStop rules items count journal sink (feed.StartFailed fail) = HasNotStarted rules fail None None × IsLeft sink
@@ -47,6 +56,12 @@ IsSumStop rules items count journal sink feed.WriteFault = HasSummedPart rules i
 IsSumStop rules items count journal sink feed.Memory = IsLeft sink ⊎ HasSummedPart rules items count journal sink
 
 -- ---- by the status
+
+-- so many requests that are made were fed to the site of the one page, and all that belongs to them was written
+pub record GeneratesAll (count : ℕ) (journal : Bool) (sink : Change) : Type 0 where
+  pub site : Site
+  pub accepted : IsAccepted count_files site
+  pub all : HasSummedAll (rules_for site (generated count)) (generated count).items count journal sink
 
 -- so many requests that are made were fed to the site of the one page
 pub record HasGenerated (count : ℕ) (journal : Bool) (output : List ℕ) : Type 0 where
@@ -73,8 +88,7 @@ GeneratesPart count journal sink =
 
 -- What `gen` ran and wrote, by its status. It never answers that its own page is refused.
 abbrev pub GenWrites : ℕ → Bool → Change → Status → Type 0
-GenWrites count journal sink Ok =
-    (output : List ℕ) × HasGenerated count journal output × (sink.after ≡ with_bytes sink.before output)
+GenWrites count journal sink Ok = GeneratesAll count journal sink
 GenWrites count journal sink WriteFault = GeneratesPart count journal sink
 GenWrites count journal sink Memory = IsLeft sink ⊎ GeneratesPart count journal sink
 GenWrites count journal sink (JournalFull entries weight) = FillsGenerated count entries weight × IsLeft sink

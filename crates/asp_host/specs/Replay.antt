@@ -6,6 +6,8 @@ use Rattle.asp_job.specs.declared.answer.Fail.{Fail}
 use Rattle.asp_job.specs.Rules.{Rules}
 use Rattle.asp_record.specs.declared.recording.Recording.{Recording}
 use Rattle.asp_acts.specs.Running.{meaning_of}
+use Rattle.asp_replay.specs.declared.stop.FeedStop.{FeedStop}
+use Rattle.asp_replay.specs.declared.stop.FeedStop.TheVariants as stop
 use Rattle.asp_site.specs.declared.site.Site.{Site}
 use Rattle.site_load.specs.Accepted.{IsAccepted, IsFolderFault}
 use Rattle.asp_host.specs.declared.status.Status.{Status}
@@ -31,11 +33,12 @@ pub record ReplaysAll (journal : Bool) (files : Option (List SiteFile)) (source 
   pub is_for : IsFor files source site recording
   pub replayed : HasReplayed (rules_for site recording) recording.items journal sink.before sink.after
 
-pub record ReplaysPart (journal : Bool) (files : Option (List SiteFile)) (source sink : Change) : Type 0 where
+pub record ReplaysPart (journal : Bool) (ended : FeedStop) (files : Option (List SiteFile)) (source sink : Change) :
+    Type 0 where
   pub site : Site
   pub recording : Recording
   pub is_for : IsFor files source site recording
-  pub replayed : HasReplayedPart (rules_for site recording) recording.items journal sink.before sink.after
+  pub replayed : HasReplayedPart (rules_for site recording) recording.items journal ended sink.before sink.after
 
 pub record Fills (files : Option (List SiteFile)) (source sink : Change) (entries weight : ℕ) : Type 0 where
   pub site : Site
@@ -60,8 +63,8 @@ pub record FailsToBegin (files : Option (List SiteFile)) (source sink : Change) 
 abbrev pub ReplayWrites : Bool → Option (List SiteFile) → Change → Change → Status → Type 0
 ReplayWrites journal files source sink Ok = ReplaysAll journal files source sink
 ReplayWrites journal files source sink (JournalFull entries weight) = Fills files source sink entries weight
-ReplayWrites journal files source sink WriteFault = ReplaysPart journal files source sink
-ReplayWrites journal files source sink Memory = IsLeft sink ⊎ ReplaysPart journal files source sink
+ReplayWrites journal files source sink WriteFault = ReplaysPart journal stop.WriteFault files source sink
+ReplayWrites journal files source sink Memory = IsLeft sink ⊎ ReplaysPart journal stop.Memory files source sink
 ReplayWrites journal files source sink (RecordRefused offset) = HasRefused files source offset × IsLeft sink
 ReplayWrites journal files source sink (SiteRefused fault) =
     IfSome files (λ all. IsFolderFault all fault) × IsLeft source × IsLeft sink

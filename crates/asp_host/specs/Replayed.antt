@@ -11,7 +11,7 @@ use Rattle.asp_record.specs.EntryLines.{lines_in}
 use Rattle.asp_record.specs.Journal.{AreLines}
 use Rattle.asp_replay.specs.declared.stop.FeedStop.{FeedStop}
 use Rattle.asp_replay.specs.declared.stop.FeedStop.TheVariants as stop
-use Rattle.asp_replay.specs.Feed.{HasFailed, HasFedPart, IsWhole}
+use Rattle.asp_replay.specs.Feed.{HasFailed, HasFedPart, IsPassed, IsWhole}
 use Rattle.asp_feed.specs.Feeding.{IsFedPart}
 use Rattle.asp_feed.specs.Shown.{IsOutput, IsOutputPart}
 
@@ -27,15 +27,17 @@ pub record HasReplayed (rules : Rules) (items : List Item) (journal : Bool) (bef
   pub lines : journal ≡ true → AreLines (lines_in past)
   pub wrote : after ≡ with_bytes before output
 
--- the items were replayed in part, or to their end, and first bytes of what belongs to this journal were written
-pub record HasReplayedPart (rules : Rules) (items : List Item) (journal : Bool) (before after : Option (List ℕ)) : Type 0
-  where
-    pub past : List Entry
-    pub account : IsValidJournal rules past
-    pub fed : IsFedPart items past
-    pub bytes : List ℕ
-    pub is_part : IsOutputPart rules past journal bytes
-    pub wrote : AddsPart before after bytes
+-- The items were replayed in part, or to their end, until this stop: nothing came, and nothing was written, before the
+-- first run had ended well. First bytes of what belongs to this journal were written.
+pub record HasReplayedPart (rules : Rules) (items : List Item) (journal : Bool) (ended : FeedStop)
+    (before after : Option (List ℕ)) : Type 0 where
+  pub past : List Entry
+  pub account : IsValidJournal rules past
+  pub fed : IsFedPart items past
+  pub passed : IsPassed rules past ended
+  pub bytes : List ℕ
+  pub is_part : IsOutputPart rules past journal bytes
+  pub wrote : AddsPart before after bytes
 
 -- the journal of a replay that ends because it would be too long or too heavy
 abbrev pub HasFilled : Rules → List Item → ℕ → ℕ → Option (List ℕ) → Option (List ℕ) → Type 0
@@ -54,5 +56,4 @@ abbrev pub HasStopped : Rules → List Item → Bool → Option (List ℕ) → O
 HasStopped rules items journal before after (stop.StartFailed fail) = HasNotStarted rules fail before after
 HasStopped rules items journal before after (stop.JournalFull entries weight) =
     HasFilled rules items entries weight before after
-HasStopped rules items journal before after stop.WriteFault = HasReplayedPart rules items journal before after
-HasStopped rules items journal before after stop.Memory = HasReplayedPart rules items journal before after
+HasStopped rules items journal before after ended = HasReplayedPart rules items journal ended before after

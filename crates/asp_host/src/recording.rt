@@ -8,7 +8,9 @@ use crate::source::read_source;
 use asp_io::{IoStop, Source};
 use asp_record::{RecordStop, Recording, read_recording, refusals_stay};
 use std::alloc::Global;
-use vb_value::Bytes;
+use std::error::Error;
+use std::fmt;
+use vb_value::{Bytes, Memory};
 
 /// Why no recording was read.
 #[derive(Clone, Copy, Debug, PartialEq, Eq)]
@@ -23,6 +25,18 @@ pub enum RecordingStop {
     /// Memory ran out.
     Memory,
 }
+
+impl fmt::Display for RecordingStop {
+    fn fmt<W: fmt::Write>(&self, f: &mut fmt::Formatter<W>) -> fmt::Result {
+        match self {
+            RecordingStop::Refused { offset } => write!(f, "refused at byte {offset}"),
+            RecordingStop::ReadFault => write!(f, "the source failed"),
+            RecordingStop::Memory => write!(f, "{}", Memory),
+        }
+    }
+}
+
+impl Error for RecordingStop {}
 
 impl From<IoStop> for RecordingStop {
     ghost use Rattle.asp_host.specs.Input.{input_stop};

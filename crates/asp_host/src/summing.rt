@@ -1,10 +1,11 @@
 //! What `gen` writes: the lines of a journal, and its summary.
-ghost use Rattle.std.specs.Prelude.{◌≡◌, ◌++◌, ℕ, IfErr, IfOk, List, OnOk, reverse, false};
+ghost use Rattle.std.specs.Prelude.{◌≡◌, ◌++◌, IfErr, IfOk, OnOk, reverse, false, true};
 ghost use Rattle.std.specs.String.{string_bytes};
 ghost use Rattle.asp_core.specs.Kernel.{past_of, rules_by, rules_of, setting_of};
 ghost use Rattle.asp_io.specs.Faults.{HasCause};
-ghost use Rattle.asp_io.specs.Sink.{with_bytes};
 ghost use Rattle.asp_job.specs.Journal.{IsValidJournal};
+ghost use Rattle.asp_record.specs.EntryLines.{lines_in};
+ghost use Rattle.asp_record.specs.Journal.{AreLines};
 ghost use Rattle.asp_record.specs.Recorded.{IsSound};
 ghost use Rattle.asp_feed.specs.Shown.{lines_of};
 ghost use Rattle.asp_replay.specs.Underway.{WritesText};
@@ -17,7 +18,7 @@ use asp_core::Core;
 use asp_io::{Failed, Sink, SureSink, write_all};
 use asp_job::{Entry, Runner};
 use asp_record::Recording;
-use asp_replay::{FeedStop, feed};
+use asp_replay::{FeedStop, feed, journals_have_lines};
 use asp_summary::{summary_of, summary_text};
 use std::alloc::Global;
 use vb_value::Memory;
@@ -52,11 +53,14 @@ fn write_summary<R: Runner, K: Sink>(
     ensures wrote { WritesText (lines_of journal (past_of core.now)
         ++ summary_lines (summary count (past_of core.now))) result (K.held sink.old) (K.held sink.new) }
     ensures valid { IsValidJournal (rules_of R.meaning core.now) (past_of core.now) }
+    ensures lines { OnOk result (journal ≡ true → AreLines (lines_in (past_of core.now))) }
     ensures cause { HasCause FeedStop.WriteFault (K.faults sink.old) (K.faults sink.new) result }
 {
     let entries = core.journal();
     let text = summary_string(alloc, count, entries)?;
     write_journal(alloc, journal, entries, sink)?;
+    // The lines that were written are such as may stand in a journal.
+    journals_have_lines();
     write_text(sink, text.as_bytes())
 }
 
@@ -76,10 +80,9 @@ where
     R::Store: Drop,
     K: Sink,
     requires sound { IsSound recording.now }
-    ensures ok { OnOk result ((output : List ℕ)
-        × spec.HasSummed (rules_by (R.meaning runner.now site.now) (setting_of recording.now.seed false))
-        recording.now.items count journal
-        output × (K.held sink.new ≡ with_bytes (K.held sink.old) output)) }
+    ensures ok { OnOk result (spec.HasSummedAll (rules_by (R.meaning runner.now site.now)
+        (setting_of recording.now.seed false)) recording.now.items count journal
+        (record { before = K.held sink.old; after = K.held sink.new })) }
     ensures err { IfErr result (spec.IsSumStop (rules_by (R.meaning runner.now site.now)
         (setting_of recording.now.seed false))
         recording.now.items count journal (record { before = K.held sink.old; after = K.held sink.new })) }

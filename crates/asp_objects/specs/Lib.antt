@@ -1,9 +1,11 @@
 pub mod ApplicationMembers
 pub mod Choosing
+pub mod Drafting
 pub mod Entries
 pub mod Given
 pub mod MapPath
 pub mod Members
+pub mod Remembering
 pub mod RequestMembers
 pub mod ResponseMembers
 pub mod Said

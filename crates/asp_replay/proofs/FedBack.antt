@@ -8,7 +8,7 @@ use Rattle.asp_job.specs.Rules.{Rules}
 use Rattle.asp_job.specs.Told.{Meaning}
 use Rattle.asp_record.specs.declared.recording.Item.{Item}
 use Rattle.asp_replay.specs.declared.stop.FeedStop.{FeedStop}
-use Rattle.asp_replay.specs.Feed.{HasFed, HasFedPart, IsWoundUp}
+use Rattle.asp_replay.specs.Feed.{HasFed, HasFedPart, IsPassed, IsWoundUp}
 use Rattle.asp_replay.specs.Underway.{AfterAll, HasNotBegun, IsCoreOf, IsHandedBack}
 use Rattle.asp_core.specs.declared.setting.Setting.{Setting}
 
@@ -47,17 +47,18 @@ fed_handed m other items past_at before after (Err ended) core back same is hold
 pub stop_handed : {T Core : Type 0} → (m other : Rules) (items : List Item) (past : List Entry)
     (before after : Option (List ℕ)) (fed : Result T FeedStop) (core : Core) (back : Result Core FeedStop)
     → m ≡ other → IsValidJournal m past → IsAnswered m past → IsHandedBack core fed back
-    → AfterAll fed m items past before after → IfErr fed (IsWoundUp past)
+    → AfterAll fed m items past before after → IfErr fed (IsPassed m past) → IfErr fed (IsWoundUp past)
     → IfErr back (λ ended. HasNotBegun ended before after
     ⊎ ((some : List Entry) × HasFedPart other items some ended before after))
-stop_handed m other items past before after (Ok given) core back same valid answered is holds wound = rw is tt
-stop_handed m other items past before after (Err ended) core back same valid answered is holds wound =
+stop_handed m other items past before after (Ok given) core back same valid answered is holds passed wound = rw is tt
+stop_handed m other items past before after (Err ended) core back same valid answered is holds passed wound =
     rw is (inr (
       past,
       subst (λ some. HasFedPart some items past ended before after) same (record {
         account = valid;
         answered = answered;
         fed = holds.fed;
+        passed = passed;
         cause = holds.cause;
         written = holds.written;
         wound_up = wound;

@@ -213,6 +213,11 @@ pub record HandsOne {R Site : Type 0} (meaning : R → Site → Meaning) (old ne
   pub are_records : AreRecords (stamp (moment_of (past_of old)) taken) bytes
   pub wrote : now ≡ with_bytes before bytes
 
+-- so some answer waited
+pub some_waits : {A : Type 0} → (taken rest : List A) (first : A) → [] ≡ taken ++ first ∷ rest → ⊥
+some_waits [] rest first e = absurd cc
+some_waits (one ∷ taken) rest first e = absurd cc
+
 pub hands_one : {R Site : Type 0} → (meaning : R → Site → Meaning) (old now new : CoreView R Site)
     (before after : Option (List ℕ)) (first : ℕ × Answer) → IsHanding meaning old now before after
     → Some first ≡ first_for (past_of now) 0 (ready (rules_of meaning now) (past_of now))

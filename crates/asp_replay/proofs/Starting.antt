@@ -82,6 +82,10 @@ under_rules m other items left past clients before after same is =
 
 -- ---- answers
 
+pub on_err : {T E : Type 0} → (result : Result T E) (P : E → Type 0) → ((ended : E) → P ended) → IfErr result P
+on_err (Ok given) P holds = tt
+on_err (Err ended) P holds = holds ended
+
 pub none_still : (old new : List Entry) → events_of new ≡ events_of old → events_of old ≡ [] → events_of new ≡ []
 none_still old new same none = same ∙ none
 
@@ -102,3 +106,8 @@ start_no_fault m past old new (Err ended) later within why = record {
   within = within;
   failed = λ e. absurd (let same : ended ≡ stop.WriteFault = cc in no_fault m past ended why same);
 }
+
+pub told_no_fault : {T : Type 0} → (m : Rules) (past : List Entry) (told : Result T FeedStop)
+    → IfErr told (IsStartStop m past) → told ≡ Err stop.WriteFault → ⊥
+told_no_fault m past (Ok given) why e = absurd cc
+told_no_fault m past (Err ended) why e = no_fault m past ended why (let same : ended ≡ stop.WriteFault = cc in same)

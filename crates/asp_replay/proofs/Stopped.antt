@@ -1,6 +1,6 @@
 -- How a feed ends where work comes to a stop.
 use Rattle.std.proofs.Common.{◌≡◌, ℕ, List, [], ◌∷◌, refl, ap, sym, ◌∙◌, subst, inl, inr, Option, Some, Result, Ok}
-use Rattle.std.proofs.Common.{Err}
+use Rattle.std.proofs.Common.{Err, IsOk}
 use Rattle.asp_core.specs.Kernel.{CoreView, grown, past_of, rules_of}
 use Rattle.asp_core.specs.Ready.{ready}
 use Rattle.asp_core.proofs.Kept.{past_of_more}
@@ -108,12 +108,32 @@ out_events meaning (Ok given) mid new held after out =
     handed_events mid new (ready (rules_of meaning mid) (past_of mid)) out.1
 out_events meaning (Err ended) mid new held after out = handed_events mid new out.0.taken out.0.new_is
 
--- where it came to none, and the answers that wait were handed out
+-- where it came to none
+pub worked_events : {R Site : Type 0} → (meaning : R → Site → Meaning) (old mid : CoreView R Site)
+    (entries : List Entry) → mid ≡ grown old entries → WorkAdds (rules_of meaning old) (past_of old) entries
+    → events_of (past_of mid) ≡ events_of (past_of old)
+worked_events meaning old mid entries mid_is adds =
+    ap (λ core. events_of (past_of core)) mid_is ∙ ap events_of (past_of_more old.journal entries)
+    ∙ (work_quiet (rules_of meaning old) (past_of old) entries adds).events
+
+-- and the answers that wait were handed out
 pub work_events : {T R Site : Type 0} → (meaning : R → Site → Meaning) (result : Result T FeedStop)
     (old mid new : CoreView R Site) (entries : List Entry) (held after : Option (List ℕ)) → mid ≡ grown old entries
     → WorkAdds (rules_of meaning old) (past_of old) entries → HandsOut meaning result mid new held after
     → events_of (past_of new) ≡ events_of (past_of old)
 work_events meaning result old mid new entries held after mid_is adds out =
-    out_events meaning result mid new held after out ∙ ap (λ core. events_of (past_of core)) mid_is
-    ∙ ap events_of (past_of_more old.journal entries)
-    ∙ (work_quiet (rules_of meaning old) (past_of old) entries adds).events
+    out_events meaning result mid new held after out ∙ worked_events meaning old mid entries mid_is adds
+
+-- ---- no fault of the sink
+
+pub stop_no_fault : (t : Turn) (ended : FeedStop) → turn_stop t ≡ Some ended → ended ≡ stop.WriteFault → ⊥
+stop_no_fault turn.Done ended e fault = absurd cc
+stop_no_fault turn.More ended e fault = absurd cc
+stop_no_fault turn.Idle ended e fault = absurd cc
+stop_no_fault (turn.JournalFull count weight) ended e fault =
+    absurd (let is = stop_is (stop.JournalFull count weight) ended e in cc)
+stop_no_fault turn.Memory ended e fault = absurd (let is = stop_is stop.Memory ended e in cc)
+
+pub not_err : {T E : Type 0} → (result : Result T E) (ended : E) → IsOk result → result ≡ Err ended → ⊥
+not_err (Ok given) ended ok e = absurd cc
+not_err (Err other) ended ok e = absurd cc

@@ -11,6 +11,7 @@ use Rattle.asp_job.specs.Runs.{is_stopping}
 use Rattle.asp_job.specs.Told.{Meaning, Told}
 use Rattle.asp_lane.specs.declared.turn.Turn.{Turn}
 use Rattle.asp_lane.specs.declared.turn.Turn.TheVariants as turn
+use Rattle.asp_lane.specs.Started.{HasStarted}
 use Rattle.asp_lane.specs.Turns.{Fits}
 use Rattle.asp_record.specs.declared.recording.Item.{Item}
 use Rattle.asp_record.specs.Recorded as recorded
@@ -158,29 +159,30 @@ module _ {R Site : Type 0} (meaning : R → Site → Meaning) where
   next_is items past clients next left may (inr fed) = absurd (let none = fed.none_left in cc)
 
   item_cause : (m : Rules) (items : List Item) (past : List Entry) (clients : Clients) (next : Item)
-      (ended : FeedStop) → IsNext items past clients next → ((entries weight : ℕ) → ended ≡ stop.JournalFull entries weight
+      (ended : FeedStop) → HasStarted m past → IsNext items past clients next
+      → ((entries weight : ℕ) → ended ≡ stop.JournalFull entries weight
       → IsItemTooMuch m past clients next entries weight) → ((fail : Fail) → ended ≡ stop.StartFailed fail → ⊥)
       → HasCause m items past ended
-  item_cause m items past clients next (stop.StartFailed fail) is full not = absurd (not fail refl)
-  item_cause m items past clients next (stop.JournalFull entries weight) is full not =
+  item_cause m items past clients next (stop.StartFailed fail) started is full not = absurd (not fail refl)
+  item_cause m items past clients next (stop.JournalFull entries weight) started is full not =
       let much = full entries weight refl in
-      (past, [], refl, OfItem clients much.1 next much.0 is much.2 much.3)
-  item_cause m items past clients next stop.WriteFault is full not = tt
-  item_cause m items past clients next stop.Memory is full not = tt
+      (past, [], refl, OfItem clients much.1 next much.0 started is much.2 much.3)
+  item_cause m items past clients next stop.WriteFault started is full not = tt
+  item_cause m items past clients next stop.Memory started is full not = tt
 
   -- an item did not come
   pub come_ends : (old mid : CoreView R Site) (items left : List Item) (clients : Clients) (next : Item)
       (before held : Option (List ℕ)) (ended : FeedStop) → mid ≡ old
-      → may_come (past_of old) (recorded.moment_of next) ≡ true
+      → may_come (past_of old) (recorded.moment_of next) ≡ true → HasStarted (rules_of meaning old) (past_of old)
       → ((entries weight : ℕ) → ended ≡ stop.JournalFull entries weight
       → IsItemTooMuch (rules_of meaning old) (past_of old) clients next entries weight)
       → ((fail : Fail) → ended ≡ stop.StartFailed fail → ⊥)
       → IsUnderWay (rules_of meaning old) items (past_of old) clients (next ∷ left) before held
       → EndsSo (rules_of meaning old) items (past_of mid) ended before held
-  come_ends old mid items left clients next before held ended same may full not is =
+  come_ends old mid items left clients next before held ended same may started full not is =
       subst (λ core. EndsSo (rules_of meaning old) items (past_of core) ended before held) (sym same)
       (ends_here (rules_of meaning old) items (past_of old) clients (next ∷ left) before held ended is
-      (item_cause (rules_of meaning old) items (past_of old) clients next ended
+      (item_cause (rules_of meaning old) items (past_of old) clients next ended started
       (next_is items (past_of old) clients next left may is.stands) full not))
 
   -- ---- the host stops
@@ -208,28 +210,30 @@ module _ {R Site : Type 0} (meaning : R → Site → Meaning) where
       (stop_grown (rules_of meaning old) items (past_of old) clients before held is
       (right_grown old mid entries mid_is right) (answered_grown old mid entries mid_is answered) calm once) of out
 
-  stop_cause : (m : Rules) (items : List Item) (past : List Entry) (ended : FeedStop) → HasAllCome items past
+  stop_cause : (m : Rules) (items : List Item) (past : List Entry) (ended : FeedStop) → HasStarted m past
+      → HasAllCome items past
       → ((entries weight : ℕ) → ended ≡ stop.JournalFull entries weight
       → IsTooMuch (past_after past (stop_entries m past 0)) entries weight)
       → ((fail : Fail) → ended ≡ stop.StartFailed fail → ⊥) → HasCause m items past ended
-  stop_cause m items past (stop.StartFailed fail) is full not = absurd (not fail refl)
-  stop_cause m items past (stop.JournalFull entries weight) is full not =
-      (past, [], refl, OfStop is (full entries weight refl))
-  stop_cause m items past stop.WriteFault is full not = tt
-  stop_cause m items past stop.Memory is full not = tt
+  stop_cause m items past (stop.StartFailed fail) started is full not = absurd (not fail refl)
+  stop_cause m items past (stop.JournalFull entries weight) started is full not =
+      (past, [], refl, OfStop started is (full entries weight refl))
+  stop_cause m items past stop.WriteFault started is full not = tt
+  stop_cause m items past stop.Memory started is full not = tt
 
   -- the host did not stop
   pub stop_ends : (old mid : CoreView R Site) (items : List Item) (clients : Clients) (before held : Option (List ℕ))
       (ended : FeedStop) → mid ≡ old → is_calm (past_of old) ≡ true → is_stopping (past_of old) ≡ false
+      → HasStarted (rules_of meaning old) (past_of old)
       → ((entries weight : ℕ) → ended ≡ stop.JournalFull entries weight
       → IsTooMuch (past_after (past_of old) (stop_entries (rules_of meaning old) (past_of old) 0)) entries weight)
       → ((fail : Fail) → ended ≡ stop.StartFailed fail → ⊥)
       → IsUnderWay (rules_of meaning old) items (past_of old) clients [] before held
       → EndsSo (rules_of meaning old) items (past_of mid) ended before held
-  stop_ends old mid items clients before held ended same calm once full not is =
+  stop_ends old mid items clients before held ended same calm once started full not is =
       subst (λ core. EndsSo (rules_of meaning old) items (past_of core) ended before held) (sym same)
       (ends_here (rules_of meaning old) items (past_of old) clients [] before held ended is
-      (stop_cause (rules_of meaning old) items (past_of old) ended (record {
+      (stop_cause (rules_of meaning old) items (past_of old) ended started (record {
         clients = clients;
         came = all_come items (past_of old) clients once is.stands;
         calm = calm;

@@ -17,24 +17,6 @@ use Rattle.asp_feed.specs.Feeding.{Clients, IsFed, is_calm}
 use Rattle.asp_replay.specs.Underway.{IsUnderWay, StandsAt, is_over}
 use Rattle.std.specs.Option.{option_or}
 
--- ---- the first run has ended for good
-
-still_some : (found before : Option EndKind) → is_some before ≡ true → is_some (option_or found before) ≡ true
-still_some None before some = some
-still_some (Some kind) before some = refl
-
-kind_after : (past entries : List Entry) → is_some (end_kind past 1) ≡ true
-    → is_some (end_kind (past_after past entries) 1) ≡ true
-kind_after past [] some = some
-kind_after past (entry ∷ entries) some =
-    kind_after (entry ∷ past) entries (still_some (kind_in 1 entry.what) (end_kind past 1) some)
-
-pub kind_grown : {R Site : Type 0} → (old new : CoreView R Site) → ((entries : List Entry) × (new ≡ grown old entries))
-    → is_some (end_kind (past_of old) 1) ≡ true → is_some (end_kind (past_of new) 1) ≡ true
-kind_grown old new grows some =
-    subst (λ past. is_some (end_kind past 1) ≡ true)
-    (sym (ap past_of grows.1 ∙ past_of_more old.journal grows.0)) (kind_after (past_of old) grows.0 some)
-
 -- ---- the end
 
 and_parts : (a b : Bool) → a && b ≡ true → (a ≡ true) × (b ≡ true)

@@ -1,5 +1,5 @@
 -- A feed that is wound up: what its host does then comes from no item, and it ends as it did.
-use Rattle.std.proofs.Common.{◌≡◌, ◌⊎◌, ℕ, zero, suc, ◌||◌, Bool, true, false, List, [], ◌∷◌, ◌++◌}
+use Rattle.std.proofs.Common.{◌≡◌, ◌≢◌, ◌⊎◌, ℕ, zero, suc, ◌||◌, Bool, true, false, List, [], ◌∷◌, ◌++◌}
 use Rattle.std.proofs.Common.{reverse, refl, ap, sym, ◌∙◌, subst, append_assoc, inl, inr, Option, Some, None, Err}
 use Rattle.std.proofs.lemmas.Bool.{cases_Bool}
 use Rattle.asp_core.specs.Kernel.{CoreView, RunView, grown, past_of, rules_of}
@@ -10,10 +10,12 @@ use Rattle.asp_job.specs.declared.answer.Fail.{Fail}
 use Rattle.asp_job.specs.declared.entry.Entry.{Entry}
 use Rattle.asp_job.specs.declared.entry.What.TheVariants.{Halt}
 use Rattle.asp_job.specs.History.{with_lane}
-use Rattle.asp_job.specs.Journal.{AreRight, past_after}
+use Rattle.asp_job.specs.Journal.{AreRight, IsValidJournal, past_after}
 use Rattle.asp_job.specs.Rules.{Rules}
 use Rattle.asp_job.specs.Runs.{is_halt, is_halted}
 use Rattle.asp_job.specs.Told.{Meaning, Told}
+use Rattle.asp_lane.proofs.Started.{started_grown}
+use Rattle.asp_lane.specs.Started.{HasStarted}
 use Rattle.asp_lane.specs.declared.turn.Turn.{Turn}
 use Rattle.asp_lane.specs.declared.turn.Turn.TheVariants as turn
 use Rattle.asp_lane.specs.Rest.{HasTurned, Turned}
@@ -21,8 +23,8 @@ use Rattle.asp_lane.specs.Turns.{AddsTurn, Fits, IsStep, IsTurn}
 use Rattle.asp_record.specs.declared.recording.Item.{Item}
 use Rattle.asp_replay.specs.declared.stop.FeedStop.{FeedStop}
 use Rattle.asp_replay.specs.declared.stop.FeedStop.TheVariants as stop
-use Rattle.asp_replay.specs.Feed.{ArePartWritten, HasCause, HasFailed, HasWoundUp, IsWoundUp, WasTooMuch}
-use Rattle.asp_feed.specs.Feeding.{IsFedPart, comes}
+use Rattle.asp_replay.specs.Feed.{ArePartWritten, HasCause, HasFailed, HasWoundUp, IsPassed, IsWoundUp, WasTooMuch}
+use Rattle.asp_feed.specs.Feeding.{IsFedPart, comes, events_of}
 use Rattle.asp_feed.specs.Shown.{Shown, shown_of}
 use Rattle.asp_replay.specs.Underway.{EndsSo, GrowsQuietly}
 use Rattle.asp_replay.proofs.Aside.{fits_still}
@@ -238,6 +240,25 @@ ends_then m items old new ended then_ended before after grows told same ends =
       | inr is ↦ subst (λ some. EndsSo m items (past_of new) some before after) (sym is)
           (record { fed = now.fed; cause = tt; written = now.written })
     ]
+
+still_no_fault : (ended then_ended : FeedStop) → (then_ended ≡ ended) ⊎ (then_ended ≡ stop.Memory)
+    → ended ≢ stop.WriteFault → then_ended ≢ stop.WriteFault
+still_no_fault ended then_ended (inl is) not = λ e. not (sym is ∙ e)
+still_no_fault ended then_ended (inr is) not = λ e. absurd (let both : stop.Memory ≡ stop.WriteFault = sym is ∙ e in cc)
+
+-- the first run has passed as before, or still nothing came
+pub passed_then : {R Site : Type 0} → (meaning : R → Site → Meaning) (old new : CoreView R Site) (m : Rules)
+    (ended then_ended : FeedStop) → rules_of meaning old ≡ m → GrowsQuietly old new
+    → IsValidJournal (rules_of meaning new) (past_of new) → (then_ended ≡ ended) ⊎ (then_ended ≡ stop.Memory)
+    → IsPassed m (past_of old) ended → IsPassed m (past_of new) then_ended
+passed_then meaning old new m ended then_ended same grows valid told (inl started) =
+    let still = started_grown meaning old new (grows.entries, grows.new_is) valid
+    (subst (λ some. HasStarted some (past_of old)) (sym same) started) in
+    inl (subst (λ some. HasStarted some (past_of new)) same still)
+passed_then meaning old new m ended then_ended same grows valid told (inr none) = inr (
+  ap events_of (past_quiet old new grows) ∙ (quiet_all (past_of old) grows.entries grows.quiet).events ∙ none.0,
+  still_no_fault ended then_ended told none.1,
+)
 
 pub fault_then : {T : Type 0} → (old new : ℕ) (ended then_ended : FeedStop)
     → (then_ended ≡ ended) ⊎ (then_ended ≡ stop.Memory)

@@ -1,5 +1,5 @@
 -- What a recording leaves that was fed to a host, and what one leaves that was not fed to its end.
-use Rattle.std.specs.Prelude.{◌≡◌, ℕ, Bool, true, false, ⊤, List, [], ◌∷◌, ◌++◌, reverse, Option, Some}
+use Rattle.std.specs.Prelude.{◌≡◌, ◌≢◌, ◌⊎◌, ℕ, Bool, true, false, ⊤, List, [], ◌∷◌, ◌++◌, reverse, Option, Some}
 use Rattle.asp_core.specs.Kernel.{IsBeginTooMuch, IsTooMuch}
 use Rattle.asp_core.specs.Laws.{NoneIs}
 use Rattle.asp_core.specs.Ready.{IsAnswered}
@@ -79,13 +79,14 @@ pub record HasAllCome (items : List Item) (past : List Entry) : Type 0 where
   pub came : HasCome (reverse items) past clients
   pub calm : is_calm past ≡ true
 
--- with what comes next, the next item, the Stop, a Begin, or the call that an unfinished run wants, there would be so many
--- entries of that weight, too many or too heavy
+-- With what comes next there would be so many entries of that weight, too many or too heavy: with the next item or the
+-- Stop, once the first run has ended well; with a Begin; or with the call that an unfinished run wants.
 pub data IsTooMuchNext (rules : Rules) (items : List Item) (past : List Entry) (entries weight : ℕ) : Type 0 where
-  OfItem : (clients then_clients : Clients) (next : Item) (added : List Entry) → IsNext items past clients next
-      → AddsItem rules past clients next added then_clients
+  OfItem : (clients then_clients : Clients) (next : Item) (added : List Entry) → HasStarted rules past
+      → IsNext items past clients next → AddsItem rules past clients next added then_clients
       → IsTooMuch (past_after past added) entries weight → IsTooMuchNext rules items past entries weight
-  OfStop : HasAllCome items past → IsTooMuch (past_after past (stop_entries rules past 0)) entries weight
+  OfStop : HasStarted rules past → HasAllCome items past
+      → IsTooMuch (past_after past (stop_entries rules past 0)) entries weight
       → IsTooMuchNext rules items past entries weight
   OfBegin : IsFedPart items past → IsBeginTooMuch rules past 0 entries weight
       → IsTooMuchNext rules items past entries weight
@@ -96,6 +97,10 @@ pub data IsTooMuchNext (rules : Rules) (items : List Item) (past : List Entry) (
 abbrev pub WasTooMuch : Rules → List Item → List Entry → ℕ → ℕ → Type 0
 WasTooMuch rules items past entries weight = (earlier later : List Entry) × (past ≡ later ++ earlier)
     × IsTooMuchNext rules items earlier entries weight
+
+-- the first run has ended well, or nothing came from outside and the sink was not the cause
+abbrev pub IsPassed : Rules → List Entry → FeedStop → Type 0
+IsPassed rules past ended = HasStarted rules past ⊎ ((events_of past ≡ []) × (ended ≢ stop.WriteFault))
 
 -- the first run has failed so, and nothing came from outside
 pub record HasFailed (rules : Rules) (past : List Entry) (fail : Fail) : Type 0 where
@@ -121,13 +126,15 @@ IsWoundUp past (stop.JournalFull entries weight) = HasWoundUp past
 IsWoundUp past stop.WriteFault = HasWoundUp past
 IsWoundUp past stop.Memory = ⊤
 
--- The items were fed in part, to a host with this valid journal, each page that ended has an answer, the first answers
--- were written, and then the journal was wound up.
+-- The items were fed in part, to a host with this valid journal: nothing came, and nothing was written, before its first
+-- run had ended well. Each page that ended has an answer, the first answers were written, and then the journal was wound
+-- up.
 pub record HasFedPart (rules : Rules) (items : List Item) (past : List Entry) (ended : FeedStop)
     (before after : Option (List ℕ)) : Type 0 where
   pub account : IsValidJournal rules past
   pub answered : IsAnswered rules past
   pub fed : IsFedPart items past
+  pub passed : IsPassed rules past ended
   pub cause : HasCause rules items past ended
   pub written : ArePartWritten rules past before after
   pub wound_up : IsWoundUp past ended

@@ -16,7 +16,7 @@ ghost use Rattle.asp_replay.specs.Sequential as spec;
 ghost use Rattle.asp_replay.specs.Underway as way;
 
 use crate::stop::FeedStop;
-use asp_core::{AdmitStop, Admitted, Core, EventStop};
+use asp_core::{Admitted, Core};
 use asp_feed::{Clients, job_of, reserve_one};
 use asp_job::{MOST_WAITING, Runner};
 use asp_record::Item;
@@ -45,24 +45,6 @@ pub fn may_come<R: Runner>(core: &Core<R>, moment: u64) -> bool
     ensures { result ≡ spec.may_come (past_of core.now) moment }
 {
     (moment <= core.moment() || is_calm(core)) && core.waiting_pages() < MOST_WAITING as u32
-}
-
-fn event_stop(stop: EventStop) -> FeedStop
-    ensures { result ≡ way.event_stop stop }
-{
-    match stop {
-        EventStop::JournalFull { entries, weight } => FeedStop::JournalFull { entries, weight },
-        EventStop::Memory => FeedStop::Memory,
-    }
-}
-
-fn admit_stop(stop: AdmitStop) -> FeedStop
-    ensures { result ≡ way.admit_stop stop }
-{
-    match stop {
-        AdmitStop::JournalFull { entries, weight } => FeedStop::JournalFull { entries, weight },
-        _ => FeedStop::Memory,
-    }
 }
 
 /// A client goes by the key that its job was admitted with.
@@ -103,13 +85,9 @@ fn come_request<R: Runner>(
 {
     let job = job_of(alloc, clients, client, moment, bytes)?;
     reserve_one(clients)?;
-    match core.admit(0, runner, site, &job) {
-        Ok(told) => {
-            note(clients, client, told);
-            Ok(())
-        }
-        Err(stop) => Err(admit_stop(stop)),
-    }
+    let told = core.admit(0, runner, site, &job)?;
+    note(clients, client, told);
+    Ok(())
 }
 
 /// An item comes. A refusal leaves the core.
@@ -150,7 +128,7 @@ pub fn come<R: Runner>(
         ),
         Item::Tick { moment } => match core.tick(0, *moment) {
             Ok(_) => Ok(()),
-            Err(stop) => Err(event_stop(stop)),
+            Err(stop) => Err(FeedStop::from(stop)),
         },
     }
 }
@@ -167,8 +145,6 @@ pub fn stop<R: Runner>(core: &mut Core<R>) -> Result<(), FeedStop>
     ensures no_fault { result ≡ Err FeedStop.WriteFault → ⊥ }
     ensures no_start { (fail : Fail) → result ≡ Err (FeedStop.StartFailed fail) → ⊥ }
 {
-    match core.stop(0) {
-        Ok(()) => Ok(()),
-        Err(stop) => Err(event_stop(stop)),
-    }
+    core.stop(0)?;
+    Ok(())
 }

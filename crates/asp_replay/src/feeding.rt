@@ -1,9 +1,8 @@
 //! A recording is fed to a host.
 #![tactic(auto)]
 
-ghost use Rattle.std.specs.Prelude.{◌≡◌, ◌⊎◌, ◌∷◌, [], ℕ, true, false, IfErr, IfOk, List, OnOk, Option, is_some};
+ghost use Rattle.std.specs.Prelude.{◌≡◌, ◌⊎◌, ◌∷◌, [], ℕ, false, Err, IfErr, IfOk, List, OnOk, Option};
 ghost use Rattle.asp_core.specs.Kernel.{IsHostOf, grown, past_of, rules_by, rules_of, setting_of};
-ghost use Rattle.asp_journal.specs.Telling.{end_kind};
 ghost use Rattle.asp_io.specs.Faults.{HasCause};
 ghost use Rattle.asp_job.specs.declared.entry.Entry.{Entry};
 ghost use Rattle.asp_job.specs.declared.entry.What.TheVariants as What;
@@ -71,6 +70,8 @@ where
     ensures grows { (entries : List Entry) × (core.new ≡ grown core.old entries) }
     ensures fits { Fits R.meaning R.stands core.new 0 (run_in result.0) }
     ensures started { OnOk result.1 (HasStarted (rules_of R.meaning core.old) (past_of core.new)) }
+    ensures none_came { events_of (past_of core.new) ≡ [] }
+    ensures no_fault { result.1 ≡ Err FeedStop.WriteFault → ⊥ }
     ensures after { (items left : List ItemView) (clients : ClientsView) (before : Option (List ℕ))
         → way.IsUnderWay (rules_of R.meaning core.old) items (past_of core.old) clients left before (K.held sink.old)
         → way.After result.1 (rules_of R.meaning core.old) items (past_of core.new) clients left before
@@ -120,7 +121,7 @@ where
     K: Sink,
     requires host { IsHostOf core.old runner.now site.now }
     requires hand { Fits R.meaning R.stands core.old 0 (run_in hand) }
-    requires started { is_some (end_kind (past_of core.old) 1) ≡ true }
+    requires started { HasStarted (rules_of R.meaning core.old) (past_of core.old) }
     requires going { way.is_over (past_of core.old) items.now ≡ false }
     requires under { (all : List ItemView) × (before : Option (List ℕ))
         × way.IsUnderWay (rules_of R.meaning core.old) all (past_of core.old) clients.old.entries items.now before
@@ -190,11 +191,11 @@ where
     let mut items = recording.items.as_slice();
     for _ in 0..u32::MAX {
         if is_over(core, items) {
-            // The journal is valid.
-            let _ = core.journal();
             return (hand, Ok(()));
         }
         let (next, came) = turn(alloc, core, runner, site, clients, hand, items, sink);
+        // The journal is valid.
+        let _ = core.journal();
         hand = next;
         match came {
             Ok(left) => items = left,
@@ -228,11 +229,17 @@ where
     ensures fits { Fits R.meaning R.stands core.new 0 (run_in result.0) }
     ensures after { way.AfterAll result.1 (rules_of R.meaning core.old) recording.now.items (past_of core.new)
         (K.held sink.old) (K.held sink.new) }
+    ensures passed { IfErr result.1 (spec.IsPassed (rules_of R.meaning core.old) (past_of core.new)) }
     ensures cause { HasCause FeedStop.WriteFault (K.faults sink.old) (K.faults sink.new) result.1 }
 {
     let (hand, begun) = start(alloc, core, runner, site, Hand::Free(store), sink);
     match begun {
-        Ok(()) => feed_items(alloc, core, runner, site, clients, hand, recording, sink),
+        Ok(()) => {
+            let fed = feed_items(alloc, core, runner, site, clients, hand, recording, sink);
+            // The journal is valid.
+            let _ = core.journal();
+            fed
+        }
         Err(stop) => (hand, Err(stop)),
     }
 }
@@ -260,6 +267,7 @@ where
     ensures grows { (entries : List Entry) × (core.new ≡ grown core.old entries) }
     ensures after { way.AfterAll result (rules_of R.meaning core.old) recording.now.items (past_of core.new)
         (K.held sink.old) (K.held sink.new) }
+    ensures passed { IfErr result (spec.IsPassed (rules_of R.meaning core.old) (past_of core.new)) }
     ensures wound_up { IfErr result (spec.IsWoundUp (past_of core.new)) }
     ensures cause { HasCause FeedStop.WriteFault (K.faults sink.old) (K.faults sink.new) result }
 {
@@ -269,7 +277,12 @@ where
             let_go(hand);
             Ok(())
         }
-        Err(stop) => Err(wind_up(core, runner, site, hand, stop)),
+        Err(stop) => {
+            let stop = wind_up(core, runner, site, hand, stop);
+            // The journal is valid.
+            let _ = core.journal();
+            Err(stop)
+        }
     }
 }
 

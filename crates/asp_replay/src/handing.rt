@@ -1,7 +1,7 @@
 //! The answers that wait are handed out and written.
 #![tactic(auto)]
 
-ghost use Rattle.std.specs.Prelude.{◌≡◌, ◌∷◌, [], IfNone, IfSome};
+ghost use Rattle.std.specs.Prelude.{◌≡◌, ◌∷◌, [], IfNone, IfSome, IsOk};
 ghost use Rattle.asp_core.specs.Kernel.{grown, past_of, rules_of};
 ghost use Rattle.asp_core.specs.Ready.{first_for, ready};
 ghost use Rattle.asp_io.specs.Faults.{HasCause};
@@ -36,6 +36,7 @@ pub fn hand_out<R: Runner, K: Sink>(
     ensures out { way.HandsOut R.meaning result core.old core.new (K.held sink.old) (K.held sink.new) }
     ensures cause { HasCause FeedStop.WriteFault (K.faults sink.old) (K.faults sink.new) result }
     ensures only { way.IsOfWriting result }
+    ensures none { ready (rules_of R.meaning core.old) (past_of core.old) ≡ [] → IsOk result }
 {
     // The journal is valid, and the answers are those of pages.
     let _ = core.journal();

@@ -1,11 +1,12 @@
 //! The turns of a lane that is fed by a recording. Each ends with the answers that wait, which are handed out.
 #![tactic(auto)]
 
-ghost use Rattle.std.specs.Prelude.{◌≡◌, ◌∷◌, [], ℕ, true, false, List, Option};
+ghost use Rattle.std.specs.Prelude.{◌≡◌, ◌∷◌, [], ℕ, true, false, Err, List, Option};
 ghost use Rattle.asp_core.specs.Kernel.{IsHostOf, RunView, grown, past_of, rules_of};
 ghost use Rattle.asp_io.specs.Faults.{HasCause};
 ghost use Rattle.asp_job.specs.declared.entry.Entry.{Entry};
 ghost use Rattle.asp_job.specs.Runs.{is_stopping};
+ghost use Rattle.asp_lane.specs.Started.{HasStarted};
 ghost use Rattle.asp_lane.specs.Turns.{Fits, run_in};
 ghost use Rattle.asp_record.specs.declared.recording.Item.{Item as ItemView};
 ghost use Rattle.asp_record.specs.Recorded as recorded;
@@ -50,6 +51,7 @@ pub fn come_turn<R: Runner, K: Sink>(
     requires held { recorded.IsHeld item.now }
     requires may { may_come (past_of core.old) (recorded.moment_of item.now) ≡ true }
     requires going { is_stopping (past_of core.old) ≡ false }
+    requires started { HasStarted (rules_of R.meaning core.old) (past_of core.old) }
     requires lane { spec.IsOfOneLane (rules_of R.meaning core.old) (past_of core.old) }
     ensures grows { (entries : List Entry) × (core.new ≡ grown core.old entries) }
     ensures fits { (in_hand : Option (RunView R.State)) → Fits R.meaning R.stands core.old 0 in_hand
@@ -77,6 +79,7 @@ pub fn stop_turn<R: Runner, K: Sink>(
 ) -> Result<(), FeedStop>
     requires calm { is_calm (past_of core.old) ≡ true }
     requires once { is_stopping (past_of core.old) ≡ false }
+    requires started { HasStarted (rules_of R.meaning core.old) (past_of core.old) }
     requires lane { spec.IsOfOneLane (rules_of R.meaning core.old) (past_of core.old) }
     ensures grows { (entries : List Entry) × (core.new ≡ grown core.old entries) }
     ensures fits { (in_hand : Option (RunView R.State)) → Fits R.meaning R.stands core.old 0 in_hand
@@ -121,6 +124,7 @@ where
         → spec.After result.1 (rules_of R.meaning core.old) items (past_of core.new) clients left before
         (K.held sink.new) }
     ensures quiet { events_of (past_of core.new) ≡ events_of (past_of core.old) }
+    ensures no_fault { events_of (past_of core.old) ≡ [] → result.1 ≡ Err FeedStop.WriteFault → ⊥ }
     ensures cause { HasCause FeedStop.WriteFault (K.faults sink.old) (K.faults sink.new) result.1 }
 {
     let (hand, turn) = work(core, runner, site, hand);

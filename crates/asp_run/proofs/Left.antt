@@ -22,11 +22,10 @@ abbrev pub has_answer : Bool → Outcome → Bool
 has_answer wanted (Wants call) = wanted
 has_answer wanted (Ends finished) = is_some finished.answer
 
-came : (told : Told) (request : Request) (page : Page) (way : Option Way)
+came : (told : Told) (request : Request) (page : Page) (way : Way)
     → has_answer true (page_came told request page way) ≡ true
-came told request page (Some (On course)) = refl
-came told request page (Some (WantsReply call)) = refl
-came told request page None = refl
+came told request page (On course) = refl
+came told request page (WantsReply call) = refl
 
 taken : (run refused : Outcome) → has_answer true run ≡ true → has_answer true refused ≡ true → (b : Bool)
     → has_answer true (cond b run refused) ≡ true
@@ -39,10 +38,9 @@ found site told request (Some page) file = taken _ _ (came told request page _) 
 found site told request None (Some file) = refl
 found site told request None None = refl
 
-event : (session : Option SessionState) (way : Option Way) → has_answer false (event_came session way) ≡ false
-event session (Some (On course)) = refl
-event session (Some (WantsReply call)) = refl
-event session None = refl
+event : (session : Option SessionState) (way : Way) → has_answer false (event_came session way) ≡ false
+event session (On course) = refl
+event session (WantsReply call) = refl
 
 end : (site : Site) (told : Told) (session : Option SessionState)
     → has_answer false (session_end site told session) ≡ false

@@ -1,2 +1,3 @@
 pub mod Left
 mod Going
+pub mod Moved

@@ -1,5 +1,5 @@
 //! The acts of a page, with the events around it, and events alone.
-ghost use Rattle.std.specs.Prelude.{◌≡◌, Some, IfOk, None, codes};
+ghost use Rattle.std.specs.Prelude.{◌≡◌, None, codes};
 ghost use Rattle.std.specs.Option.{option_copied};
 ghost use Rattle.vb_value.specs.Outcome.{Gives};
 ghost use Rattle.asp_acts.specs.Acts as spec;
@@ -26,7 +26,7 @@ fn event_in(
     number: Option<usize>,
     course: Course,
 ) -> Result<Way, Memory>
-    ensures { IfOk result (λ way. spec.event_in replies.now page.now number course ≡ Some way) }
+    ensures { Gives result (spec.event_in replies.now page.now number course) }
 {
     match number {
         Some(number) => {
@@ -48,7 +48,7 @@ pub(crate) fn event(
     word: &[u8],
     course: Course,
 ) -> Result<Way, Memory>
-    ensures { IfOk result (λ way. spec.event replies.now (option_copied events.entry) word.now course ≡ Some way) }
+    ensures { Gives result (spec.event replies.now (option_copied events.entry) word.now course) }
 {
     match events {
         Some(page) => {
@@ -61,7 +61,7 @@ pub(crate) fn event(
 
 fn starts(alloc: Global, site: &Site, run: &PlainRun, course: Course) -> Result<Way, Memory>
     requires { run.now.heard ≡ None }
-    ensures { IfOk result (λ way. spec.starts site.now (told_of run.now) course ≡ Some way) }
+    ensures { Gives result (spec.starts site.now (told_of run.now) course) }
 {
     if !run.is_new {
         return Ok(Way::On(course));
@@ -78,7 +78,7 @@ fn starts(alloc: Global, site: &Site, run: &PlainRun, course: Course) -> Result<
 
 fn body(alloc: Global, run: &PlainRun, page: &Page, course: Course) -> Result<Way, Memory>
     requires { run.now.heard ≡ None }
-    ensures { IfOk result (λ way. spec.body (told_of run.now) page.now course ≡ Some way) }
+    ensures { Gives result (spec.body (told_of run.now) page.now course) }
 {
     if course.tally.goes_on {
         act(alloc, run.replies.as_slice(), page, Act::Body, course)
@@ -106,7 +106,7 @@ fn quiet_course(failure: Option<Text>, course: Course) -> Course
 }
 
 fn quiet(failure: Option<Text>, way: Way) -> Way
-    ensures { Some result ≡ spec.quiet failure (Some way) }
+    ensures { result ≡ spec.quiet failure way }
 {
     match way {
         Way::On(course) => Way::On(quiet_course(failure, course)),
@@ -116,7 +116,7 @@ fn quiet(failure: Option<Text>, way: Way) -> Way
 
 fn ending(alloc: Global, site: &Site, run: &PlainRun, course: Course) -> Result<Way, Memory>
     requires { run.now.heard ≡ None }
-    ensures { IfOk result (λ way. spec.ending site.now (told_of run.now) course ≡ Some way) }
+    ensures { Gives result (spec.ending site.now (told_of run.now) course) }
 {
     let replies = run.replies.as_slice();
     let events = site.events.as_ref();
@@ -125,7 +125,7 @@ fn ending(alloc: Global, site: &Site, run: &PlainRun, course: Course) -> Result<
 
 fn closes(alloc: Global, site: &Site, run: &PlainRun, course: Course) -> Result<Way, Memory>
     requires { run.now.heard ≡ None }
-    ensures { IfOk result (λ way. spec.closes site.now (told_of run.now) course ≡ Some way) }
+    ensures { Gives result (spec.closes site.now (told_of run.now) course) }
 {
     match course.tally.failure.copy() {
         Ok(failure) => {
@@ -141,7 +141,7 @@ fn closes(alloc: Global, site: &Site, run: &PlainRun, course: Course) -> Result<
 
 fn leaves(alloc: Global, site: &Site, run: &PlainRun, course: Course) -> Result<Way, Memory>
     requires { run.now.heard ≡ None }
-    ensures { IfOk result (λ way. spec.leaves site.now (told_of run.now) course ≡ Some way) }
+    ensures { Gives result (spec.leaves site.now (told_of run.now) course) }
 {
     if course.objects.is_abandoned {
         closes(alloc, site, run, course)
@@ -158,7 +158,7 @@ fn opens(
     course: Course,
 ) -> Result<Way, Memory>
     requires { run.now.heard ≡ None }
-    ensures { IfOk result (λ way. spec.opens site.now (told_of run.now) page.now course ≡ Some way) }
+    ensures { Gives result (spec.opens site.now (told_of run.now) page.now course) }
 {
     match starts(alloc, site, run, course)? {
         Way::On(course) => body(alloc, run, page, course),
@@ -176,7 +176,7 @@ pub(crate) fn page_acts(
     course: Course,
 ) -> Result<Way, Memory>
     requires { run.now.heard ≡ None }
-    ensures { IfOk result (λ way. spec.page_acts site.now (told_of run.now) page.now course ≡ Some way) }
+    ensures { Gives result (spec.page_acts site.now (told_of run.now) page.now course) }
 {
     match opens(alloc, site, run, page, course)? {
         Way::On(course) => leaves(alloc, site, run, course),

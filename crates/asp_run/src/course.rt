@@ -1,5 +1,5 @@
 //! The acts of a run, one after another.
-ghost use Rattle.std.specs.Prelude.{◌≡◌, Some, IfOk, drop};
+ghost use Rattle.std.specs.Prelude.{◌≡◌, drop};
 ghost use Rattle.std.specs.Option.{option_or};
 ghost use Rattle.vb_value.specs.Outcome.{Gives};
 ghost use Rattle.asp_acts.specs.Acts as spec;
@@ -90,7 +90,7 @@ pub(crate) fn act(
     which: Act,
     course: Course,
 ) -> Result<Way, Memory>
-    ensures { IfOk result (λ way. spec.act replies.now page.now which course ≡ Some way) }
+    ensures { Gives result (spec.act replies.now page.now which course) }
 {
     let Course { mut objects, tally } = course;
     let rest = left_of(replies, objects.heard);

@@ -3,6 +3,7 @@
 
 mod acting;
 mod course;
+mod crossing;
 mod ended;
 mod failure;
 mod file;
@@ -12,6 +13,7 @@ mod run;
 mod text;
 mod work;
 
+pub use crossing::run_crosses;
 pub use ended::{Came, Ended};
 pub use plain::{NoStore, PlainRunner};
 pub use run::{At, PlainRun};

@@ -1,5 +1,5 @@
 //! The run of a page.
-ghost use Rattle.std.specs.Prelude.{◌≡◌, IfOk, None, Some, if◌then◌else◌};
+ghost use Rattle.std.specs.Prelude.{◌≡◌, IfOk, None, if◌then◌else◌};
 ghost use Rattle.std.specs.Option.{option_copied};
 ghost use Rattle.vb_value.specs.Outcome.{Gives};
 ghost use Rattle.asp_acts.specs.Pages as spec;
@@ -118,7 +118,7 @@ fn page_came(
     page: &Page,
     way: Way,
 ) -> Result<Came, Memory>
-    ensures { IfOk result (λ came. outcome_of came ≡ spec.page_came (told_of run.now) request.now page.now (Some way)) }
+    ensures { IfOk result (λ came. outcome_of came ≡ spec.page_came (told_of run.now) request.now page.now way) }
 {
     match way {
         Way::Wants(call) => Ok(Came::Wants(call)),

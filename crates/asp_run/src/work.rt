@@ -70,7 +70,7 @@ fn event_ended(session: Option<HeldSession>, course: Course) -> Ended
 }
 
 fn event_came(session: Option<HeldSession>, way: Way) -> Came
-    ensures { outcome_of result ≡ events.event_came session (Some way) }
+    ensures { outcome_of result ≡ events.event_came session way }
 {
     match way {
         Way::Wants(call) => Came::Wants(call),

@@ -6,3 +6,6 @@ pub mod Refusals
 pub mod OneReplayOutput
 pub mod OneReplayJournal
 pub mod OneGetOutput
+pub mod OneGenJournal
+mod ObjectsEnd
+mod Heads

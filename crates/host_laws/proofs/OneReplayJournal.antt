@@ -17,7 +17,7 @@ same_some : (one other : List ℕ) → ◌≡◌ {A = Option (List ℕ)} (Some o
 same_some one other e = cc
 
 -- what stands behind what a sink held is what was written
-written_is : (before after : Option (List ℕ)) (held output written : List ℕ) → before ≡ Some held
+pub written_is : (before after : Option (List ℕ)) (held output written : List ℕ) → before ≡ Some held
     → after ≡ Some (held ++ output) → after ≡ with_bytes before written → written ≡ output
 written_is before after held output written was is wrote =
     append_cancel_left held written output (same_some (held ++ written) (held ++ output)

@@ -28,7 +28,10 @@ use Rattle.asp_host.specs.Replay.{Fills, HasRefused, IsFor, ReplayEnds, rules_fo
 use Rattle.asp_host.specs.Replay as replay
 use Rattle.asp_host.specs.Replayed.{HasFilled, HasNotStarted}
 use Rattle.asp_host.specs.Request.{job_of}
-use Rattle.host_laws.specs.Laws.{IsNoRefusal, NeverFails, NeverFills, OneOutcome, OneSite, TellsFiles}
+use Rattle.asp_core.specs.Laws.{NoneIs}
+use Rattle.asp_replay.specs.Sequential.{is_memory_end}
+use Rattle.host_laws.specs.Laws.{GeneratesUnrefused, IsNoRefusal, NeverFails, NeverFills, OneOutcome, OneSite}
+use Rattle.host_laws.specs.Laws.{ReplaysUnrefused, TellsFiles}
 use Rattle.host_laws.specs.Laws.{TellsRecording, TellsSite}
 
 -- ---- the laws that these stand on
@@ -130,13 +133,15 @@ module _ (sites : OneSite) (faultless : SiteOrFault) where
   not_started rules fail before after never fails = never fails.past fail fails.account fails.failed
 
   never_filled : (rules : Rules) (items : List Item) (entries weight : ℕ) (before after : Option (List ℕ))
-      → NeverFills rules items → HasFilled rules items entries weight before after → ⊥
+      → NeverFills rules items → (filled : HasFilled rules items entries weight before after)
+      → ¬ (NoneIs is_memory_end filled.0)
   never_filled rules items entries weight before after never filled = never entries weight (
     filled.0,
     record {
       account = filled.1.account;
       answered = filled.1.answered;
       fed = filled.1.fed;
+      passed = filled.1.passed;
       wound_up = filled.1.wound_up;
       cause = filled.1.cause;
       written = record {
@@ -158,16 +163,18 @@ module _ (sites : OneSite) (faultless : SiteOrFault) where
       → ((site : Site) → IsAccepted count_files site → NeverFails (rules_for site (generated count)))
       → ((site : Site) → IsAccepted count_files site
       → NeverFills (rules_for site (generated count)) (generated count).items)
-      → GenEnds count journal around status → IsNoRefusal status
+      → GenEnds count journal around status → GeneratesUnrefused count status
   gen_refuses_none count journal around Ok never little ends = tt
   gen_refuses_none count journal around Memory never little ends = tt
   gen_refuses_none count journal around ReadFault never little ends = tt
   gen_refuses_none count journal around WriteFault never little ends = tt
   gen_refuses_none count journal around (SiteRefused fault) never little ends = ends.1
   gen_refuses_none count journal around (JournalFull entries weight) never little ends =
-      let fills = ends.1.0 in
-      never_filled (rules_for fills.site (generated count)) (generated count).items entries weight None None
-      (little fills.site fills.accepted) fills.filled
+      let fills = ends.1.0 in (
+        fills,
+        never_filled (rules_for fills.site (generated count)) (generated count).items entries weight None None
+            (little fills.site fills.accepted) fills.filled,
+      )
   gen_refuses_none count journal around (StartFailed fail) never little ends =
       let fails = ends.1.0 in
       not_started (rules_for fails.site (generated count)) fail None None (never fails.site fails.accepted)
@@ -218,17 +225,18 @@ module _ (sites : OneSite) (faultless : SiteOrFault) where
     no_journal_full : (around : Around) (site : Site) (recording : Recording) (entries weight : ℕ)
         → TellsSite around site → TellsRecording around recording
         → NeverFills (rules_for site recording) recording.items
-        → Fills around.files around.source around.sink entries weight → ⊥
+        → (fills : Fills around.files around.source around.sink entries weight)
+        → ¬ (NoneIs is_memory_end fills.filled.0)
     no_journal_full around site recording entries weight tells also never fills =
-        never_filled (rules_for site recording) recording.items entries weight around.sink.before around.sink.after
-        never (of_same around site fills.site recording fills.recording (λ site recording. HasFilled
-        (rules_for site recording) recording.items entries weight around.sink.before around.sink.after) tells also
-        fills.is_for fills.filled)
+        of_same around site fills.site recording fills.recording (λ site recording. NeverFills
+        (rules_for site recording) recording.items → ¬ (NoneIs is_memory_end fills.filled.0)) tells also fills.is_for
+        (λ nowhere. never_filled (rules_for fills.site fills.recording) fills.recording.items entries weight
+        around.sink.before around.sink.after nowhere fills.filled) never
 
     pub replay_refuses_none : (journal : Bool) (around : Around) (site : Site) (recording : Recording)
         (status : Status) → TellsSite around site → TellsRecording around recording
         → NeverFails (rules_for site recording) → NeverFills (rules_for site recording) recording.items
-        → ReplayEnds journal around status → IsNoRefusal status
+        → ReplayEnds journal around status → ReplaysUnrefused around status
     replay_refuses_none journal around site recording Ok tells also never little ends = tt
     replay_refuses_none journal around site recording Memory tells also never little ends = tt
     replay_refuses_none journal around site recording ReadFault tells also never little ends = tt
@@ -240,5 +248,5 @@ module _ (sites : OneSite) (faultless : SiteOrFault) where
     replay_refuses_none journal around site recording (StartFailed fail) tells also never little ends =
         no_start_failed around site recording fail tells also never ends
     replay_refuses_none journal around site recording (JournalFull entries weight) tells also never little ends =
-        no_journal_full around site recording entries weight tells also little ends
+        (ends, no_journal_full around site recording entries weight tells also little ends)
     replay_refuses_none journal around site recording Usage tells also never little ends = ends

@@ -24,12 +24,12 @@ use Rattle.asp_replay.specs.Sequential.{is_memory_end}
 use Rattle.asp_site.specs.declared.site.Site.{Site}
 use Rattle.site_load.specs.Accepted.{IsAccepted}
 use Rattle.asp_host.specs.declared.status.Status.{Status}
-use Rattle.asp_host.specs.declared.status.Status.TheVariants.{Ok, Memory, ReadFault, WriteFault}
+use Rattle.asp_host.specs.declared.status.Status.TheVariants.{Ok, Memory, ReadFault, WriteFault, JournalFull}
 use Rattle.asp_host.specs.Around.{Around, Change}
 use Rattle.asp_host.specs.Check.{CheckEnds}
-use Rattle.asp_host.specs.Gen.{GenEnds}
+use Rattle.asp_host.specs.Gen.{FillsGenerated, GenEnds, GeneratesAll}
 use Rattle.asp_host.specs.Get.{GetEnds, site_rules}
-use Rattle.asp_host.specs.Replay.{ReplayEnds, ReplaysAll, rules_for}
+use Rattle.asp_host.specs.Replay.{Fills, ReplayEnds, ReplaysAll, rules_for}
 use Rattle.asp_host.specs.Replayed.{HasFilled}
 use Rattle.asp_host.specs.Request.{job_of}
 
@@ -86,9 +86,22 @@ IsNoRefusal _ = ⊥
 abbrev pub NeverFails : Rules → Type 0
 NeverFails rules = (past : List Entry) (fail : Fail) → IsValidJournal rules past → ¬ (HasFailed rules past fail)
 
--- in no valid journal that is fed with the items, or with the first of them, was what could come next too much
+-- in no valid journal that is fed with the items, or with the first of them, and in which no run ended because memory ran
+-- out, was what could come next too much
 abbrev pub NeverFills : Rules → List Item → Type 0
-NeverFills rules items = (entries weight : ℕ) → ¬ (HasFilled rules items entries weight None None)
+NeverFills rules items = (entries weight : ℕ) (filled : HasFilled rules items entries weight None None)
+    → ¬ (NoneIs is_memory_end filled.0)
+
+-- a replay, or a `gen`, refused nothing, unless its journal came to be full after memory had run out for a run
+abbrev pub ReplaysUnrefused : Around → Status → Type 0
+ReplaysUnrefused around (JournalFull entries weight) =
+    (fills : Fills around.files around.source around.sink entries weight) × ¬ (NoneIs is_memory_end fills.filled.0)
+ReplaysUnrefused around status = IsNoRefusal status
+
+abbrev pub GeneratesUnrefused : ℕ → Status → Type 0
+GeneratesUnrefused count (JournalFull entries weight) =
+    (fills : FillsGenerated count entries weight) × ¬ (NoneIs is_memory_end fills.filled.0)
+GeneratesUnrefused count status = IsNoRefusal status
 
 -- `check` refuses no folder that is a site
 abbrev pub CheckRefusesNone : Type 0
@@ -102,20 +115,21 @@ GetRefusesNone = (path query : List ℕ) (around : Around) (site : Site) (answer
     → GetEnds path query around status → IsNoRefusal status
 
 -- `replay` refuses no recording for a site whose application never fails to begin with its seed, where no journal that
--- its items feed comes to be full
+-- its items feed comes to be full before memory runs out for a run
 abbrev pub ReplayRefusesNone : Type 0
 ReplayRefusesNone = (journal : Bool) (around : Around) (site : Site) (recording : Recording) (status : Status)
     → TellsSite around site → TellsRecording around recording → NeverFails (rules_for site recording)
-    → NeverFills (rules_for site recording) recording.items → ReplayEnds journal around status → IsNoRefusal status
+    → NeverFills (rules_for site recording) recording.items → ReplayEnds journal around status
+    → ReplaysUnrefused around status
 
 -- `gen` refuses nothing, where its one page is a site whose application never fails to begin, and no journal that its
--- requests feed comes to be full
+-- requests feed comes to be full before memory runs out for a run
 abbrev pub GenRefusesNone : Type 0
 GenRefusesNone = (count : ℕ) (journal : Bool) (around : Around) (status : Status)
     → ((site : Site) → IsAccepted count_files site → NeverFails (rules_for site (generated count)))
     → ((site : Site) → IsAccepted count_files site
     → NeverFills (rules_for site (generated count)) (generated count).items)
-    → GenEnds count journal around status → IsNoRefusal status
+    → GenEnds count journal around status → GeneratesUnrefused count status
 
 -- ---- what is written
 
@@ -151,6 +165,19 @@ OneReplayJournal = (bytes output : List ℕ) (around other : Around) → TellsOu
     → (one : ReplaysAll true around.files around.source around.sink)
     → (also : ReplaysAll true other.files other.source other.sink)
     → printed one.replayed.past ≡ printed also.replayed.past
+
+-- the sink was left with this output behind what it held
+pub record TellsWritten (sink : Change) (output : List ℕ) : Type 0 where
+  pub held : List ℕ
+  pub before : sink.before ≡ Some held
+  pub after : sink.after ≡ Some (held ++ output)
+
+-- two `gen`s of so many requests with `--journal` that wrote the same have the same entries in their journals, but for
+-- those that have no line
+abbrev pub OneGenJournal : Type 0
+OneGenJournal = (count : ℕ) (output : List ℕ) (sink other : Change) → TellsWritten sink output
+    → TellsWritten other output → (one : GeneratesAll count true sink) → (also : GeneratesAll count true other)
+    → printed one.all.summed.past ≡ printed also.all.summed.past
 
 -- two answers of `get` to one request for the same files leave the same
 abbrev pub OneGetOutput : Type 0

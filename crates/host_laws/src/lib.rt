@@ -5,6 +5,6 @@
 mod laws;
 
 pub use laws::{
-    nothing_refused_without_cause, one_get_output, one_replay_journal, one_replay_output,
-    one_request_outcome, one_site,
+    heads_stay_whole, nothing_refused_without_cause, objects_end, one_get_output,
+    one_replay_journal, one_replay_output, one_request_outcome, one_site,
 };

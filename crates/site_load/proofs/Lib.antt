@@ -6,3 +6,4 @@ mod SameFiles
 mod Runs
 mod Pages
 mod OneSite
+mod OneFault

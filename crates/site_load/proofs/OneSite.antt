@@ -56,7 +56,7 @@ module _ (one_outcome : OneOutcome) (page_or_fault : PageOrFault) where
   adds_faultless files file role.Other later runs fault adds faulty = faulty
 
   -- none of the files that have come to pages has a fault
-  runs_faultless : (files before : List SiteFile) (file : SiteFile) (after : List SiteFile) (runs : RunPages)
+  pub runs_faultless : (files before : List SiteFile) (file : SiteFile) (after : List SiteFile) (runs : RunPages)
       (fault : SiteFault) → AreRuns files (before ++ file ∷ after) runs
       → IsFileFault files file (role_of file.path) fault → ⊥
   runs_faultless files [] file after runs fault is faulty =
@@ -88,7 +88,7 @@ module _ (one_outcome : OneOutcome) (page_or_fault : PageOrFault) where
       (rest.0, cc)
 
   -- the first of small files are small
-  front_small : (front back : List SiteFile) → AreSmall (front ++ back) → AreSmall front
+  pub front_small : (front back : List SiteFile) → AreSmall (front ++ back) → AreSmall front
   front_small front back small = record {
     each = λ k d within. subst (λ (file : SiteFile). size_of file ≤ most_of_file) (get_or_append_left front back d k within)
         (small.each k d (omega (arith, within, length-append front back)));
@@ -97,7 +97,7 @@ module _ (one_outcome : OneOutcome) (page_or_fault : PageOrFault) where
   }
 
   -- files that are small have none by which they are too large
-  small_enough : (all files : List SiteFile) (path : List ℕ) → AreSitePaths (map path_of all) → IsSiteOf all files
+  pub small_enough : (all files : List SiteFile) (path : List ℕ) → AreSitePaths (map path_of all) → IsSiteOf all files
       → IsTooLargeAt all path → ⊥
   small_enough all files path paths of_site large =
       let front = large.before ++ large.file ∷ [] in

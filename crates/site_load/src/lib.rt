@@ -10,5 +10,5 @@ mod stop;
 
 pub use files::site_files;
 pub use folder::load;
-pub use laws::site_or_fault;
+pub use laws::{one_folder_fault, site_or_fault};
 pub use stop::LoadStop;

@@ -1,16 +1,8 @@
--- Lanes of a desk, in lists: of a new desk, and of one from which the last is taken; and a turn that adds nothing.
-use Rattle.std.proofs.Common.{◌≡◌, refl, sym, ◌∙◌, ℕ, List, [], ◌∷◌, ◌++◌, All, append-nil, subst}
-use Rattle.std.proofs.lemmas.List.Elements.{All-map, All-nil}
+-- A list of lanes from which the last is taken, and a turn that adds nothing.
+use Rattle.std.proofs.Common.{◌≡◌, sym, ◌∙◌, ℕ, List, [], ◌∷◌, ◌++◌, All, append-nil, subst}
+use Rattle.std.proofs.lemmas.List.Elements.{All-nil}
 use Rattle.turn_desk.proofs.Gathering.{All-front, All-last}
 use Rattle.turn_desk.specs.Histories.{GrowsBy}
-use Rattle.turn_desk.specs.Shown.{DeskView, IsLaneOf, lane_view, new_lanes}
-use Rattle.turn_desk.specs.Steps.{fresh_lanes}
-
--- the lanes of a new desk are that desk's
-pub fresh : {E F : Type 0} (lane_of : E → ℕ) (desk : DeskView F) (history : List E)
-    → All (IsLaneOf desk) (new_lanes lane_of desk history)
-fresh lane_of desk history =
-    All-map (IsLaneOf desk) (lane_view desk) (fresh_lanes lane_of history 0 desk.lanes) (λ k d lt. (refl, refl))
 
 module _ {A : Type 0} (Fact : A → Type 0) where
   -- what all had, those that are left have

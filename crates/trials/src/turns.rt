@@ -76,7 +76,7 @@ impl<T> Log<T> {
 }
 
 /// A desk round an empty log, and its lanes.
-#[tactic(auto, using(crate::proofs::Lanes::fresh))]
+#[tactic(auto, using(turn_desk::proofs::Fresh::fresh))]
 fn opened<T: Drop>(
     alloc: Global,
     kept: T,

@@ -9,3 +9,4 @@ pub mod Opening
 pub mod Dealing
 pub mod Gathering
 pub mod Ending
+pub mod Fresh

@@ -69,7 +69,7 @@ impl<S: Stands> Desk<S> {
         ensures lanes { Every (KnownFits S.lane_of S.entries S.fixed (S.entries result)) seat.me.0.lanes }
         ensures state { AreOfLanes S.lane_of self.lanes (S.entries result) × (S.fixed result ≡ self.fixed) }
     {
-        let Desk { table, lanes: _ } = self;
+        let Desk { table, .. } = self;
         let mut closed = table.close_with(seat);
         let state = closed.take(0);
         closed.free();

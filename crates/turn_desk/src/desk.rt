@@ -12,21 +12,29 @@ use crate::stands::Stands;
 use crate::view::View;
 use atomic_table::{Refused, Table};
 use std::alloc::Global;
+use std::array::from_fn;
 use std::marker::Model;
 use std::snapshot::Snapshot;
+use std::thread::Parker;
 use vb_value::{List, Memory};
 
 /// The word of the tickets drawn.
 pub(crate) const TICKET: usize = 0;
 
-/// The word with the length of the history in its high half, and in its low half the turn served, on which lanes sleep.
+/// The word with the length of the history in its high half, and in its low half the turn served.
 pub(crate) const SERVING: usize = 1;
+
+/// How many places there are to sleep in. As many tickets as lanes are out at a time, one behind another, and there are at
+/// most so many lanes, so that no two of them share a place.
+pub(crate) const PLACES: u32 = 32;
 
 /// One state, which lanes change in turns, in the order of their tickets. Threads share it.
 #[derive(Drop)]
 pub struct Desk<S: Stands> {
     pub(crate) table: Table<Option<S>, View<S::Entry, S::Fixed>, Opening<S>, DeskRule<S>, Global>,
     pub(crate) lanes: u32,
+    // Where lanes sleep, each in the place of its ticket.
+    pub(crate) sleepers: [Parker; PLACES as usize],
 }
 
 impl<S: Stands> Model for Desk<S> {
@@ -46,6 +54,11 @@ impl<S: Stands> Model for Desk<S> {
 }
 
 impl<S: Stands> Desk<S> {
+    // Where the lane of a ticket sleeps.
+    pub(crate) fn sleeper(&self, ticket: u32) -> &Parker {
+        &self.sleepers[(ticket % PLACES) as usize]
+    }
+
     /// A desk with this state, and its lanes, numbered from 0. Where there is no memory for it, the state is dropped.
     pub fn new(alloc: Global, state: S, lanes: u32) -> Result<(Desk<S>, List<Lane<S>>), Memory>
     where
@@ -70,7 +83,11 @@ impl<S: Stands> Desk<S> {
         slots.push_reserved(Some(state));
         match Table::new(alloc, &[0, long << 32], slots, &opening) {
             Ok((table, seat)) => {
-                let desk = Desk { table, lanes };
+                let desk = Desk {
+                    table,
+                    lanes,
+                    sleepers: from_fn(|_| Parker::new()),
+                };
                 let made = desk.deal(seat, made);
                 Ok((desk, List::from_vec(made)))
             }

@@ -8,6 +8,7 @@ use crate::desk::{Desk, SERVING, TICKET};
 use crate::lane::Lane;
 use crate::rule::{LaneSeat, Raise};
 use crate::stands::Stands;
+use crate::taking::AHEAD;
 use std::marker::Model;
 
 /// The state, until it is given back. It can't be dropped: it ends in `give`, so no `?` may stand before that.
@@ -79,11 +80,16 @@ impl<'a, S: Stands> Turn<'a, S> {
 }
 
 impl<S: Stands> Desk<S> {
-    // Wakes those who sleep, if a ticket is out once this one is served. Who draws later finds it served.
+    // Wakes the lane whose ticket is served now and the one whose turn is near, if they are out. Who draws a ticket later
+    // finds what is served.
     fn wake(&self, served: u32) {
-        let shared = &self.table.shared;
-        if shared.peek(TICKET) % (1 << 32) != u64::from(served) {
-            shared.wake_all(SERVING);
+        let drawn = (self.table.shared.peek(TICKET) % (1 << 32)) as u32;
+        let out = drawn.wrapping_sub(served);
+        if out > 0 {
+            self.sleeper(served).unpark();
+        }
+        if out > AHEAD {
+            self.sleeper(served.wrapping_add(AHEAD)).unpark();
         }
     }
 }

@@ -1,4 +1,4 @@
--- An act: the page's variables are made, its part of the program runs, and then the variables and the objects go.
+-- An act: the page's variables are made, its part of the program runs, and then their values and the objects go.
 use Rattle.std.specs.Prelude.{ℕ, false, List, [], Option, Some, None, slice_get}
 use Rattle.vb_value.specs.declared.application.AppReply.{AppReply}
 use Rattle.vb_value.specs.Errors.{undefined_variable}
@@ -22,7 +22,7 @@ use Rattle.vb_meaning.specs.Declaring.{declared_cells, first_fault, constants_ma
 use Rattle.vb_meaning.specs.Errors.{no_error, raised_by, in_line}
 use Rattle.vb_meaning.specs.Inner.{Inner}
 use Rattle.vb_meaning.specs.Meaning.{inside, most_levels}
-use Rattle.vb_meaning.specs.Places.{cells_dropped, let_go}
+use Rattle.vb_meaning.specs.Places.{cells_emptied, let_go}
 use Rattle.vb_meaning.specs.Releases.{settle_last, end_all, in_world}
 use Rattle.vb_meaning.specs.State.{State, Does, on_world, with_heap}
 use Rattle.vb_meaning.specs.Step.{Step, Returns, Ends, Run, ◌>>=◌, ◌>>◌, pure, fails}
@@ -41,6 +41,7 @@ fresh_world = record {
   ticks = most_ticks;
   calls = 0;
   terminates = false;
+  page_ended = false;
   finished = 0;
 }
 
@@ -54,9 +55,9 @@ abbrev pub line_or_none : Option ℕ → ℕ
 line_or_none (Some line) = line
 line_or_none None = 0
 
--- the page's variables go, in the order of their declaration
+-- the values of the page's variables go, in the order of their declaration; the variables stay, and are Empty
 abbrev pub page_left : World → World
-page_left world = with_heap (cells_dropped world.page) (let_go 0 world)
+page_left world = with_heap (cells_emptied world.page) (let_go 0 world)
 
 -- an error as the end of an act
 abbrev pub error_end : Raised → ℕ → ActEnd
@@ -87,7 +88,7 @@ module _ (E : Type 0) (m : Inner E) where
   closed how (Ends (stop.Wants call) s) = (Some (Wants call), s.env)
   closed how (Ends stop.Memory s) = (None, s.env)
 
-  -- the page's end: its variables go, and then its objects
+  -- the page's end: the values of its variables go, and then its objects
   abbrev pub page_ends : ActEnd → State E → Option PlainEnd × E
   page_ends how s = closed how ((settle_last E m >> end_all E m) (in_world E (page_left s.world) s))
 

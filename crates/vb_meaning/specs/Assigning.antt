@@ -30,12 +30,13 @@ use Rattle.vb_meaning.specs.Asking.{ask}
 use Rattle.vb_meaning.specs.Dictionaries.{asking, has_items, put_by, set_member}
 use Rattle.vb_meaning.specs.ErrObject.{set_err}
 use Rattle.vb_meaning.specs.Inner.{Inner, Owner}
+use Rattle.vb_meaning.specs.declared.reached.Argument.{Argument}
 use Rattle.vb_meaning.specs.declared.reached.Argument.TheVariants.{Value as OfValue}
 use Rattle.vb_meaning.specs.declared.reached.Assigned.{Assigned}
 use Rattle.vb_meaning.specs.declared.reached.Assigned.TheVariants.{Let as ByLet, Set as BySet}
 use Rattle.vb_meaning.specs.Objects.{class_at, dictionary_word, field_named, procedure_named, if_public}
 use Rattle.vb_meaning.specs.Objects.{takes_assigned, own_procedure, owner_class}
-use Rattle.vb_meaning.specs.Paths.{kind_of, reached_value}
+use Rattle.vb_meaning.specs.Paths.{hold_reached, kind_of, reached_value}
 use Rattle.vb_meaning.specs.declared.reached.Kind.{Kind}
 use Rattle.vb_meaning.specs.declared.reached.Kind.TheVariants as kind
 use Rattle.vb_meaning.specs.declared.reached.Reached.{Reached}
@@ -88,11 +89,15 @@ store_element (AtValue whole) indices value = store_in_value indices value (kind
 module _ (E : Type 0) (m : Inner E) (how : Assigned) where
   -- ---- members of objects
 
-  -- a property of an object, with its arguments and then the value; a method or no such property takes none
+  -- a property of an object, if it is there; a method or no such property takes no value
+  abbrev pub into_property : Owner → Option Procedure → List Argument → Does E (Unit {0})
+  into_property owner (Some procedure) found = m.enter owner procedure found >> pure tt
+  into_property owner None found = fails unsupported
+
+  -- the same with its arguments, which come first, and then the value
   abbrev pub property : Owner → Option Procedure → List Expression → Value → Does E (Unit {0})
-  property owner (Some procedure) supplied value = arguments E m [] supplied >>= (λ found.
-      m.enter owner procedure (found ++ OfValue value ∷ []) >> pure tt)
-  property owner None supplied value = fails unsupported
+  property owner procedure supplied value = arguments E m [] supplied >>= (λ found.
+      into_property owner procedure (found ++ OfValue value ∷ []))
 
   -- a field that is reached, or an element of it
   abbrev pub into_field : Option (List Expression) → Reached → Value → Does E (Unit {0})
@@ -130,8 +135,8 @@ module _ (E : Type 0) (m : Inner E) (how : Assigned) where
   -- ---- the last access
 
   abbrev pub into_access : Reached → Access → Value → Does E (Unit {0})
-  into_access from (Group indices) value =
-      values E m [] indices >>= (λ found. on_world (store_element from found value))
+  into_access from (Group indices) value = on_world (hold_reached from) >> values E m [] indices >>= (λ found.
+      on_world (store_element from found value))
   into_access from (Member name supplied) value =
       on_world (reached_value from) >>= (λ whole. into_member whole name supplied value)
 

@@ -20,7 +20,7 @@ use Rattle.vb_meaning.specs.Errors.{tick, too_deep}
 use Rattle.vb_meaning.specs.Inner.{Inner, Owner}
 use Rattle.vb_meaning.specs.declared.reached.Argument.{Argument}
 use Rattle.vb_meaning.specs.declared.reached.Argument.TheVariants.{Place as OfPlace, Value as OfValue}
-use Rattle.vb_meaning.specs.Places.{new_cell, read_place, cell_place, cells_dropped, hold}
+use Rattle.vb_meaning.specs.Places.{new_cell, read_place, cell_place, cells_dropped, hold, letting_go}
 use Rattle.vb_meaning.specs.Releases.{settle, in_world}
 use Rattle.vb_meaning.specs.State.{State, Does, on_world, with_frame, with_heap}
 use Rattle.vb_meaning.specs.Step.{Step, Returns, Ends, Run, ◌>>=◌, ◌>>◌, pure, fails}
@@ -116,10 +116,10 @@ module _ (E : Type 0) (m : Inner E) where
   abbrev pub leaves : World → Does E (Unit {0})
   leaves caller s = Returns tt (in_world E (left caller s.world) s)
 
-  -- a procedure that came to its end or was left by an Exit: its value is held, its names go, and objects end
+  -- a procedure that came to its end or was left by an Exit: its names go and objects end, while its value is held
   abbrev pub returned : World → Does E Value
-  returned caller = on_world (λ world. result_value world.frame.result world) >>= (λ value.
-      on_world (hold value) >> leaves caller >> settle E m >> pure value)
+  returned caller = letting_go (on_world (λ world. result_value world.frame.result world) >>= (λ value.
+      on_world (hold value) >> leaves caller >> settle E m >> pure value))
 
   -- a procedure with an error in it: its names go, objects end, and the error is one of the caller's statement
   abbrev pub abandoned : World → Step (State E) Exit → Step (State E) Value

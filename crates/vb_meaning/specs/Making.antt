@@ -16,7 +16,7 @@ use Rattle.vb_meaning.specs.declared.world.World.{World}
 use Rattle.vb_meaning.specs.Errors.{in_line}
 use Rattle.vb_meaning.specs.Inner.{Inner}
 use Rattle.vb_meaning.specs.Objects.{class_at}
-use Rattle.vb_meaning.specs.Places.{hold, cell_place}
+use Rattle.vb_meaning.specs.Places.{hold, letting_go, cell_place}
 use Rattle.vb_meaning.specs.State.{Does, on_world, on_heap}
 use Rattle.vb_meaning.specs.Step.{Run, ◌>>=◌, ◌>>◌, pure, given, fails}
 use Rattle.vb_meaning.specs.Values.{declared_array}
@@ -44,12 +44,12 @@ module _ (E : Type 0) (m : Inner E) where
   initialized object number (Some procedure) = m.enter (Some (object, number)) procedure [] >> pure (Obj object)
   initialized object number None = pure (Obj object)
 
-  -- an object of a class, held from the moment it is made
+  -- an object of a class, held from the moment it is made until it is given
   abbrev pub made : ℕ → Class → Does E Value
-  made number class = on_world (on_heap (new_object_of number (length class.fields))
+  made number class = letting_go (on_world (on_heap (new_object_of number (length class.fields))
       (with_new_object number (length class.fields)) >>= (λ object.
       hold (Obj object) >> fields_made object 0 class.fields >> pure object)) >>= (λ object.
-      initialized object number (option_and_then (slice_get class.procedures) class.initialize))
+      initialized object number (option_and_then (slice_get class.procedures) class.initialize)))
 
   -- an object of the class of this number; a class that the program lacks is not defined
   abbrev pub made_of : Option ℕ → Option Class → Does E Value

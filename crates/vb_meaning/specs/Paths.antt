@@ -14,7 +14,7 @@ use Rattle.vb_meaning.specs.declared.reached.Reached.{Reached}
 use Rattle.vb_meaning.specs.declared.reached.Reached.TheVariants.{Place as AtPlace, Value as AtValue}
 use Rattle.vb_meaning.specs.declared.world.World.{World}
 use Rattle.vb_meaning.specs.Dictionaries.{asking, has_items, item_by}
-use Rattle.vb_meaning.specs.Places.{element_place, indices_of, held_at, read_place}
+use Rattle.vb_meaning.specs.Places.{element_place, indices_of, held_at, hold, read_place}
 use Rattle.vb_meaning.specs.Step.{Run, ◌>>=◌, ◌>>◌, pure, given, fails}
 use Rattle.vb_meaning.specs.Values.{copied}
 
@@ -67,6 +67,11 @@ element_of_place place indices kind.Scalar = fails type_mismatch
 unfoldable pub element : Reached → List Value → Run World Reached
 element (AtPlace place) indices = held_at place >>= (λ whole. element_of_place place indices (kind_of whole))
 element (AtValue value) indices = element_of_value value indices
+
+-- what is reached, before an index behind it is evaluated: a value is held, and a place stays where it is
+abbrev pub hold_reached : Reached → Run World (Unit {0})
+hold_reached (AtPlace place) = pure tt
+hold_reached (AtValue value) = hold value
 
 -- the value that is reached
 unfoldable pub reached_value : Reached → Run World Value

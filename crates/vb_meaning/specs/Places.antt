@@ -4,7 +4,7 @@ use Rattle.std.specs.Prelude.{ℕ, ℤ, Bool, false, if◌then◌else◌, List, 
 use Rattle.std.specs.Prelude.{Option, Some, None, Result, Ok, Err}
 use Rattle.vb_value.specs.declared.fault.VbError.{VbError}
 use Rattle.vb_value.specs.declared.value.Array.{Array}
-use Rattle.vb_value.specs.declared.value.Value.{Value, out-Value}
+use Rattle.vb_value.specs.declared.value.Value.{Value, Empty, out-Value}
 use Rattle.vb_value.specs.declared.value.Value.TheOpen.{Value-F}
 use Rattle.vb_value.specs.Conversions.{to_long_of}
 use Rattle.vb_value.specs.Errors.{type_mismatch, illegal_assignment, undefined_variable, and_then}
@@ -20,8 +20,8 @@ use Rattle.vb_heap.specs.Objects.{field_of}
 use Rattle.vb_heap.specs.Store.{Store, numbered}
 use Rattle.vb_meaning.specs.declared.world.World.{World}
 use Rattle.vb_meaning.specs.Inner.{Owner}
-use Rattle.vb_meaning.specs.State.{on_heap, with_heap}
-use Rattle.vb_meaning.specs.Step.{Run, ◌>>=◌, ◌>>◌, pure, given, fails}
+use Rattle.vb_meaning.specs.State.{Does, on_heap, with_heap}
+use Rattle.vb_meaning.specs.Step.{Returns, Run, ◌>>=◌, ◌>>◌, pure, given, fails}
 use Rattle.vb_meaning.specs.Values.{copied}
 
 -- ---- cells
@@ -38,6 +38,11 @@ new_cell value = on_heap (new_cell_of value) (with_new_cell value)
 abbrev pub cells_dropped : List CellNo → Store → Store
 cells_dropped [] store = store
 cells_dropped (cell ∷ cells) store = cells_dropped cells (without_cell cell store)
+
+-- the values of cells go, one after the other: each holds Empty
+abbrev pub cells_emptied : List CellNo → Store → Store
+cells_emptied [] store = store
+cells_emptied (cell ∷ cells) store = cells_emptied cells (with_stored (cell_place cell) Empty store)
 
 -- ---- held values
 
@@ -56,6 +61,11 @@ held_so_far world = length world.heap.held
 -- What was held since then is held no more.
 abbrev pub let_go : ℕ → World → World
 let_go mark world = with_heap (let_go_to mark) world
+
+-- Something is done, and what it held is held no more; who is given its value holds that.
+abbrev pub letting_go : {E A : Type 0} → Does E A → Does E A
+letting_go run s =
+    (run >>= (λ value t. Returns value (record t { world = let_go (held_so_far s.world) t.world }))) s
 
 -- ---- variables
 
@@ -86,9 +96,11 @@ slot_place slot.Result world = cell_there world.frame.result
 unfoldable pub variable : Slot → Run World Place
 variable found world = given (slot_place found world) world
 
--- a name as what is assigned to: a variable; assigning to any other name is Illegal assignment
+-- a name as what is assigned to: a variable; a name that nothing declares is undefined, and assigning to any other name
+-- is Illegal assignment
 abbrev pub target_variable : Named → Run World Place
 target_variable (named.Place found) = variable found
+target_variable named.Unknown = fails undefined_variable
 target_variable _ = fails illegal_assignment
 
 -- ---- elements

@@ -39,10 +39,10 @@ use Rattle.vb_meaning.specs.Inner.{Inner, Owner}
 use Rattle.vb_meaning.specs.declared.reached.Argument.{Argument}
 use Rattle.vb_meaning.specs.Objects.{class_at, dictionary_word, field_named, procedure_named, if_public, is_read}
 use Rattle.vb_meaning.specs.Objects.{name_of_class, own_procedure, owner_class}
-use Rattle.vb_meaning.specs.Paths.{element, reached_value}
+use Rattle.vb_meaning.specs.Paths.{element, hold_reached, reached_value}
 use Rattle.vb_meaning.specs.declared.reached.Reached.{Reached}
 use Rattle.vb_meaning.specs.declared.reached.Reached.TheVariants.{Place as AtPlace, Value as AtValue}
-use Rattle.vb_meaning.specs.Places.{variable, hold, holding, cell_place}
+use Rattle.vb_meaning.specs.Places.{variable, hold, cell_place}
 use Rattle.vb_meaning.specs.State.{Does, on_world, on_heap}
 use Rattle.vb_meaning.specs.Step.{Run, ◌>>=◌, ◌>>◌, pure, given, fails}
 use Rattle.vb_meaning.specs.Values.{object_in, constant_value, literal_value}
@@ -52,7 +52,7 @@ use Rattle.vb_meaning.specs.Values.{object_in, constant_value, literal_value}
 -- CreateObject makes a dictionary, and no other object
 abbrev pub created : List ℕ → Run World Value
 created name = if same_name (codes "scripting.dictionary") name
-    then on_heap new_table_of with_new_table >>= (λ object. holding (Obj object))
+    then on_heap new_table_of with_new_table >>= (λ object. pure (Obj object))
     else fails cannot_create_object
 
 -- CreateObject with its argument
@@ -113,11 +113,14 @@ module _ (E : Type 0) (m : Inner E) where
 
   -- ---- calls
 
-  -- a procedure of the page or of an object, if it is there, with its arguments
+  -- a procedure of the page or of an object, if it is there
+  abbrev pub entered : Owner → Option Procedure → List Argument → Does E Reached
+  entered owner (Some procedure) found = m.enter owner procedure found >>= (λ value. pure (AtValue value))
+  entered owner None found = fails unsupported
+
+  -- the same with its arguments, which come first
   abbrev pub called : Owner → Option Procedure → List Expression → Does E Reached
-  called owner (Some procedure) supplied = arguments [] supplied >>= (λ found.
-      m.enter owner procedure found >>= (λ value. pure (AtValue value)))
-  called owner None supplied = fails unsupported
+  called owner procedure supplied = arguments [] supplied >>= entered owner procedure
 
   -- ---- members of objects
 
@@ -164,7 +167,8 @@ module _ (E : Type 0) (m : Inner E) where
   -- ---- from access to access
 
   abbrev pub access : Reached → Access → Does E Reached
-  access from (Group indices) = values [] indices >>= (λ found. on_world (element from found))
+  access from (Group indices) =
+      on_world (hold_reached from) >> values [] indices >>= (λ found. on_world (element from found))
   access from (Member name arguments) =
       on_world (reached_value from) >>= (λ value. member_of value name arguments)
 

@@ -1,6 +1,6 @@
 -- Release points: how objects end to which nothing refers any more, and their terminators (VBScript 5.6 language
 -- reference, "Terminate Event").
-use Rattle.std.specs.Prelude.{ℕ, zero, suc, ◌+◌, ◌-◌, true, [], Option, Some, None, slice_get}
+use Rattle.std.specs.Prelude.{ℕ, zero, suc, ◌+◌, ◌-◌, Bool, true, false, [], Option, Some, None, slice_get}
 use Rattle.std.specs.Option.{option_and_then}
 use Rattle.vb_value.specs.declared.value.Value.{Value, Empty}
 use Rattle.vb_syntax.specs.declared.program.unit.Class.{Class}
@@ -32,6 +32,10 @@ ended object before world = record world {
   finished = world.finished + 1;
 }
 
+-- the world once the page has ended
+abbrev pub behind_page : World → World
+behind_page world = record world { page_ended = true }
+
 -- the class of an object by its number
 abbrev pub class_number : Option Object → Option ℕ
 class_number (Some object) = class_in object.content
@@ -47,23 +51,19 @@ module _ (E : Type 0) where
   abbrev pub in_world : World → State E → State E
   in_world world s = record s { world = world }
 
-  -- How a terminator came to its end: an error ends it alone. A page stop goes on once its object has ended.
+  -- what a page stop in a terminator does behind it: it goes on, unless the page has ended
+  abbrev pub stopped : Bool → State E → Step (State E) (Unit {0})
+  stopped true s = Returns tt s
+  stopped false s = Ends stop.Page s
+
+  -- How a terminator came to its end: its object has ended. An error ends it alone.
   abbrev pub terminated : ℕ → World → Step (State E) Value → Step (State E) (Unit {0})
   terminated object before (Returns value s) = Returns tt (in_world (ended object before s.world) s)
   terminated object before (Ends (stop.Error what line) s) = Returns tt (in_world (ended object before s.world) s)
-  terminated object before (Ends stop.Page s) = Ends stop.Page (in_world (ended object before s.world) s)
+  terminated object before (Ends stop.Page s) = stopped before.page_ended (in_world (ended object before s.world) s)
   terminated object before (Ends (stop.Limit kind line) s) = Ends (stop.Limit kind line) s
   terminated object before (Ends (stop.Wants call) s) = Ends (stop.Wants call) s
   terminated object before (Ends stop.Memory s) = Ends stop.Memory s
-
-  -- a page stop that goes no further
-  abbrev pub without_page_stop : Step (State E) (Unit {0}) → Step (State E) (Unit {0})
-  without_page_stop (Ends stop.Page s) = Returns tt s
-  without_page_stop (Returns done s) = Returns done s
-  without_page_stop (Ends (stop.Error what line) s) = Ends (stop.Error what line) s
-  without_page_stop (Ends (stop.Limit kind line) s) = Ends (stop.Limit kind line) s
-  without_page_stop (Ends (stop.Wants call) s) = Ends (stop.Wants call) s
-  without_page_stop (Ends stop.Memory s) = Ends stop.Memory s
 
 module _ (E : Type 0) (m : Inner E) where
   -- the terminator of an object, if its class has one
@@ -117,11 +117,11 @@ module _ (E : Type 0) (m : Inner E) where
   line_of object world =
       terminator_line (terminator_in (class_at m.program (class_number (numbered object world.heap.objects))))
 
-  -- An object ends where no statement does, so that its terminator is entered in its own line. A page stop in a
-  -- terminator ends that terminator alone.
+  -- An object ends where no statement does, so that its terminator is entered in its own line. The page has ended: a page
+  -- stop in a terminator ends that terminator alone, also where it runs within another one.
   abbrev pub end_one : Does E (Unit {0}) → Option ℕ → Does E (Unit {0})
-  end_one more (Some object) s = and_then (in_line (line_of object s.world) (without_page_stop E (terminate object
-      (in_world E (with_heap (with_ending (Some object)) s.world) s)))) (λ _. more)
+  end_one more (Some object) s = and_then (in_line (line_of object s.world) (terminate object
+      (in_world E (behind_page (with_heap (with_ending (Some object)) s.world)) s))) (λ _. more)
   end_one more None s = Returns tt s
 
   -- while some live object has no reference, as above

@@ -10,7 +10,7 @@ use Rattle.vb_value.specs.declared.value.Array.{Array}
 use Rattle.vb_value.specs.declared.value.Value.{Value, Empty, out-Value}
 use Rattle.vb_value.specs.declared.value.Value.TheOpen.{Value-F}
 use Rattle.vb_value.specs.declared.value.Value.TheViews.{Arr}
-use Rattle.vb_value.specs.Errors.{array_is_fixed, out_of_range, type_mismatch}
+use Rattle.vb_value.specs.Errors.{array_is_fixed, out_of_range, type_mismatch, undefined_variable}
 use Rattle.vb_value.specs.Sound.{item_count}
 use Rattle.vb_syntax.specs.declared.member.Member.TheVariants.{ResponseWrite}
 use Rattle.vb_syntax.specs.declared.program.expression.Expression.{Expression}
@@ -103,13 +103,15 @@ erased (Value-F.Arr array) =
     if array.fixed then Ok (Arr (empty_array true array.bounds)) else Ok (Arr (empty_array false []))
 erased _ = Err type_mismatch
 
--- Erase of a variable; another name is no array
+-- Erase of what a place holds
 abbrev pub erase_place : Place → Run World (Unit {0})
 erase_place place = held_at place >>= (λ old. given (erased (out-Value old)) >>= (λ value.
     on_heap (store_of place value) (with_stored place value)))
 
+-- Erase of a variable; a name that nothing declares is undefined, and any other is no array
 abbrev pub erase : Named → Run World (Unit {0})
 erase (named.Place found) = variable found >>= erase_place
+erase named.Unknown = fails undefined_variable
 erase _ = fails type_mismatch
 
 -- Erase of several, in their order
@@ -211,11 +213,14 @@ module _ (E : Type 0) (m : Inner E) where
   assignment how target value = m.value value >>= (λ found.
       given (assignable how found) >> m.assign how target found >> pure Next)
 
-  -- A path that a statement calls. A variable is asked for an element, also without parentheses, and a name that stands
-  -- for nothing is a Type mismatch.
+  -- A path that a statement calls. A variable is asked for an element, also without parentheses. A constant alone, and a
+  -- name that stands for nothing, can't be called, which is a Type mismatch.
   abbrev pub call_head : Head → List Access → Does E (Unit {0})
   call_head (head.Named (named.Place found)) [] =
       on_world (variable found) >>= (λ place. on_world (element (AtPlace place) [])) >> pure tt
+  call_head (head.Named (named.PageConstant number)) [] = fails type_mismatch
+  call_head (head.Named (named.LocalConstant number)) [] = fails type_mismatch
+  call_head (head.Named (named.Value literal)) [] = fails type_mismatch
   call_head (head.Named named.Unknown) [] = fails type_mismatch
   call_head found more = from_head E m found more >> pure tt
 

@@ -50,6 +50,8 @@ pub struct World {
     pub calls: u32,
     /// A terminator runs.
     pub terminates: bool,
+    /// The page has ended, and its last objects end.
+    pub page_ended: bool,
     /// How many objects have ended.
     pub finished: u32,
 }

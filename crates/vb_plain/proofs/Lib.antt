@@ -7,3 +7,4 @@ pub mod AfterTurns
 pub mod TargetSteps
 pub mod AssignSteps
 pub mod Down
+pub mod Letting

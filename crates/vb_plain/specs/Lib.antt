@@ -1,3 +1,4 @@
 pub mod Nests
 pub mod Ends
 pub mod Blocks
+pub mod Returned

@@ -1,4 +1,4 @@
-//! An act: the page's variables are made, its part of the program runs, and then the variables and the objects go.
+//! An act: the page's variables are made, its part of the program runs, and then their values and the objects go.
 ghost use Rattle.std.specs.Prelude.{◌≡◌, IfOk, Option, Some};
 ghost use Rattle.std.specs.Option.{option_copied};
 ghost use Rattle.vb_value.specs.Outcome.{Gives};
@@ -21,7 +21,7 @@ use vb_value::{List, Memory, ObjNo, Value, VbError};
 use vb_world::declaring::page_begins;
 use vb_world::entering::fresh_frame;
 use vb_world::errors::{no_error, raised_by};
-use vb_world::places::drop_cells;
+use vb_world::places::empty_cells;
 use vb_world::playing::{Playing, in_line};
 
 /// How many ticks an act has.
@@ -39,18 +39,20 @@ pub fn fresh_world(alloc: Global) -> Result<World, Memory>
         ticks: MOST_TICKS,
         calls: 0,
         terminates: false,
+        page_ended: false,
         finished: 0,
     })
 }
 
-/// The page's variables go, in the order of their declaration.
-fn leave_page(alloc: Global, world: &mut World)
-    ensures { world.new ≡ spec.page_left world.old }
+/// The values of the page's variables go, in the order of their declaration.
+fn leave_page(alloc: Global, world: &mut World) -> Result<(), Memory>
+    ensures { IfOk result (λ _. world.new ≡ spec.page_left world.old) }
 {
     world.heap.let_go(0);
     let page = mem::replace(&mut world.page, List::new(alloc));
-    drop_cells(world, page.as_slice());
+    empty_cells(alloc, world, page.as_slice())?;
     world.page = page;
+    Ok(())
 }
 
 /// A line that is known, or 0.
@@ -211,7 +213,7 @@ impl<
         self.end_all(p, playing, env)
     }
 
-    /// The page's end: its variables go, and then its objects.
+    /// The page's end: the values of its variables go, and then its objects.
     fn page_ends(
         &self,
         p: &Program,
@@ -223,7 +225,7 @@ impl<
         ensures { IfOk result (λ end. spec.page_ends I (inside I (host I.asked I.answered) p.now self.now.levels) how
             (seen playing.old env.old) ≡ (Some end, env.new)) }
     {
-        leave_page(self.alloc, &mut playing.world);
+        leave_page(self.alloc, &mut playing.world)?;
         let gave = self.last_objects(p, playing, env);
         self.closed(p, playing, env, how, gave)
     }

@@ -20,7 +20,7 @@ use vb_world::accesses::{Access, first_access};
 use vb_world::assigned::assigned_named;
 use vb_world::classes::{class_at, dictionary_word, field_named, if_public};
 use vb_world::dictionaries::set_member;
-use vb_world::paths::{reached_value, store_element};
+use vb_world::paths::{hold_reached, reached_value, store_element};
 use vb_world::places::{cell_place, hold, store_place};
 use vb_world::playing::Playing;
 use vb_world::values::object_in;
@@ -43,7 +43,8 @@ impl<
         List<Argument>,
     ) -> Result<Value, Stop>,
 > Rules<I, V, A, S, C, T, N> {
-    /// A property of an object with its arguments and then the value. Error 438 where there is none.
+    /// A property of an object with its arguments and then the value. Error 438, once the arguments are evaluated, where
+    /// there is none.
     pub fn property(
         &self,
         p: &Program,
@@ -65,10 +66,10 @@ impl<
             (option_copied procedure.entry) supplied.now value (seen playing.old env.old)) result (seen playing.new
             env.new) }
     {
+        let mut arguments = self.arguments(p, playing, env, supplied)?;
         let Some(procedure) = procedure else {
             return Err(Stop::from(VbError::UNSUPPORTED));
         };
-        let mut arguments = self.arguments(p, playing, env, supplied)?;
         arguments.push(Argument::Value(value))?;
         self.enter(p, playing, env, owner, procedure, arguments)?;
         Ok(())
@@ -262,6 +263,7 @@ impl<
     {
         match access {
             Access::Group(indices) => {
+                hold_reached(&mut playing.world, &from)?;
                 let indices = self.values(p, playing, env, indices)?;
                 store_element(
                     self.alloc,

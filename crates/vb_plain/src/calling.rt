@@ -8,6 +8,7 @@ ghost use Rattle.vb_meaning.specs.State.{State};
 ghost use Rattle.vb_meaning.specs.Step.{Step, Ran};
 ghost use Rattle.vb_meaning.specs.declared.world.Exit.{Exit as Left};
 ghost use Rattle.vb_plain.specs.Nests.{Executes, Enters};
+ghost use Rattle.vb_plain.specs.Returned.{result_held};
 ghost use Rattle.vb_world.specs.Seen.{seen, host};
 
 use crate::rules::Rules;
@@ -44,6 +45,28 @@ impl<
     ) -> Result<Value, Stop>,
 > Rules<I, V, A, S, C, T, N> {
     /// A procedure that came to its end, or was left by an Exit: its value is held, its names go, and objects end.
+    fn result_held(
+        &self,
+        p: &Program,
+        playing: &mut Playing<'_>,
+        env: &mut I,
+        caller: Frame,
+        calls: u32,
+    ) -> Result<Value, Stop>
+        requires enters { Enters I (host I.asked I.answered) self.now.levels (N.pre self.now.enter)
+            (N.post self.now.enter) }
+        ensures { Ran (result_held I (inside I (host I.asked I.answered) p.now self.now.levels)
+            (record playing.old.world { frame = caller; calls = calls }) (seen playing.old env.old))
+            result (seen playing.new env.new) }
+    {
+        let value = result_value(self.alloc, &playing.world)?;
+        hold(&mut playing.world, &value)?;
+        leave(&mut playing.world, caller, calls);
+        self.settle(p, playing, env)?;
+        Ok(value)
+    }
+
+    /// The same, after which its value is held no more.
     fn returned(
         &self,
         p: &Program,
@@ -58,10 +81,9 @@ impl<
             (record playing.old.world { frame = caller; calls = calls }) (seen playing.old env.old))
             result (seen playing.new env.new) }
     {
-        let value = result_value(self.alloc, &playing.world)?;
-        hold(&mut playing.world, &value)?;
-        leave(&mut playing.world, caller, calls);
-        self.settle(p, playing, env)?;
+        let mark = playing.world.heap.mark();
+        let value = self.result_held(p, playing, env, caller, calls)?;
+        playing.world.heap.let_go(mark);
         Ok(value)
     }
 

@@ -49,7 +49,8 @@ impl<
         List<Argument>,
     ) -> Result<Value, Stop>,
 > Rules<I, V, A, S, C, T, N> {
-    /// A call of where a path begins, where nothing stands behind.
+    /// A call of where a path begins, where nothing stands behind. Error 13 for a constant and for a name that stands for
+    /// nothing.
     fn call_alone(
         &self,
         p: &Program,
@@ -68,7 +69,9 @@ impl<
     {
         match head {
             Head::Named(Named::Place(slot)) => call_variable(self.alloc, &mut playing.world, *slot),
-            Head::Named(Named::Unknown) => Err(Stop::from(VbError::TYPE_MISMATCH)),
+            Head::Named(
+                Named::PageConstant(_) | Named::LocalConstant(_) | Named::Value(_) | Named::Unknown,
+            ) => Err(Stop::from(VbError::TYPE_MISMATCH)),
             _ => {
                 self.from_head(p, playing, env, head, &[])?;
                 Ok(())

@@ -63,7 +63,7 @@ impl<
         Ok(Value::Obj(object))
     }
 
-    /// An object of a class.
+    /// An object of a class, which is held until it is given.
     fn made(
         &self,
         p: &Program,
@@ -77,13 +77,16 @@ impl<
         ensures { Ran (spec.made I (inside I (host I.asked I.answered) p.now self.now.levels) number class.now (seen
             playing.old env.old)) result (seen playing.new env.new) }
     {
+        let mark = playing.world.heap.mark();
         let object = object_made(
             self.alloc,
             &mut playing.world,
             number,
             class.fields.as_slice(),
         )?;
-        self.initialized(p, playing, env, object, number, initializer(class))
+        let value = self.initialized(p, playing, env, object, number, initializer(class))?;
+        playing.world.heap.let_go(mark);
+        Ok(value)
     }
 
     /// An object of the class of this number. Error 506 where the program has no such class.

@@ -46,8 +46,8 @@ impl<
         }
     }
 
-    /// Ends an object where no statement does, so that its terminator is entered in its own line. A page stop in a
-    /// terminator ends that terminator alone.
+    /// Ends an object where no statement does, so that its terminator is entered in its own line. The page has ended: a
+    /// page stop in a terminator ends that terminator alone.
     #[tactic(auto, unfolding(crate::specs::Ends::ends_last))]
     fn end_one(
         &self,
@@ -61,8 +61,9 @@ impl<
             (seen playing.old env.old)) result (seen playing.new env.new) }
     {
         let line = self.line_of(p, playing, object);
+        playing.world.page_ended = true;
         match self.terminate(p, playing, env, object) {
-            Ok(()) | Err(Stop::Page) => Ok(()),
+            Ok(()) => Ok(()),
             Err(why) => Err(stop_in(line, why)),
         }
     }

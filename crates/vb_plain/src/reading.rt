@@ -18,7 +18,7 @@ use vb_value::{List, ObjNo, Value, VbError};
 use vb_world::accesses::{Access, first_access};
 use vb_world::classes::{class_at, dictionary_word, field_named, if_public, read_named};
 use vb_world::dictionaries::named_member;
-use vb_world::paths::{element, reached_value};
+use vb_world::paths::{element, hold_reached, reached_value};
 use vb_world::places::{cell_place, hold};
 use vb_world::playing::Playing;
 use vb_world::values::object_in;
@@ -41,7 +41,7 @@ impl<
         List<Argument>,
     ) -> Result<Value, Stop>,
 > Rules<I, V, A, S, C, T, N> {
-    /// A procedure with its arguments. Error 438 where there is none.
+    /// A procedure with its arguments. Error 438, once they are evaluated, where there is none.
     pub fn called(
         &self,
         p: &Program,
@@ -58,10 +58,10 @@ impl<
         ensures { Ran (spec.called I (inside I (host I.asked I.answered) p.now self.now.levels) owner
             (option_copied procedure.entry) supplied.now (seen playing.old env.old)) result (seen playing.new env.new) }
     {
+        let arguments = self.arguments(p, playing, env, supplied)?;
         let Some(procedure) = procedure else {
             return Err(Stop::from(VbError::UNSUPPORTED));
         };
-        let arguments = self.arguments(p, playing, env, supplied)?;
         let value = self.enter(p, playing, env, owner, procedure, arguments)?;
         Ok(Reached::Value(value))
     }
@@ -233,6 +233,7 @@ impl<
     {
         match access {
             Access::Group(indices) => {
+                hold_reached(&mut playing.world, &from)?;
                 let indices = self.values(p, playing, env, indices)?;
                 element(self.alloc, &mut playing.world, from, indices.as_slice())
             }

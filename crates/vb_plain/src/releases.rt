@@ -66,7 +66,7 @@ impl<
     }
 
     /// Runs the terminator of an ending object, if its class has one, and ends the object. An error ends the terminator
-    /// alone.
+    /// alone, and so does a page stop once the page has ended.
     #[tactic(auto, unfolding(vb_meaning::specs::Releases::terminate))]
     pub fn terminate(
         &self,
@@ -80,6 +80,7 @@ impl<
             (seen playing.old env.old)) result (seen playing.new env.new) }
     {
         let terminates = playing.world.terminates;
+        let page_ended = playing.world.page_ended;
         let err = mem::replace(&mut playing.world.err, no_error(self.alloc));
         playing.world.terminates = true;
         match self.run_terminator(p, playing, env, object) {
@@ -89,7 +90,7 @@ impl<
             }
             Err(Stop::Page) => {
                 end_object(&mut playing.world, object, err, terminates)?;
-                Err(Stop::Page)
+                if page_ended { Ok(()) } else { Err(Stop::Page) }
             }
             Err(why) => Err(why),
         }

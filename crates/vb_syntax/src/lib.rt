@@ -3,6 +3,7 @@
 
 mod act;
 mod copies;
+mod crossing;
 mod declaration;
 mod expression;
 mod member;
@@ -15,6 +16,7 @@ mod unit;
 
 pub use act::{Act, ActDone, ActEnd, AskStop, Given, Intrinsics};
 pub use copies::copy_bounds;
+pub use crossing::program_crosses;
 pub use declaration::{Access, Constant, ConstantValue, Declared, Parameter};
 pub use expression::{Expression, Literal, Operation, Path, PathHead, Step};
 pub use member::{CollectionPart, ContentsPart, Member, Takes};

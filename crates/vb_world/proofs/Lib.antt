@@ -6,6 +6,7 @@ pub mod Products
 pub mod EmptyArrays
 pub mod Declared
 pub mod Dropping
+pub mod Emptying
 pub mod Keys
 pub mod FieldArrays
 pub mod Resized

@@ -7,7 +7,6 @@ ghost use Rattle.vb_value.specs.Outcome.{Answers, Gives};
 ghost use Rattle.vb_meaning.specs.declared.stop.Stop.TheVariants as stop;
 
 use crate::err_object::text_of;
-use crate::places::hold;
 use crate::values::constant_value;
 use std::alloc::Global;
 use vb_dict::new_dict;
@@ -42,9 +41,7 @@ fn created(world: &mut World, name: &Text) -> Result<Value, Stop>
     if !is_word(b"scripting.dictionary", name.as_slice()) {
         return Err(Stop::from(VbError::CANNOT_CREATE_OBJECT));
     }
-    let object = Value::Obj(new_dict(&mut world.heap)?);
-    hold(world, &object)?;
-    Ok(object)
+    Ok(Value::Obj(new_dict(&mut world.heap)?))
 }
 
 /// `CreateObject` with its arguments, of which there has to be one.

@@ -11,7 +11,7 @@ ghost use Rattle.vb_meaning.specs.Step.{Ran, and_then, pure};
 
 use crate::copying::copied;
 use crate::dictionaries::{item_by, put_by};
-use crate::places::{element_place, indices_of, read_place, store_place};
+use crate::places::{element_place, hold, indices_of, read_place, store_place};
 use std::alloc::Global;
 use vb_heap::{Place, value_in};
 use vb_meaning::{Kind, Reached, Stop, World};
@@ -47,6 +47,16 @@ fn put_in_object(
 {
     has_items(world, object)?;
     put_by(alloc, world, object, keys, value)
+}
+
+/// What is reached, before an index behind it is evaluated: a value is held.
+pub fn hold_reached(world: &mut World, reached: &Reached) -> Result<(), Stop>
+    ensures { Ran (spec.hold_reached reached.now world.old) result world.new }
+{
+    match reached {
+        Reached::Place(_) => Ok(()),
+        Reached::Value(value) => hold(world, value),
+    }
 }
 
 /// The value that is reached.

@@ -1,6 +1,8 @@
 //! Variables and elements of arrays as places that hold values.
-ghost use Rattle.std.specs.Prelude.{◌≡◌, length};
+ghost use Rattle.std.specs.Prelude.{◌≡◌, length, IfOk};
 ghost use Rattle.vb_value.specs.Outcome.{Answers, Gives};
+ghost use Rattle.vb_value.specs.declared.value.Value.{Empty};
+ghost use Rattle.vb_heap.specs.Cells.{with_stored};
 ghost use Rattle.vb_meaning.specs.declared.stop.Stop.TheVariants as stop;
 ghost use Rattle.vb_meaning.specs.Places as spec;
 ghost use Rattle.vb_meaning.specs.State.{with_heap};
@@ -9,7 +11,7 @@ ghost use Rattle.vb_meaning.specs.Step.{Ran, raising};
 use crate::copying::copied;
 use crate::err_object::long_of;
 use std::alloc::Global;
-use vb_heap::{CellNo, Place};
+use vb_heap::{CellNo, HeapStop, Place};
 use vb_meaning::{Stop, World};
 use vb_syntax::program::{Named, Slot};
 use vb_value::{Copied, List, Memory, Value, VbError};
@@ -129,12 +131,13 @@ fn copy_place(place: &Place) -> Result<Place, Memory>
     })
 }
 
-/// A name as what is assigned to. Error 501 for a name that is no variable.
+/// A name as what is assigned to. Error 500 for a name that nothing declares, and 501 for any other that is no variable.
 pub fn target_variable(alloc: Global, world: &World, name: &Named) -> Result<Place, Stop>
     ensures { Ran (spec.target_variable name.now world.now) result world.now }
 {
     match name {
         Named::Place(slot) => variable(alloc, world, *slot),
+        Named::Unknown => Err(Stop::from(VbError::UNDEFINED_VARIABLE)),
         _ => Err(Stop::from(VbError::ILLEGAL_ASSIGNMENT)),
     }
 }
@@ -147,4 +150,26 @@ pub fn drop_cells(world: &mut World, mut cells: &[CellNo])
         world.heap.drop_cell(*first);
         cells = others;
     }
+}
+
+/// A cell that is there holds Empty. Nothing is lighter, so no limit comes.
+#[tactic(auto, using(crate::proofs::Emptying::gone_already))]
+fn empty_cell(alloc: Global, world: &mut World, cell: CellNo) -> Result<(), Memory>
+    ensures { IfOk result (λ _. world.new ≡ with_heap (with_stored (spec.cell_place cell) Empty) world.old) }
+{
+    match world.heap.store(&cell_place(alloc, cell), Value::Empty) {
+        Ok(()) | Err(HeapStop::Error(_)) => Ok(()),
+        Err(HeapStop::Limit(_) | HeapStop::Memory) => Err(Memory),
+    }
+}
+
+/// The values of cells go, one after the other: each cell holds Empty.
+pub fn empty_cells(alloc: Global, world: &mut World, mut cells: &[CellNo]) -> Result<(), Memory>
+    ensures { IfOk result (λ _. world.new ≡ with_heap (spec.cells_emptied cells.entry.now) world.old) }
+{
+    while let [first, others @ ..] = cells {
+        empty_cell(alloc, world, *first)?;
+        cells = others;
+    }
+    Ok(())
 }

@@ -193,16 +193,19 @@ fn erased(alloc: Global, value: &Value) -> Result<Value, Stop>
     }
 }
 
-/// Erase of what a name stands for.
+/// Erase of what a name stands for. Error 500 for a name that nothing declares, and 13 for any other that is no variable.
 fn erase(alloc: Global, world: &mut World, name: &Named) -> Result<(), Stop>
     ensures { Ran (spec.erase name.now world.old) result world.new }
 {
-    let Named::Place(slot) = name else {
-        return Err(Stop::from(VbError::TYPE_MISMATCH));
-    };
-    let place = variable(alloc, world, *slot)?;
-    let value = erased(alloc, world.heap.look(&place)?)?;
-    Ok(world.heap.store(&place, value)?)
+    match name {
+        Named::Place(slot) => {
+            let place = variable(alloc, world, *slot)?;
+            let value = erased(alloc, world.heap.look(&place)?)?;
+            Ok(world.heap.store(&place, value)?)
+        }
+        Named::Unknown => Err(Stop::from(VbError::UNDEFINED_VARIABLE)),
+        _ => Err(Stop::from(VbError::TYPE_MISMATCH)),
+    }
 }
 
 /// Erase of several, in their order.

@@ -7,16 +7,16 @@ use Rattle.asp_core.specs.Kernel.{setting_of}
 
 pub returns-clause-ok : goal.returns-clause-ok
 returns-clause-ok g c =
-    let same = rules_here g.R.Runner.meaning c.in-Ok-new.core c.args.runner.now c.args.site.now
+    let same = rules_here g.R.Runner.meaning c.in-Ok.core c.args.runner.now c.args.site.now
     (setting_of c.args.seed false)
-    c.in-Ok-new.ensures.host c.in-Ok-new.ensures.setting in
+    c.in-Ok.ensures.host c.in-Ok.ensures.setting in
     subst (λ m. IfOk c.answer_over-answered.result (HasAnswered m c.args.job.now)) same
     c.answer_over-answered.ensures.ok
 
 pub returns-clause-err : goal.returns-clause-err
 returns-clause-err g c =
-    let same = rules_here g.R.Runner.meaning c.in-Ok-new.core c.args.runner.now c.args.site.now
+    let same = rules_here g.R.Runner.meaning c.in-Ok.core c.args.runner.now c.args.site.now
     (setting_of c.args.seed false)
-    c.in-Ok-new.ensures.host c.in-Ok-new.ensures.setting in
+    c.in-Ok.ensures.host c.in-Ok.ensures.setting in
     subst (λ m. IfErr c.answer_over-answered.result (IsGetStop m c.args.job.now)) same
     c.answer_over-answered.ensures.err

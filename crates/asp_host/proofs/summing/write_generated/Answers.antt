@@ -29,7 +29,7 @@ returns-clause-ok g c =
     c.args.recording.now.items c.args.count c.args.journal (g.K.Sink.held c.args.sink.now)
     (g.K.Sink.held c.write_summary-written.new.sink) c.write_summary-written.result
     c.in_ok-core.ensures.core c.write_summary-written.ensures.valid
-    c.in_ok-core.ensures.ok.whole c.write_summary-written.ensures.wrote
+    c.in_ok-core.ensures.ok.whole c.write_summary-written.ensures.wrote c.write_summary-written.ensures.lines
 
 pub returns-clause-err : goal.returns-clause-err
 returns-clause-err g c =

@@ -1,13 +1,15 @@
-use Rattle.std.proofs.Common.{◌≡◌, ℕ, List, Err, reverse, ap, ◌∙◌, subst}
+use Rattle.std.proofs.Common.{◌≡◌, ℕ, true, List, Err, reverse, ap, ◌∙◌, subst}
 use Rattle.std.specs.String.{string_bytes}
-use Rattle.asp_core.specs.Kernel.{past_of}
+use Rattle.asp_core.specs.Kernel.{past_of, rules_of}
 use Rattle.asp_io.specs.Sink.{with_bytes}
 use Rattle.asp_job.specs.declared.entry.Entry.{Entry}
+use Rattle.asp_record.specs.Ranged.{AreRanged}
+use Rattle.asp_replay.proofs.Ranged.{ranged_reverse}
 use Rattle.asp_feed.specs.Shown.{lines_of}
 use Rattle.asp_replay.specs.Underway.{WritesText}
 use Rattle.asp_summary.specs.Counted.{summary_of}
 use Rattle.asp_summary.specs.Lines.{summary_lines}
-use Rattle.asp_host.proofs.Outputs.{text_begun, text_then}
+use Rattle.asp_host.proofs.Outputs.{on_ok, text_begun, text_then}
 use Rattle.asp_host.proofs.summing.write_summary.Goals as goal
 
 pub returns-in_err-write_journal-clause-wrote : goal.returns-in_err-write_journal-clause-wrote
@@ -38,3 +40,13 @@ returns-clause-wrote g c =
     c.write_text.ensures.wrote in
     text_then c.write_text.result before middle after (lines_of c.args.journal past)
     (summary_lines (summary_of c.args.count past)) was wrote
+
+pub returns-clause-lines : goal.returns-clause-lines
+returns-clause-lines g c =
+    let past = past_of c.args.core.now in
+    let rules = rules_of g.R.Runner.meaning c.args.core.now in
+    let entries = c.journal-entries.result.now in
+    let same = ap reverse c.journal-entries.ensures.journal in
+    on_ok c.write_text.result (λ (asked : c.args.journal ≡ true).
+    c.journals_have_lines.ensures rules past c.journal-entries.ensures.valid c.journal-entries.ensures.formed
+    (subst AreRanged same (ranged_reverse entries (c.in_ok-write_journal.ensures.ranged asked))))

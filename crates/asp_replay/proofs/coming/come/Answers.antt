@@ -13,7 +13,7 @@ event_full event.Memory entries weight e = absurd cc
 
 pub returns-in-Err-clause-full : goal.returns-in-Err-clause-full
 returns-in-Err-clause-full g c entries weight e =
-    let full : way.event_stop c.in-Err.stop ≡ stop.JournalFull entries weight = cc (c.event_stop.ensures, e) in
+    let full : way.event_stop c.in-Err.stop ≡ stop.JournalFull entries weight = cc (c.from.ensures, e) in
     let much = c.in-Err.ensures.full entries weight (ap Err (event_full c.in-Err.stop entries weight full)) in
     let rules = rules_of g.R.Runner.meaning c.args.core.now in
     let past = past_of c.args.core.now in

@@ -45,4 +45,4 @@ returns-clause-err g c =
     (sym same ∙ rules_here meaning c.feed_core-fed.new.core c.args.runner.now c.args.site.now setting still)
     (subst (λ m. IsValidJournal m (past_of c.feed_core-fed.new.core)) same c.journal.ensures.valid)
     (subst (λ m. IsAnswered m (past_of c.feed_core-fed.new.core)) same c.journal.ensures.answered)
-    c.core_back.ensures c.feed_core-fed.ensures.after c.feed_core-fed.ensures.wound_up
+    c.core_back.ensures c.feed_core-fed.ensures.after c.feed_core-fed.ensures.passed c.feed_core-fed.ensures.wound_up

@@ -1,18 +1,19 @@
-use Rattle.std.proofs.Common.{◌≡◌, [], ap, arith, is_some, subst, sym, true}
+use Rattle.std.proofs.Common.{◌≡◌, [], arith, subst, sym, true}
 use Rattle.asp_core.specs.Kernel.{past_of, rules_of}
 use Rattle.asp_lane.proofs.Started.{started_grown}
+use Rattle.asp_lane.specs.Started.{HasStarted}
 use Rattle.asp_replay.specs.declared.stop.FeedStop.TheVariants as stop
 use Rattle.asp_replay.specs.Underway.{AfterTurn, EndsSo, IsUnderWay, is_over}
 use Rattle.asp_replay.proofs.Grown.{ends_here}
 use Rattle.asp_replay.proofs.Starting.{grown_more, grown_none, host_grown, rules_grown, under_rules}
-use Rattle.asp_replay.proofs.WholeFeed.{kind_grown, over_fed}
+use Rattle.asp_replay.proofs.WholeFeed.{over_fed}
 use Rattle.asp_replay.proofs.feeding.feed_items.Goals as goal
 
 pub loop-init : goal.loop-init
 loop-init g c = record {
   grows = ([], grown_none c.args.core.now);
   fits = c.requires.hand;
-  started = ap is_some c.requires.started.ended;
+  started = c.requires.started;
   under = λ before is. subst (λ left. IsUnderWay (rules_of g.R.Runner.meaning c.args.core.now)
       c.args.recording.now.items (past_of c.args.core.now) c.args.clients.now.entries left before
       (g.K.Sink.held c.args.sink.now)) (sym c.as_slice-items.ensures) is;
@@ -27,10 +28,8 @@ pub returns-then-is_over-clause-after : goal.returns-then-is_over-clause-after
 returns-then-is_over-clause-after g c = λ before is.
     let over : is_over (past_of c.loop.core) c.loop.items.now ≡ true = (let told = c.is_over.ensures in
     let test = c.if-is_over.true in let one = c.if-is_over.ensures in cc) in
-    let started = started_grown g.R.Runner.meaning c.args.core.now c.loop.core c.loop.invariant.grows
-    c.journal.ensures.valid c.requires.started in
     over_fed (rules_of g.R.Runner.meaning c.args.core.now) c.args.recording.now.items (past_of c.loop.core)
-    c.loop.clients.entries c.loop.items.now before (g.K.Sink.held c.loop.sink) over started
+    c.loop.clients.entries c.loop.items.now before (g.K.Sink.held c.loop.sink) over c.loop.invariant.started
     (c.loop.invariant.under before is)
 
 pub turn-next-requires-clause-host : goal.turn-next-requires-clause-host
@@ -42,7 +41,10 @@ pub turn-next-requires-clause-hand : goal.turn-next-requires-clause-hand
 turn-next-requires-clause-hand g c = c.loop.invariant.fits
 
 pub turn-next-requires-clause-started : goal.turn-next-requires-clause-started
-turn-next-requires-clause-started g c = c.loop.invariant.started
+turn-next-requires-clause-started g c =
+    let meaning = g.R.Runner.meaning in
+    let same = rules_grown meaning c.args.core.now c.loop.core c.loop.invariant.grows.0 c.loop.invariant.grows.1 in
+    subst (λ m. HasStarted m (past_of c.loop.core)) (sym same) c.loop.invariant.started
 
 pub turn-next-requires-clause-going : goal.turn-next-requires-clause-going
 turn-next-requires-clause-going g c =
@@ -86,7 +88,9 @@ loop-preserved g c =
     record {
       grows = grown_more c.args.core.now c.loop.core c.turn-next.new.core c.loop.invariant.grows c.turn-next.ensures.grows;
       fits = c.turn-next.ensures.fits;
-      started = kind_grown c.loop.core c.turn-next.new.core c.turn-next.ensures.grows c.loop.invariant.started;
+      started = started_grown meaning c.args.core.now c.turn-next.new.core (grown_more c.args.core.now c.loop.core
+          c.turn-next.new.core c.loop.invariant.grows c.turn-next.ensures.grows) c.journal.ensures.valid
+          c.requires.started;
       under = λ before is.
           let now = under_rules (rules_of meaning c.args.core.now) (rules_of meaning c.loop.core)
           c.args.recording.now.items c.loop.items.now (past_of c.loop.core) c.loop.clients.entries before

@@ -1,7 +1,7 @@
-use Rattle.std.specs.Prelude.{◌≡◌, ◌<◌, ◌≤◌, ◌^◌, ℕ, List, Option, is_some, true}
+use Rattle.std.specs.Prelude.{◌≡◌, ◌<◌, ◌≤◌, ◌^◌, ℕ, List, Option}
 use Rattle.asp_core.specs.Kernel.{grown, past_of, rules_of}
-use Rattle.asp_journal.specs.Telling.{end_kind}
 use Rattle.asp_job.specs.declared.entry.Entry.{Entry}
+use Rattle.asp_lane.specs.Started.{HasStarted}
 use Rattle.asp_lane.specs.Turns.{Fits, run_in}
 use Rattle.asp_replay.specs.Underway.{IsUnderWay}
 use Rattle.asp_replay.proofs.feeding.feed_items.Given as goal
@@ -10,7 +10,7 @@ abbrev pub invariant-loop : goal.invariant-loop
 invariant-loop g l = record {
   grows : (entries : List Entry) × (l.core ≡ grown l.fn.core entries);
   fits : Fits g.R.Runner.meaning g.R.Runner.stands l.core 0 (run_in l.hand);
-  started : is_some (end_kind (past_of l.core) 1) ≡ true;
+  started : HasStarted (rules_of g.R.Runner.meaning l.fn.core) (past_of l.core);
   under : (before : Option (List ℕ))
       → IsUnderWay (rules_of g.R.Runner.meaning l.fn.core) l.recording.items (past_of l.fn.core)
       l.fn.clients.entries l.recording.items before (g.K.Sink.held l.fn.sink)

@@ -1,11 +1,11 @@
-use Rattle.std.proofs.Common.{◌≡◌, [], OnOk, arith, subst, sym, true}
+use Rattle.std.proofs.Common.{◌≡◌, ◌∙◌, [], OnOk, arith, subst, sym, true}
 use Rattle.asp_core.specs.Kernel.{past_of, rules_of}
 use Rattle.asp_lane.specs.Started.{HasStarted}
 use Rattle.asp_replay.specs.declared.stop.FeedStop.TheVariants as stop
 use Rattle.asp_replay.specs.Underway.{After, EndsSo, IsOfOneLane, is_starting}
 use Rattle.asp_replay.proofs.Grown.{ends_here}
 use Rattle.asp_replay.proofs.Starting.{grown_more, grown_none, host_grown, none_still, rules_grown, start_ends}
-use Rattle.asp_replay.proofs.Starting.{start_no_fault, starting_busy, starting_parts, under_rules}
+use Rattle.asp_replay.proofs.Starting.{start_no_fault, starting_busy, starting_parts, told_no_fault, under_rules}
 use Rattle.asp_replay.proofs.feeding.start.Goals as goal
 
 pub loop-init : goal.loop-init
@@ -29,6 +29,13 @@ returns-then-not-is_starting-clause-started g c =
     let same = rules_grown g.R.Runner.meaning c.args.core.now c.loop.core c.loop.invariant.grows.0
     c.loop.invariant.grows.1 in
     subst (λ m. OnOk c.started.result (HasStarted m (past_of c.loop.core))) same c.started.ensures.ok
+
+pub returns-then-not-is_starting-clause-none_came : goal.returns-then-not-is_starting-clause-none_came
+returns-then-not-is_starting-clause-none_came g c = c.loop.invariant.none_came
+
+pub returns-then-not-is_starting-clause-no_fault : goal.returns-then-not-is_starting-clause-no_fault
+returns-then-not-is_starting-clause-no_fault g c =
+    told_no_fault (rules_of g.R.Runner.meaning c.loop.core) (past_of c.loop.core) c.started.result c.started.ensures.err
 
 pub returns-then-not-is_starting-clause-after : goal.returns-then-not-is_starting-clause-after
 returns-then-not-is_starting-clause-after g c = λ items left clients before is.
@@ -69,6 +76,14 @@ pub returns-in-Err-clause-grows : goal.returns-in-Err-clause-grows
 returns-in-Err-clause-grows g c =
     grown_more c.args.core.now c.loop.core c.work_turn-next.new.core c.loop.invariant.grows
     c.work_turn-next.ensures.grows
+
+pub returns-in-Err-clause-none_came : goal.returns-in-Err-clause-none_came
+returns-in-Err-clause-none_came g c =
+    none_still (past_of c.loop.core) (past_of c.work_turn-next.new.core) c.work_turn-next.ensures.quiet
+    c.loop.invariant.none_came
+
+pub returns-in-Err-clause-no_fault : goal.returns-in-Err-clause-no_fault
+returns-in-Err-clause-no_fault g c = λ e. c.work_turn-next.ensures.no_fault c.loop.invariant.none_came (c.in-Err.is ∙ e)
 
 pub returns-in-Err-clause-after : goal.returns-in-Err-clause-after
 returns-in-Err-clause-after g c = λ items left clients before is.
@@ -116,6 +131,9 @@ loop-preserved g c =
 
 pub returns-clause-grows : goal.returns-clause-grows
 returns-clause-grows g c = c.loop.invariant.grows
+
+pub returns-clause-none_came : goal.returns-clause-none_came
+returns-clause-none_came g c = c.loop.invariant.none_came
 
 pub returns-clause-after : goal.returns-clause-after
 returns-clause-after g c = λ items left clients before is.

@@ -1,4 +1,4 @@
-use Rattle.std.proofs.Common.{◌≡◌, ◌∷◌, [], false, subst, sym}
+use Rattle.std.proofs.Common.{◌≡◌, ◌∷◌, [], false, ap, is_some, subst, sym}
 use Rattle.asp_core.specs.Kernel.{past_of, rules_of}
 use Rattle.asp_record.specs.Recorded as recorded
 use Rattle.asp_feed.specs.Feeding.{is_calm}
@@ -15,7 +15,7 @@ work_turn-hand-requires-clause-busy g c = elim c.in_default.branch [
       (recorded.moment_of w.in-Some.next.now) ≡ false = (let told = w.may_come.ensures in let at = w.moment_of.ensures
       in
       let test = w.if-may_come.false in cc) in
-      kept_out_busy (past_of c.args.core.now) (recorded.moment_of w.in-Some.next.now) c.requires.started kept)
+      kept_out_busy (past_of c.args.core.now) (recorded.moment_of w.in-Some.next.now) (ap is_some c.requires.started.ended) kept)
   | in_default-via-in-None+else-is_calm w ↦ (let told = w.is_calm.ensures in let test = w.if-is_calm.false in cc)
 ]
 

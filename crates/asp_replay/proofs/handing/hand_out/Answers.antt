@@ -4,7 +4,7 @@ use Rattle.asp_core.specs.Kernel.{past_of}
 use Rattle.asp_job.specs.Runs.{moment_of}
 use Rattle.asp_feed.specs.Shown.{Shown}
 use Rattle.asp_replay.proofs.HandedOut.{handed_all, handed_part}
-use Rattle.asp_replay.proofs.HandingOut.{handing_goes_on, handing_smaller, handing_starts, hands_one}
+use Rattle.asp_replay.proofs.HandingOut.{handing_goes_on, handing_smaller, handing_starts, hands_one, some_waits}
 use Rattle.asp_replay.proofs.Pieces.{with_none}
 use Rattle.asp_replay.proofs.handing.hand_out.Goals as goal
 
@@ -36,6 +36,14 @@ returns-in_err-write_record-clause-out g c =
     let p = err_from_is_err_and c.from_residual.result c.from_residual.ensures.1 in
     rw p.1 (handed_part meaning old new before held after (run, answer) shown ended one same
     c.in_err-write_record.ensures.wrote)
+
+pub returns-in_err-write_record-clause-none : goal.returns-in_err-write_record-clause-none
+returns-in_err-write_record-clause-none g c = λ none.
+    let meaning = g.R.Runner.meaning in
+    let one = hands_one meaning c.args.core.now c.loop-run.core c.first_out.new.core (g.K.Sink.held c.args.sink.now)
+    (g.K.Sink.held c.loop-run.sink) (c.in-Some.run', c.in-Some.answer) c.loop-run.invariant.0 c.in-Some.ensures.first
+    c.in-Some.ensures.some in
+    absurd (some_waits one.taken one.rest (c.in-Some.run', c.in-Some.answer) (sym none ∙ one.split))
 
 pub loop-run-smaller : goal.loop-run-smaller
 loop-run-smaller g c =

@@ -1,7 +1,8 @@
 -- Where nothing came from outside no page has run, and nothing was written.
-use Rattle.std.proofs.Common.{◌≡◌, ◌⊎◌, ℕ, zero, suc, ◌==◌, Bool, true, false, if◌then◌else◌, List, [], ◌∷◌, ◌++◌}
+use Rattle.std.proofs.Common.{◌≡◌, ◌⊎◌, ℕ, zero, suc, ◌==◌, nat_eq, Bool, true, false, if◌then◌else◌, List, [], ◌∷◌, ◌++◌}
 use Rattle.std.proofs.Common.{Option, Some, None, is_some, unwrap_or, drop, take, refl, ap, sym, ◌∙◌, subst, inl, inr}
-use Rattle.asp_core.specs.Ready.{IsAnswered, IsAnsweredBy}
+use Rattle.std.specs.Map.{remove_entry}
+use Rattle.asp_core.specs.Ready.{IsAnswered, IsAnsweredBy, ready, with_answer}
 use Rattle.asp_io.specs.Copying.{AddsPart}
 use Rattle.asp_io.specs.Sink.{with_bytes}
 use Rattle.asp_job.specs.declared.answer.Answer.{Answer}
@@ -99,6 +100,37 @@ none_shown rules [] right answered none = refl
 none_shown rules (entry ∷ past) right answered none =
     none_shown_by rules past entry.lane entry.what answered.0
     (λ before. (none_shown rules past right.1 answered.1 before, (quiet rules past right.1 before).1)) none
+
+-- ---- and none waits
+
+none_waits : (answers : List (ℕ × Answer)) (run : ℕ) (answer : Option Answer) → is_some answer ≡ false → answers ≡ []
+    → with_answer answers run answer ≡ []
+none_waits answers run None e is = is
+none_waits answers run (Some answer) e is = absurd cc
+
+none_ready_by : (rules : Rules) (past : List Entry) (lane : ℕ) (what : What) → IsAnsweredBy rules past what
+    → (events_of past ≡ [] → (ready rules past ≡ []) × IsFirst past)
+    → events_of (with_lane lane what ∷ past) ≡ [] → ready rules (with_lane lane what ∷ past) ≡ []
+none_ready_by rules past lane (End run kind status size made finished) answered before none =
+    let was = before none in
+    none_waits (ready rules past) run (answer_by rules past run kind) (answered ∙ ap is_page (was.1 run)) was.0
+none_ready_by rules past lane (Queue run asked key) answered before none = (before none).0
+none_ready_by rules past lane (Admit run key fresh job) answered before none = absurd cc
+none_ready_by rules past lane (Refuse run job) answered before none = absurd cc
+none_ready_by rules past lane (Tick moment) answered before none = absurd cc
+none_ready_by rules past lane Stop answered before none = absurd cc
+none_ready_by rules past lane (Begin run serial) answered before none = (before none).0
+none_ready_by rules past lane (App run call reply) answered before none = (before none).0
+none_ready_by rules past lane (Take run) answered before none =
+    ap (remove_entry (nat_eq run)) (before none).0
+none_ready_by rules past lane Halt answered before none = (before none).0
+
+pub none_ready : (rules : Rules) (past : List Entry) → AreRight rules past → IsAnswered rules past → events_of past ≡ []
+    → ready rules past ≡ []
+none_ready rules [] right answered none = refl
+none_ready rules (entry ∷ past) right answered none =
+    none_ready_by rules past entry.lane entry.what answered.0
+    (λ before. (none_ready rules past right.1 answered.1 before, (quiet rules past right.1 before).1)) none
 
 -- ---- and nothing was written
 
