@@ -2,6 +2,8 @@
 ghost use Rattle.std.specs.Prelude.{◌≡◌};
 ghost use Rattle.asp_core.specs.Stops as spec;
 
+use std::error::Error;
+use std::fmt;
 use vb_value::Memory;
 
 /// Why an event was refused.
@@ -118,3 +120,72 @@ pub enum CollectStop {
     /// The answer was handed out before.
     Taken,
 }
+
+impl fmt::Display for EventStop {
+    fn fmt<W: fmt::Write>(&self, f: &mut fmt::Formatter<W>) -> fmt::Result {
+        match self {
+            EventStop::JournalFull { entries, weight } => {
+                write!(f, "journal full: {entries} entries, {weight} bytes")
+            }
+            EventStop::Memory => write!(f, "{}", Memory),
+        }
+    }
+}
+
+impl Error for EventStop {}
+
+impl fmt::Display for AdmitStop {
+    fn fmt<W: fmt::Write>(&self, f: &mut fmt::Formatter<W>) -> fmt::Result {
+        match self {
+            AdmitStop::Stopping => write!(f, "the host stops"),
+            AdmitStop::WaitingFull => write!(f, "too many pages wait"),
+            AdmitStop::JournalFull { entries, weight } => {
+                write!(f, "journal full: {entries} entries, {weight} bytes")
+            }
+            AdmitStop::Memory => write!(f, "{}", Memory),
+        }
+    }
+}
+
+impl Error for AdmitStop {}
+
+impl fmt::Display for BeginStop {
+    fn fmt<W: fmt::Write>(&self, f: &mut fmt::Formatter<W>) -> fmt::Result {
+        match self {
+            BeginStop::Idle => write!(f, "no run may begin"),
+            BeginStop::JournalFull { entries, weight } => {
+                write!(f, "journal full: {entries} entries, {weight} bytes")
+            }
+            BeginStop::Memory => write!(f, "{}", Memory),
+        }
+    }
+}
+
+impl Error for BeginStop {}
+
+impl fmt::Display for AppStepStop {
+    fn fmt<W: fmt::Write>(&self, f: &mut fmt::Formatter<W>) -> fmt::Result {
+        match self {
+            AppStepStop::Blocked { holder } => write!(f, "run {holder} has the lock"),
+            AppStepStop::JournalFull { entries, weight } => {
+                write!(f, "journal full: {entries} entries, {weight} bytes")
+            }
+            AppStepStop::Memory => write!(f, "{}", Memory),
+        }
+    }
+}
+
+impl Error for AppStepStop {}
+
+impl fmt::Display for CollectStop {
+    fn fmt<W: fmt::Write>(&self, f: &mut fmt::Formatter<W>) -> fmt::Result {
+        match self {
+            CollectStop::Foreign { lane } => write!(f, "lane {lane} asked for the run"),
+            CollectStop::NotEnded => write!(f, "the run has not ended"),
+            CollectStop::NoAnswer => write!(f, "the run has no answer"),
+            CollectStop::Taken => write!(f, "the answer was handed out before"),
+        }
+    }
+}
+
+impl Error for CollectStop {}

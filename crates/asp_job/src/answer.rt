@@ -2,6 +2,8 @@
 
 use crate::request::Header;
 use crate::session::SessionState;
+use std::error::Error;
+use std::fmt;
 use vb_value::{Bytes, LimitKind, List, Text};
 
 /// What a client is answered. `Date`, `Content-Length` and `Connection` are written with it and stand in no field.
@@ -37,6 +39,17 @@ pub enum Fail {
         line: u32,
     },
 }
+
+impl fmt::Display for Fail {
+    fn fmt<W: fmt::Write>(&self, f: &mut fmt::Formatter<W>) -> fmt::Result {
+        match self {
+            Fail::Error { number, line } => write!(f, "error {number}, line {line}"),
+            Fail::Limit { kind, line } => write!(f, "limit {kind:?}, line {line}"),
+        }
+    }
+}
+
+impl Error for Fail {}
 
 /// What a run leaves when it has ended.
 #[derive(Debug, Drop)]

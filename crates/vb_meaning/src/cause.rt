@@ -1,6 +1,7 @@
 //! Errors as they arise (VBScript 5.6 language reference, "Err Object").
 
-use vb_value::Text;
+use std::fmt;
+use vb_value::{Text, VbError};
 
 /// What an error says.
 #[derive(Debug, Drop)]
@@ -20,4 +21,13 @@ pub enum Cause {
     Language(i32),
     /// `Err.Raise`
     Raised(Raised),
+}
+
+impl fmt::Display for Cause {
+    fn fmt<W: fmt::Write>(&self, f: &mut fmt::Formatter<W>) -> fmt::Result {
+        match self {
+            Cause::Language(number) => write!(f, "{}", VbError { number: *number }),
+            Cause::Raised(raised) => write!(f, "error {}", raised.number),
+        }
+    }
 }

@@ -3,6 +3,8 @@ ghost use Rattle.std.specs.Prelude.{◌≡◌};
 
 use crate::cause::Cause;
 use std::alloc::{AllocError, AllocFailed};
+use std::error::Error;
+use std::fmt;
 use vb_heap::HeapStop;
 use vb_syntax::AskStop;
 use vb_value::{AppCall, LimitKind, Memory, VbError, VbFault};
@@ -21,6 +23,20 @@ pub enum Stop {
     /// Memory ran out. No meaning ends so.
     Memory,
 }
+
+impl fmt::Display for Stop {
+    fn fmt<W: fmt::Write>(&self, f: &mut fmt::Formatter<W>) -> fmt::Result {
+        match self {
+            Stop::Error(cause, _) => write!(f, "{cause}"),
+            Stop::Page => write!(f, "the page stops"),
+            Stop::Limit(kind, _) => write!(f, "limit {kind:?}"),
+            Stop::Wants(_) => write!(f, "a reply of the Application object is wanted"),
+            Stop::Memory => write!(f, "{}", Memory),
+        }
+    }
+}
+
+impl Error for Stop {}
 
 impl From<Memory> for Stop {
     ghost use Rattle.vb_meaning.specs.declared.stop.Stop.TheVariants.{Memory as OutOfMemory};

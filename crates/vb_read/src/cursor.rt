@@ -7,6 +7,8 @@ ghost use Rattle.vb_read.specs.ReadExpressions.{goes_on_path, sees_leaf};
 ghost use Rattle.vb_value.specs.Outcome.{Runs};
 ghost use Rattle.vb_read.specs.Reader.{stopped_at};
 
+use std::error::Error;
+use std::fmt;
 use vb_syntax::Literal;
 use vb_value::{Copied, Keyword, Memory, Op2, Symbol, Text, Token, TokenKind};
 
@@ -18,6 +20,17 @@ pub enum ReadStop {
     /// Memory ran out.
     Memory,
 }
+
+impl fmt::Display for ReadStop {
+    fn fmt<W: fmt::Write>(&self, f: &mut fmt::Formatter<W>) -> fmt::Result {
+        match self {
+            ReadStop::Fault => write!(f, "a word stands where none of its kind may"),
+            ReadStop::Memory => write!(f, "{}", Memory),
+        }
+    }
+}
+
+impl Error for ReadStop {}
 
 impl From<Memory> for ReadStop {
     ghost use Rattle.std.specs.Prelude.{◌≡◌};
