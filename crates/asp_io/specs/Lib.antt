@@ -3,6 +3,8 @@ pub mod Folder
 pub mod Source
 pub mod Sink
 pub mod Wire
+pub mod Clock
 pub mod Copying
 pub mod FaultPlan
 pub mod MemSink
+pub mod MemWire

@@ -15,6 +15,20 @@ use vb_value::Memory;
 #[error("the stream or the connection failed")]
 pub struct Failed;
 
+/// An error of std is a fault.
+impl From<io::Error> for Failed {
+    fn from(_: io::Error) -> Failed {
+        Failed
+    }
+}
+
+/// Memory that ran out for a connection is a fault of its wire.
+impl From<AllocError> for Failed {
+    fn from(_: AllocError) -> Failed {
+        Failed
+    }
+}
+
 /// Why a call to the outside that also takes memory gave nothing.
 #[derive(Clone, Copy, Debug, PartialEq, Eq, Error)]
 pub enum IoStop {

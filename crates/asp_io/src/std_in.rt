@@ -41,7 +41,7 @@ fn read_chunk<S: Read>(from: &mut S, chunk: &mut [u8]) -> Result<usize, Failed>
 }
 
 /// Puts the next bytes of a reader at the front of `into`, and says how many.
-fn read_some<S: Read>(from: &mut S, into: &mut [u8]) -> Result<u32, Failed>
+pub(crate) fn read_some<S: Read>(from: &mut S, into: &mut [u8]) -> Result<u32, Failed>
     ensures within { IfOk result (λ count. count ≤ length into.old) }
     ensures kept { IfOk result (λ count. into.new ≡ take count into.new ++ drop count into.old) }
 {

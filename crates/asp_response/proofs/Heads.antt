@@ -8,7 +8,7 @@ use Rattle.std.proofs.lemmas.List.Elements.{All-nil, All-cons, All-append, All-m
 use Rattle.asp_job.specs.declared.answer.Answer.{Answer}
 use Rattle.asp_job.specs.declared.request.Header.{Header}
 use Rattle.asp_response.specs.AnswerText.{IsAnswerText, answer_text, close_lines, content, field, field_of}
-use Rattle.asp_response.specs.AnswerText.{head_lines, line, status_line}
+use Rattle.asp_response.specs.AnswerText.{head_lines, length_lines, line, may_have_content, status_line}
 use Rattle.asp_response.specs.Sound.{HasWholeLines, IsHeadLine, IsPrintable, IsSound, IsSoundHeader}
 use Rattle.asp_response.proofs.Dates.{date_printable}
 use Rattle.asp_response.proofs.Printable.{both_printable, decimal_printable, printable_of, utf8_printable}
@@ -37,24 +37,30 @@ close_whole true answer is = rw is (All-cons IsHeadLine (field (codes "Connectio
     (All-nil IsHeadLine))
 close_whole false answer is = rw is (All-nil IsHeadLine)
 
+length_whole : (may : Bool) (answer : Answer) → may_have_content answer.status ≡ may
+    → All IsHeadLine (length_lines answer)
+length_whole true answer is = rw is (All-cons IsHeadLine
+    (field (codes "Content-Length") (decimal (length answer.body))) []
+    (field_whole (codes "Content-Length") (decimal (length answer.body)) (printable_of (codes "Content-Length") refl)
+    (decimal_printable (length answer.body)))
+    (All-nil IsHeadLine))
+length_whole false answer is = rw is (All-nil IsHeadLine)
+
 lines_whole : (answer : Answer) (date : List ℕ) → IsSound answer → IsPrintable date
     → All IsHeadLine (head_lines answer date)
 lines_whole answer date sound printable =
-    let length_line = field (codes "Content-Length") (decimal (length answer.body)) in
-    let length_whole : IsHeadLine length_line =
-    field_whole (codes "Content-Length") (decimal (length answer.body)) (printable_of (codes "Content-Length") refl)
-    (decimal_printable (length answer.body)) in
     let date_whole : IsHeadLine (field (codes "Date") date) =
     field_whole (codes "Date") date (printable_of (codes "Date") refl) printable in
     let fields : All IsHeadLine (map field_of answer.headers) =
     All-map IsHeadLine field_of answer.headers
     (All-weaker IsSoundHeader (λ header. IsHeadLine (field_of header)) header_whole answer.headers sound.headers) in
-    let ending = length_line ∷ close_lines answer in
+    let ending = length_lines answer ++ close_lines answer in
     let others = map field_of answer.headers ++ ending in
     All-cons IsHeadLine (status_line answer) (field (codes "Date") date ∷ others) (status_whole answer sound)
     (All-cons IsHeadLine (field (codes "Date") date) others date_whole
     (All-append IsHeadLine (map field_of answer.headers) ending fields
-    (All-cons IsHeadLine length_line (close_lines answer) length_whole (close_whole answer.close answer refl))))
+    (All-append IsHeadLine (length_lines answer) (close_lines answer)
+    (length_whole (may_have_content answer.status) answer refl) (close_whole answer.close answer refl))))
 
 pub head_is_whole : (answer : Answer) (moment : ℕ) (bytes : List ℕ)
     → IsSound answer → IsAnswerText answer moment bytes → HasWholeLines bytes

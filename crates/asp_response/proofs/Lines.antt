@@ -4,6 +4,12 @@ use Rattle.std.specs.List.{flat_map}
 use Rattle.std.proofs.lemmas.Grind.{flat_map-append}
 use Rattle.asp_response.specs.AnswerText.{line}
 
+-- what was written, then some lines and then others
+pub both_lines : (written : List ℕ) (first second : List (List ℕ))
+    → (written ++ flat_map line first) ++ flat_map line second ≡ written ++ flat_map line (first ++ second)
+both_lines written first second = append_assoc written (flat_map line first) (flat_map line second)
+    ∙ ap (λ l. written ++ l) (sym (flat_map-append line first second))
+
 -- what was written, then the lines and what follows them
 pub all_lines : (written status date content : List ℕ) (fields ending : List (List ℕ))
     → ((((written ++ line status) ++ line date) ++ flat_map line fields) ++ flat_map line ending) ++ (line [] ++ content)

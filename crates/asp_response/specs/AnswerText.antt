@@ -1,5 +1,6 @@
--- The bytes of an answer (RFC 9112, sections 2.1 and 4 to 6; RFC 9110, sections 6.6.1, 8.6 and 9.3.2).
-use Rattle.std.specs.Prelude.{◌≡◌, ℕ, min, List, [], ◌∷◌, ◌++◌, if◌then◌else◌, length, map, codes}
+-- The bytes of an answer (RFC 9112, sections 2.1 and 4 to 6; RFC 9110, sections 6.6.1, 8.6, 9.3.2, 15.3.5 and 15.4.5).
+use Rattle.std.specs.Prelude.{◌≡◌, ℕ, min, ◌==◌, Bool, not, ◌&&◌, List, [], ◌∷◌, ◌++◌, if◌then◌else◌, length, map}
+use Rattle.std.specs.Prelude.{codes}
 use Rattle.std.specs.Prelude.{encode_utf8_all}
 use Rattle.std.specs.List.{flat_map}
 use Rattle.std.specs.Fmt.{decimal}
@@ -23,23 +24,31 @@ field_of header = field (encode_utf8_all header.name) header.value
 abbrev pub status_line : Answer → List ℕ
 status_line answer = codes "HTTP/1.1 " ++ decimal answer.status ++ codes " " ++ encode_utf8_all answer.reason
 
+-- whether an answer of this status may have content: 204 (No Content) and 304 (Not Modified) have none
+abbrev pub may_have_content : ℕ → Bool
+may_have_content status = not (status == 204) && not (status == 304)
+
+-- the length of the content, whether it is sent or not, where the answer may have content
+abbrev pub length_lines : Answer → List (List ℕ)
+length_lines answer =
+    if may_have_content answer.status then field (codes "Content-Length") (decimal (length answer.body)) ∷ [] else []
+
 -- Connection, where this answer is the last one
 abbrev pub close_lines : Answer → List (List ℕ)
 close_lines answer = if answer.close then field (codes "Connection") (codes "close") ∷ [] else []
 
 -- The lines of the head, given the date: the status, the date, the fields of the answer in their order, the length of the
--- content, whether it is sent or not, and what is said of the connection.
+-- content, and what is said of the connection.
 abbrev pub head_lines : Answer → List ℕ → List (List ℕ)
 head_lines answer date =
     status_line answer
     ∷ field (codes "Date") date
     ∷ (map field_of answer.headers
-    ++ field (codes "Content-Length") (decimal (length answer.body))
-    ∷ close_lines answer)
+    ++ length_lines answer ++ close_lines answer)
 
 -- the content, which the answer to a HEAD has not
 abbrev pub content : Answer → List ℕ
-content answer = if answer.head_only then [] else answer.body
+content answer = if answer.head_only then [] else if may_have_content answer.status then answer.body else []
 
 -- the head, an empty line, and the content
 unfoldable pub answer_text : Answer → List ℕ → List ℕ

@@ -1,5 +1,5 @@
 //! The bytes of an answer.
-ghost use Rattle.std.specs.Prelude.{◌≡◌, ◌∷◌, [], ◌++◌, IfOk, min, length, map, codes, encode_utf8_all};
+ghost use Rattle.std.specs.Prelude.{◌≡◌, [], ◌++◌, IfOk, min, map};
 ghost use Rattle.std.specs.Fmt.{decimal};
 ghost use Rattle.std.specs.List.{flat_map};
 ghost use Rattle.httpdate.specs.Date.{unix_secs};
@@ -68,13 +68,28 @@ fn push_status(bytes: &mut Bytes, answer: &Answer) -> Result<(), Memory>
     bytes.append_slice(b"\r\n")
 }
 
-/// Writes what an answer says of its content and of the connection.
-fn push_ending(bytes: &mut Bytes, answer: &Answer) -> Result<(), Memory>
-    ensures { Adds result bytes.old bytes.new (flat_map spec.line
-        (spec.field (codes "Content-Length") (decimal (length answer.now.body)) ∷ spec.close_lines answer.now)) }
+/// Whether an answer of this status may have content.
+fn may_have_content(status: u16) -> bool
+    ensures { result ≡ spec.may_have_content status }
 {
-    let length = decimal(*bytes.allocator(), answer.body.len() as u64)?;
-    push_field(bytes, b"Content-Length", length.as_slice())?;
+    status != 204 && status != 304
+}
+
+/// Writes the length of the content, where there may be one.
+fn push_length(bytes: &mut Bytes, answer: &Answer) -> Result<(), Memory>
+    ensures { Adds result bytes.old bytes.new (flat_map spec.line (spec.length_lines answer.now)) }
+{
+    if may_have_content(answer.status) {
+        let length = decimal(*bytes.allocator(), answer.body.len() as u64)?;
+        push_field(bytes, b"Content-Length", length.as_slice())?;
+    }
+    Ok(())
+}
+
+/// Writes what an answer says of the connection.
+fn push_close(bytes: &mut Bytes, answer: &Answer) -> Result<(), Memory>
+    ensures { Adds result bytes.old bytes.new (flat_map spec.line (spec.close_lines answer.now)) }
+{
     if answer.close {
         push_field(bytes, b"Connection", b"close")?;
     }
@@ -85,10 +100,20 @@ fn push_content(bytes: &mut Bytes, answer: &Answer) -> Result<(), Memory>
     ensures { Adds result bytes.old bytes.new (spec.line [] ++ spec.content answer.now) }
 {
     bytes.append_slice(b"\r\n")?;
-    if !answer.head_only {
+    if !answer.head_only && may_have_content(answer.status) {
         bytes.append_slice(answer.body.as_slice())?;
     }
     Ok(())
+}
+
+/// Writes what an answer says of its content and of the connection.
+#[tactic(auto, using(crate::proofs::Lines::both_lines))]
+fn push_ending(bytes: &mut Bytes, answer: &Answer) -> Result<(), Memory>
+    ensures { Adds result bytes.old bytes.new
+        (flat_map spec.line (spec.length_lines answer.now ++ spec.close_lines answer.now)) }
+{
+    push_length(bytes, answer)?;
+    push_close(bytes, answer)
 }
 
 #[tactic(auto, using(crate::proofs::Lines::all_lines), unfolding(crate::specs::AnswerText::answer_text))]

@@ -52,7 +52,7 @@ fn host<R: Runtime + AllocGlobal + Threads + Wait + Sync>(
         &mut source,
         &mut sink,
         wire,
-        &MemClock,
+        &MemClock::new(List::new(alloc)),
         [0; 32],
     ))
 }

@@ -1,5 +1,5 @@
 //! Tests of what no line of a file of cases can say, over public items alone: containers, the longest values, streams and
-//! folders that fail in the middle, and the real ones.
+//! folders that fail in the middle, the real ones, and connections.
 #![tactic(auto)]
 
 #[cfg(test)]
@@ -10,6 +10,8 @@ mod folders;
 mod longest;
 #[cfg(test)]
 mod memory;
+#[cfg(test)]
+mod sockets;
 #[cfg(test)]
 mod streams;
 #[cfg(test)]

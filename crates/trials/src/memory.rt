@@ -1,7 +1,7 @@
 //! The forms in memory.
 
 use asp_io::{
-    Clock, Failed, Folder, Link, MemClock, MemFolder, MemLink, MemSink, MemSource, Source,
+    Clock, Failed, Folder, Link, MemClock, MemFolder, MemLink, MemSink, MemSource, MemWire, Source,
     SureFolder, SureLink, SureSink, SureSource, SureWire, Wire, write_all,
 };
 use std::alloc::Global;
@@ -141,6 +141,32 @@ fn streams_that_never_fail(rt: HostRuntime) -> Result<(), Fail> {
     let mut source = SureSource::new(Bytes::from_slice(rt.alloc(), b"x")?);
     assert!(rt; source.read(&mut [0u8; 2]) == Ok(1));
     assert!(rt; write_all(&mut SureSink, b"abc") == Ok(()));
-    assert!(rt; MemClock.seconds() == 0);
+    Ok(())
+}
+
+#[test]
+fn a_wire_with_calls_that_fail(rt: HostRuntime) -> Result<(), Fail> {
+    let mut links = List::new(rt.alloc());
+    let bytes = Bytes::new(rt.alloc());
+    links.push(MemLink::new(rt.alloc(), bytes, 0, List::new(rt.alloc()))?)?;
+    let mut fails = List::new(rt.alloc());
+    fails.push(1)?;
+    let mut wire = MemWire::new(links, fails);
+    assert!(rt; matches!(wire.accept(), Err(Failed)));
+    assert!(rt; matches!(wire.accept(), Ok(Some(_))));
+    assert!(rt; matches!(wire.accept(), Ok(None)));
+    Ok(())
+}
+
+#[test]
+fn a_clock_in_memory(rt: HostRuntime) -> Result<(), Fail> {
+    let mut seconds = List::new(rt.alloc());
+    seconds.push(7)?;
+    seconds.push(5)?;
+    let clock = MemClock::new(seconds);
+    for want in [7, 5, 5] {
+        assert!(rt; clock.seconds() == want);
+    }
+    assert!(rt; MemClock::new(List::new(rt.alloc())).seconds() == 0);
     Ok(())
 }
