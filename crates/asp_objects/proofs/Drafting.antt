@@ -11,6 +11,7 @@ use Rattle.asp_response.specs.declared.cookie.CookiePart.{CookiePart}
 use Rattle.asp_response.specs.declared.cookie.CookiePart.TheVariants as cookie
 use Rattle.asp_response.specs.declared.draft.Draft.{Draft}
 use Rattle.asp_response.specs.Calls.{Buffer, Cache, Charset, Clear, ContentType, Cookie, DraftCall, Field, Flush, Part}
+use Rattle.asp_response.specs.Calls.{Secure}
 use Rattle.asp_response.specs.Calls.{Redirect, Status, Write, after, answer_to, made_by, said_by, where_done}
 use Rattle.asp_response.specs.Draft.{Done}
 use Rattle.asp_objects.specs.declared.head.HeadPart.{HeadPart}
@@ -142,6 +143,16 @@ part_said of [] objects said = said
 part_said of (name ∷ []) objects said = said
 part_said of (name ∷ text ∷ more ∷ others) objects said = said
 
+secure_said : (arguments : List Value) (objects : PageObjects) → IsSaid objects
+    → LeavesSaid (response.secure_asked arguments objects)
+secure_said (name ∷ on ∷ []) objects said = using_said (answers.text_in name)
+    (λ named. using_it (answers.truth_in on) (response.with_secure named)) objects said (λ named.
+    using_said (answers.truth_in on) (response.with_secure named) objects said
+    (λ truth. drafted_said (Secure named truth) _ objects refl said))
+secure_said [] objects said = said
+secure_said (name ∷ []) objects said = said
+secure_said (name ∷ on ∷ more ∷ others) objects said = said
+
 -- ---- Server and Session
 
 server_said : (what : ServerText) (arguments : List Value) (objects : PageObjects) → IsSaid objects
@@ -201,7 +212,7 @@ member_said member.ResponseCookies arguments objects said = cookie_said argument
 member_said member.ResponseCookiePair arguments objects said = pair_said arguments objects said
 member_said member.ResponseCookiePath arguments objects said = part_said cookie.Path arguments objects said
 member_said member.ResponseCookieDomain arguments objects said = part_said cookie.Domain arguments objects said
-member_said member.ResponseCookieSecure arguments objects said = part_said cookie.Secure arguments objects said
+member_said member.ResponseCookieSecure arguments objects said = secure_said arguments objects said
 member_said member.ServerHtmlEncode arguments objects said = server_said server.Html arguments objects said
 member_said member.ServerUrlEncode arguments objects said = server_said server.Url arguments objects said
 member_said member.ServerMapPath arguments objects said = server_said server.Path arguments objects said

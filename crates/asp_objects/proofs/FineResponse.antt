@@ -107,7 +107,11 @@ cookie_text_fine name key text objects = drafted_fine _ _ objects (head_done tru
 pub cookie_part_fine : (of : CookiePart) (name text : List ℕ) (objects : PageObjects)
     → FineSaid (response.with_part of name text objects)
 cookie_part_fine of name text objects =
-    drafted_fine _ _ objects (head_done (draft.fits_part of text) objects.draft.sent)
+    drafted_fine _ _ objects (head_done (is_value text) objects.draft.sent)
+
+pub cookie_secure_fine : (name : List ℕ) (on : Bool) (objects : PageObjects)
+    → FineSaid (response.with_secure name on objects)
+cookie_secure_fine name on objects = drafted_fine _ _ objects (head_done true objects.draft.sent)
 
 pub cookie_fine : (arguments : List Value) (objects : PageObjects) → FineSaid (response.cookie_asked arguments objects)
 cookie_fine (name ∷ text ∷ []) objects = using_fine (answers.text_in name) _ objects (text_fine name) (λ named.
@@ -133,3 +137,10 @@ part_fine of (name ∷ text ∷ []) objects = using_fine (answers.text_in name) 
 part_fine of [] objects = tt
 part_fine of (name ∷ []) objects = tt
 part_fine of (name ∷ text ∷ more ∷ others) objects = tt
+
+pub secure_fine : (arguments : List Value) (objects : PageObjects) → FineSaid (response.secure_asked arguments objects)
+secure_fine (name ∷ on ∷ []) objects = using_fine (answers.text_in name) _ objects (text_fine name) (λ named.
+    using_fine (answers.truth_in on) _ objects (truth_fine on) (λ truth. cookie_secure_fine named truth objects))
+secure_fine [] objects = tt
+secure_fine (name ∷ []) objects = tt
+secure_fine (name ∷ on ∷ more ∷ others) objects = tt

@@ -17,6 +17,7 @@ use Rattle.asp_objects.specs.Said.{told}
 use Rattle.asp_objects.proofs.Fine.{FineSaid, count_fine, told_fine}
 use Rattle.asp_objects.proofs.FineRequest.{request_fine, server_fine, timeout_fine}
 use Rattle.asp_objects.proofs.FineResponse.{buffer_fine, cookie_fine, head_fine, header_fine, pair_fine, part_fine}
+use Rattle.asp_objects.proofs.FineResponse.{secure_fine}
 use Rattle.asp_objects.proofs.FineResponse.{redirect_fine, write_fine}
 use Rattle.asp_objects.proofs.FineState.{abandoned_fine, contents_fine, reply_fine, session_fine}
 use Rattle.asp_objects.proofs.FineState.{session_timeout_fine, wanted_fine}
@@ -51,7 +52,7 @@ said_fine member.ResponseCookies arguments objects = cookie_fine arguments objec
 said_fine member.ResponseCookiePair arguments objects = pair_fine arguments objects
 said_fine member.ResponseCookiePath arguments objects = part_fine cookie.Path arguments objects
 said_fine member.ResponseCookieDomain arguments objects = part_fine cookie.Domain arguments objects
-said_fine member.ResponseCookieSecure arguments objects = part_fine cookie.Secure arguments objects
+said_fine member.ResponseCookieSecure arguments objects = secure_fine arguments objects
 said_fine member.ServerHtmlEncode arguments objects = server_fine server.Html arguments objects
 said_fine member.ServerUrlEncode arguments objects = server_fine server.Url arguments objects
 said_fine member.ServerMapPath arguments objects = server_fine server.Path arguments objects

@@ -123,8 +123,13 @@ with_cookie name key text objects = drafted (draft.head_answer true objects.draf
 
 -- a part of a cookie
 abbrev pub with_part : CookiePart → List ℕ → List ℕ → PageObjects → Said
-with_part of name text objects = drafted (draft.head_answer (draft.fits_part of text) objects.draft.sent)
+with_part of name text objects = drafted (draft.head_answer (is_value text) objects.draft.sent)
     (with_draft (draft.with_cookie_part name of text objects.draft) objects) objects
+
+-- whether a cookie is sent over secure connections alone
+abbrev pub with_secure : List ℕ → Bool → PageObjects → Said
+with_secure name on objects = drafted (draft.head_answer true objects.draft.sent)
+    (with_draft (draft.with_cookie_secure name on objects.draft) objects) objects
 
 -- What is asked of a cookie: its text, the text beside a key, or a part is set. Reading one is not supported.
 abbrev pub cookie_asked : List Value → PageObjects → Said
@@ -142,3 +147,8 @@ abbrev pub part_asked : CookiePart → List Value → PageObjects → Said
 part_asked of (name ∷ text ∷ []) objects =
     using_it (text_in name) (λ named. using_it (text_in text) (with_part of named)) objects
 part_asked of _ objects = told (failed unsupported) objects
+
+abbrev pub secure_asked : List Value → PageObjects → Said
+secure_asked (name ∷ on ∷ []) objects =
+    using_it (text_in name) (λ named. using_it (truth_in on) (with_secure named)) objects
+secure_asked _ objects = told (failed unsupported) objects

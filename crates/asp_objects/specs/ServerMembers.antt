@@ -1,5 +1,5 @@
 -- The members of Server (ASP 3.0, "Server Object"). CreateObject is the language's, and asks no object of the page.
-use Rattle.std.specs.Prelude.{ℕ, ℤ, List, [], ◌∷◌, Result, Ok, Err}
+use Rattle.std.specs.Prelude.{ℕ, ℤ, if◌then◌else◌, List, [], ◌∷◌, Result, Ok, Err, codes}
 use Rattle.vb_value.specs.declared.fault.VbError.{VbError}
 use Rattle.vb_value.specs.declared.value.Value.{Value, Long}
 use Rattle.vb_value.specs.Errors.{object_required, invalid_call}
@@ -23,6 +23,10 @@ abbrev pub found : Result (List ℕ) PathStop → Answer
 found (Ok path) = limited_text path
 found (Err stop) = failed invalid_call
 
+-- the file in whose folder a path begins: the page's, and that of the events where no page stands
+abbrev pub file_of : PageObjects → List ℕ
+file_of objects = if objects.is_page then objects.page else codes "/global.asa"
+
 -- what HTMLEncode, URLEncode and MapPath give of a text, on the page in the file at this path
 abbrev pub made : ServerText → List ℕ → List ℕ → Answer
 made server.Html page text = limited_text (html_encoded text)
@@ -30,7 +34,7 @@ made server.Url page text = limited_text (url_encoded text)
 made server.Path page text = found (mapped page text)
 
 abbrev pub text_asked : ServerText → List Value → PageObjects → Said
-text_asked which (text ∷ []) objects = told (and_then (text_in text) (made which objects.page)) objects
+text_asked which (text ∷ []) objects = told (and_then (text_in text) (made which (file_of objects))) objects
 text_asked which _ objects = told (failed object_required) objects
 
 -- ScriptTimeout: it is kept, and has no effect

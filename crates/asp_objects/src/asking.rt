@@ -124,7 +124,7 @@ impl PageObjects {
             Member::ResponseCookiePair => self.ask_pair(arguments),
             Member::ResponseCookiePath => self.ask_part(CookiePart::Path, arguments),
             Member::ResponseCookieDomain => self.ask_part(CookiePart::Domain, arguments),
-            Member::ResponseCookieSecure => self.ask_part(CookiePart::Secure, arguments),
+            Member::ResponseCookieSecure => self.ask_secure(arguments),
             Member::ServerHtmlEncode => self.ask_text(ServerText::Html, arguments),
             Member::ServerUrlEncode => self.ask_text(ServerText::Url, arguments),
             Member::ServerMapPath => self.ask_text(ServerText::Path, arguments),

@@ -1,5 +1,5 @@
 //! The request that a page answers, with its collections.
-ghost use Rattle.std.specs.Prelude.{◌≡◌, length};
+ghost use Rattle.std.specs.Prelude.{◌≡◌, IfOk, length};
 ghost use Rattle.std.specs.Option.{option_copied};
 ghost use Rattle.vb_value.specs.Outcome.{Gives};
 ghost use Rattle.asp_request.specs.Inputs as inputs_spec;
@@ -40,10 +40,10 @@ impl Collections {
     }
 
     /// The values of a name.
-    pub(crate) fn values(&self, set: InSet, name: &Text) -> &[Text]
-        ensures { result.now ≡ inputs_spec.values_of self.now set name.now }
+    pub(crate) fn values(&self, alloc: Global, set: InSet, name: &Text) -> Result<&[Text], Memory>
+        ensures { IfOk result (λ values. values.now ≡ inputs_spec.values_of self.now set name.now) }
     {
-        self.inputs.values(set, name)
+        self.inputs.values(alloc, set, name)
     }
 
     /// The names of a collection.
@@ -68,10 +68,10 @@ impl Collections {
     }
 
     /// A cookie as it is written.
-    pub(crate) fn raw_cookie(&self, name: &Text) -> Option<&Bytes>
-        ensures { option_copied result ≡ inputs_spec.raw_cookie_of self.now name.now }
+    pub(crate) fn raw_cookie(&self, alloc: Global, name: &Text) -> Result<Option<&Bytes>, Memory>
+        ensures { IfOk result (λ raw. option_copied raw ≡ inputs_spec.raw_cookie_of self.now name.now) }
     {
-        self.inputs.raw_cookie(name)
+        self.inputs.raw_cookie(alloc, name)
     }
 
     /// What stands beside a key in a cookie as it is written.

@@ -10,7 +10,7 @@ use crate::given::failed;
 use crate::objects::PageObjects;
 use asp_response::{CookiePart, DraftStop};
 use vb_syntax::{AskStop, Given};
-use vb_value::{Text, Value, VbError, VbFault, to_str};
+use vb_value::{Text, Value, VbError, VbFault, to_bool, to_str};
 
 impl PageObjects {
     fn set_cookie(&mut self, name: &Text, key: &Text, text: &Text) -> Result<Given, AskStop>
@@ -35,6 +35,17 @@ impl PageObjects {
         ensures { Runs result stops self.new (spec.with_part part name.now text.now self.old) }
     {
         match self.draft.cookie_part(name, part, text) {
+            Ok(()) => Ok(Given::Value(Value::Empty)),
+            Err(DraftStop::Error(number)) => Err(AskStop::Error(number)),
+            Err(DraftStop::Limit(kind)) => Err(AskStop::Limit(kind)),
+            Err(DraftStop::Memory) => Err(AskStop::Memory),
+        }
+    }
+
+    fn set_secure(&mut self, name: &Text, on: bool) -> Result<Given, AskStop>
+        ensures { Runs result stops self.new (spec.with_secure name.now on self.old) }
+    {
+        match self.draft.cookie_secure(name, on) {
             Ok(()) => Ok(Given::Value(Value::Empty)),
             Err(DraftStop::Error(number)) => Err(AskStop::Error(number)),
             Err(DraftStop::Limit(kind)) => Err(AskStop::Limit(kind)),
@@ -91,6 +102,27 @@ impl PageObjects {
     {
         match to_str(self.alloc(), name) {
             Ok(name) => self.write_part_of(&name, part, value),
+            Err(VbFault::Error(number)) => Err(AskStop::Error(number)),
+            Err(VbFault::Memory) => Err(AskStop::Memory),
+        }
+    }
+
+    fn write_secure_of(&mut self, name: &Text, value: &Value) -> Result<Given, AskStop>
+        ensures { Runs result stops self.new
+            (using_it (given.truth_in value.now) (spec.with_secure name.now) self.old) }
+    {
+        match to_bool(value) {
+            Ok(on) => self.set_secure(name, on),
+            Err(error) => Err(failed(error)),
+        }
+    }
+
+    fn write_secure(&mut self, name: &Value, value: &Value) -> Result<Given, AskStop>
+        ensures { Runs result stops self.new (using_it (given.text_in name.now)
+            (λ named. using_it (given.truth_in value.now) (spec.with_secure named)) self.old) }
+    {
+        match to_str(self.alloc(), name) {
+            Ok(name) => self.write_secure_of(&name, value),
             Err(VbFault::Error(number)) => Err(AskStop::Error(number)),
             Err(VbFault::Memory) => Err(AskStop::Memory),
         }
@@ -160,6 +192,15 @@ impl PageObjects {
     {
         match arguments {
             [name, value] => self.write_part(name, part, value),
+            _ => Err(failed(VbError::UNSUPPORTED)),
+        }
+    }
+    /// Whether a cookie is sent over secure connections alone is set.
+    pub(crate) fn ask_secure(&mut self, arguments: &[Value]) -> Result<Given, AskStop>
+        ensures { Runs result stops self.new (spec.secure_asked arguments.now self.old) }
+    {
+        match arguments {
+            [name, on] => self.write_secure(name, on),
             _ => Err(failed(VbError::UNSUPPORTED)),
         }
     }

@@ -53,7 +53,7 @@ impl Collections {
             (λ named. given.count (length (inputs_spec.values_of self.now set named)))) }
     {
         let name = text_in(alloc, name)?;
-        count(self.values(set, &name).len())
+        count(self.values(alloc, set, &name)?.len())
     }
 
     fn cookie_pair(&self, alloc: Global, name: &Value, key: &Text) -> Result<Given, AskStop>
@@ -61,7 +61,7 @@ impl Collections {
             (λ named. given.value (spec.keyed key.now (inputs_spec.raw_cookie_of self.now named)))) }
     {
         let name = text_in(alloc, name)?;
-        Ok(Given::Value(keyed(alloc, key, self.raw_cookie(&name))?))
+        Ok(Given::Value(keyed(alloc, key, self.raw_cookie(alloc, &name)?)?))
     }
 
     fn nth_value(
@@ -77,7 +77,7 @@ impl Collections {
     {
         let name = text_in(alloc, name)?;
         let place = long_in(index)?;
-        item_at(self.values(set, &name), place)
+        item_at(self.values(alloc, set, &name)?, place)
     }
 
     fn value_at(
@@ -100,7 +100,7 @@ impl Collections {
             (λ named. given.value (Value.Bool (spec.has_keys (inputs_spec.raw_cookie_of self.now named))))) }
     {
         let name = text_in(alloc, name)?;
-        Ok(Given::Value(Value::Bool(has_keys(self.raw_cookie(&name)))))
+        Ok(Given::Value(Value::Bool(has_keys(self.raw_cookie(alloc, &name)?))))
     }
 
     fn key(&self, set: InSet, index: &Value) -> Result<Given, AskStop>

@@ -36,10 +36,20 @@ pub enum ServerText {
 }
 
 impl PageObjects {
-    fn map_path(&self, text: &Text) -> Result<Given, AskStop>
-        ensures { Answers result AskStop.Memory (spec.found (mapped_path self.now.page text.now)) }
+    /// The file in whose folder a path begins.
+    fn file(&self) -> &[char]
+        ensures { result.now ≡ spec.file_of self.now }
     {
-        match mapped(self.alloc(), self.page.as_slice(), text.as_slice()) {
+        if self.is_page {
+            return self.page.as_slice();
+        }
+        &['/', 'g', 'l', 'o', 'b', 'a', 'l', '.', 'a', 's', 'a']
+    }
+
+    fn map_path(&self, text: &Text) -> Result<Given, AskStop>
+        ensures { Answers result AskStop.Memory (spec.found (mapped_path (spec.file_of self.now) text.now)) }
+    {
+        match mapped(self.alloc(), self.file(), text.as_slice()) {
             Ok(path) => limited_text(path),
             Err(PathStop::Memory) => Err(AskStop::Memory),
             Err(PathStop::Escapes | PathStop::BadEscape) => Err(failed(VbError::INVALID_CALL)),
@@ -47,7 +57,7 @@ impl PageObjects {
     }
 
     fn made(&self, which: ServerText, text: &Text) -> Result<Given, AskStop>
-        ensures { Answers result AskStop.Memory (spec.made which self.now.page text.now) }
+        ensures { Answers result AskStop.Memory (spec.made which (spec.file_of self.now) text.now) }
     {
         match which {
             ServerText::Html => limited_text(html_encode(self.alloc(), text)?),
@@ -58,7 +68,7 @@ impl PageObjects {
 
     fn make(&self, which: ServerText, value: &Value) -> Result<Given, AskStop>
         ensures { Answers result AskStop.Memory
-            (given.and_then (given.text_in value.now) (spec.made which self.now.page)) }
+            (given.and_then (given.text_in value.now) (spec.made which (spec.file_of self.now))) }
     {
         let text = text_in(self.alloc(), value)?;
         self.made(which, &text)

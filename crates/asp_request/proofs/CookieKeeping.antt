@@ -1,7 +1,7 @@
 -- The cookies that are kept, when one more cookie comes.
 use Rattle.std.proofs.Common.{◌≡◌, ℕ, Bool, true, false, cond, List, [], ◌∷◌, ◌++◌, map, refl, sym, ap, subst, ◌∙◌}
 use Rattle.std.proofs.Common.{Some, is_some, nat_cmp}
-use Rattle.std.specs.Prelude.{bytes_eq}
+use Rattle.vb_value.specs.Folding.{folded, same_name}
 use Rattle.std.specs.BTreeMap.{BTreeMap, get, is_at}
 use Rattle.std.specs.Cmp.Lexicographic.{slice_cmp}
 use Rattle.std.proofs.lemmas.Bool.{false≢true}
@@ -13,7 +13,7 @@ use Rattle.asp_request.specs.Pairs.{Pair, values_in, firsts, first_of}
 use Rattle.asp_request.specs.Request.{decoded, with_decoded}
 use Rattle.asp_request.specs.declared.collection.Collection.{Collection}
 use Rattle.asp_request.specs.declared.cookies.Cookies.{Cookies}
-use Rattle.asp_request.proofs.Pairing.{new_pair, firsts_more, values_more, same_from}
+use Rattle.asp_request.proofs.Pairing.{new_pair, firsts_more, values_alike, values_more, same_from}
 
 first_kept : (values more : List (List ℕ)) → is_some (first_of values) ≡ true → first_of (values ++ more) ≡ first_of values
 first_kept [] more there = absurd (false≢true there)
@@ -28,7 +28,7 @@ no_values [] none = refl
 no_values (value ∷ values) none = absurd (false≢true (sym none))
 
 pub cookies_there : (kept : Cookies) (pairs : List Pair) (name value : List ℕ) → CollectsCookies kept pairs
-    → is_some (get (slice_cmp nat_cmp) kept.raw name) ≡ true → CollectsCookies kept (pairs ++ (name, value) ∷ [])
+    → is_some (get (slice_cmp nat_cmp) kept.raw (folded name)) ≡ true → CollectsCookies kept (pairs ++ (name, value) ∷ [])
 cookies_there kept pairs name value is there =
     let pair : Pair = (name, value) in
     let some : is_some (first_of (values_in pairs name)) ≡ true = ap is_some (sym (is.raw name)) ∙ there in
@@ -37,29 +37,29 @@ cookies_there kept pairs name value is there =
     ∙ append-nil (firsts pairs)) in
     let Kept : List Pair → Type 0 = λ l. Collects kept.kept (map with_decoded l) in record {
       first = subst Kept same is.first;
-      raw = λ other. is.raw other ∙ stays pairs name value other some (bytes_eq name other) refl
+      raw = λ other. is.raw other ∙ stays pairs name value other some (same_name name other) refl
           ∙ sym (ap first_of (values_more pairs pair other));
     }
   where
     stays : (pairs : List Pair) (name value other : List ℕ) → is_some (first_of (values_in pairs name)) ≡ true
-        → (same : Bool) → bytes_eq name other ≡ same
+        → (same : Bool) → same_name name other ≡ same
         → first_of (values_in pairs other) ≡ first_of (values_in pairs other ++ cond same (value ∷ []) [])
     stays pairs name value other some true e = sym (first_kept (values_in pairs other) (value ∷ [])
-        (ap (λ n. is_some (first_of (values_in pairs n))) (sym (same_from name other e)) ∙ some))
+        (ap (λ v. is_some (first_of v)) (values_alike pairs other name (sym (same_from name other e))) ∙ some))
     stays pairs name value other some false e = ap first_of (sym (append-nil (values_in pairs other)))
 
 comes : (pairs : List Pair) (name value bytes other : List ℕ) → values_in pairs name ≡ [] → bytes ≡ value
-    → (same : Bool) → bytes_eq name other ≡ same
+    → (same : Bool) → same_name name other ≡ same
     → cond same (Some bytes) (first_of (values_in pairs other))
     ≡ first_of (values_in pairs other ++ cond same (value ∷ []) [])
 comes pairs name value bytes other none written true e =
     ap Some written ∙ sym (ap (λ l. first_of (l ++ value ∷ []))
-    (ap (values_in pairs) (sym (same_from name other e)) ∙ none))
+    (values_alike pairs other name (sym (same_from name other e)) ∙ none))
 comes pairs name value bytes other none written false e = ap first_of (sym (append-nil (values_in pairs other)))
 
 pub cookies_new : (old : Cookies) (kept : Collection) (raw : BTreeMap (List ℕ) (List ℕ)) (pairs : List Pair)
     (name value copied text bytes key : List ℕ) → CollectsCookies old pairs
-    → is_some (get (slice_cmp nat_cmp) old.raw name) ≡ false → key ≡ name → copied ≡ name → text ≡ decoded value → bytes ≡ value
+    → is_some (get (slice_cmp nat_cmp) old.raw key) ≡ false → key ≡ folded name → copied ≡ name → text ≡ decoded value → bytes ≡ value
     → ((more : List Pair) → Collects old.kept more → Collects kept (more ++ (copied, text) ∷ []))
     → ((other : List ℕ) → get (slice_cmp nat_cmp) raw other
     ≡ cond (is_at (slice_cmp nat_cmp key) other) (Some bytes) (get (slice_cmp nat_cmp) old.raw other))
@@ -67,7 +67,8 @@ pub cookies_new : (old : Cookies) (kept : Collection) (raw : BTreeMap (List ℕ)
 cookies_new old kept raw pairs name value copied text bytes key is absent keyed named shown written adds puts =
     let pair : Pair = (name, value) in
     let none : values_in pairs name ≡ [] =
-    no_values (values_in pairs name) (ap is_some (sym (is.raw name)) ∙ absent) in
+    no_values (values_in pairs name)
+    (ap is_some (sym (is.raw name) ∙ ap (get (slice_cmp nat_cmp) old.raw) (sym keyed)) ∙ absent) in
     let fresh : new_pair (values_in pairs name) pair ≡ pair ∷ [] = ap (λ v. new_pair v pair) none in
     let before = map with_decoded (firsts pairs) in
     let last : ◌≡◌ {A = Pair} (copied, text) (name, decoded value) = λ i. (named i, shown i) in
@@ -78,10 +79,11 @@ cookies_new old kept raw pairs name value copied text bytes key is absent keyed 
     let Kept : List Pair → Type 0 = λ l. Collects kept l in record {
       first = subst Kept all (adds before is.first);
       raw = λ other.
-          puts other
-          ∙ ap (λ k. cond (is_at (slice_cmp nat_cmp k) other) (Some bytes) (get (slice_cmp nat_cmp) old.raw other)) keyed
-          ∙ ap (λ t. cond t (Some bytes) (get (slice_cmp nat_cmp) old.raw other)) (is_eq-slice_cmp name other)
-          ∙ ap (cond (bytes_eq name other) (Some bytes)) (is.raw other)
-          ∙ comes pairs name value bytes other none written (bytes_eq name other) refl
+          let there = get (slice_cmp nat_cmp) old.raw (folded other) in
+          puts (folded other)
+          ∙ ap (λ k. cond (is_at (slice_cmp nat_cmp k) (folded other)) (Some bytes) there) keyed
+          ∙ ap (λ t. cond t (Some bytes) there) (is_eq-slice_cmp (folded name) (folded other))
+          ∙ ap (cond (same_name name other) (Some bytes)) (is.raw other)
+          ∙ comes pairs name value bytes other none written (same_name name other) refl
           ∙ sym (ap first_of (values_more pairs pair other));
     }

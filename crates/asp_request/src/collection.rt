@@ -8,13 +8,14 @@ ghost use Rattle.asp_request.specs.Pairs.{Pair, names_in, values_in};
 
 use std::alloc::Global;
 use std::collections::BTreeMap;
-use vb_value::{Copied, List, Memory, Text};
+use vb_value::{List, Memory, Text, fold};
 
-/// The values of each name.
+/// The values of each name, which is folded.
 type Groups = BTreeMap<Text, List<Text>>;
 
-/// Names in the order in which they first came, each with its values in the order in which they came. A name is found in
-/// time that grows with the logarithm of their number.
+/// Names in the order in which they first came, each with its values in the order in which they came. They compare without
+/// ASCII case, and each is told as it was first written. A name is found in time that grows with the logarithm of their
+/// number.
 #[derive(Debug, Drop)]
 pub struct Collection {
     names: List<Text>,
@@ -43,11 +44,11 @@ fn put_values(groups: &mut Groups, name: Text, values: List<Text>) -> Result<(),
 }
 
 /// Adds a name at the end of the names, where it has no values yet.
-fn note_name(names: &mut List<Text>, name: &Text, values: &[Text]) -> Result<(), Memory>
-    ensures { OnOk result (names.new ≡ names.old ++ new_name values.now name.now) }
+fn note_name(names: &mut List<Text>, name: Text, values: &[Text]) -> Result<(), Memory>
+    ensures { OnOk result (names.new ≡ names.old ++ new_name values.now name) }
 {
     if values.is_empty() {
-        names.push(name.copy()?)?;
+        names.push(name)?;
     }
     Ok(())
 }
@@ -70,7 +71,7 @@ impl Collection {
         self.names.as_slice()
     }
 
-    /// The values of a name, in their order; none where the name never came.
+    /// The values of a folded name, in their order; none where the name never came.
     pub fn values(&self, name: &Text) -> &[Text]
         ensures { result.now ≡ values_at self.now.groups name.now }
     {
@@ -85,10 +86,12 @@ impl Collection {
         ensures { OnOk result ((pairs : Items Pair) →
             Collects self.old pairs → Collects self.new (pairs ++ (name, value) ∷ [])) }
     {
-        let mut values = take_values(&mut self.groups, &name, *self.names.allocator());
-        note_name(&mut self.names, &name, values.as_slice())?;
+        let alloc = *self.names.allocator();
+        let key = fold(alloc, &name)?;
+        let mut values = take_values(&mut self.groups, &key, alloc);
+        note_name(&mut self.names, name, values.as_slice())?;
         values.push(value)?;
-        put_values(&mut self.groups, name, values)?;
+        put_values(&mut self.groups, key, values)?;
         Ok(())
     }
 }

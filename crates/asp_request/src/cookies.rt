@@ -6,6 +6,7 @@ ghost use Rattle.std.specs.Option.{option_copied};
 ghost use Rattle.std.specs.List.{position_or_len, slice_split};
 ghost use Rattle.std.specs.Cmp.Lexicographic.{slice_cmp};
 ghost use Rattle.std.specs.Ordering.{nat_cmp};
+ghost use Rattle.vb_value.specs.Folding.{folded};
 ghost use Rattle.asp_request.specs.Cookies.{CollectsCookies};
 ghost use Rattle.asp_request.specs.Pairs.{Pair};
 ghost use Rattle.asp_request.specs.Request as spec;
@@ -18,9 +19,9 @@ use asp_job::Header;
 use asp_text::trim_blanks;
 use std::alloc::Global;
 use std::collections::BTreeMap;
-use vb_value::{Bytes, Copied, Memory, Text, is_word};
+use vb_value::{Bytes, Memory, Text, fold, is_word};
 
-/// The values of cookies as they are written.
+/// The values of cookies as they are written, beside their folded names.
 type Raw = BTreeMap<Text, Bytes>;
 
 /// The first cookie of each name.
@@ -75,14 +76,15 @@ impl Cookies {
         }
     }
 
-    /// Adds a cookie whose name none has.
-    fn add_new(&mut self, alloc: Global, name: Text, value: &[u8]) -> Result<(), Memory>
-        requires { is_some (get (slice_cmp nat_cmp) self.old.raw name) ≡ false }
+    /// Adds a cookie whose name none has; `key` is that name, folded.
+    fn add_new(&mut self, alloc: Global, name: Text, key: Text, value: &[u8]) -> Result<(), Memory>
+        requires key { key ≡ folded name }
+        requires absent { is_some (get (slice_cmp nat_cmp) self.old.raw key) ≡ false }
         ensures { OnOk result ((pairs : Items Pair) →
             CollectsCookies self.old pairs → CollectsCookies self.new (pairs ++ (name, value.now) ∷ [])) }
     {
-        self.kept.add(name.copy()?, decoded(alloc, value)?)?;
-        put_raw(&mut self.raw, name, Bytes::from_slice(alloc, value)?)?;
+        self.kept.add(name, decoded(alloc, value)?)?;
+        put_raw(&mut self.raw, key, Bytes::from_slice(alloc, value)?)?;
         Ok(())
     }
 
@@ -91,10 +93,11 @@ impl Cookies {
         ensures { OnOk result ((pairs : Items Pair) →
             CollectsCookies self.old pairs → CollectsCookies self.new (pairs ++ (name, value.now) ∷ [])) }
     {
-        if has(&self.raw, &name) {
+        let key = fold(alloc, &name)?;
+        if has(&self.raw, &key) {
             return Ok(());
         }
-        self.add_new(alloc, name, value)?;
+        self.add_new(alloc, name, key, value)?;
         Ok(())
     }
 
@@ -150,7 +153,7 @@ impl Cookies {
         &self.kept
     }
 
-    /// The value of a name as it is written.
+    /// The value of a folded name as it is written.
     pub fn raw(&self, name: &Text) -> Option<&Bytes>
         ensures { option_copied result ≡ get (slice_cmp nat_cmp) self.now.raw name.now }
     {

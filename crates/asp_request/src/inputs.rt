@@ -1,6 +1,7 @@
 //! What pages see of a request.
-ghost use Rattle.std.specs.Prelude.{◌≡◌, IfOk};
+ghost use Rattle.std.specs.Prelude.{◌≡◌, ℕ, List as Items, IfOk};
 ghost use Rattle.std.specs.Option.{option_copied};
+ghost use Rattle.vb_value.specs.Folding.{folded};
 ghost use Rattle.vb_value.specs.Outcome.{Gives};
 ghost use Rattle.asp_job.specs.declared.request.Request.{Request as Asked};
 ghost use Rattle.asp_request.specs.Inputs as spec;
@@ -15,7 +16,7 @@ use crate::server::collect_server;
 use crate::text::{join, text_of};
 use asp_job::Request;
 use std::alloc::Global;
-use vb_value::{Bytes, Memory, Text, Value};
+use vb_value::{Bytes, Memory, Text, Value, fold};
 
 /// A collection of the Request object, or the object itself.
 #[derive(Clone, Copy, Debug, PartialEq, Eq)]
@@ -61,10 +62,10 @@ impl Inputs {
         })
     }
 
-    /// The values of `name`: those of the first collection that has it.
+    /// The values of a folded name: those of the first collection that has it.
     fn first_values(&self, name: &Text) -> &[Text]
-        ensures { (request : Asked) → IsInputsOf request self.now →
-            result.now ≡ spec.values_of request InSet.All name.now }
+        ensures { (request : Asked) (written : Items ℕ) → IsInputsOf request self.now → name.now ≡ folded written →
+            result.now ≡ spec.values_of request InSet.All written }
     {
         let query = self.query.values(name);
         if !query.is_empty() {
@@ -81,10 +82,10 @@ impl Inputs {
         self.server.values(name)
     }
 
-    /// The values of `name`, in their order; none where the name is absent.
-    pub fn values(&self, set: InSet, name: &Text) -> &[Text]
-        ensures { (request : Asked) → IsInputsOf request self.now →
-            result.now ≡ spec.values_of request set name.now }
+    /// The values of a folded name, in their order; none where the name is absent.
+    fn values_of(&self, set: InSet, name: &Text) -> &[Text]
+        ensures { (request : Asked) (written : Items ℕ) → IsInputsOf request self.now → name.now ≡ folded written →
+            result.now ≡ spec.values_of request set written }
     {
         match set {
             InSet::All => self.first_values(name),
@@ -93,6 +94,14 @@ impl Inputs {
             InSet::Cookies => self.cookies.collection().values(name),
             InSet::Server => self.server.values(name),
         }
+    }
+
+    /// The values of `name`, in any ASCII case, in their order; none where the name is absent.
+    pub fn values(&self, alloc: Global, set: InSet, name: &Text) -> Result<&[Text], Memory>
+        ensures { (request : Asked) → IsInputsOf request self.now →
+            IfOk result (λ values. values.now ≡ spec.values_of request set name.now) }
+    {
+        Ok(self.values_of(set, &fold(alloc, name)?))
     }
 
     /// The names of a collection, in the order in which they first appear; none of the Request object itself.
@@ -126,18 +135,18 @@ impl Inputs {
         ensures { (request : Asked) → IsInputsOf request self.now →
             Gives result (spec.shown (spec.values_of request set name.now)) }
     {
-        let values = self.values(set, name);
+        let values = self.values(alloc, set, name)?;
         if values.is_empty() {
             return Ok(Value::Empty);
         }
         Ok(Value::Str(join(alloc, values)?))
     }
 
-    /// The value of the cookie `name` as it is written.
-    pub fn raw_cookie(&self, name: &Text) -> Option<&Bytes>
+    /// The value of the cookie `name`, in any ASCII case, as it is written.
+    pub fn raw_cookie(&self, alloc: Global, name: &Text) -> Result<Option<&Bytes>, Memory>
         ensures { (request : Asked) → IsInputsOf request self.now →
-            option_copied result ≡ spec.raw_cookie_of request name.now }
+            IfOk result (λ raw. option_copied raw ≡ spec.raw_cookie_of request name.now) }
     {
-        self.cookies.raw(name)
+        Ok(self.cookies.raw(&fold(alloc, name)?))
     }
 }

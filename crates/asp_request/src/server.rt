@@ -1,6 +1,7 @@
 //! ServerVariables.
 ghost use Rattle.std.specs.Prelude.{◌≡◌, ◌+◌, ◌≤◌, ◌++◌, ◌∷◌, [], List as Items, IfOk, OnOk};
 ghost use Rattle.std.specs.Prelude.{codes, decimal, drop, length, map, take};
+ghost use Rattle.vb_value.specs.Folding.{folded};
 ghost use Rattle.vb_value.specs.Outcome.{Gives};
 ghost use Rattle.asp_request.specs.Collection.{Collects, values_at};
 ghost use Rattle.asp_request.specs.Pairs.{Pair, joined};
@@ -12,7 +13,7 @@ use crate::place::place_of;
 use crate::text::{ascii, join, text_of};
 use asp_job::{Header, Request, Verb};
 use std::alloc::Global;
-use vb_value::{Copied, Memory, Text};
+use vb_value::{Copied, Memory, Text, fold};
 
 fn method_text(alloc: Global, verb: Verb) -> Result<Text, Memory>
     ensures { Gives result (spec.method_text verb) }
@@ -200,9 +201,9 @@ fn add_joined(
     name: &Text,
 ) -> Result<(), Memory>
     ensures { OnOk result ((pairs : Items Pair) → Collects kept.old pairs →
-        Collects kept.new (pairs ++ (name.now, joined (values_at from.now.groups name.now)) ∷ [])) }
+        Collects kept.new (pairs ++ (name.now, joined (values_at from.now.groups (folded name.now))) ∷ [])) }
 {
-    let value = join(alloc, from.values(name))?;
+    let value = join(alloc, from.values(&fold(alloc, name)?))?;
     kept.add(name.copy()?, value)?;
     Ok(())
 }
@@ -215,7 +216,7 @@ fn add_all(
     names: &[Text],
 ) -> Result<(), Memory>
     ensures { OnOk result ((pairs : Items Pair) → Collects kept.old pairs → Collects kept.new
-        (pairs ++ map (λ name. (name, joined (values_at from.now.groups name))) names.now)) }
+        (pairs ++ map (λ name. (name, joined (values_at from.now.groups (folded name)))) names.now)) }
 {
     for name in names {
         add_joined(kept, alloc, from, name)?;

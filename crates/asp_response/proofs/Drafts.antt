@@ -17,10 +17,10 @@ use Rattle.asp_response.specs.declared.draft.Draft.{Draft}
 use Rattle.asp_response.specs.declared.status.Status.{Status}
 use Rattle.asp_response.specs.Calls.{DraftCall, Write, Clear, Flush, Buffer, Status as SetStatus, ContentType}
 use Rattle.asp_response.specs.Calls.{Charset, Cache}
-use Rattle.asp_response.specs.Calls.{Field, Cookie as SetCookie, Part, Redirect, after, said_by, where_done}
-use Rattle.asp_response.specs.Cookies.{new_cookie, place_of, put_at, with_cookie, with_part, with_value}
-use Rattle.asp_response.specs.Draft.{Done, fits_part, fixed, head_answer, redirected, settled, write_answer, written}
-use Rattle.asp_response.specs.Draft.{with_cookie_text, with_cookie_part, with_header}
+use Rattle.asp_response.specs.Calls.{Field, Cookie as SetCookie, Part, Redirect, Secure, after, said_by, where_done}
+use Rattle.asp_response.specs.Cookies.{new_cookie, place_of, put_at, with_cookie, with_part, with_secure, with_value}
+use Rattle.asp_response.specs.Draft.{Done, fixed, head_answer, redirected, settled, write_answer, written}
+use Rattle.asp_response.specs.Draft.{with_cookie_text, with_cookie_part, with_cookie_secure, with_header}
 use Rattle.asp_response.specs.Head.{code_in, is_printable, is_reserved, is_token, is_token_character, is_value}
 use Rattle.asp_response.specs.Head.{status_in}
 use Rattle.asp_response.specs.Sound.{ArePrintable, IsGraphic, IsPrintable, IsSoundHeader}
@@ -118,11 +118,10 @@ put_sound (Some at) change new cookies keeps made sound =
     All-set SoundCookie cookies at (change (slice_index_or cookies at new))
     (keeps (slice_index_or cookies at new) (item_or cookies at new sound made)) sound
 
-part_sound : (of : CookiePart) (text : List ℕ) → fits_part of text ≡ true → (cookie : Cookie) → SoundCookie cookie
+part_sound : (of : CookiePart) (text : List ℕ) → is_value text ≡ true → (cookie : Cookie) → SoundCookie cookie
     → SoundCookie (with_part of text cookie)
 part_sound part.Path text fits cookie sound = record { path = printable_of text fits; domain = sound.domain }
 part_sound part.Domain text fits cookie sound = record { path = sound.path; domain = printable_of text fits }
-part_sound part.Secure text fits cookie sound = record { path = sound.path; domain = sound.domain }
 
 -- ---- what a call leaves
 
@@ -241,7 +240,7 @@ after_sound (SetCookie name key text) draft sound =
           (λ cookie was. record { path = was.path; domain = was.domain }) (new_sound name) sound.cookies;
     }) sound
 after_sound (Part name of text) draft sound =
-    changed (fits_part of text) draft.sent (with_cookie_part name of text draft) draft (λ fits. record {
+    changed (is_value text) draft.sent (with_cookie_part name of text draft) draft (λ fits. record {
       status = sound.status;
       content_type = sound.content_type;
       charset = sound.charset;
@@ -250,6 +249,17 @@ after_sound (Part name of text) draft sound =
       added = sound.added;
       cookies = put_sound (place_of name draft.cookies) (with_part of text) (new_cookie name) draft.cookies
           (part_sound of text fits) (new_sound name) sound.cookies;
+    }) sound
+after_sound (Secure name on) draft sound =
+    changed true draft.sent (with_cookie_secure name on draft) draft (λ fits. record {
+      status = sound.status;
+      content_type = sound.content_type;
+      charset = sound.charset;
+      cache = sound.cache;
+      location = sound.location;
+      added = sound.added;
+      cookies = put_sound (place_of name draft.cookies) (with_secure on) (new_cookie name) draft.cookies
+          (λ cookie was. record { path = was.path; domain = was.domain }) (new_sound name) sound.cookies;
     }) sound
 after_sound (Redirect url) draft sound =
     moved (is_value url) draft.sent _ (redirected url draft) draft (λ fits. record {

@@ -44,7 +44,7 @@ head_lines answer date =
     status_line answer
     ∷ field (codes "Date") date
     ∷ (map field_of answer.headers
-    ++ length_lines answer ++ close_lines answer)
+    ++ (length_lines answer ++ close_lines answer))
 
 -- the content, which the answer to a HEAD has not
 abbrev pub content : Answer → List ℕ

@@ -4,7 +4,8 @@ use Rattle.asp_response.specs.declared.cookie.CookiePart.{CookiePart}
 use Rattle.asp_response.specs.declared.draft.Draft.{Draft}
 use Rattle.asp_response.specs.Draft.{Done, no_draft, write_answer, written, cleared, flushed, buffered, head_answer}
 use Rattle.asp_response.specs.Draft.{with_status, with_content_type, with_charset, with_cache, with_header, header_answer}
-use Rattle.asp_response.specs.Draft.{with_cookie_text, with_cookie_part, fits_part, redirected, redirect_answer}
+use Rattle.asp_response.specs.Draft.{with_cookie_text, with_cookie_part, with_cookie_secure, redirected}
+use Rattle.asp_response.specs.Draft.{redirect_answer}
 use Rattle.asp_response.specs.Head.{is_value, status_in}
 
 -- the calls on a draft, with what they are given
@@ -20,6 +21,7 @@ pub data DraftCall : Type 0 where
   Field : List ℕ → List ℕ → DraftCall
   Cookie : List ℕ → List ℕ → List ℕ → DraftCall
   Part : List ℕ → CookiePart → List ℕ → DraftCall
+  Secure : List ℕ → Bool → DraftCall
   Redirect : List ℕ → DraftCall
 
 -- what a call answers
@@ -34,7 +36,8 @@ answer_to (Charset text) draft = head_answer (is_value text) draft.sent
 answer_to (Cache text) draft = head_answer (is_value text) draft.sent
 answer_to (Field name text) draft = header_answer name text draft
 answer_to (Cookie name key text) draft = head_answer true draft.sent
-answer_to (Part name of text) draft = head_answer (fits_part of text) draft.sent
+answer_to (Part name of text) draft = head_answer (is_value text) draft.sent
+answer_to (Secure name on) draft = head_answer true draft.sent
 answer_to (Redirect url) draft = redirect_answer url draft
 
 -- what a call that is done makes of the draft
@@ -50,6 +53,7 @@ made_by (Cache text) = with_cache text
 made_by (Field name text) = with_header name text
 made_by (Cookie name key text) = with_cookie_text name key text
 made_by (Part name of text) = with_cookie_part name of text
+made_by (Secure name on) = with_cookie_secure name on
 made_by (Redirect url) = redirected url
 
 -- the new draft, where the call is done, else the old one

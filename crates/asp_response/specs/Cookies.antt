@@ -1,4 +1,5 @@
--- The cookies of an answer (ASP 3.0, "Response.Cookies Collection"). Their names and keys compare as they are written.
+-- The cookies of an answer (ASP 3.0, "Response.Cookies Collection"). Their names compare without ASCII case, their keys as
+-- they are written.
 use Rattle.std.specs.Prelude.{ℕ, Bool, false, nat_eq, List, [], ◌∷◌, ◌++◌, slice_index_or, slice_set, position}
 use Rattle.std.specs.Prelude.{Option, Some, None, codes}
 use Rattle.std.specs.Cmp.Lexicographic.{pointwise}
@@ -26,7 +27,7 @@ put_at (Some at) change new items = slice_set items at (change (slice_index_or i
 
 -- the place of the cookie of a name, and of the pair of a key
 abbrev pub place_of : List ℕ → List Cookie → Option ℕ
-place_of name cookies = position (λ cookie. same cookie.name name) cookies
+place_of name cookies = position (λ cookie. same_name cookie.name name) cookies
 
 abbrev pub place_of_key : List ℕ → List CookiePair → Option ℕ
 place_of_key key pairs = position (λ pair. same pair.key key) pairs
@@ -54,8 +55,11 @@ set_value (first ∷ key) text value = Pairs (with_pair (first ∷ key) text (pa
 abbrev pub with_value : List ℕ → List ℕ → Cookie → Cookie
 with_value key text cookie = record cookie { value = set_value key text cookie.value }
 
--- the cookie with that path or domain, or sent over secure connections alone
+-- the cookie with that path or domain
 abbrev pub with_part : CookiePart → List ℕ → Cookie → Cookie
 with_part part.Path text cookie = record cookie { path = text }
 with_part part.Domain text cookie = record cookie { domain = text }
-with_part part.Secure text cookie = record cookie { secure = same_name (codes "true") text }
+
+-- the cookie, sent over secure connections alone or over all
+abbrev pub with_secure : Bool → Cookie → Cookie
+with_secure on cookie = record cookie { secure = on }

@@ -5,14 +5,12 @@ use Rattle.std.specs.Prelude.{ℕ, Bool, true, false, not, ◌&&◌, ◌||◌, n
 use Rattle.std.specs.Prelude.{◌++◌, length, take, Some, None, is_some, Result, Ok, Err, codes}
 use Rattle.std.specs.Prelude.{encode_utf8_all, pos}
 use Rattle.asp_text.specs.Html.{html_encoded}
-use Rattle.vb_value.specs.Folding.{same_name}
 use Rattle.vb_value.specs.declared.limit.LimitKind.TheVariants.{Body}
 use Rattle.asp_response.specs.declared.cookie.CookiePart.{CookiePart}
-use Rattle.asp_response.specs.declared.cookie.CookiePart.TheVariants as part
 use Rattle.asp_response.specs.declared.draft.Draft.{Draft}
 use Rattle.asp_response.specs.declared.stop.DraftStop.{DraftStop}
 use Rattle.asp_response.specs.declared.stop.DraftStop.TheVariants as stop
-use Rattle.asp_response.specs.Cookies.{with_cookie, with_value, with_part}
+use Rattle.asp_response.specs.Cookies.{with_cookie, with_value, with_part, with_secure}
 use Rattle.asp_response.specs.Head.{is_value, is_token, is_reserved, status_in}
 
 -- the answer of a call that was done, and of one that was refused
@@ -108,14 +106,8 @@ with_cookie_text name key text draft = record draft { cookies = with_cookie name
 abbrev pub with_cookie_part : List ℕ → CookiePart → List ℕ → Draft → Draft
 with_cookie_part name of text draft = record draft { cookies = with_cookie name (with_part of text) draft.cookies }
 
--- a truth value as a text
-abbrev pub is_truth : List ℕ → Bool
-is_truth text = same_name (codes "true") text || same_name (codes "false") text
-
--- what a part of a cookie may be
-abbrev pub fits_part : CookiePart → List ℕ → Bool
-fits_part part.Secure text = is_truth text
-fits_part _ text = is_value text
+abbrev pub with_cookie_secure : List ℕ → Bool → Draft → Draft
+with_cookie_secure name on draft = record draft { cookies = with_cookie name (with_secure on) draft.cookies }
 
 -- ---- Redirect
 

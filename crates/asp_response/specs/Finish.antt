@@ -1,5 +1,6 @@
 -- The answer that a draft is finished to. `Date`, `Content-Length` and `Connection` come with its bytes.
-use Rattle.std.specs.Prelude.{ℕ, Bool, if◌then◌else◌, List, [], ◌∷◌, ◌++◌, map, flat_map, take, Option, Some, None}
+use Rattle.std.specs.Prelude.{ℕ, ◌+◌, nat_lt, Bool, if◌then◌else◌, List, [], ◌∷◌, ◌++◌, length, map, flat_map, take}
+use Rattle.std.specs.Prelude.{Option, Some, None}
 use Rattle.std.specs.Prelude.{unwrap_or, is_some, codes, encode_utf8_all}
 use Rattle.http.specs.StatusCode.{reason_phrase}
 use Rattle.asp_text.specs.Url.{url_encoded}
@@ -99,10 +100,14 @@ plain_status code = record { code = code; reason = reason_of code }
 abbrev pub status_of : Option Status → Bool → Status
 status_of set failed = if failed then plain_status 500 else unwrap_or set (plain_status 200)
 
+-- what is said of a failure, where there is room for all of it behind what was flushed
+abbrev pub said_behind : List ℕ → List ℕ → List ℕ
+said_behind kept said = if nat_lt 4194304 (length kept + length said) then [] else said
+
 -- the body; after a failure what of it was flushed, and then what is said of the failure
 abbrev pub body_of : List ℕ → ℕ → Option (List ℕ) → List ℕ
 body_of body flushed None = body
-body_of body flushed (Some failure) = take flushed body ++ encode_utf8_all failure
+body_of body flushed (Some failure) = take flushed body ++ said_behind (take flushed body) (encode_utf8_all failure)
 
 -- the answer of a draft, given the letters of a new session's key, what is said of a failure, and what its request says
 abbrev pub finished : Draft → Option (List ℕ) → Option (List ℕ) → Bool → Bool → Answer

@@ -9,8 +9,6 @@ pub enum CookiePart {
     Path,
     /// The hosts to which it is sent back (RFC 6265, section 5.1.3).
     Domain,
-    /// Whether it is sent back over secure connections alone.
-    Secure,
 }
 
 /// The text beside a key of a cookie.
@@ -37,5 +35,6 @@ pub struct Cookie {
     pub path: Text,
     /// Empty where none is set.
     pub domain: Text,
+    /// Whether it is sent back over secure connections alone (RFC 6265, section 5.2.5).
     pub secure: bool,
 }

@@ -2,9 +2,11 @@
 ghost use Rattle.std.specs.Prelude.{◌≡◌, ◌<◌, Some, length, true};
 ghost use Rattle.asp_response.specs.declared.cookie.Cookie.{Cookie as CookieView};
 ghost use Rattle.asp_response.specs.declared.cookie.CookiePair.{CookiePair as CookiePairView};
+ghost use Rattle.vb_value.specs.Folding.{same_name};
 ghost use Rattle.vb_value.specs.Outcome.{Answers, Changes, Gives};
 ghost use Rattle.asp_response.specs.Cookies as spec;
 ghost use Rattle.asp_response.specs.Draft as draft;
+ghost use Rattle.asp_response.specs.Head as head;
 
 use crate::cookie::{Cookie, CookiePair, CookiePart, CookieValue};
 use crate::draft::Draft;
@@ -14,7 +16,7 @@ use crate::stop::DraftStop;
 use crate::text::ascii;
 use std::alloc::Global;
 use std::mem::replace;
-use vb_value::{Copied, List, Memory, Text, is_word};
+use vb_value::{Copied, List, Memory, Text};
 
 fn new_cookie(alloc: Global, name: &Text) -> Result<Cookie, Memory>
     ensures { Gives result (spec.new_cookie name.now) }
@@ -28,10 +30,20 @@ fn new_cookie(alloc: Global, name: &Text) -> Result<Cookie, Memory>
     })
 }
 
+/// Whether a cookie has this name, in any ASCII case.
 fn is_named(cookie: &Cookie, name: &[char]) -> bool
-    ensures { result ≡ spec.same cookie.now.name name.now }
+    ensures { result ≡ same_name cookie.now.name name.now }
 {
-    cookie.name.as_slice() == name
+    let named = cookie.name.as_slice();
+    if named.len() != name.len() {
+        return false;
+    }
+    for i in 0..named.len() {
+        if named[i].to_ascii_lowercase() != name[i].to_ascii_lowercase() {
+            return false;
+        }
+    }
+    true
 }
 
 fn place_of(cookies: &[Cookie], name: &[char]) -> Option<usize>
@@ -52,7 +64,6 @@ fn set_part(cookie: &mut Cookie, part: CookiePart, text: Text)
     match part {
         CookiePart::Path => cookie.path = text,
         CookiePart::Domain => cookie.domain = text,
-        CookiePart::Secure => cookie.secure = is_word(b"true", text.as_slice()),
     }
 }
 
@@ -83,6 +94,33 @@ fn set_cookie_part(
         None => {
             let mut cookie = new_cookie(*cookies.allocator(), name)?;
             set_part(&mut cookie, part, text);
+            cookies.push(cookie)
+        }
+    }
+}
+
+fn set_secure_at(cookies: &mut List<Cookie>, at: usize, on: bool)
+    requires { at < length cookies.old }
+    ensures { (new : CookieView) → cookies.new ≡ spec.put_at (Some at) (spec.with_secure on) new cookies.old }
+{
+    let empty = List::new(*cookies.allocator());
+    let mut items = replace(cookies, empty).into_vec();
+    items[at].secure = on;
+    *cookies = List::from_vec(items);
+}
+
+/// Sets whether the cookie of this name, which is made where there is none, is sent over secure connections alone.
+fn set_cookie_secure(cookies: &mut List<Cookie>, name: &Text, on: bool) -> Result<(), Memory>
+    ensures { Changes result cookies.old cookies.new (spec.with_cookie name.now (spec.with_secure on) cookies.old) }
+{
+    match place_of(cookies.as_slice(), name.as_slice()) {
+        Some(at) => {
+            set_secure_at(cookies, at, on);
+            Ok(())
+        }
+        None => {
+            let mut cookie = new_cookie(*cookies.allocator(), name)?;
+            cookie.secure = on;
             cookies.push(cookie)
         }
     }
@@ -177,21 +215,6 @@ fn set_cookie_text(
     }
 }
 
-fn is_truth(text: &[char]) -> bool
-    ensures { result ≡ draft.is_truth text.now }
-{
-    is_word(b"true", text) || is_word(b"false", text)
-}
-
-fn fits_part(part: CookiePart, text: &[char]) -> bool
-    ensures { result ≡ draft.fits_part part text.now }
-{
-    match part {
-        CookiePart::Path | CookiePart::Domain => is_value(text),
-        CookiePart::Secure => is_truth(text),
-    }
-}
-
 impl Draft {
     /// The text of the cookie `name`, or the one beside `key` where that is not empty. Setting the one drops the other.
     pub fn cookie(&mut self, name: &Text, key: &Text, value: &Text) -> Result<(), DraftStop>
@@ -203,19 +226,27 @@ impl Draft {
         Ok(set_cookie_text(&mut self.cookies, name, key, text)?)
     }
 
-    /// A part of the cookie `name`. Error 5 for a path or domain with a character that is not printable, and where
-    /// `Secure` is neither `True` nor `False`, in any ASCII case.
+    /// A part of the cookie `name`. Error 5 for a character that is not printable.
     pub fn cookie_part(
         &mut self,
         name: &Text,
         part: CookiePart,
         value: &Text,
     ) -> Result<(), DraftStop>
-        ensures answer { Answers result DraftStop.Memory (draft.head_answer (draft.fits_part part value.now) self.old.sent) }
+        ensures answer { Answers result DraftStop.Memory (draft.head_answer (head.is_value value.now) self.old.sent) }
         ensures draft { Changes result self.old self.new (draft.with_cookie_part name.now part value.now self.old) }
     {
-        may_change(fits_part(part, value.as_slice()), self.sent)?;
+        may_change(is_value(value.as_slice()), self.sent)?;
         let text = value.copy()?;
         Ok(set_cookie_part(&mut self.cookies, name, part, text)?)
+    }
+
+    /// Whether the cookie `name` is sent back over secure connections alone.
+    pub fn cookie_secure(&mut self, name: &Text, on: bool) -> Result<(), DraftStop>
+        ensures answer { Answers result DraftStop.Memory (draft.head_answer true self.old.sent) }
+        ensures draft { Changes result self.old self.new (draft.with_cookie_secure name.now on self.old) }
+    {
+        may_change(true, self.sent)?;
+        Ok(set_cookie_secure(&mut self.cookies, name, on)?)
     }
 }

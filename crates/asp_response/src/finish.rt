@@ -3,7 +3,7 @@ ghost use Rattle.std.specs.Prelude.{◌≡◌, ◌<◌, ◌≤◌, option_map};
 ghost use Rattle.vb_value.specs.Outcome.{Gives};
 ghost use Rattle.asp_response.specs.Finish as spec;
 
-use crate::draft::Draft;
+use crate::draft::{Draft, within_limit};
 use crate::headers::headers_of;
 use crate::status::Status;
 use crate::text::ascii;
@@ -61,13 +61,16 @@ fn body_of(
     };
     let said = failure.to_utf8(alloc)?;
     body.truncate(flushed);
-    body.append(said)?;
+    if within_limit(body.len(), said.len()).is_ok() {
+        body.append(said)?;
+    }
     Ok(body)
 }
 
 impl Draft {
     /// The answer: with the letters of the session's key where the job made that key, and, where the page failed, with
-    /// status 500 and with what was flushed, followed by `failure`, in place of the body.
+    /// status 500 and with what was flushed, followed by `failure`, in place of the body. Where both are more than 4 MiB
+    /// nothing follows.
     pub fn finish(
         self,
         letters: Option<&Text>,

@@ -93,7 +93,7 @@ fn call_on_name(
         "cookie" => cookie(out, draft, &name, rest),
         "path" => draft.cookie_part(&name, CookiePart::Path, &value),
         "domain" => draft.cookie_part(&name, CookiePart::Domain, &value),
-        "secure" => draft.cookie_part(&name, CookiePart::Secure, &value),
+        "secure" => draft.cookie_secure(&name, rest == "true"),
         _ => {
             out.stop(CaseStop::Unreadable);
             Ok(())

@@ -76,7 +76,7 @@ fn set_of(word: &str) -> Option<InSet> {
 fn write_of_set(out: &mut Answer, inputs: &Inputs, call: &str, set: InSet, name: &Text) {
     match call {
         "joined" => write_joined(out, inputs, set, name),
-        "values" => write_texts(out, inputs.values(set, name)),
+        "values" => write_values(out, inputs, set, name),
         "names" => write_texts(out, inputs.names(set)),
         "raw" => out.text(inputs.raw(set).as_slice()),
         _ => out.stop(CaseStop::Unreadable),
@@ -91,6 +91,13 @@ fn write_joined(out: &mut Answer, inputs: &Inputs, set: InSet, name: &Text) {
     }
 }
 
+fn write_values(out: &mut Answer, inputs: &Inputs, set: InSet, name: &Text) {
+    match inputs.values(out.alloc(), set, name) {
+        Ok(values) => write_texts(out, values),
+        Err(_) => out.stop(CaseStop::Memory),
+    }
+}
+
 fn write_texts(out: &mut Answer, texts: &[Text]) {
     for text in texts {
         out.put("<");
@@ -100,8 +107,9 @@ fn write_texts(out: &mut Answer, texts: &[Text]) {
 }
 
 fn write_raw_cookie(out: &mut Answer, inputs: &Inputs, name: &Text) {
-    match inputs.raw_cookie(name) {
-        Some(value) => write_bytes(out, value.as_slice()),
-        None => out.put("None"),
+    match inputs.raw_cookie(out.alloc(), name) {
+        Ok(Some(value)) => write_bytes(out, value.as_slice()),
+        Ok(None) => out.put("None"),
+        Err(_) => out.stop(CaseStop::Memory),
     }
 }

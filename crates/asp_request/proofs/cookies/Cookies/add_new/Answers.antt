@@ -1,8 +1,9 @@
+use Rattle.std.proofs.Common.{refl}
 use Rattle.asp_request.proofs.CookieKeeping.{cookies_new}
 use Rattle.asp_request.proofs.cookies.Cookies.add_new.Goals as goal
 
 pub returns : goal.returns
 returns c = λ pairs is.
-    cookies_new c.args.self.now c.add.new.self c.put_raw.new.raw pairs c.args.name c.args.value.now
-    c.in_ok-copy.field-0 c.in_ok-decoded.field-0 c.in_ok-from_slice.field-0 _ is c.requires c.name.view_is
-    c.in_ok-copy.ensures c.in_ok-decoded.ensures c.in_ok-from_slice.ensures c.in_ok-add.ensures c.in_ok-put_raw.ensures
+    cookies_new c.args.self.now c.add.new.self c.put_raw.new.raw pairs c.args.name c.args.value.now c.args.name
+    c.in_ok-decoded.field-0 c.in_ok-from_slice.field-0 c.args.key is c.requires.absent c.requires.key refl
+    c.in_ok-decoded.ensures c.in_ok-from_slice.ensures c.in_ok-add.ensures c.in_ok-put_raw.ensures
