@@ -12,25 +12,13 @@ program=$crate/out/classic_asp
 proved=$program.proved
 
 # The crates that the program is made of, each behind those that it stands on.
-made_of() {
-  awk '
-    function visit(name,    names, count, at) {
-      if (name in seen || !(name in below)) return
-      seen[name] = 1
-      count = split(below[name], names, " ")
-      for (at = 1; at <= count; at++) visit(names[at])
-      print name
-    }
-    { sub(/#.*/, "") }
-    split($0, side, ":") == 2 { split(side[1], words, " "); below[words[1]] = side[2] }
-    END { visit("classic_asp") }' "$top/crates.txt"
-}
+made_of() { "$top/checks/crates" below classic_asp; }
 
 # Whether the program was built by `asp build` and no source has changed since that build began.
 is_built() {
-  local name sources=("$top/crates.txt" "$top/HANDLES")
-  [ -x "$program" ] && [ -e "$proved" ] || return 1
-  for name in $(made_of); do
+  local name names sources=("$top/crates.txt" "$top/HANDLES")
+  [ -x "$program" ] && [ -e "$proved" ] && names=$(made_of) || return 1
+  for name in $names; do
     sources+=("$top/crates/$name/src" "$top/crates/$name/specs" "$top/crates/$name/proofs")
   done
   [ -z "$(find "${sources[@]}" -newer "$proved" -print -quit 2>/dev/null)" ]
@@ -47,8 +35,8 @@ build_crate() {
 # Whether the crates of the program that this one stands on are built.
 stands() {
   local other
-  for other in $(sed -n "s/#.*//; s/^$1\>[^:]*://p" "$top/crates.txt"); do
-    [ -d "$top/crates/$other" ] && [ ! -e "$logs/$other.done" ] && return 1
+  for other in ${below[$1]}; do
+    [ -n "${below[$other]+listed}" ] && [ ! -e "$logs/$other.done" ] && return 1
   done
   return 0
 }
@@ -78,8 +66,11 @@ stop_runs() {
 
 # Proves and builds the crates, as many at a time as there are processors for. Fails where one is not proved.
 build_once() {
-  local names running=0 ended=0 most=$((($(nproc) + 1) / 2)) name
+  local names running=0 ended=0 most=$((($(nproc) + 1) / 2)) name others
+  local -A below=()
   mapfile -t names < <(made_of)
+  [ "${#names[@]}" -gt 0 ] || return 1
+  while read -r name others; do below[${name%:}]=$others; done < <("$top/checks/crates")
   rm -rf "${logs:?}"/*
   : >"$logs/begun"
   echo "asp: proving and building ${#names[@]} crates" >&2
