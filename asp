@@ -120,7 +120,7 @@ run_unproved() {
   local words=("$@") code input=/dev/null
   echo "asp: not proved yet, so this runs an unproved build, in a minute or two: ./asp build proves it" >&2
   case "${2-}" in '' | /*) ;; *) [ "$1" = gen ] || words[1]=$PWD/$2 ;; esac
-  case "${1-}" in replay | audit) input=/dev/stdin ;; esac
+  case "${1-}" in replay) input=/dev/stdin ;; esac
   errors=$(mktemp)
   trap 'rm -f "$errors"' EXIT
   (cd "$crate" && rt try --seconds 600 --steps 1000000000 -- "${words[@]}") 2>"$errors" <"$input"
