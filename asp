@@ -3,7 +3,7 @@
 #
 # `asp build` proves and builds the program, unless that was done and no source has changed since. Before that, and once
 # a source has changed since, the words run by the toolchain's build that proves nothing, which one line on standard
-# error says.
+# error says. `asp test` tries all cases and tests by that build.
 set -u
 unset CDPATH
 top=$(dirname "$(readlink -f "${BASH_SOURCE[0]}")")
@@ -12,25 +12,13 @@ program=$crate/out/classic_asp
 proved=$program.proved
 
 # The crates that the program is made of, each behind those that it stands on.
-made_of() {
-  awk '
-    function visit(name,    names, count, at) {
-      if (name in seen || !(name in below)) return
-      seen[name] = 1
-      count = split(below[name], names, " ")
-      for (at = 1; at <= count; at++) visit(names[at])
-      print name
-    }
-    { sub(/#.*/, "") }
-    split($0, side, ":") == 2 { split(side[1], words, " "); below[words[1]] = side[2] }
-    END { visit("classic_asp") }' "$top/crates.txt"
-}
+made_of() { "$top/checks/crates" below classic_asp; }
 
 # Whether the program was built by `asp build` and no source has changed since that build began.
 is_built() {
-  local name sources=("$top/crates.txt" "$top/HANDLES")
-  [ -x "$program" ] && [ -e "$proved" ] || return 1
-  for name in $(made_of); do
+  local name names sources=("$top/crates.txt" "$top/HANDLES")
+  [ -x "$program" ] && [ -e "$proved" ] && names=$(made_of) || return 1
+  for name in $names; do
     sources+=("$top/crates/$name/src" "$top/crates/$name/specs" "$top/crates/$name/proofs")
   done
   [ -z "$(find "${sources[@]}" -newer "$proved" -print -quit 2>/dev/null)" ]
@@ -47,8 +35,8 @@ build_crate() {
 # Whether the crates of the program that this one stands on are built.
 stands() {
   local other
-  for other in $(sed -n "s/#.*//; s/^$1\>[^:]*://p" "$top/crates.txt"); do
-    [ -d "$top/crates/$other" ] && [ ! -e "$logs/$other.done" ] && return 1
+  for other in ${below[$1]}; do
+    [ -n "${below[$other]+listed}" ] && [ ! -e "$logs/$other.done" ] && return 1
   done
   return 0
 }
@@ -78,8 +66,11 @@ stop_runs() {
 
 # Proves and builds the crates, as many at a time as there are processors for. Fails where one is not proved.
 build_once() {
-  local names running=0 ended=0 most=$((($(nproc) + 1) / 2)) name
+  local names running=0 ended=0 most=$((($(nproc) + 1) / 2)) name others
+  local -A below=()
   mapfile -t names < <(made_of)
+  [ "${#names[@]}" -gt 0 ] || return 1
+  while read -r name others; do below[${name%:}]=$others; done < <("$top/checks/crates")
   rm -rf "${logs:?}"/*
   : >"$logs/begun"
   echo "asp: proving and building ${#names[@]} crates" >&2
@@ -129,7 +120,7 @@ run_unproved() {
   local words=("$@") code input=/dev/null
   echo "asp: not proved yet, so this runs an unproved build, in a minute or two: ./asp build proves it" >&2
   case "${2-}" in '' | /*) ;; *) [ "$1" = gen ] || words[1]=$PWD/$2 ;; esac
-  case "${1-}" in replay | audit) input=/dev/stdin ;; esac
+  case "${1-}" in replay) input=/dev/stdin ;; esac
   errors=$(mktemp)
   trap 'rm -f "$errors"' EXIT
   (cd "$crate" && rt try --seconds 600 --steps 1000000000 -- "${words[@]}") 2>"$errors" <"$input"
@@ -142,8 +133,93 @@ run_unproved() {
   return 70
 }
 
+# The crates that try something: programs with a stored output, and those with tests. The one that takes longest is first.
+trying() {
+  local name names
+  mapfile -t names < <("$top/checks/crates" | sed 's/:.*//')
+  for name in run_cases "${names[@]}"; do
+    [ -e "$top/crates/$name/stdout" ] || grep -qrs '^ *#\[test\]' "$top/crates/$name/src" && echo "$name"
+  done | awk '!seen[$0]++'
+}
+
+# Runs a crate's program, or its tests, by the build that proves nothing, which needs a larger stack than the proved one.
+# Leaves the output and what was said.
+try_crate() {
+  local name=$1 words=(--seconds 600 --steps 1) arguments=() file input=/dev/null
+  ulimit -s 1000000 2>/dev/null
+  cd "$top/crates/$name" || return
+  if [ -e stdout ]; then
+    if [ -e data ]; then
+      while IFS= read -r file; do words+=(--data "${file#data/}=$file"); done < <(find data -type f)
+    fi
+    [ ! -e args ] || mapfile -t arguments <args
+    [ ! -e stdin ] || input=stdin
+    rt try "${words[@]}" -- "${arguments[@]}" >"$logs/$name.out" 2>"$logs/$name.said" <"$input"
+  else
+    rt try --test "${words[@]}" >"$logs/$name.out" 2>"$logs/$name.said" </dev/null
+  fi
+}
+
+# How many cases of a file of outputs passed, and how many there are, where its lines are those of programs of cases.
+cases_in() { awk '/: [0-9]+ of [0-9]+$/ { passed += $(NF - 2); all += $NF } END { print passed + 0, all + 0 }' "$1"; }
+
+# Tells how a crate ended that was tried, and adds what passed and failed.
+tell_tried() {
+  local name=$1 stored=$top/crates/$1/stdout ran=0 all=1 how=passed
+  if [ -e "$stored" ]; then
+    read -r _ all < <(cases_in "$stored")
+    read -r ran _ < <(cases_in "$logs/$name.out")
+  else
+    all=$(grep -rh '^ *#\[test\]' "$top/crates/$name/src" | wc -l)
+  fi
+  [ "$all" -gt 0 ] || all=1
+  if [ "$(cat "$logs/$name.status")" = 0 ] && { [ ! -e "$stored" ] || cmp -s "$stored" "$logs/$name.out"; }; then
+    ran=$all
+  else
+    [ "$ran" -lt "$all" ] || ran=$((all - 1))
+    how=failed
+    tail -n 40 "$logs/$name.said" >&2
+  fi
+  passed=$((passed + ran))
+  failed=$((failed + all - ran))
+  echo "asp: $name $how, $ran of $all"
+}
+
+# Tries all cases and tests, as many crates at a time as there are processors for. Fails where one fails.
+try_all() {
+  local names name running=0 most passed=0 failed=0 told=0
+  logs=$(mktemp -d)
+  most=$(nproc)
+  trap 'rm -rf "$logs"' EXIT
+  set -m
+  trap 'stop_runs; exit 130' INT TERM
+  mapfile -t names < <(trying)
+  [ "${#names[@]}" -gt 0 ] || return 1
+  echo "asp: trying ${#names[@]} crates by an unproved build" >&2
+  while [ "$told" -lt "${#names[@]}" ]; do
+    for name in "${names[@]}"; do
+      [ "$running" -lt "$most" ] && [ ! -e "$logs/$name.begun" ] || continue
+      : >"$logs/$name.begun"
+      { try_crate "$name"; echo $? >"$logs/$name.status"; } &
+      running=$((running + 1))
+    done
+    wait -n
+    for name in "${names[@]}"; do
+      [ -s "$logs/$name.status" ] && [ ! -e "$logs/$name.told" ] || continue
+      : >"$logs/$name.told"
+      running=$((running - 1))
+      told=$((told + 1))
+      tell_tried "$name"
+    done
+  done
+  echo "$passed passed, $failed failed"
+  [ "$failed" = 0 ]
+}
+
 if [ $# = 1 ] && [ "$1" = build ]; then
   is_built || build
+elif [ $# = 1 ] && [ "$1" = test ]; then
+  try_all
 elif is_built; then
   exec "$program" "$@"
 else
