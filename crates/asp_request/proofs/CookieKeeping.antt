@@ -59,7 +59,7 @@ comes pairs name value bytes other none written false e = ap first_of (sym (appe
 
 pub cookies_new : (old : Cookies) (kept : Collection) (raw : BTreeMap (List ℕ) (List ℕ)) (pairs : List Pair)
     (name value copied text bytes key : List ℕ) → CollectsCookies old pairs
-    → is_some (get (slice_cmp nat_cmp) old.raw key) ≡ false → key ≡ folded name → copied ≡ name → text ≡ decoded value → bytes ≡ value
+    → is_some (get (slice_cmp nat_cmp) old.raw (folded name)) ≡ false → key ≡ folded name → copied ≡ name → text ≡ decoded value → bytes ≡ value
     → ((more : List Pair) → Collects old.kept more → Collects kept (more ++ (copied, text) ∷ []))
     → ((other : List ℕ) → get (slice_cmp nat_cmp) raw other
     ≡ cond (is_at (slice_cmp nat_cmp key) other) (Some bytes) (get (slice_cmp nat_cmp) old.raw other))
@@ -68,7 +68,7 @@ cookies_new old kept raw pairs name value copied text bytes key is absent keyed 
     let pair : Pair = (name, value) in
     let none : values_in pairs name ≡ [] =
     no_values (values_in pairs name)
-    (ap is_some (sym (is.raw name) ∙ ap (get (slice_cmp nat_cmp) old.raw) (sym keyed)) ∙ absent) in
+    (ap is_some (sym (is.raw name)) ∙ absent) in
     let fresh : new_pair (values_in pairs name) pair ≡ pair ∷ [] = ap (λ v. new_pair v pair) none in
     let before = map with_decoded (firsts pairs) in
     let last : ◌≡◌ {A = Pair} (copied, text) (name, decoded value) = λ i. (named i, shown i) in
