@@ -145,7 +145,7 @@ trying() {
 # Runs a crate's program, or its tests, by the build that proves nothing, which needs a larger stack than the proved one.
 # Leaves the output and what was said.
 try_crate() {
-  local name=$1 words=(--seconds 600 --steps 1) arguments=() file input=/dev/null
+  local name=$1 words=(--seconds 1800) arguments=() file input=/dev/null
   ulimit -s 1000000 2>/dev/null
   cd "$top/crates/$name" || return
   if [ -e stdout ]; then
