@@ -61,7 +61,7 @@ made_fine server.Path page text = found_fine (mapped page text)
 pub server_fine : (what : ServerText) (arguments : List Value) (objects : PageObjects)
     → FineSaid (servers.text_asked what arguments objects)
 server_fine what (text ∷ []) objects =
-    told_fine _ objects (then_fine (answers.text_in text) _ (text_fine text) (made_fine what objects.page))
+    told_fine _ objects (then_fine (answers.text_in text) _ (text_fine text) (made_fine what (servers.file_of objects)))
 server_fine what [] objects = tt
 server_fine what (text ∷ more ∷ others) objects = tt
 

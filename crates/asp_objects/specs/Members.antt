@@ -19,7 +19,7 @@ use Rattle.asp_objects.specs.ApplicationMembers.{contents_asked, reply_answer, w
 use Rattle.asp_objects.specs.Given.{failed, value}
 use Rattle.asp_objects.specs.RequestMembers.{asked_of, total_bytes}
 use Rattle.asp_objects.specs.ResponseMembers.{write_asked, cleared, flushed, redirect_asked, buffer_asked, head_asked}
-use Rattle.asp_objects.specs.ResponseMembers.{header_asked, cookie_asked, pair_asked, part_asked}
+use Rattle.asp_objects.specs.ResponseMembers.{header_asked, cookie_asked, pair_asked, part_asked, secure_asked}
 use Rattle.asp_objects.specs.Said.{Said, told}
 use Rattle.asp_objects.specs.ServerMembers.{text_asked, timeout_asked}
 use Rattle.asp_objects.specs.SessionMembers.{session_asked, contents, serial, timeout as session_timeout, abandoned}

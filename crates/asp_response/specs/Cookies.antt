@@ -1,8 +1,7 @@
--- The cookies of an answer (ASP 3.0, "Response.Cookies Collection"). Their names compare without ASCII case, their keys as
--- they are written.
-use Rattle.std.specs.Prelude.{ℕ, Bool, false, nat_eq, List, [], ◌∷◌, ◌++◌, slice_index_or, slice_set, position}
+-- The cookies of an answer (ASP 3.0, "Response.Cookies Collection"). Their names and keys compare without ASCII
+-- case.
+use Rattle.std.specs.Prelude.{ℕ, Bool, false, List, [], ◌∷◌, ◌++◌, slice_index_or, slice_set, position}
 use Rattle.std.specs.Prelude.{Option, Some, None, codes}
-use Rattle.std.specs.Cmp.Lexicographic.{pointwise}
 use Rattle.asp_response.specs.declared.cookie.Cookie.{Cookie}
 use Rattle.asp_response.specs.declared.cookie.CookiePair.{CookiePair}
 use Rattle.asp_response.specs.declared.cookie.CookiePart.{CookiePart}
@@ -10,10 +9,6 @@ use Rattle.asp_response.specs.declared.cookie.CookiePart.TheVariants as part
 use Rattle.asp_response.specs.declared.cookie.CookieValue.{CookieValue}
 use Rattle.asp_response.specs.declared.cookie.CookieValue.TheVariants.{Whole, Pairs}
 use Rattle.vb_value.specs.Folding.{same_name}
-
--- the same text
-abbrev pub same : List ℕ → List ℕ → Bool
-same = pointwise nat_eq
 
 -- a cookie that has been named and nothing else: its path is the whole site
 abbrev pub new_cookie : List ℕ → Cookie
@@ -30,7 +25,7 @@ abbrev pub place_of : List ℕ → List Cookie → Option ℕ
 place_of name cookies = position (λ cookie. same_name cookie.name name) cookies
 
 abbrev pub place_of_key : List ℕ → List CookiePair → Option ℕ
-place_of_key key pairs = position (λ pair. same pair.key key) pairs
+place_of_key key pairs = position (λ pair. same_name pair.key key) pairs
 
 -- the cookies, with this change of the one of that name: in its place, or of a new one behind the others
 abbrev pub with_cookie : List ℕ → (Cookie → Cookie) → List Cookie → List Cookie

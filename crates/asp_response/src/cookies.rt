@@ -30,20 +30,31 @@ fn new_cookie(alloc: Global, name: &Text) -> Result<Cookie, Memory>
     })
 }
 
-/// Whether a cookie has this name, in any ASCII case.
-fn is_named(cookie: &Cookie, name: &[char]) -> bool
-    ensures { result ≡ same_name cookie.now.name name.now }
+/// Whether two names are the same in any ASCII case.
+fn are_alike(one: &[char], other: &[char]) -> bool
+    ensures { result ≡ same_name one.now other.now }
 {
-    let named = cookie.name.as_slice();
-    if named.len() != name.len() {
+    if one.len() != other.len() {
         return false;
     }
-    for i in 0..named.len() {
-        if named[i].to_ascii_lowercase() != name[i].to_ascii_lowercase() {
+    for i in 0..one.len() {
+        if one[i].to_ascii_lowercase() != other[i].to_ascii_lowercase() {
             return false;
         }
     }
     true
+}
+
+fn is_named(cookie: &Cookie, name: &[char]) -> bool
+    ensures { result ≡ same_name cookie.now.name name.now }
+{
+    are_alike(cookie.name.as_slice(), name)
+}
+
+fn is_keyed(pair: &CookiePair, key: &[char]) -> bool
+    ensures { result ≡ same_name pair.now.key key.now }
+{
+    are_alike(pair.key.as_slice(), key)
 }
 
 fn place_of(cookies: &[Cookie], name: &[char]) -> Option<usize>
@@ -55,7 +66,7 @@ fn place_of(cookies: &[Cookie], name: &[char]) -> Option<usize>
 fn place_of_key(pairs: &[CookiePair], key: &[char]) -> Option<usize>
     ensures { result ≡ spec.place_of_key key.now pairs.now }
 {
-    pairs.iter().position(|pair| pair.key.as_slice() == key)
+    pairs.iter().position(|pair| is_keyed(pair, key))
 }
 
 fn set_part(cookie: &mut Cookie, part: CookiePart, text: Text)
