@@ -12,6 +12,9 @@ use Rattle.asp_journal.proofs.Bounds.{made_small}
 use Rattle.asp_journal.proofs.Open.{length_numbers, passed_few}
 use Rattle.asp_core.specs.Sessions.{Tells, sessions_in}
 use Rattle.asp_core.proofs.Accounts.{due_are, live_are}
+use Rattle.asp_core.proofs.Fits.{stop_calm, stop_fit, tick_calm, tick_fit}
+use Rattle.asp_core.proofs.Growing.{account_tells}
+use Rattle.asp_core.proofs.Kept.{stopped_is, ticked_is}
 use Rattle.asp_core.proofs.Ticking.{due_length}
 
 none_if : (stopping : Bool) (keys : List ℕ) → stopping ≡ true → (if stopping then [] else keys) ≡ []
@@ -45,3 +48,8 @@ live_few account past tells =
     let size = length_numbers (made past) in
     let small = made_small past in
     omega arith
+
+-- of a Tick, and of a Stop
+pub ruleset of_ticks = (account_tells, ticked_is, tick_fit, tick_calm)
+
+pub ruleset of_stops = (account_tells, stopped_is, stop_fit, stop_calm)

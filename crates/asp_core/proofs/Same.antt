@@ -16,8 +16,8 @@ pub kept_either : {T E : Type 0} → (result : Result T E) (m : Rules) (journal 
     → HasRoom (reverse journal) (length answers) old → HasAnswerRoom (reverse journal) (length answers) old_of
     → OnOk result (IsKept m (reverse next) then_account held answers) → OnOk result (IsWithin (reverse next))
     → OnOk result (HasRoom (reverse next) (length answers + 1) new)
-    → OnOk result (HasAnswerRoom (reverse next) (length answers + 1) new_of) → OnErr result ((next ≡ journal) × (then_account ≡ account))
-    → old ≤ new → old_of ≤ new_of → then_answers ≡ answers → IsKept m (reverse next) then_account held then_answers
+    → OnOk result (HasAnswerRoom (reverse next) (length answers + 1) new_of)
+    → OnErr result ((next ≡ journal) × (then_account ≡ account)) → old ≤ new → old_of ≤ new_of → then_answers ≡ answers → IsKept m (reverse next) then_account held then_answers
     × IsWithin (reverse next) × HasRoom (reverse next) (length then_answers) new × HasAnswerRoom (reverse next)
     (length then_answers) new_of
 kept_either (Ok done) m journal next account then_account held answers then_answers old new old_of new_of kept within room

@@ -47,7 +47,7 @@ fn ticked(
 }
 
 /// The journal and the session keys after a Tick, and how many keys' sessions are over by it. A refusal leaves them.
-#[tactic(auto, using(crate::proofs::Growing::account_tells, crate::proofs::Kept::ticked_is, crate::proofs::Fits::tick_fit, crate::proofs::Fits::tick_calm))]
+#[tactic(auto, using(crate::proofs::Expiring::of_ticks))]
 pub fn with_tick<R: Runner>(
     runner: &Snapshot<R>,
     site: &Snapshot<R::Site>,
@@ -99,7 +99,7 @@ pub fn with_tick<R: Runner>(
 }
 
 /// The journal and the session keys after a Stop. A refusal leaves them.
-#[tactic(auto, using(crate::proofs::Growing::account_tells, crate::proofs::Kept::stopped_is, crate::proofs::Fits::stop_fit, crate::proofs::Fits::stop_calm))]
+#[tactic(auto, using(crate::proofs::Expiring::of_stops))]
 pub fn with_stop<R: Runner>(
     runner: &Snapshot<R>,
     site: &Snapshot<R::Site>,

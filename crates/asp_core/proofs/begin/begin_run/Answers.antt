@@ -45,8 +45,8 @@ returns-in-Err-clause-fits g c = λ e.
 pub start_run-requires : goal.start_run-requires
 start_run-requires g c =
     let m = rules_by (g.R.Runner.meaning c.args.runner.now c.args.site.now) c.args.setting.now in
-    rw c.next_with_room.ensures.items (can_open m (reverse c.args.journal.now.items) c.args.sessions.now.account c.args.answers.now.items c.args.journal.now.capacity c.in-Ok.next.0 c.in-Ok.next.1 c.requires
-    c.in-Ok.ensures.ok)
+    rw c.next_with_room.ensures.items (can_open m (reverse c.args.journal.now.items) c.args.sessions.now.account
+    c.args.answers.now.items c.args.journal.now.capacity c.in-Ok.next.0 c.in-Ok.next.1 c.requires c.in-Ok.ensures.ok)
 
 pub add_begin-requires-clause-fit : goal.add_begin-requires-clause-fit
 add_begin-requires-clause-fit g c =
@@ -76,7 +76,8 @@ returns-in-Ok-start_run-clause-ok g c =
     c.in-Ok-start_run.begun c.in-Ok.next.0 c.in-Ok.next.1 c.args.journal.now.capacity
     c.add_begin.new.journal.capacity (vec_capacity c.next_with_room.new.answers) c.requires c.in-Ok.ensures.ok
     (rw c.next_with_room.ensures.items at c.add_begin.ensures.items) (omega arith) c.in-Ok.ensures.answer_room
-    (rw c.next_with_room.ensures.items at c.add_begin.ensures.account) (rw c.next_with_room.ensures.items at c.in-Ok-start_run.ensures)
+    (rw c.next_with_room.ensures.items at c.add_begin.ensures.account)
+    (rw c.next_with_room.ensures.items at c.in-Ok-start_run.ensures)
 
 pub returns-in-Ok-start_run-clause-capacity : goal.returns-in-Ok-start_run-clause-capacity
 returns-in-Ok-start_run-clause-capacity g c =

@@ -115,7 +115,8 @@ returns-clause-run g c =
     c.requires.host.site_is ∙ sym (ap (λ v. v.site) c.self.view_is) in
     let ok = rw (runner, site) at c.begin_run.ensures.ok in
     on_each c.begin_run.result _ _ (λ run has. begun_run g.R.Runner.meaning g.R.Runner.stands house.runner.value
-    house.site.value house.setting c.args.lane core.journal.items c.begin_run.new.journal.items core.sessions.account c.begin_run.new.sessions.account core.answers.items
+    house.site.value house.setting c.args.lane core.journal.items c.begin_run.new.journal.items core.sessions.account
+    c.begin_run.new.sessions.account core.answers.items
     c.begin_run.new.journal.capacity (vec_capacity c.begin_run.new.answers) run has) ok
 
 pub returns-clause-idle : goal.returns-clause-idle

@@ -25,7 +25,11 @@ take_run-requires g c =
     subst (λ list. IsSome (lookup (nat_eq c.args.run) list)) (sym c.self.invariant.0.answers_are) can.some in
     let room = take_room core.journal.items core.answers.items c.args.run core.journal.capacity c.self.invariant.2
     some in
-    record { waits = some; fit = take_fit rules past c.args.lane c.args.run c.self.invariant.0.sessions.journal.entries can; room = room }
+    record {
+      waits = some;
+      fit = take_fit rules past c.args.lane c.args.run c.self.invariant.0.sessions.journal.entries can;
+      room = room;
+    }
 
 pub invariant_of-self : goal.invariant_of-self
 invariant_of-self g c =

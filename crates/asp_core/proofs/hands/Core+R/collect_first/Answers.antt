@@ -27,7 +27,11 @@ take_run-answer-requires g c =
     subst (λ list. IsSome (lookup (nat_eq run) list)) (sym kept.answers_are) can.some in
     let room = take_room core.journal.items core.answers.items run core.journal.capacity c.self.invariant.2
     some in
-    record { waits = some; fit = take_fit rules past c.args.lane run c.self.invariant.0.sessions.journal.entries can; room = room }
+    record {
+      waits = some;
+      fit = take_fit rules past c.args.lane run c.self.invariant.0.sessions.journal.entries can;
+      room = room;
+    }
 
 pub invariant_of-self : goal.invariant_of-self
 invariant_of-self g c =
