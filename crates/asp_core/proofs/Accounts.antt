@@ -7,7 +7,6 @@ use Rattle.std.specs.Map.{lookup, keys_of}
 use Rattle.std.specs.Option.{option_map_or}
 use Rattle.std.proofs.lemmas.Bool.{cases_Bool, eqb-true}
 use Rattle.asp_job.specs.declared.entry.Entry.{Entry}
-use Rattle.asp_job.specs.declared.entry.TheConstants.{MOST_LIVE}
 use Rattle.asp_job.specs.declared.session.SessionState.{SessionState}
 use Rattle.asp_job.specs.Keys as job
 use Rattle.asp_job.specs.Keys.{made, is_live, is_closing, is_busy, is_due_key, keeps_busy, last_asked}
@@ -19,7 +18,7 @@ use Rattle.asp_session.specs.Account as kept
 use Rattle.asp_session.specs.Account.{Account, is_over, waits}
 use Rattle.asp_session.specs.Reading.{session_in}
 use Rattle.asp_session.specs.Steps.{most_live}
-use Rattle.asp_core.specs.Sessions.{Tells, is_running, keys_by, runs_for, sessions_in, state_at, waiter_of, waiters_of}
+use Rattle.asp_core.specs.Sessions.{Tells, is_running, keys_by, sessions_in, state_at, waiter_of, waiters_of}
 use Rattle.asp_core.specs.Sessions.{waits_keyed}
 use Rattle.asp_core.proofs.Rising.{among, any_same, keys_of_map, filter_twice, lookup_map, not_among, pass_same}
 

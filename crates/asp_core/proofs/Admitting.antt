@@ -1,21 +1,19 @@
 -- What a job leaves of a right journal.
-use Rattle.std.proofs.Common.{◌≡◌, ℕ, zero, suc, ◌+◌, ◌-◌, ◌<◌, ◌≤◌, ◌==◌, ◌&&◌, Bool, true, false, if◌then◌else◌, List}
+use Rattle.std.proofs.Common.{◌≡◌, ℕ, ◌+◌, ◌<◌, ◌≤◌, ◌&&◌, Bool, true, false, if◌then◌else◌, List}
 use Rattle.std.proofs.Common.{[], ◌∷◌, ◌++◌, length, reverse, Option, Some, None, Result, Ok, Err, OnOk, OnErr, refl}
-use Rattle.std.proofs.Common.{ap, sym, ◌∙◌, subst, arith, inl, inr, get_or, length-append}
-use Rattle.std.proofs.Common.{All}
+use Rattle.std.proofs.Common.{ap, sym, ◌∙◌, subst, arith, inl, inr, length-append}
 use Rattle.std.proofs.lemmas.Bool.{cases_Bool}
 use Rattle.std.proofs.lemmas.List.{reverse-append}
-use Rattle.std.proofs.lemmas.List.Elements.{All-push}
-use Rattle.std.proofs.Math.Path.{fun_ext}
-use Rattle.asp_core.specs.Drawing.{answer_for, drawn_then, entries_by, entry_then, told_of, tick_before, with_place}
-use Rattle.asp_core.specs.Kernel.{HasAnswerRoom, HasRoom, IsKept, IsSessionIn, IsWithin, rules_by, session_at}
+use Rattle.asp_core.specs.Drawing.{answer_for, drawn_then, entries_by, entry_then, told_of, tick_before}
+use Rattle.asp_core.specs.Kernel.{HasAnswerRoom, HasRoom, IsKept, IsWithin, rules_by}
 use Rattle.asp_core.specs.Ready.{with_answer}
+use Rattle.asp_core.specs.Sessions.{account_after, account_grown}
 use Rattle.asp_core.specs.Standing.{stand_in}
 use Rattle.asp_core.specs.Taking.{HasTaken}
 use Rattle.asp_job.specs.Application.{AppState}
 use Rattle.asp_job.specs.History.{with_lane}
 use Rattle.asp_job.specs.Journal.{admission, admit_entries, is_refused, job_now, past_after, tick_entries}
-use Rattle.asp_job.specs.Keys.{made, makes_key, session_of}
+use Rattle.asp_job.specs.Keys.{session_of}
 use Rattle.asp_job.specs.Output.{unavailable_in}
 use Rattle.asp_job.specs.Rules.{Rules, TooManySessions}
 use Rattle.asp_job.specs.Running.{is_page}
@@ -33,34 +31,11 @@ use Rattle.asp_job.specs.declared.job.Work.{Work}
 use Rattle.asp_job.specs.declared.job.Work.TheVariants as work
 use Rattle.asp_job.specs.declared.session.SessionState.{SessionState}
 use Rattle.asp_response.specs.declared.fixed.Unavailable.TheVariants as cause
+use Rattle.asp_session.specs.Account.{Account}
+use Rattle.asp_core.proofs.Growing.{account_then, grown_then}
 use Rattle.asp_core.proofs.Kept.{may_follow, kept_tick, grown_past, past_after_is, quiet_tick}
 use Rattle.asp_core.proofs.Waiting.{tick_stopping, tick_waiting}
 use Rattle.asp_core.specs.declared.setting.Setting.{Setting}
-
--- a place without a session at the end changes nothing
-get_push : (table : List (Option SessionState)) (i : ℕ) → get_or (table ++ None ∷ []) i None ≡ get_or table i None
-get_push [] zero = refl
-get_push [] (suc i) = refl
-get_push (x ∷ table) zero = refl
-get_push (x ∷ table) (suc i) = get_push table i
-
-session_push : (table : List (Option SessionState)) → session_at (table ++ None ∷ []) ≡ session_at table
-session_push table = fun_ext (λ k. ap (λ found. if k == 0 then None else found) (get_push table (k - 1)))
-
-pub place_sessions : (table : List (Option SessionState)) (fresh : Bool) → session_at (with_place table fresh)
-    ≡ session_at table
-place_sessions table true = session_push table
-place_sessions table false = refl
-
-place_keys : (table : List (Option SessionState)) (fresh : Bool) (n : ℕ) → length table ≡ n
-    → length (with_place table fresh) ≡ (if fresh then n + 1 else n)
-place_keys table true n e = length-append table (None ∷ []) ∙ ap (λ k. k + 1) e
-place_keys table false n e = e
-
-place_valid : (table : List (Option SessionState)) (fresh : Bool) → All IsSessionIn table
-    → All IsSessionIn (with_place table fresh)
-place_valid table true v = All-push IsSessionIn table None v tt
-place_valid table false v = v
 
 and_left : (a b : Bool) → (a && b) ≡ true → a ≡ true
 and_left true b e = refl
@@ -82,85 +57,77 @@ refused_answer m setting work.Stop = refl
 abbrev drawn_if : Bool → ℕ → ℕ → Bool → Job → What
 drawn_if refused run key fresh job = if refused then Refuse run job else Admit run key fresh job
 
-abbrev KeptWith : Rules → List Entry → List (Option SessionState) → ℕ → AppState → List (ℕ × Answer) → ℕ → What → Type 0
-KeptWith m past table count held answers lane what =
-    IsKept m (with_lane lane what ∷ past) (with_place table (makes_key what)) count held
+abbrev KeptWith : Rules → List Entry → Account → AppState → List (ℕ × Answer) → ℕ → What → Type 0
+KeptWith m past account held answers lane what =
+    IsKept m (with_lane lane what ∷ past) (account_after m past what account) held
     (with_answer answers (told_of what).run (answer_for what))
 
-kept_refused : (m : Meaning) (setting : Setting) (past : List Entry) (table : List (Option SessionState)) (count : ℕ)
+kept_refused : (m : Meaning) (setting : Setting) (past : List Entry) (account : Account)
     (held : AppState) (answers : List (ℕ × Answer)) (lane : ℕ) (job : Job) → let rules = rules_by m setting in
-    IsKept rules past table count held answers → IsAsked past job → IsSmall job
+    IsKept rules past account held answers → IsAsked past job → IsSmall job
     → needs_key (m.is_keyed job) (key_asked_by rules job) (session_of rules past) past ≡ true
-    → has_most_keys (session_of rules past) past ≡ true → KeptWith rules past table count held answers lane
+    → has_most_keys (session_of rules past) past ≡ true → KeptWith rules past account held answers lane
     (Refuse (drawn past + 1) job)
-kept_refused m setting past table count held answers lane job kept asked small needs most =
+kept_refused m setting past account held answers lane job kept asked small needs most =
     let rules = rules_by m setting in
     let entry = with_lane lane (Refuse (drawn past + 1) job) in
-    let turn = may_follow rules past entry kept.account.settled
+    let turn = may_follow rules past entry kept.sessions.journal.settled
     (record { asked = asked; number = refl; needs = needs; most = most }) in
     record {
-      account = record {
-        entries = (record { turn = turn; legal = tt; follows = tt }, kept.account.entries);
-        settled =
-            refl;
-      };
-      sessions = kept.sessions;
-      keys = kept.keys;
-      opened_is = kept.opened_is;
+      sessions = account_then rules past (entry ∷ []) account (account_after rules past entry.what account) kept.sessions
+          (record {
+            entries = (record { turn = turn; legal = tt; follows = tt }, kept.sessions.journal.entries);
+            settled = refl;
+          }) refl;
       held_is = kept.held_is;
       answers_are = ap (λ list. with_answer list (drawn past + 1) (stand_in cause.TooManySessions job.work))
           kept.answers_are
           ∙ ap (with_answer _ (drawn past + 1)) (refused_answer m setting job.work);
       answered = (tt, kept.answered);
       formed = (small, kept.formed);
-      valid = kept.valid;
     }
 
-kept_admitted : (m : Meaning) (setting : Setting) (past : List Entry) (table : List (Option SessionState)) (count : ℕ)
+kept_admitted : (m : Meaning) (setting : Setting) (past : List Entry) (account : Account)
     (held : AppState) (answers : List (ℕ × Answer)) (lane : ℕ) (job : Job) → let rules = rules_by m setting in
-    IsKept rules past table count held answers → IsAsked past job → IsSmall job
+    IsKept rules past account held answers → IsAsked past job → IsSmall job
     → is_refused (m.is_keyed job) (key_asked_by rules job) (session_of rules past) past ≡ false
-    → KeptWith rules past table count held answers lane
+    → KeptWith rules past account held answers lane
     (Admit (drawn past + 1) (key_for (m.is_keyed job) (key_asked_by rules job) (session_of rules past) past)
     (needs_key (m.is_keyed job) (key_asked_by rules job) (session_of rules past) past) job)
-kept_admitted m setting past table count held answers lane job kept asked small live =
+kept_admitted m setting past account held answers lane job kept asked small live =
     let rules = rules_by m setting in
     let fresh = needs_key (m.is_keyed job) (key_asked_by rules job) (session_of rules past) past in
     let key = key_for (m.is_keyed job) (key_asked_by rules job) (session_of rules past) past in
     let entry = with_lane lane (Admit (drawn past + 1) key fresh job) in
-    let turn = may_follow rules past entry kept.account.settled
+    let turn = may_follow rules past entry kept.sessions.journal.settled
     (record { asked = asked; number = refl; key_is = refl; fresh_is = refl; live = live }) in
     record {
-      account = record {
-        entries = (record { turn = turn; legal = tt; follows = tt }, kept.account.entries);
-        settled =
-            refl;
-      };
-      sessions = place_sessions table fresh ∙ kept.sessions;
-      keys = place_keys table fresh (made past) kept.keys;
-      opened_is = kept.opened_is;
+      sessions = account_then rules past (entry ∷ []) account (account_after rules past entry.what account) kept.sessions
+          (record {
+            entries = (record { turn = turn; legal = tt; follows = tt }, kept.sessions.journal.entries);
+            settled = refl;
+          }) refl;
       held_is = kept.held_is;
       answers_are = kept.answers_are;
       answered = (tt, kept.answered);
       formed = (small, kept.formed);
-      valid = place_valid table fresh kept.valid;
     }
 
-kept_drawn : (m : Meaning) (setting : Setting) (past : List Entry) (table : List (Option SessionState)) (count : ℕ)
+kept_drawn : (m : Meaning) (setting : Setting) (past : List Entry) (account : Account)
     (held : AppState) (answers : List (ℕ × Answer)) (lane : ℕ) (job : Job) → let rules = rules_by m setting in
-    IsKept rules past table count held answers → IsAsked past job → IsSmall job → KeptWith rules past table count held
+    IsKept rules past account held answers → IsAsked past job → IsSmall job → KeptWith rules past account held
     answers lane (admission (m.is_keyed job) (key_asked_by rules job) (session_of rules past) past job)
-kept_drawn m setting past table count held answers lane job kept asked small =
+kept_drawn m setting past account held answers lane job kept asked small =
     let rules = rules_by m setting in
     let keyed = m.is_keyed job in
     let key = key_asked_by rules job in
     let needs = needs_key keyed key (session_of rules past) past in
-    let Kept : Bool → Type 0 = λ b. KeptWith rules past table count held answers lane
+    let Kept : Bool → Type 0 = λ b. KeptWith rules past account held answers lane
     (drawn_if b (drawn past + 1) (key_for keyed key (session_of rules past) past) needs job) in
     elim (cases_Bool (is_refused keyed key (session_of rules past) past)) [
-      | inl refused ↦ subst Kept (sym refused) (kept_refused m setting past table count held answers lane job kept asked
+      | inl refused ↦ subst Kept (sym refused) (kept_refused m setting past account held answers lane job kept asked
           small (and_left _ _ refused) (and_right _ _ refused))
-      | inr taken ↦ subst Kept (sym taken) (kept_admitted m setting past table count held answers lane job kept asked
+      | inr taken ↦ subst Kept (sym taken) (kept_admitted m setting past account held answers lane job kept asked
           small
           taken)
     ]
@@ -175,15 +142,14 @@ joined m past lane job =
     ∙ ap (λ xs. entry ∷ xs) (sym (past_after_is past entries))
 
 -- a journal with a Tick where the job's moment is greater, and the entry of the job
-pub kept_after_job : (m : Meaning) (setting : Setting) (journal next : List Entry) (table : List (Option SessionState))
-    (count : ℕ) (held : AppState) (answers : List (ℕ × Answer)) (lane : ℕ) (job : Job) → let rules = rules_by m
-    setting in
-    let what = (entry_then rules (reverse journal) lane job).what in IsKept rules (reverse journal) table count held
-    answers → is_stopping (reverse journal) ≡ false → is_page job.work ≡ true → IsSmall job
-    → length (waiting_pages (reverse journal)) < MOST_WAITING → next ≡ journal ++ admit_entries rules (reverse journal)
-    lane job → IsKept rules (reverse next) (with_place table (makes_key what)) count held
-    (with_answer answers (told_of what).run (answer_for what))
-kept_after_job m setting journal next table count held answers lane job kept going page small few e =
+pub kept_after_job : (m : Meaning) (setting : Setting) (journal next : List Entry) (account then_account : Account)
+    (held : AppState) (answers : List (ℕ × Answer)) (lane : ℕ) (job : Job) → let rules = rules_by m setting in
+    let past = reverse journal in let what = (entry_then rules past lane job).what in IsKept rules past account held
+    answers → is_stopping past ≡ false → is_page job.work ≡ true → IsSmall job
+    → length (waiting_pages past) < MOST_WAITING → next ≡ journal ++ admit_entries rules past lane job
+    → then_account ≡ account_grown rules past (admit_entries rules past lane job) account
+    → IsKept rules (reverse next) then_account held (with_answer answers (told_of what).run (answer_for what))
+kept_after_job m setting journal next account then_account held answers lane job kept going page small few e grown =
     let rules = rules_by m setting in
     let past = reverse journal in
     let entries = tick_entries rules past lane job.moment in
@@ -192,50 +158,52 @@ kept_after_job m setting journal next table count held answers lane job kept goi
     let then_going : is_stopping then_past ≡ false = tick_stopping rules past lane job.moment ∙ going in
     let then_few : length (waiting_pages then_past) < MOST_WAITING = rw (tick_waiting rules past lane job.moment) few in
     let asked : IsAsked then_past now = record { «open» = then_going; page = page; moment = refl; few = then_few } in
-    let after = kept_drawn m setting then_past table count held answers lane now
-    (kept_tick rules past table count held answers lane job.moment kept) asked small in
-    rw (grown_past journal next (admit_entries rules past lane job) e ∙ joined rules past lane job) after
+    let after = kept_drawn m setting then_past (account_grown rules past entries account) held answers lane now
+    (kept_tick rules past account held answers lane job.moment kept) asked small in
+    rw (
+      grown_past journal next (admit_entries rules past lane job) e ∙ joined rules past lane job,
+      grown ∙ grown_then rules past entries (entry_then rules past lane job) account,
+    ) after
 
 -- the entry that the code makes of a job is the job's
-pub job_entry : (m : Rules) (past : List Entry) (table : List (Option SessionState)) (lane : ℕ) (job : Job)
-    → session_at table ≡ session_of m past → drawn_then m (session_at table) past lane job ≡ entry_then m past lane job
-job_entry m past table lane job right =
+pub job_entry : (m : Rules) (past : List Entry) (sessions : ℕ → Option SessionState) (lane : ℕ) (job : Job)
+    → sessions ≡ session_of m past → drawn_then m sessions past lane job ≡ entry_then m past lane job
+job_entry m past sessions lane job right =
     let then_past = past_after past (tick_entries m past lane job.moment) in
     let now = job_now then_past job in
-    let then_right : session_of m then_past ≡ session_of m past = quiet_tick m past lane job.moment in
+    let then_right : session_of m then_past ≡ session_of m past = (quiet_tick m past lane job.moment).sessions in
     ap (λ s. drawn_then m s past lane job) right
     ∙ ap (λ s. with_lane lane (admission (m.meaning.is_keyed now) (key_asked_by m now) s then_past now))
     (sym then_right)
 
 -- what the code makes of a job is what the job adds
-pub job_made : (m : Rules) (past : List Entry) (table : List (Option SessionState)) (lane : ℕ) (job : Job)
-    → session_at table ≡ session_of m past
-    → entries_by m (session_at table) past lane job ≡ admit_entries m past lane job
-job_made m past table lane job right =
+pub job_made : (m : Rules) (past : List Entry) (sessions : ℕ → Option SessionState) (lane : ℕ) (job : Job)
+    → sessions ≡ session_of m past → entries_by m sessions past lane job ≡ admit_entries m past lane job
+job_made m past sessions lane job right =
     let entries = tick_entries m past lane job.moment in
-    ap (λ s. tick_before s past lane job ++ drawn_then m (session_at table) past lane job ∷ []) right
-    ∙ ap (λ entry. entries ++ entry ∷ []) (job_entry m past table lane job right)
+    ap (λ s. tick_before s past lane job ++ drawn_then m sessions past lane job ∷ []) right
+    ∙ ap (λ entry. entries ++ entry ∷ []) (job_entry m past sessions lane job right)
 
 -- a core's parts after a job that may have been refused
 pub kept_taken : {T E : Type 0} → (result : Result T E) (m : Meaning) (setting : Setting) (journal next : List Entry)
-    (table then_table : List (Option SessionState)) (count : ℕ) (held : AppState)
+    (account then_account : Account) (held : AppState)
     (answers then_answers : List (ℕ × Answer)) (lane : ℕ) (job : Job) (old new old_of new_of : ℕ)
-    → let rules = rules_by m setting in IsKept rules (reverse journal) table count held answers
+    → let rules = rules_by m setting in IsKept rules (reverse journal) account held answers
     → IsWithin (reverse journal) → HasRoom (reverse journal) (length answers) old
     → HasAnswerRoom (reverse journal) (length answers) old_of → is_stopping (reverse journal) ≡ false → is_page job.work
     ≡ true → IsSmall job → length (waiting_pages (reverse journal)) < MOST_WAITING
-    → OnOk result (HasTaken rules lane job journal table answers next then_table then_answers new new_of)
-    → OnErr result ((next ≡ journal) × (then_table ≡ table) × (then_answers ≡ answers))
-    → OnErr result ((old ≤ new) × (old_of ≤ new_of)) → IsKept rules (reverse next) then_table count held then_answers
+    → OnOk result (HasTaken rules lane job journal account answers next then_account then_answers new new_of)
+    → OnErr result ((next ≡ journal) × (then_account ≡ account) × (then_answers ≡ answers))
+    → OnErr result ((old ≤ new) × (old_of ≤ new_of)) → IsKept rules (reverse next) then_account held then_answers
     × IsWithin (reverse next) × HasRoom (reverse next) (length then_answers) new × HasAnswerRoom (reverse next)
     (length then_answers) new_of
-kept_taken (Ok told) m setting journal next table then_table count held answers then_answers lane job old new old_of
+kept_taken (Ok told) m setting journal next account then_account held answers then_answers lane job old new old_of
     new_of
     kept within room room_of going page small few taken same more =
-    let whole = kept_after_job m setting journal next table count held answers lane job kept going page small few
-    taken.journal_is in
-    (rw (taken.table_is, taken.answers_are) whole, taken.within, taken.room, taken.answer_room)
-kept_taken (Err stop) m setting journal next table then_table count held answers then_answers lane job old new old_of
+    let whole = kept_after_job m setting journal next account then_account held answers lane job kept going page small few
+    taken.journal_is taken.account_is in
+    (rw taken.answers_are whole, taken.within, taken.room, taken.answer_room)
+kept_taken (Err stop) m setting journal next account then_account held answers then_answers lane job old new old_of
     new_of kept within room room_of going page small few taken same more =
     let wide = more.0 in let wide_of = more.1 in
     let has : HasRoom (reverse journal) (length answers) new = omega arith in

@@ -19,7 +19,7 @@ use Rattle.asp_job.specs.Told.{Meaning, Told, heard}
 use Rattle.asp_job.specs.declared.answer.Answer.{Answer}
 use Rattle.asp_job.specs.declared.entry.Entry.{Entry}
 use Rattle.asp_job.specs.declared.entry.What.TheVariants.{App}
-use Rattle.asp_job.specs.declared.session.SessionState.{SessionState}
+use Rattle.asp_session.specs.Account.{Account}
 use Rattle.vb_value.specs.declared.application.AppCall.{AppCall}
 use Rattle.vb_value.specs.declared.application.AppReply.{AppReply}
 use Rattle.asp_journal.proofs.Past.{length_past, past_push}
@@ -73,13 +73,13 @@ free_called stands lane journal held answers run next then_held capacity then_ru
 
 -- its entry does not fit
 pub full_called : {R Site State : Type 0} → (m : Rules) (core : CoreView R Site)
-    (table : List (Option SessionState)) (count : ℕ) (held : AppState) (answers : List (ℕ × Answer)) (lane : ℕ)
-    (run : RunView State) (entries weight : ℕ) → IsKept m (past_of core) table count held answers →
+    (account : Account) (held : AppState) (answers : List (ℕ × Answer)) (lane : ℕ)
+    (run : RunView State) (entries weight : ℕ) → IsKept m (past_of core) account held answers →
     IsCallTooMuch (past_of core) lane held run entries weight →
     IsTooMuch (past_after (past_of core) (called core lane run)) entries weight × HasNotFitFor (past_of core) lane run
-full_called m core table count held answers lane run entries weight kept is =
+full_called m core account held answers lane run entries weight kept is =
     let past = past_of core in
-    let both = not_fit m past table count held answers lane run.number entries weight is.call kept is.free is.much in (
+    let both = not_fit m past account held answers lane run.number entries weight is.call kept is.free is.much in (
       subst (λ es. IsTooMuch (past_after past es) entries weight)
           (sym (called_is core lane run is.call is.wanted)) both.0,
       (is.call, is.wanted, both.1),

@@ -20,7 +20,7 @@ use Rattle.asp_job.specs.declared.answer.Answer.{Answer}
 use Rattle.asp_job.specs.declared.entry.Entry.{Entry}
 use Rattle.asp_job.specs.declared.entry.TheConstants.{MOST_ENTRIES, MOST_WEIGHT}
 use Rattle.asp_job.specs.declared.entry.What.TheVariants.{App}
-use Rattle.asp_job.specs.declared.session.SessionState.{SessionState}
+use Rattle.asp_session.specs.Account.{Account}
 use Rattle.vb_value.specs.declared.application.AppCall.{AppCall}
 use Rattle.vb_value.specs.declared.application.AppCall.TheVariants as call
 use Rattle.vb_value.specs.declared.application.AppReply.{AppReply}
@@ -117,28 +117,27 @@ pub ruleset of_writes = (write_short, short_within, short_much)
 
 -- ---- the entry of a call
 
-kept_call : (m : Rules) (past : List Entry) (table : List (Option SessionState)) (count : ℕ) (held : AppState)
-    (answers : List (ℕ × Answer)) (lane run : ℕ) (c : AppCall) → IsKept m past table count held answers →
+kept_call : (m : Rules) (past : List Entry) (account : Account) (held : AppState)
+    (answers : List (ℕ × Answer)) (lane run : ℕ) (c : AppCall) → IsKept m past account held answers →
     IsRunning past lane run → m.meaning.does (told m past run) ≡ Wants c → blocker_of held run c ≡ None →
     IsAppCall c → IsReply (apply held run c).1 →
-    IsKept m (call_entry past lane run c ∷ past) table count (apply held run c).0 answers
-kept_call m past table count held answers lane run c kept running wants free asks replied =
+    IsKept m (call_entry past lane run c ∷ past) account (apply held run c).0 answers
+kept_call m past account held answers lane run c kept running wants free asks replied =
     let entry = call_entry past lane run c in
-    let turn = may_follow m past entry kept.account.settled running in
+    let turn = may_follow m past entry kept.sessions.journal.settled running in
     let free_now : blocker_of (held_by past) run c ≡ None = ap (λ h. blocker_of h run c) (sym kept.held_is) ∙ free in
     record {
-      account = record {
-        entries = (record { turn = turn; legal = (free_now, refl); follows = wants }, kept.account.entries);
-        settled = refl;
+      sessions = record {
+        journal = record {
+          entries = (record { turn = turn; legal = (free_now, refl); follows = wants }, kept.sessions.journal.entries);
+          settled = refl;
+        };
+        account_is = kept.sessions.account_is;
       };
-      sessions = kept.sessions;
-      keys = kept.keys;
-      opened_is = kept.opened_is;
       held_is = ap (λ h. (apply h run c).0) kept.held_is;
       answers_are = kept.answers_are;
       answered = (tt, kept.answered);
       formed = ((asks, subst (λ h. IsReply (apply h run c).1) kept.held_is replied), kept.formed);
-      valid = kept.valid;
     }
 
 -- what a run was told after a reply
@@ -167,28 +166,28 @@ MeansIt m past run = (c : AppCall) → wanted_by run.progress ≡ Some c → m.m
 -- a core's parts after a call that may have been refused
 pub kept_either_called : {T E Site State : Type 0} → (result : Result T E) (m : Rules)
     (stands : Site → State → Told → ℕ → Type 0) (lane : ℕ) (journal next : List Entry)
-    (table : List (Option SessionState)) (count : ℕ) (held then_held : AppState) (answers : List (ℕ × Answer))
-    (run then_run : RunView State) (old new capacity_of : ℕ) → IsKept m (reverse journal) table count held answers →
+    (account : Account) (held then_held : AppState) (answers : List (ℕ × Answer))
+    (run then_run : RunView State) (old new capacity_of : ℕ) → IsKept m (reverse journal) account held answers →
     IsWithin (reverse journal) → HasRoom (reverse journal) (length answers) old →
     HasAnswerRoom (reverse journal) (length answers) capacity_of → IsRunning (reverse journal) lane run.number →
     MeansIt m (reverse journal) run →
     OnOk result (HasCalled stands lane journal held (length answers) run next then_held new then_run) →
     OnErr result ((next ≡ journal) × (then_held ≡ held) × (then_run ≡ run)) → old ≤ new →
-    IsKept m (reverse next) table count then_held answers × IsWithin (reverse next)
+    IsKept m (reverse next) account then_held answers × IsWithin (reverse next)
     × HasRoom (reverse next) (length answers) new × HasAnswerRoom (reverse next) (length answers) capacity_of
-kept_either_called (Ok done) m stands lane journal next table count held then_held answers run then_run old new
+kept_either_called (Ok done) m stands lane journal next account held then_held answers run then_run old new
     capacity_of kept within room room_of running means has same more =
     let past = reverse journal in
     let entry = call_entry past lane run.number has.call in
     let made = call_grown stands lane journal held (length answers) run next then_held new then_run kept.held_is has in
     let of : reverse next ≡ entry ∷ past = ap reverse made ∙ past_push journal entry in
-    let all : IsKept m (entry ∷ past) table count (apply held run.number has.call).0 answers =
-    kept_call m past table count held answers lane run.number has.call kept running
+    let all : IsKept m (entry ∷ past) account (apply held run.number has.call).0 answers =
+    kept_call m past account held answers lane run.number has.call kept running
     (means has.call has.wanted) has.free has.asks has.replied in
-    let then_kept : IsKept m (reverse next) table count then_held answers = rw (of, has.held_is) all in
+    let then_kept : IsKept m (reverse next) account then_held answers = rw (of, has.held_is) all in
     let has_of : HasAnswerRoom (reverse next) (length answers) capacity_of = rw of room_of in
     (then_kept, has.within, has.room, has_of)
-kept_either_called (Err stop) m stands lane journal next table count held then_held answers run then_run old new
+kept_either_called (Err stop) m stands lane journal next account held then_held answers run then_run old new
     capacity_of kept within room room_of running means has same more =
     let wide : HasRoom (reverse journal) (length answers) new = omega arith in
     rw (same.0, same.1) (kept, within, wide, room_of)
@@ -262,12 +261,12 @@ too_much past entries weight is = elim is.much [
   | inr heavy ↦ (let same = is.weight_is in inr (omega arith))
 ]
 
-pub not_fit : (m : Rules) (past : List Entry) (table : List (Option SessionState)) (count : ℕ) (held : AppState)
+pub not_fit : (m : Rules) (past : List Entry) (account : Account) (held : AppState)
     (answers : List (ℕ × Answer)) (lane run entries weight : ℕ) (c : AppCall) →
-    IsKept m past table count held answers → blocker_of held run c ≡ None →
+    IsKept m past account held answers → blocker_of held run c ≡ None →
     IsTooMuch (with_lane lane (App run c (apply held run c).1) ∷ past) entries weight →
     IsTooMuch (call_entry past lane run c ∷ past) entries weight × HasNotFit past lane run c
-not_fit m past table count held answers lane run entries weight c kept free much =
+not_fit m past account held answers lane run entries weight c kept free much =
     let here : IsTooMuch (call_entry past lane run c ∷ past) entries weight =
     subst (λ h. IsTooMuch (with_lane lane (App run c (apply h run c).1) ∷ past) entries weight) kept.held_is much in (
       here,

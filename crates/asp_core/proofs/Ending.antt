@@ -1,19 +1,15 @@
 -- What an End leaves of a right journal.
-use Rattle.std.proofs.Common.{◌≡◌, ℕ, ◌+◌, ◌-◌, ◌^◌, ◌<◌, ◌≤◌, ◌==◌, ◌&&◌, Bool, true, false, not}
-use Rattle.std.proofs.Common.{if◌then◌else◌, List, [], ◌∷◌, ◌++◌, All, length, reverse, Option, Some, None, IfSome}
-use Rattle.std.proofs.Common.{is_some, refl, ap, sym, ◌∙◌, subst, arith, inl, inr, length-set, slice_set, get_or}
+use Rattle.std.proofs.Common.{◌≡◌, ℕ, ◌+◌, ◌^◌, ◌<◌, true, List, [], ◌∷◌, ◌++◌, length, reverse, Option, Some, None}
+use Rattle.std.proofs.Common.{IfSome}
+use Rattle.std.proofs.Common.{is_some, refl, ap, sym, ◌∙◌, subst, arith}
 use lib.Utf8.{encode}
 use Rattle.std.specs.Prelude.{codes, encode_utf8_all}
-use Rattle.std.proofs.Math.Path.{fun_ext}
-use Rattle.std.proofs.lemmas.Bool.{cases_Bool, eqb-true}
-use Rattle.std.proofs.lemmas.Grind.{get_or-set_at}
-use Rattle.std.proofs.lemmas.List.{get_or-set_other, length-reverse}
-use Rattle.std.proofs.lemmas.List.Elements.{All-set}
+use Rattle.std.proofs.lemmas.List.{length-reverse}
 use Rattle.asp_core.specs.Ends.{end_what, left_of}
 use Rattle.asp_core.specs.Kernel.{CoreView, HasAnswerRoom, HasRoom, IsEndOf, IsKept, IsRunOf, IsSessionIn, IsWithin}
-use Rattle.asp_core.specs.Kernel.{RunView, StandsAt, past_of, rules_by, rules_of, session_at, table_after}
-use Rattle.asp_core.specs.Kernel.{wanted_by}
+use Rattle.asp_core.specs.Kernel.{RunView, StandsAt, past_of, rules_by, rules_of, wanted_by}
 use Rattle.asp_core.specs.Ready.{ready, with_answer}
+use Rattle.asp_core.specs.Sessions.{account_ended, after_of, left_after}
 use Rattle.asp_core.specs.Standing.{stand_in, stand_ins}
 use Rattle.asp_core.specs.Start.{fail_after, fail_by, fail_in, start_fail}
 use Rattle.asp_core.specs.declared.ends.Left.{Left}
@@ -23,7 +19,7 @@ use Rattle.asp_core.specs.declared.run.StandIns.{StandIns}
 use Rattle.asp_job.specs.Application.{AppState, freed}
 use Rattle.asp_job.specs.History.{with_lane}
 use Rattle.asp_job.specs.Journal.{MayEnd, end_entry}
-use Rattle.asp_job.specs.Keys.{session_left, session_of, told}
+use Rattle.asp_job.specs.Keys.{session_left, told}
 use Rattle.asp_job.specs.Output.{answer_by, answer_in, counted, end_of, finished_in, length_in, made_in, status_in}
 use Rattle.asp_job.specs.Output.{unavailable_in}
 use Rattle.asp_job.specs.Rules.{Rules, JournalFull, OutOfMemory}
@@ -44,13 +40,17 @@ use Rattle.asp_job.specs.declared.session.SessionState.{SessionState}
 use Rattle.asp_response.specs.Fixed.{why}
 use Rattle.asp_response.specs.declared.fixed.Unavailable.{Unavailable}
 use Rattle.asp_response.specs.declared.fixed.Unavailable.TheVariants as cause
+use Rattle.asp_job.specs.Session.{IsSession}
+use Rattle.asp_session.specs.Account.{Account}
+use Rattle.asp_session.specs.declared.after.After.{After}
+use Rattle.asp_session.specs.declared.after.After.TheVariants.{Kept, Now}
 use Rattle.vb_value.specs.declared.application.AppCall.{AppCall}
 use Rattle.asp_journal.proofs.Past.{past_push}
 use Rattle.asp_core.proofs.Admitting.{answers_few}
 use Rattle.asp_core.proofs.Answering.{page_answered}
 use Rattle.asp_core.proofs.Counts.{fewer_unfinished}
 use Rattle.asp_core.proofs.Kept.{may_follow}
-use Rattle.asp_core.proofs.Made.{keys_made}
+use Rattle.asp_core.proofs.Growing.{account_then}
 use Rattle.asp_core.specs.declared.setting.Setting.{Setting}
 
 -- ---- what the run leaves is what its meaning has
@@ -192,123 +192,64 @@ end_is m past lane run kind left is =
     ∙ ap (End run kind (status_in (answer_by m past run kind)) (length_in (answer_by m past run kind))
     (counted kind (made_in (m.meaning.does (told m past run))))) is.finished_is
 
--- ---- the table of sessions
+-- ---- the account of the session keys
 
-and_false : (b : Bool) → (b && false) ≡ false
-and_false true = refl
-and_false false = refl
+pub ended_is : (m : Rules) (past : List Entry) (run : ℕ) (kind : EndKind) (session : Option SessionState)
+    (account : Account) → (kind ≡ how.Done → session ≡ session_left (m.meaning.does (told m past run)))
+    → account_ended (key_of past run) (after_of kind session) account
+    ≡ account_ended (key_of past run) (left_after m past run kind) account
+ended_is m past run how.Done session account left =
+    ap (λ s. account_ended (key_of past run) (after_of how.Done s) account) (left refl)
+ended_is m past run how.Memory session account left = refl
+ended_is m past run how.JournalFull session account left = refl
 
-eqb_of : (a b : ℕ) → a ≡ b → (a == b) ≡ true
-eqb_of a b e = grind arith
-
-positive : (k : ℕ) → (k == 0) ≡ false → 0 < k
-positive k e = grind arith
-
-apart : (a b : ℕ) → (a == b) ≡ false → 0 < a → 0 < b → a - 1 ≡ b - 1 → ⊥
-apart a b e l m f = let same : a ≡ b = omega arith in cc (eqb_of a b same)
-
--- a session that is set is found under its key alone
-session_set : (table : List (Option SessionState)) (key : ℕ) (session : Option SessionState) (k : ℕ)
-    → key ≤ length table → session_at (table_after table how.Done key session) k
-    ≡ (if key == k && not (k == 0) then session else session_at table k)
-session_set table key session k small = elim (cases_Bool (k == 0)) [
-  | inl zero_k ↦ rw (zero_k, and_false (key == k)) refl
-  | inr some_k ↦ elim (cases_Bool (key == 0)) [
-    | inl zero_key ↦ (let key_is : key ≡ 0 = eqb-true key 0 zero_key in
-        let other : (key == k) ≡ false = grind arith in rw (zero_key, other) refl)
-    | inr some_key ↦ elim (cases_Bool (key == k)) [
-      | inl same ↦ (let is : key ≡ k = eqb-true key k same in
-          let low : 0 < key = positive key some_key in
-          let found : get_or (slice_set table (key - 1) session) (k - 1) None ≡ session = get_or-set_at table (key - 1)
-          (k - 1) session None (omega arith) (omega arith) in
-          rw (some_key, same, some_k) found)
-      | inr other ↦ (let low : 0 < key = positive key some_key in let low_k : 0 < k = positive k some_k in
-          let found : get_or (slice_set table (key - 1) session) (k - 1) None ≡ get_or table (k - 1) None =
-          get_or-set_other table (key - 1) (k - 1) session None (λ e. apart key k other low low_k (sym e)) in
-          rw (some_key, other, some_k) found)
-    ]
-  ]
-]
-
-table_sessions : (m : Rules) (past : List Entry) (table : List (Option SessionState)) (lane run status size n1 n2 : ℕ)
-    (kind : EndKind) (session : Option SessionState) → session_at table ≡ session_of m past
-    → key_of past run ≤ length table → (kind ≡ how.Done → session ≡ session_left (m.meaning.does (told m past run)))
-    → session_at (table_after table kind (key_of past run) session)
-    ≡ session_of m (with_lane lane (End run kind status size n1 n2) ∷ past)
-table_sessions m past table lane run status size n1 n2 how.Done session e small left = fun_ext (λ k.
-    session_set table (key_of past run) session k small
-    ∙ ap (λ s. if key_of past run == k && not (k == 0) then s else session_at table k) (left refl)
-    ∙ ap (λ f. if key_of past run == k && not (k == 0) then session_left (m.meaning.does (told m past run)) else f k) e)
-table_sessions m past table lane run status size n1 n2 how.Memory session e small left = e
-table_sessions m past table lane run status size n1 n2 how.JournalFull session e small left = e
-
-set_length : (b : Bool) (table : List (Option SessionState)) (at : ℕ) (session : Option SessionState)
-    → length (if b then table else slice_set table at session) ≡ length table
-set_length true table at session = refl
-set_length false table at session = length-set table at session
-
-table_length : (table : List (Option SessionState)) (kind : EndKind) (key : ℕ) (session : Option SessionState)
-    → length (table_after table kind key session) ≡ length table
-table_length table how.Done key session = set_length (key == 0) table (key - 1) session
-table_length table how.Memory key session = refl
-table_length table how.JournalFull key session = refl
-
-set_valid : (b : Bool) (table : List (Option SessionState)) (at : ℕ) (session : Option SessionState)
-    → All IsSessionIn table → IsSessionIn session → All IsSessionIn (if b then table else slice_set table at session)
-set_valid true table at session all v = all
-set_valid false table at session all v = All-set IsSessionIn table at session v all
-
-table_valid : (table : List (Option SessionState)) (kind : EndKind) (key : ℕ) (session : Option SessionState)
-    → All IsSessionIn table → IsSessionIn session → All IsSessionIn (table_after table kind key session)
-table_valid table how.Done key session all v = set_valid (key == 0) table (key - 1) session all v
-table_valid table how.Memory key session all v = all
-table_valid table how.JournalFull key session all v = all
+-- a session that is left may be
+pub left_may : (kind : EndKind) (session : Option SessionState) (after : After) → IsSessionIn session
+    → after ≡ after_of kind session → (one : SessionState) → after ≡ Now (Some one) → IsSession one
+left_may how.Done None after may e one is = absurd (let both : Now None ≡ Now (Some one) = sym e ∙ is in cc)
+left_may how.Done (Some session) after may e one is =
+    let both : Now (Some session) ≡ Now (Some one) = sym e ∙ is in
+    let same : session ≡ one = cc in
+    subst IsSession same may
+left_may how.Memory session after may e one is = absurd (let both : Kept ≡ Now (Some one) = sym e ∙ is in cc)
+left_may how.JournalFull session after may e one is = absurd (let both : Kept ≡ Now (Some one) = sym e ∙ is in cc)
 
 -- ---- the End
 
-kept_end : (m : Rules) (past : List Entry) (table : List (Option SessionState)) (count : ℕ) (held : AppState)
-    (answers : List (ℕ × Answer)) (lane run : ℕ) (kind : EndKind) (left : Left) → IsKept m past table count held answers
+kept_end : (m : Rules) (past : List Entry) (account : Account) (held : AppState)
+    (answers : List (ℕ × Answer)) (lane run : ℕ) (kind : EndKind) (left : Left) → IsKept m past account held answers
     → IsRunning past lane run → IsEnding m past lane run kind left → IsKept m (end_entry m past lane run kind ∷ past)
-    (table_after table kind (key_of past run) left.session) count (freed run held) (with_answer answers run left.answer)
-kept_end m past table count held answers lane run kind left kept running is =
+    (account_ended (key_of past run) (after_of kind left.session) account) (freed run held)
+    (with_answer answers run left.answer)
+kept_end m past account held answers lane run kind left kept running is =
     let entry = end_entry m past lane run kind in
     let answer = answer_by m past run kind in
-    let outcome = m.meaning.does (told m past run) in
-    let turn = may_follow m past entry kept.account.settled running in
-    let made_key = keys_made m past kept.account.entries run in
-    let keys = kept.keys in
-    let small : key_of past run ≤ length table = omega arith in
+    let turn = may_follow m past entry kept.sessions.journal.settled running in
+    let then_account = account_ended (key_of past run) (after_of kind left.session) account in
     record {
-      account = record {
-        entries = (record { turn = turn; legal = tt; follows = (is.may, refl) }, kept.account.entries);
-        settled = refl;
-      };
-      sessions = table_sessions m past table lane run (status_in answer) (length_in answer)
-          (counted kind (made_in outcome)) (counted kind (finished_in outcome)) kind left.session kept.sessions small
-          is.session_is;
-      keys = table_length table kind (key_of past run) left.session ∙ kept.keys;
-      opened_is = kept.opened_is;
+      sessions = account_then m past (entry ∷ []) account then_account kept.sessions
+          (record {
+            entries = (record { turn = turn; legal = tt; follows = (is.may, refl) }, kept.sessions.journal.entries);
+            settled = refl;
+          }) (ended_is m past run kind left.session account is.session_is);
       held_is = ap (freed run) kept.held_is;
       answers_are = ap (λ list. with_answer list run left.answer) kept.answers_are ∙ ap (with_answer (ready m past) run)
           is.answer_is;
       answered = (is.answered, kept.answered);
       formed = (tt, kept.formed);
-      valid = table_valid table kind (key_of past run) left.session kept.valid is.valid;
     }
 
 -- there is room for the End of an unfinished run and for its answer
 pub end_room : (m : Rules) (journal : List Entry) (run answers capacity capacity_of : ℕ)
-    (table : List (Option SessionState)) (count : ℕ) (held : AppState) (list : List (ℕ × Answer))
-    → IsKept m (reverse journal) table count held list → is_unfinished (reverse journal) run ≡ true
+    (account : Account) (held : AppState) (list : List (ℕ × Answer))
+    → IsKept m (reverse journal) account held list → is_unfinished (reverse journal) run ≡ true
     → HasRoom (reverse journal) answers capacity → HasAnswerRoom (reverse journal) answers capacity_of
-    → (length journal < capacity) × (answers < capacity_of) × (key_of (reverse journal) run ≤ length table)
-end_room m journal run answers capacity capacity_of table count held list kept open_ room room_of =
+    → (length journal < capacity) × (answers < capacity_of)
+end_room m journal run answers capacity capacity_of account held list kept open_ room room_of =
     let past = reverse journal in
-    let fewer = fewer_unfinished m past 0 run how.Memory 0 0 0 0 kept.account.entries open_ in
+    let fewer = fewer_unfinished m past 0 run how.Memory 0 0 0 0 kept.sessions.journal.entries open_ in
     let same : length past ≡ length journal = length-reverse journal in
-    let made_key = keys_made m past kept.account.entries run in
-    let keys = kept.keys in
-    (omega arith, omega arith, omega arith)
+    (omega arith, omega arith)
 
 -- the journal grows by the entry of the End
 pub end_grown : (m : Rules) (journal next : List Entry) (lane run : ℕ) (kind : EndKind) (left : Left)
@@ -331,17 +272,17 @@ end_fails m journal next before then_fail lane run kind left is was e after =
     ∙ ap (fail_after (start_fail m past) run) is.fail_is ∙ ap (start_fail m) (sym of)
 
 -- a journal with an End is kept
-pub kept_after_end : (m : Rules) (journal next : List Entry) (table : List (Option SessionState)) (count : ℕ)
+pub kept_after_end : (m : Rules) (journal next : List Entry) (account : Account)
     (held : AppState) (answers : List (ℕ × Answer)) (lane run : ℕ) (kind : EndKind) (left : Left)
-    (capacity capacity_of : ℕ) → IsKept m (reverse journal) table count held answers → IsWithin (reverse journal)
+    (capacity capacity_of : ℕ) → IsKept m (reverse journal) account held answers → IsWithin (reverse journal)
     → HasRoom (reverse journal) (length answers) capacity → HasAnswerRoom (reverse journal) (length answers) capacity_of
     → IsRunning (reverse journal) lane run → IsEnding m (reverse journal) lane run kind left
     → next ≡ journal ++ with_lane lane (end_what run kind left) ∷ []
-    → IsKept m (reverse next) (table_after table kind (key_of (reverse journal) run) left.session) count
+    → IsKept m (reverse next) (account_ended (key_of (reverse journal) run) (after_of kind left.session) account)
     (freed run held) (with_answer answers run left.answer) × IsWithin (reverse next) × HasRoom (reverse next)
     (length (with_answer answers run left.answer)) capacity × HasAnswerRoom (reverse next)
     (length (with_answer answers run left.answer)) capacity_of
-kept_after_end m journal next table count held answers lane run kind left capacity capacity_of kept within room room_of
+kept_after_end m journal next account held answers lane run kind left capacity capacity_of kept within room room_of
     running is e =
     let past = reverse journal in
     let entry = end_entry m past lane run kind in
@@ -351,7 +292,7 @@ kept_after_end m journal next table count held answers lane run kind left capaci
     let outcome = m.meaning.does (told m past run) in
     let fewer : length (unfinished (entry ∷ past)) + 1 ≡ length (unfinished past) = fewer_unfinished m past lane run
     kind (status_in answer) (length_in answer) (counted kind (made_in outcome)) (counted kind (finished_in outcome))
-    kept.account.entries running.unfinished in
+    kept.sessions.journal.entries running.unfinished in
     let more = answers_few answers run left.answer in
     let few = within.few in
     let light = within.light in
@@ -359,4 +300,4 @@ kept_after_end m journal next table count held answers lane run kind left capaci
     let has : HasRoom (entry ∷ past) (length (with_answer answers run left.answer)) capacity = omega arith in
     let has_of : HasAnswerRoom (entry ∷ past) (length (with_answer answers run left.answer)) capacity_of =
     omega arith in
-    rw of (kept_end m past table count held answers lane run kind left kept running is, then_within, has, has_of)
+    rw of (kept_end m past account held answers lane run kind left kept running is, then_within, has, has_of)

@@ -1,10 +1,9 @@
 -- What the end of a run, and each entry of a right journal, makes of the account of the session keys.
-use Rattle.std.proofs.Common.{◌≡◌, ℕ, ◌+◌, ◌<◌, ◌≤◌, ◌==◌, ◌&&◌, ◌||◌, ◌⊎◌, Bool, true, false, not, if◌then◌else◌}
-use Rattle.std.proofs.Common.{nat_eq, List, [], ◌∷◌, filter, map, is_some, Option, Some, None, unwrap_or, refl, ap, sym}
+use Rattle.std.proofs.Common.{◌≡◌, ℕ, ◌<◌, ◌≤◌, ◌==◌, ◌&&◌, ◌||◌, ◌⊎◌, Bool, true, false, not, if◌then◌else◌}
+use Rattle.std.proofs.Common.{nat_eq, List, ◌∷◌, map, is_some, Option, Some, None, unwrap_or, refl, ap, sym}
 use Rattle.std.proofs.Common.{◌∙◌, arith, inl, inr}
 use Rattle.std.proofs.Math.Path.{fun_ext}
-use Rattle.std.specs.List.{list_any}
-use Rattle.std.specs.Map.{lookup, remove_entry}
+use Rattle.std.specs.Map.{remove_entry}
 use Rattle.std.specs.Option.{option_map_or}
 use Rattle.std.proofs.lemmas.Bool.{cases_Bool, cases_lt, eqb-true, eq-eqb}
 use Rattle.asp_job.specs.declared.entry.EndKind.{EndKind}
@@ -16,7 +15,7 @@ use Rattle.asp_job.specs.declared.entry.What.{What}
 use Rattle.asp_job.specs.declared.entry.What.TheVariants.{Admit, App, Begin, End, Halt, Queue, Refuse, Stop, Take, Tick}
 use Rattle.asp_job.specs.declared.session.SessionState.{SessionState}
 use Rattle.asp_job.specs.History.{with_lane}
-use Rattle.asp_job.specs.Journal.{AreRight, IsRight, past_after}
+use Rattle.asp_job.specs.Journal.{AreRight, IsRight}
 use Rattle.asp_job.specs.Keys.{is_busy, is_live, keeps_busy, live, made, session_of}
 use Rattle.asp_job.specs.Rules.{Rules}
 use Rattle.asp_job.specs.Runs.{drawn, is_stage_unfinished, is_stage_waiting, is_unfinished, is_waiting, key_of, numbers}
@@ -25,19 +24,18 @@ use Rattle.asp_job.specs.Turns.{owed}
 use Rattle.asp_journal.proofs.Others.{own_number, stage_other}
 use Rattle.asp_session.specs.declared.after.After.{After}
 use Rattle.asp_session.specs.declared.key.KeyState.{KeyState}
-use Rattle.asp_session.specs.declared.key.Waiter.{Waiter}
 use Rattle.asp_session.specs.Account.{Account, waits}
 use Rattle.asp_session.specs.Reading.{session_in}
-use Rattle.asp_session.specs.Steps.{after_end, changed, finished, forgotten, left_by}
-use Rattle.asp_core.specs.Sessions.{Tells, account_after, account_ended, account_of, account_queued}
+use Rattle.asp_session.specs.Steps.{after_end, finished, forgotten, left_by}
+use Rattle.asp_core.specs.Sessions.{Tells, account_after, account_ended, account_of}
 use Rattle.asp_core.specs.Sessions.{is_running, keys_by, left_after, runs_for, sessions_in, state_at, waiter_of}
 use Rattle.asp_core.specs.Sessions.{waiters_of, waits_keyed}
-use Rattle.asp_core.proofs.Accounts.{IsBeyond, busy_either, found_key, is_waited, session_beyond, session_here}
+use Rattle.asp_core.proofs.Accounts.{IsBeyond, busy_either, is_waited, session_beyond, session_here}
 use Rattle.asp_core.proofs.Accounts.{waits_are, waits_for}
 use Rattle.asp_core.proofs.Made.{keys_made}
 use Rattle.asp_core.proofs.Right.{end_running, is_drawn, numbered, unfinished_is}
 use Rattle.asp_core.proofs.Rising.{among, any_found, any_none, any_same, changed_map, filter_twice, lookup_map, map_same}
-use Rattle.asp_core.proofs.Rising.{pass_same, passing_rise, removed_map}
+use Rattle.asp_core.proofs.Rising.{passing_rise, removed_map}
 use Rattle.asp_core.proofs.Steadying.{no_session_beyond, one_unfinished}
 use Rattle.asp_core.proofs.Stepping.{admit_step, begin_step}
 use Rattle.asp_core.proofs.Steps.{keyed, keys_same, queue_step, refuse_step, same_account, same_state, unkeyed}

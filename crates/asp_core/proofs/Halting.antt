@@ -1,6 +1,6 @@
 -- What a Halt leaves of a right journal.
 use Rattle.std.proofs.Common.{◌≡◌, ℕ, true, false, if◌then◌else◌, Bool, List, [], ◌∷◌, ◌++◌, length}
-use Rattle.std.proofs.Common.{reverse, Option, refl, ap, ◌∙◌, arith}
+use Rattle.std.proofs.Common.{reverse, refl, ap, ◌∙◌, arith}
 use Rattle.asp_core.specs.Kernel.{HasAnswerRoom, HasRoom, IsKept, IsWithin, halts_to_come}
 use Rattle.asp_job.specs.Application.{AppState}
 use Rattle.asp_job.specs.History.{with_lane}
@@ -9,28 +9,32 @@ use Rattle.asp_job.specs.Runs.{is_halted}
 use Rattle.asp_job.specs.declared.answer.Answer.{Answer}
 use Rattle.asp_job.specs.declared.entry.Entry.{Entry}
 use Rattle.asp_job.specs.declared.entry.What.TheVariants.{Halt}
-use Rattle.asp_job.specs.declared.session.SessionState.{SessionState}
+use Rattle.asp_session.specs.Account.{Account}
 use Rattle.asp_journal.proofs.Past.{past_push}
 use Rattle.asp_core.proofs.Kept.{kept_quiet, may_follow}
 
-kept_halt : (m : Rules) (past : List Entry) (table : List (Option SessionState)) (count : ℕ) (held : AppState)
-    (answers : List (ℕ × Answer)) (lane : ℕ) → IsKept m past table count held answers → is_halted past ≡ false
-    → IsKept m (with_lane lane Halt ∷ past) table count held answers
-kept_halt m past table count held answers lane kept going =
+kept_halt : (m : Rules) (past : List Entry) (account : Account) (held : AppState)
+    (answers : List (ℕ × Answer)) (lane : ℕ) → IsKept m past account held answers → is_halted past ≡ false
+    → IsKept m (with_lane lane Halt ∷ past) account held answers
+kept_halt m past account held answers lane kept going =
     let entry = with_lane lane Halt in
-    let turn = may_follow m past entry kept.account.settled going in
-    kept_quiet m past (entry ∷ past) table count held answers kept
+    let turn = may_follow m past entry kept.sessions.journal.settled going in
+    kept_quiet m past (entry ∷ past) account account held answers kept
     (record {
       sessions = refl;
-      keys = refl;
-      opened_is = refl;
       held_is = refl;
       answers_are = refl;
       answered =
           λ a. (tt, a);
       formed = λ s. (tt, s);
     })
-    (record { entries = (record { turn = turn; legal = tt; follows = tt }, kept.account.entries); settled = refl })
+    (record {
+      journal = record {
+        entries = (record { turn = turn; legal = tt; follows = tt }, kept.sessions.journal.entries);
+        settled = refl;
+      };
+      account_is = kept.sessions.account_is;
+    })
 
 going_one : (b : Bool) (n : ℕ) → n ≡ (if b then 0 else 1) → b ≡ false → n ≡ 1
 going_one true n is e = absurd cc
@@ -44,20 +48,20 @@ room_halt past lane answers capacity going room =
     omega arith
 
 -- a journal with a Halt is kept
-pub kept_after_halt : (m : Rules) (journal next : List Entry) (table : List (Option SessionState)) (count : ℕ)
+pub kept_after_halt : (m : Rules) (journal next : List Entry) (account : Account)
     (held : AppState) (answers : List (ℕ × Answer)) (lane capacity capacity_of : ℕ)
-    → IsKept m (reverse journal) table count held answers → IsWithin (reverse journal)
+    → IsKept m (reverse journal) account held answers → IsWithin (reverse journal)
     → HasRoom (reverse journal) (length answers) capacity → HasAnswerRoom (reverse journal) (length answers) capacity_of
     → is_halted (reverse journal) ≡ false → next ≡ journal ++ with_lane lane Halt ∷ []
-    → IsKept m (reverse next) table count held answers × IsWithin (reverse next) × HasRoom (reverse next)
+    → IsKept m (reverse next) account held answers × IsWithin (reverse next) × HasRoom (reverse next)
     (length answers) capacity × HasAnswerRoom (reverse next) (length answers) capacity_of
-kept_after_halt m journal next table count held answers lane capacity capacity_of kept within room room_of going e =
+kept_after_halt m journal next account held answers lane capacity capacity_of kept within room room_of going e =
     let past = reverse journal in
     let of : reverse next ≡ with_lane lane Halt ∷ past = ap reverse e ∙ past_push journal (with_lane lane Halt) in
     let then_within : IsWithin (with_lane lane Halt ∷ past) =
     record { few = within.few; light = (let light = within.light in omega arith) } in
     rw of (
-      kept_halt m past table count held answers lane kept going,
+      kept_halt m past account held answers lane kept going,
       then_within,
       room_halt past lane (length answers)
           capacity going room,

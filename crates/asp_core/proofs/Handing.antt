@@ -23,7 +23,7 @@ use Rattle.asp_job.specs.Turns.{IsTake}
 use Rattle.asp_job.specs.declared.answer.Answer.{Answer}
 use Rattle.asp_job.specs.declared.entry.Entry.{Entry}
 use Rattle.asp_job.specs.declared.entry.What.TheVariants.{Take}
-use Rattle.asp_job.specs.declared.session.SessionState.{SessionState}
+use Rattle.asp_session.specs.Account.{Account}
 use Rattle.asp_journal.proofs.Others.{own_number}
 use Rattle.asp_journal.proofs.Past.{past_push}
 use Rattle.asp_core.proofs.Answering.{are_those, its_answer, removed_length}
@@ -217,27 +217,26 @@ first_is m past lane run answer answers right answered is e found =
 
 -- ---- the journal
 
-kept_take : (m : Rules) (past : List Entry) (table : List (Option SessionState)) (count : ℕ) (held : AppState)
-    (answers : List (ℕ × Answer)) (lane run : ℕ) → IsKept m past table count held answers → IsTake past lane run
-    → IsKept m (with_lane lane (Take run) ∷ past) table count held (remove_entry (nat_eq run) answers)
-kept_take m past table count held answers lane run kept is =
+kept_take : (m : Rules) (past : List Entry) (account : Account) (held : AppState)
+    (answers : List (ℕ × Answer)) (lane run : ℕ) → IsKept m past account held answers → IsTake past lane run
+    → IsKept m (with_lane lane (Take run) ∷ past) account held (remove_entry (nat_eq run) answers)
+kept_take m past account held answers lane run kept is =
     let entry = with_lane lane (Take run) in
     record {
-      account = record {
-        entries = (
-          record { turn = may_follow m past entry kept.account.settled is; legal = tt; follows = tt },
-          kept.account.entries,
-        );
-        settled = refl;
+      sessions = record {
+        journal = record {
+          entries = (
+            record { turn = may_follow m past entry kept.sessions.journal.settled is; legal = tt; follows = tt },
+            kept.sessions.journal.entries,
+          );
+          settled = refl;
+        };
+        account_is = kept.sessions.account_is;
       };
-      sessions = kept.sessions;
-      keys = kept.keys;
-      opened_is = kept.opened_is;
       held_is = kept.held_is;
       answers_are = ap (remove_entry (nat_eq run)) kept.answers_are;
       answered = (tt, kept.answered);
       formed = (tt, kept.formed);
-      valid = kept.valid;
     }
 
 -- there is room for a hand-out
@@ -250,15 +249,15 @@ take_room journal answers run capacity room some =
     omega arith
 
 -- a journal with a hand-out is kept
-pub kept_after_take : (m : Rules) (journal next : List Entry) (table : List (Option SessionState)) (count : ℕ)
+pub kept_after_take : (m : Rules) (journal next : List Entry) (account : Account)
     (held : AppState) (answers : List (ℕ × Answer)) (lane run capacity capacity_of : ℕ)
-    → IsKept m (reverse journal) table count held answers → IsWithin (reverse journal)
+    → IsKept m (reverse journal) account held answers → IsWithin (reverse journal)
     → HasRoom (reverse journal) (length answers) capacity → HasAnswerRoom (reverse journal) (length answers) capacity_of
     → CanTake m (reverse journal) lane run → next ≡ journal ++ with_lane lane (Take run) ∷ []
-    → IsKept m (reverse next) table count held (remove_entry (nat_eq run) answers) × IsWithin (reverse next)
+    → IsKept m (reverse next) account held (remove_entry (nat_eq run) answers) × IsWithin (reverse next)
     × HasRoom (reverse next) (length (remove_entry (nat_eq run) answers)) capacity × HasAnswerRoom (reverse next)
     (length (remove_entry (nat_eq run) answers)) capacity_of
-kept_after_take m journal next table count held answers lane run capacity capacity_of kept within room room_of can e =
+kept_after_take m journal next account held answers lane run capacity capacity_of kept within room room_of can e =
     let past = reverse journal in
     let entry = with_lane lane (Take run) in
     let of : reverse next ≡ entry ∷ past = ap reverse e ∙ past_push journal entry in
@@ -270,4 +269,4 @@ kept_after_take m journal next table count held answers lane run capacity capaci
     let then_within : IsWithin (entry ∷ past) = record { few = omega arith; light = omega arith } in
     let has : HasRoom (entry ∷ past) (length (remove_entry (nat_eq run) answers)) capacity = omega arith in
     let has_of : HasAnswerRoom (entry ∷ past) (length (remove_entry (nat_eq run) answers)) capacity_of = omega arith in
-    rw of (kept_take m past table count held answers lane run kept can.is_take, then_within, has, has_of)
+    rw of (kept_take m past account held answers lane run kept can.is_take, then_within, has, has_of)

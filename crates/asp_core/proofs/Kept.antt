@@ -1,15 +1,17 @@
 -- What a Tick, a Stop and the runs that are then owed leave of a right journal.
-use Rattle.std.proofs.Common.{◌≡◌, ℕ, ◌+◌, ◌<◌, ◌≤◌, false, List, [], ◌∷◌, ◌++◌, reverse, Option, refl, ap, sym, ◌∙◌}
+use Rattle.std.proofs.Common.{◌≡◌, ℕ, ◌+◌, ◌<◌, ◌≤◌, false, List, [], ◌∷◌, ◌++◌, reverse, refl, ap, sym, ◌∙◌}
 use Rattle.std.proofs.Common.{subst, arith, append_assoc, nat_lt, drop, inl, inr}
 use Rattle.std.proofs.lemmas.List.{reverse-append}
 use Rattle.std.proofs.lemmas.Bool.{lt-ltb, cases_lt}
-use Rattle.asp_core.specs.Kernel.{AreWellFormed, IsKept, session_at, stopped_by, ticked}
+use Rattle.asp_core.specs.Kernel.{AreWellFormed, IsKept, stopped_by, ticked}
 use Rattle.asp_core.specs.Ready.{ready, IsAnswered}
+use Rattle.asp_core.specs.Sessions.{IsAccountOf, account_closed, account_grown, sessions_in}
+use Rattle.asp_core.proofs.Growing.{account_tells, account_then, closed_is, stop_closing, tick_closing}
 use Rattle.asp_job.specs.Application.{AppState}
 use Rattle.asp_job.specs.History.{held_by, with_lane}
 use Rattle.asp_job.specs.Journal.{AreRight, IsRight, IsValidJournal, past_after, queue_entries, stop_entries}
 use Rattle.asp_job.specs.Journal.{tick_entries, with_owed}
-use Rattle.asp_job.specs.Keys.{made, opened, session_of}
+use Rattle.asp_job.specs.Keys.{session_of}
 use Rattle.asp_job.specs.Rules.{Rules}
 use Rattle.asp_job.specs.Runs.{drawn, is_stopping, moment_of}
 use Rattle.asp_job.specs.Turns.{HasLaneOf, IsNext, MayFollow, owed}
@@ -17,7 +19,7 @@ use Rattle.asp_job.specs.declared.answer.Answer.{Answer}
 use Rattle.asp_job.specs.declared.entry.Entry.{Entry}
 use Rattle.asp_job.specs.declared.entry.What.TheVariants.{Queue, Stop, Tick}
 use Rattle.asp_job.specs.declared.job.Work.{Work}
-use Rattle.asp_job.specs.declared.session.SessionState.{SessionState}
+use Rattle.asp_session.specs.Account.{Account}
 
 -- the past of a journal that grows
 pub past_after_is : (past entries : List Entry) → past_after past entries ≡ reverse entries ++ past
@@ -29,11 +31,9 @@ past_after_is past (entry ∷ entries) = past_after_is (entry ∷ past) entries
 pub past_of_more : (journal entries : List Entry) → reverse (journal ++ entries) ≡ past_after (reverse journal) entries
 past_of_more journal entries = reverse-append journal entries ∙ sym (past_after_is (reverse journal) entries)
 
--- the sessions, the counts and the Application object are the same after new as after old
+-- the sessions, the Application object and the answers are the same after new as after old
 pub record IsQuiet (m : Rules) (old new : List Entry) : Type 0 where
   pub sessions : session_of m new ≡ session_of m old
-  pub keys : made new ≡ made old
-  pub opened_is : opened m new ≡ opened m old
   pub held_is : held_by new ≡ held_by old
   pub answers_are : ready m new ≡ ready m old
   pub answered : IsAnswered m old → IsAnswered m new
@@ -43,11 +43,8 @@ pub quiet_queue : (m : Rules) (past : List Entry) (lane run : ℕ) (list : List 
     → IsQuiet m past (past_after past (queue_entries lane run list))
 quiet_queue m past lane run [] = record {
   sessions = refl;
-  keys = refl;
-  opened_is = refl;
   held_is = refl;
-  answers_are =
-      refl;
+  answers_are = refl;
   answered = λ a. a;
   formed = λ s. s;
 }
@@ -55,8 +52,6 @@ quiet_queue m past lane run (first ∷ rest) =
     let after = quiet_queue m (with_lane lane (Queue run first.0 first.1) ∷ past) lane (run + 1) rest in
     record {
       sessions = after.sessions;
-      keys = after.keys;
-      opened_is = after.opened_is;
       held_is = after.held_is;
       answers_are = after.answers_are;
       answered = λ a. after.answered (tt, a);
@@ -84,48 +79,42 @@ right_queue m past lane (first ∷ rest) right e has =
     right_queue m (with_lane lane (Queue (drawn past + 1) first.0 first.1) ∷ past) lane rest
     (queue_right m past lane first rest e has, right) (ap (drop 1) e) refl
 
--- the tables say the same of a past that is quiet
-pub kept_quiet : (m : Rules) (old new : List Entry) (table : List (Option SessionState)) (count : ℕ) (held : AppState)
-    (answers : List (ℕ × Answer)) → IsKept m old table count held answers → IsQuiet m old new → IsValidJournal m new
-    → IsKept m new table count held answers
-kept_quiet m old new table count held answers kept quiet account =
+-- what is kept says the same of a past that is quiet
+pub kept_quiet : (m : Rules) (old new : List Entry) (account then_account : Account) (held : AppState)
+    (answers : List (ℕ × Answer)) → IsKept m old account held answers → IsQuiet m old new
+    → IsAccountOf m new then_account → IsKept m new then_account held answers
+kept_quiet m old new account then_account held answers kept quiet sessions =
     record {
-      account = account;
-      sessions = kept.sessions ∙ sym quiet.sessions;
-      keys = kept.keys ∙ sym quiet.keys;
-      opened_is = kept.opened_is ∙ sym quiet.opened_is;
+      sessions = sessions;
       held_is = kept.held_is ∙ sym quiet.held_is;
       answers_are = kept.answers_are ∙ sym quiet.answers_are;
       answered = quiet.answered kept.answered;
       formed = quiet.formed kept.formed;
-      valid = kept.valid;
     }
 
--- one more entry that changes nothing of the tables
+-- one more entry that changes nothing
 pub quiet_more : (m : Rules) (old : List Entry) (entry : Entry) (new : List Entry) → IsQuiet m old (entry ∷ old)
     → IsQuiet m (entry ∷ old) new → IsQuiet m old new
 quiet_more m old entry new one more =
     record {
       sessions = more.sessions ∙ one.sessions;
-      keys = more.keys ∙ one.keys;
-      opened_is = more.opened_is ∙ one.opened_is;
       held_is = more.held_is ∙ one.held_is;
       answers_are = more.answers_are ∙ one.answers_are;
       answered = λ a. more.answered (one.answered a);
       formed = λ s. more.formed (one.formed s);
     }
 
--- an entry that changes nothing of the tables, and the runs that are then owed
-pub kept_owed : (m : Rules) (past : List Entry) (table : List (Option SessionState)) (count : ℕ) (held : AppState)
-    (answers : List (ℕ × Answer)) (entry : Entry) → IsKept m past table count held answers → IsRight m past entry
-    → IsQuiet m past (entry ∷ past) → IsKept m (past_after past (with_owed m past entry)) table count held answers
-kept_owed m past table count held answers entry kept right quiet =
-    let list = owed m (entry ∷ past) in
-    let run = drawn (entry ∷ past) + 1 in
-    let new = past_after past (with_owed m past entry) in
-    let account = right_queue m (entry ∷ past) entry.lane list (right, kept.account.entries) refl refl in
-    let all_quiet = quiet_more m past entry new quiet (quiet_queue m (entry ∷ past) entry.lane run list) in
-    kept_quiet m past new table count held answers kept all_quiet account
+-- an entry that changes nothing of these, and the runs that are then owed
+quiet_owed : (m : Rules) (past : List Entry) (entry : Entry) → IsQuiet m past (entry ∷ past)
+    → IsQuiet m past (past_after past (with_owed m past entry))
+quiet_owed m past entry quiet =
+    quiet_more m past entry (past_after past (with_owed m past entry)) quiet
+    (quiet_queue m (entry ∷ past) entry.lane (drawn (entry ∷ past) + 1) (owed m (entry ∷ past)))
+
+valid_owed : (m : Rules) (past : List Entry) (entry : Entry) → IsValidJournal m past → IsRight m past entry
+    → IsValidJournal m (past_after past (with_owed m past entry))
+valid_owed m past entry valid right =
+    right_queue m (entry ∷ past) entry.lane (owed m (entry ∷ past)) (right, valid.entries) refl refl
 
 -- an entry that may come where nothing is owed
 pub may_follow : (m : Rules) (past : List Entry) (entry : Entry) → owed m past ≡ [] → MayFollow m past [] entry
@@ -141,92 +130,121 @@ pub no_tick_is : (m : Rules) (past : List Entry) (lane moment : ℕ) → moment 
 no_tick_is m past lane moment early = let test : nat_lt (moment_of past) moment ≡ false = grind arith in rw test refl
 
 -- a Tick where the moment is greater, and what is then owed
-pub kept_tick : (m : Rules) (past : List Entry) (table : List (Option SessionState)) (count : ℕ) (held : AppState)
-    (answers : List (ℕ × Answer)) (lane moment : ℕ) → IsKept m past table count held answers
-    → IsKept m (past_after past (tick_entries m past lane moment)) table count held answers
-kept_tick m past table count held answers lane moment kept = elim (cases_lt (moment_of past) moment) [
-  | inl later ↦ rw (tick_is m past lane moment later) (kept_owed m past table count held answers
-      (with_lane lane (Tick moment)) kept
+pub valid_tick : (m : Rules) (past : List Entry) (lane moment : ℕ) → IsValidJournal m past
+    → IsValidJournal m (past_after past (tick_entries m past lane moment))
+valid_tick m past lane moment valid = elim (cases_lt (moment_of past) moment) [
+  | inl later ↦ rw (tick_is m past lane moment later) (valid_owed m past (with_lane lane (Tick moment)) valid
       (record {
-        turn = may_follow m past (with_lane lane (Tick moment)) kept.account.settled later;
-        legal =
-            tt;
+        turn = may_follow m past (with_lane lane (Tick moment)) valid.settled later;
+        legal = tt;
         follows = tt;
-      })
-      (record {
-        sessions = refl;
-        keys = refl;
-        opened_is = refl;
-        held_is = refl;
-        answers_are = refl;
-        answered =
-            λ a. (tt, a);
-        formed = λ s. (tt, s);
       }))
-  | inr early ↦ rw (no_tick_is m past lane moment early) kept
+  | inr early ↦ rw (no_tick_is m past lane moment early) valid
 ]
 
--- what a right table makes due_at is what the journal does
-pub ticked_is : (m : Rules) (past : List Entry) (table : List (Option SessionState)) (lane moment : ℕ)
-    → session_at table ≡ session_of m past → ticked (session_at table) past lane moment ≡ tick_entries m past lane
-    moment
-ticked_is m past table lane moment e = ap (λ sessions. ticked sessions past lane moment) e
+pub quiet_tick : (m : Rules) (past : List Entry) (lane moment : ℕ)
+    → IsQuiet m past (past_after past (tick_entries m past lane moment))
+quiet_tick m past lane moment = elim (cases_lt (moment_of past) moment) [
+  | inl later ↦ rw (tick_is m past lane moment later) (quiet_owed m past (with_lane lane (Tick moment))
+      (record {
+        sessions = refl;
+        held_is = refl;
+        answers_are = refl;
+        answered = λ a. (tt, a);
+        formed = λ s. (tt, s);
+      }))
+  | inr early ↦ rw (no_tick_is m past lane moment early) (record {
+    sessions = refl;
+    held_is = refl;
+    answers_are = refl;
+    answered = λ a. a;
+    formed = λ s. s;
+  })
+]
+
+-- a Stop and what is then owed
+pub valid_stop : (m : Rules) (past : List Entry) (lane : ℕ) → IsValidJournal m past → is_stopping past ≡ false
+    → IsValidJournal m (past_after past (stop_entries m past lane))
+valid_stop m past lane valid going = valid_owed m past (with_lane lane Stop) valid
+    (record { turn = may_follow m past (with_lane lane Stop) valid.settled going; legal = tt; follows = tt })
+
+quiet_stop : (m : Rules) (past : List Entry) (lane : ℕ) → IsQuiet m past (past_after past (stop_entries m past lane))
+quiet_stop m past lane = quiet_owed m past (with_lane lane Stop)
+    (record {
+      sessions = refl;
+      held_is = refl;
+      answers_are = refl;
+      answered = λ a. (tt, a);
+      formed = λ s. (tt, s);
+    })
+
+pub kept_tick : (m : Rules) (past : List Entry) (account : Account) (held : AppState) (answers : List (ℕ × Answer))
+    (lane moment : ℕ) → let entries = tick_entries m past lane moment in IsKept m past account held answers
+    → IsKept m (past_after past entries) (account_grown m past entries account) held answers
+kept_tick m past account held answers lane moment kept =
+    let entries = tick_entries m past lane moment in
+    let then_account = account_grown m past entries account in
+    kept_quiet m past (past_after past entries) account then_account held answers kept (quiet_tick m past lane moment)
+    (account_then m past entries account then_account kept.sessions
+    (valid_tick m past lane moment kept.sessions.journal) refl)
 
 -- the past of a journal that has these entries more
 pub grown_past : (journal next entries : List Entry) → next ≡ journal ++ entries → reverse next
     ≡ past_after (reverse journal) entries
 grown_past journal next entries e = ap reverse e ∙ past_of_more journal entries
 
--- a journal with a Tick is kept
-pub kept_after_tick : (m : Rules) (journal next : List Entry) (table : List (Option SessionState)) (count : ℕ)
-    (held : AppState) (answers : List (ℕ × Answer)) (lane moment : ℕ) → IsKept m (reverse journal) table count held
-    answers → next ≡ journal ++ tick_entries m (reverse journal) lane moment → IsKept m (reverse next) table count held
-    answers
-kept_after_tick m journal next table count held answers lane moment kept e =
-    rw (grown_past journal next (tick_entries m (reverse journal) lane moment) e)
-    (kept_tick m (reverse journal) table count held answers lane moment kept)
+-- what is kept of a journal that has these entries more
+kept_grown : (m : Rules) (journal next entries : List Entry) (account then_account : Account) (held : AppState)
+    (answers : List (ℕ × Answer)) → let past = reverse journal in IsKept m past account held answers
+    → next ≡ journal ++ entries → then_account ≡ account_grown m past entries account
+    → IsQuiet m past (past_after past entries) → IsValidJournal m (past_after past entries)
+    → IsKept m (reverse next) then_account held answers
+kept_grown m journal next entries account then_account held answers kept e grown quiet valid =
+    let past = reverse journal in
+    rw (grown_past journal next entries e) (kept_quiet m past (past_after past entries) account then_account held answers
+    kept quiet (account_then m past entries account then_account kept.sessions valid grown))
 
--- a Tick and what is then owed change nothing of the tables
-pub quiet_tick : (m : Rules) (past : List Entry) (lane moment : ℕ)
-    → session_of m (past_after past (tick_entries m past lane moment)) ≡ session_of m past
-quiet_tick m past lane moment = elim (cases_lt (moment_of past) moment) [
-  | inl later ↦ rw (tick_is m past lane moment later) (quiet_queue m (with_lane lane (Tick moment) ∷ past) lane
-      (drawn past + 1) (owed m (with_lane lane (Tick moment) ∷ past))).sessions
-  | inr early ↦ rw (no_tick_is m past lane moment early) refl
-]
+pub kept_after_tick : (m : Rules) (journal next : List Entry) (account then_account : Account) (held : AppState)
+    (answers : List (ℕ × Answer)) (lane moment : ℕ) → let past = reverse journal in
+    let entries = tick_entries m past lane moment in IsKept m past account held answers → next ≡ journal ++ entries
+    → then_account ≡ account_grown m past entries account → IsKept m (reverse next) then_account held answers
+kept_after_tick m journal next account then_account held answers lane moment kept e grown =
+    let past = reverse journal in
+    kept_grown m journal next (tick_entries m past lane moment) account then_account held answers kept e grown
+    (quiet_tick m past lane moment) (valid_tick m past lane moment kept.sessions.journal)
 
--- a Stop and what is then owed
-kept_stop : (m : Rules) (past : List Entry) (table : List (Option SessionState)) (count : ℕ) (held : AppState)
-    (answers : List (ℕ × Answer)) (lane : ℕ) → IsKept m past table count held answers → is_stopping past ≡ false
-    → IsKept m (past_after past (stop_entries m past lane)) table count held answers
-kept_stop m past table count held answers lane kept going = kept_owed m past table count held answers
-    (with_lane lane Stop) kept
-    (record { turn = may_follow m past (with_lane lane Stop) kept.account.settled going; legal = tt; follows = tt })
-    (record {
-      sessions = refl;
-      keys = refl;
-      opened_is = refl;
-      held_is = refl;
-      answers_are = refl;
-      answered =
-          λ a. (tt, a);
-      formed = λ s. (tt, s);
-    })
+pub kept_after_stop : (m : Rules) (journal next : List Entry) (account then_account : Account) (held : AppState)
+    (answers : List (ℕ × Answer)) (lane : ℕ) → let past = reverse journal in
+    let entries = stop_entries m past lane in IsKept m past account held answers → is_stopping past ≡ false
+    → next ≡ journal ++ entries → then_account ≡ account_grown m past entries account
+    → IsKept m (reverse next) then_account held answers
+kept_after_stop m journal next account then_account held answers lane kept going e grown =
+    let past = reverse journal in
+    kept_grown m journal next (stop_entries m past lane) account then_account held answers kept e grown
+    (quiet_stop m past lane) (valid_stop m past lane kept.sessions.journal going)
 
--- what the code makes of a Stop is what the journal owes
-pub stop_made : (m : Rules) (journal next : List Entry) (table : List (Option SessionState)) (lane : ℕ)
-    → session_at table ≡ session_of m (reverse journal) → next ≡ journal ++ stopped_by (session_at table)
-    (reverse journal) lane → (next ≡ journal ++ stop_entries m (reverse journal) lane)
-    × (reverse next ≡ past_after (reverse journal) (stop_entries m (reverse journal) lane))
-stop_made m journal next table lane right e =
-    let is : next ≡ journal ++ stop_entries m (reverse journal) lane = e
-    ∙ ap (λ s. journal ++ stopped_by s (reverse journal) lane) right in
-    (is, grown_past journal next (stop_entries m (reverse journal) lane) is)
+-- what the code makes of a Tick and of a Stop is what the journal owes
+pub ticked_is : (m : Rules) (past : List Entry) (account : Account) (lane moment : ℕ) → IsAccountOf m past account
+    → ticked (sessions_in account) past lane moment ≡ tick_entries m past lane moment
+ticked_is m past account lane moment is =
+    ap (λ sessions. ticked sessions past lane moment) (account_tells m past account is).1
 
-pub kept_after_stop : (m : Rules) (journal next : List Entry) (table : List (Option SessionState)) (count : ℕ)
-    (held : AppState) (answers : List (ℕ × Answer)) (lane : ℕ) → IsKept m (reverse journal) table count held answers
-    → is_stopping (reverse journal) ≡ false → next ≡ journal ++ stop_entries m (reverse journal) lane
-    → IsKept m (reverse next) table count held answers
-kept_after_stop m journal next table count held answers lane kept going e =
-    rw (grown_past journal next (stop_entries m (reverse journal) lane) e) (kept_stop m (reverse journal) table count
-    held answers lane kept going)
+pub ticked_grown : (m : Rules) (past more : List Entry) (account : Account) (lane moment : ℕ) → IsAccountOf m past account
+    → more ≡ ticked (sessions_in account) past lane moment
+    → account_closed more account ≡ account_grown m past (tick_entries m past lane moment) account
+ticked_grown m past more account lane moment is e =
+    let entries = tick_entries m past lane moment in
+    ap (λ list. account_closed list account) (e ∙ ticked_is m past account lane moment is)
+    ∙ closed_is m past entries account (tick_closing (session_of m past) past entries lane moment refl)
+
+pub stopped_is : (m : Rules) (past : List Entry) (account : Account) (lane : ℕ) → IsAccountOf m past account
+    → stopped_by (sessions_in account) past lane ≡ stop_entries m past lane
+stopped_is m past account lane is = ap (λ sessions. stopped_by sessions past lane) (account_tells m past account is).1
+
+pub stopped_grown : (m : Rules) (past more : List Entry) (account : Account) (lane : ℕ) → IsAccountOf m past account
+    → more ≡ stopped_by (sessions_in account) past lane
+    → account_closed more account ≡ account_grown m past (stop_entries m past lane) account
+stopped_grown m past more account lane is e =
+    let entries = stop_entries m past lane in
+    ap (λ list. account_closed list account) (e ∙ stopped_is m past account lane is)
+    ∙ closed_is m past entries account (stop_closing (session_of m past) past entries lane refl)

@@ -37,6 +37,10 @@ pub mod Wanting
 pub mod Ordering
 pub mod Alone
 pub mod Grouping
+pub mod Growing
+pub mod Expiring
+pub mod Asking
+pub mod Moving
 pub mod Lanes
 pub mod Lengths
 pub mod Bearing

@@ -1,5 +1,5 @@
 -- A run that was moved out of a core stays one of the core's while others go on.
-use Rattle.std.proofs.Common.{◌≡◌, ℕ, List, ◌++◌, ap, sym, ◌∙◌, subst}
+use Rattle.std.proofs.Common.{ℕ, List, ap, sym, ◌∙◌, subst}
 use Rattle.asp_job.specs.declared.entry.Entry.{Entry}
 use Rattle.asp_job.specs.Journal.{AreRight, past_after}
 use Rattle.asp_job.specs.Told.{Told, Meaning}

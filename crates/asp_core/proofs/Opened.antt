@@ -1,13 +1,13 @@
 -- What a run begins with is what the journal says.
-use Rattle.std.proofs.Common.{◌≡◌, ℕ, zero, suc, ◌+◌, ◌-◌, ◌<◌, ◌≤◌, ◌==◌, ◌&&◌, ◌^◌, Bool, true, false, not}
-use Rattle.std.proofs.Common.{if◌then◌else◌, List, [], ◌∷◌, All, get_or, Option, Some, None}
+use Rattle.std.proofs.Common.{◌≡◌, ℕ, ◌+◌, ◌<◌, ◌≤◌, ◌&&◌, ◌^◌, Bool, true, false, not}
+use Rattle.std.proofs.Common.{if◌then◌else◌, List, [], ◌∷◌, Option, Some, None}
 use Rattle.std.proofs.Common.{is_some, refl, ap, sym, ◌∙◌, arith}
 use Rattle.std.proofs.Common.{append-nil}
-use Rattle.std.proofs.lemmas.List.Elements.{All-head, All-nil, All-tail}
-use Rattle.asp_core.specs.Kernel.{IsSessionIn}
-use Rattle.asp_core.specs.Kernel.{rules_by, session_at}
+use Rattle.std.proofs.lemmas.List.Elements.{All-nil}
+use Rattle.asp_core.specs.Kernel.{IsSessionIn, rules_by}
 use Rattle.asp_core.specs.Opening.{IsNumberOf}
 use Rattle.asp_core.specs.Opening.{cookie_if, serial_if, session_if}
+use Rattle.asp_core.specs.Sessions.{IsAccountOf, sessions_in}
 use Rattle.asp_core.specs.declared.opening.SessionNumber.{SessionNumber}
 use Rattle.asp_job.specs.Journal.{AreRight, begin_entry}
 use Rattle.asp_job.specs.Keys.{Given, began_with, given, letters_of, new_session, opened, opens, serial_by, session_of}
@@ -21,22 +21,12 @@ use Rattle.asp_job.specs.declared.entry.Entry.{Entry}
 use Rattle.asp_job.specs.declared.entry.Stage.TheVariants.{Waiting}
 use Rattle.asp_job.specs.declared.session.SessionState.{SessionState}
 use Rattle.asp_journal.proofs.Others.{own_number}
+use Rattle.asp_session.specs.Account.{Account}
+use Rattle.asp_core.proofs.Growing.{account_tells}
 use Rattle.asp_core.proofs.Right.{is_begun, may_begin_waits, no_replies}
 use Rattle.asp_core.specs.declared.setting.Setting.{Setting}
 
 -- ---- the session of a run
-
-valid_get : (table : List (Option SessionState)) (i : ℕ) → All IsSessionIn table → IsSessionIn (get_or table i None)
-valid_get [] i all = tt
-valid_get (x ∷ table) zero all = All-head IsSessionIn x table all
-valid_get (x ∷ table) (suc i) all = valid_get table i (All-tail IsSessionIn x table all)
-
-valid_if : (b : Bool) (s : Option SessionState) → IsSessionIn s → IsSessionIn (if b then None else s)
-valid_if true s v = tt
-valid_if false s v = v
-
-pub valid_at : (table : List (Option SessionState)) (k : ℕ) → All IsSessionIn table → IsSessionIn (session_at table k)
-valid_at table k all = valid_if (k == 0) (get_or table (k - 1) None) (valid_get table (k - 1) all)
 
 new_valid : (serial : ℕ) → 1 ≤ serial → serial < 2 ^ 31 → IsSession (new_session serial)
 new_valid serial low high = record {
@@ -74,16 +64,17 @@ given_parts true s serial = (refl, refl)
 given_parts false s serial = (refl, refl)
 
 -- the number of the session is what the journal says
-pub number_right : (m : Rules) (past : List Entry) (table : List (Option SessionState)) (count run : ℕ)
-    (number : SessionNumber) → session_at table ≡ session_of m past → count ≡ opened m past →
-    IsNumberOf (draw_of past run) (session_at table (key_of past run)) count number →
+pub number_right : (m : Rules) (past : List Entry) (account : Account) (run : ℕ) (number : SessionNumber) →
+    IsAccountOf m past account →
+    IsNumberOf (draw_of past run) (sessions_in account (key_of past run)) account.opened number →
     (number.serial ≡ serial_of m past run)
     × (number.is_new ≡ opens (draw_of past run) (session_of m past (key_of past run)))
-number_right m past table count run number sessions counted is =
+number_right m past account run number of is =
     let draw = draw_of past run in
-    let at : session_at table (key_of past run) ≡ session_of m past (key_of past run) =
-    ap (λ f. f (key_of past run)) sessions in (
-      is.serial_is ∙ ap (serial_by count draw) at
+    let counted : account.opened ≡ opened m past = ap (λ (a : Account). a.opened) of.account_is in
+    let at : sessions_in account (key_of past run) ≡ session_of m past (key_of past run) =
+    ap (λ f. f (key_of past run)) (account_tells m past account of).1 in (
+      is.serial_is ∙ ap (serial_by account.opened draw) at
           ∙ ap (λ n. serial_by n draw (session_of m past (key_of past run))) counted,
       is.new_is ∙ ap (opens draw) at,
     )
@@ -104,27 +95,27 @@ begun_told m past lane run right may =
     cc (ap (λ b. b.session) began, ap (λ b. b.is_new) began, replies)
 
 -- so it is told what the code gives it
-pub told_right : (m : Meaning) (setting : Setting) (past : List Entry) (table : List (Option SessionState))
-    (count lane run : ℕ)
-    (number : SessionNumber) → let rules = rules_by m setting in AreRight rules past → may_begin past run ≡ true →
-    session_at table ≡ session_of rules past → count ≡ opened rules past →
-    IsNumberOf (draw_of past run) (session_at table (key_of past run)) count number →
-    begun (job_of past run) (session_if number.is_new (session_at table (key_of past run)) number.serial) number.is_new
-    (cookie_if setting.seed (is_fresh past run) (key_of past run))
+pub told_right : (m : Meaning) (setting : Setting) (past : List Entry) (account : Account) (lane run : ℕ)
+    (number : SessionNumber) → let rules = rules_by m setting in IsAccountOf rules past account →
+    may_begin past run ≡ true →
+    IsNumberOf (draw_of past run) (sessions_in account (key_of past run)) account.opened number →
+    begun (job_of past run) (session_if number.is_new (sessions_in account (key_of past run)) number.serial)
+    number.is_new (cookie_if setting.seed (is_fresh past run) (key_of past run))
     ≡ told rules (begin_entry rules past lane run ∷ past) run
-told_right m setting past table count lane run number right may sessions counted is =
+told_right m setting past account lane run number of may is =
     let rules = rules_by m setting in
     let draw = draw_of past run in
     let job = job_of past run in
     let letters = letters_of rules draw in
     let s = session_of rules past (key_of past run) in
     let serial = serial_of rules past run in
-    let is_right = number_right rules past table count run number sessions counted is in
+    let is_right = number_right rules past account run number of is in
     let parts = given_parts (opens draw s) s serial in
-    let at : session_at table (key_of past run) ≡ s = ap (λ f. f (key_of past run)) sessions in
+    let at : sessions_in account (key_of past run) ≡ s =
+    ap (λ f. f (key_of past run)) (account_tells rules past account of).1 in
     ap (λ x. begun job (session_if number.is_new x number.serial) number.is_new letters) at
     ∙ ap (λ n. begun job (session_if number.is_new s n) number.is_new letters) is_right.0
     ∙ ap (λ b. begun job (session_if b s serial) b letters) is_right.1
     ∙ ap (λ x. begun job x (opens draw s) letters) (sym parts.0)
     ∙ ap (λ b. begun job (given draw s serial).session b letters) (sym parts.1)
-    ∙ sym (begun_told rules past lane run right may)
+    ∙ sym (begun_told rules past lane run of.journal.entries may)

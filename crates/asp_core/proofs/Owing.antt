@@ -1,39 +1,25 @@
 -- Which keys the runs that are owed in a right journal are for.
-use Rattle.std.proofs.Common.{◌≡◌, ℕ, zero, suc, ◌+◌, ◌<◌, ◌≤◌, ◌==◌, ◌&&◌, ◌||◌, ◌⊎◌, Bool, true, false, not}
-use Rattle.std.proofs.Common.{if◌then◌else◌, List, [], ◌∷◌, ◌++◌, drop, filter, map, is_some, Option, Some, None, refl, unwrap_or}
-use Rattle.std.proofs.Common.{ap, sym, ◌∙◌, arith, inl, inr}
-use Rattle.std.proofs.Math.Path.{fun_ext}
-use Rattle.std.specs.List.{list_any}
-use Rattle.std.proofs.lemmas.Bool.{cases_Bool, cases_lt, eqb-true, eq-eqb}
+use Rattle.std.proofs.Common.{◌≡◌, ℕ, zero, suc, ◌<◌, ◌≤◌, ◌==◌, ◌&&◌, ◌||◌, Bool, true, false}
+use Rattle.std.proofs.Common.{if◌then◌else◌, List, [], ◌∷◌, ◌++◌, drop, filter, is_some, Option, Some, None, refl}
+use Rattle.std.proofs.Common.{ap, sym, ◌∙◌, arith}
 use Rattle.std.proofs.lemmas.List.Elements.{filter-append}
-use Rattle.asp_job.specs.declared.entry.EndKind.{EndKind}
-use Rattle.asp_job.specs.declared.entry.EndKind.TheVariants as kind
 use Rattle.asp_job.specs.declared.entry.Entry.{Entry}
-use Rattle.asp_job.specs.declared.entry.Stage.{Stage}
-use Rattle.asp_job.specs.declared.entry.Stage.TheVariants.{Ended, Unfinished, Waiting}
 use Rattle.asp_job.specs.declared.entry.What.{What}
 use Rattle.asp_job.specs.declared.entry.What.TheVariants.{Admit, App, Begin, End, Halt, Queue, Refuse, Stop, Take, Tick}
-use Rattle.asp_job.specs.declared.job.Job.{Job}
 use Rattle.asp_job.specs.declared.job.Work.{Work}
 use Rattle.asp_job.specs.declared.job.Work.TheVariants as work
 use Rattle.asp_job.specs.declared.session.SessionState.{SessionState}
-use Rattle.asp_job.specs.History.{run_in, with_lane}
+use Rattle.asp_job.specs.History.{with_lane}
 use Rattle.asp_job.specs.Journal.{AreRight, IsRight}
-use Rattle.asp_job.specs.Keys.{closes, due_at, is_busy, is_closing, is_due, is_due_key, is_live, keeps_busy, live, made}
+use Rattle.asp_job.specs.Keys.{due_at, is_busy, is_due, is_due_key, is_live, keeps_busy, live, made}
 use Rattle.asp_job.specs.Keys.{session_of}
 use Rattle.asp_job.specs.Rules.{Rules}
-use Rattle.asp_job.specs.Runs.{drawn, is_open, is_stage_unfinished, is_stage_waiting, is_stopping, is_unfinished}
-use Rattle.asp_job.specs.Running.{is_page}
-use Rattle.asp_job.specs.Runs.{job_of, key_of, numbers, stage_of}
-use Rattle.asp_job.specs.Turns.{MayFollow, closing_runs, goes_before, is_behind, owed}
-use Rattle.asp_journal.proofs.Others.{key_other, own_number, stage_other}
-use Rattle.asp_journal.specs.Keyed.{is_session_end}
-use Rattle.asp_core.proofs.Accounts.{IsBeyond}
-use Rattle.asp_core.proofs.Jobs.{admit_right}
-use Rattle.asp_core.proofs.Made.{keys_made, owed_keys, queue_key}
-use Rattle.asp_core.proofs.Others.{job_other}
-use Rattle.asp_core.proofs.Right.{begin_right, drawn_next, is_drawn, may_begin_waits, next_undrawn, numbered, unfinished_is}
-use Rattle.asp_core.proofs.Rising.{any_more, any_none, any_same, none_of_any}
+use Rattle.asp_job.specs.Runs.{drawn, is_open, is_stage_unfinished, is_stage_waiting, is_stopping}
+use Rattle.asp_job.specs.Runs.{key_of, numbers}
+use Rattle.asp_job.specs.Turns.{MayFollow, closing_runs, owed}
+use Rattle.asp_journal.proofs.Others.{key_other, stage_other}
+use Rattle.asp_core.proofs.Right.{drawn_next}
+use Rattle.asp_core.proofs.Rising.{any_more, any_same}
 
 -- ---- what is owed
 

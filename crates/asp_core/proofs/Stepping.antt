@@ -1,9 +1,7 @@
 -- What each entry of a right journal makes of the account of the session keys.
 use Rattle.std.proofs.Common.{◌≡◌, ℕ, ◌+◌, ◌<◌, ◌≤◌, ◌==◌, ◌&&◌, ◌||◌, Bool, true, false, not, if◌then◌else◌}
-use Rattle.std.proofs.Common.{nat_eq, nat_lt, List, [], ◌∷◌, ◌++◌, filter, map, is_some, Option, Some, None, unwrap_or}
+use Rattle.std.proofs.Common.{nat_lt, List, [], ◌∷◌, ◌++◌, filter, map, is_some, Option, Some, None, unwrap_or}
 use Rattle.std.proofs.Common.{refl, ap, sym, ◌∙◌, subst, arith, inl, inr}
-use Rattle.std.specs.List.{list_any}
-use Rattle.std.specs.Map.{lookup, remove_entry}
 use Rattle.std.proofs.lemmas.Bool.{cases_Bool, eqb-true, eq-eqb, lt-ltb}
 use Rattle.std.proofs.lemmas.List.{map-append}
 use Rattle.asp_job.specs.declared.entry.Entry.{Entry}
@@ -16,19 +14,16 @@ use Rattle.asp_job.specs.declared.job.Work.TheVariants as work
 use Rattle.asp_job.specs.declared.session.SessionState.{SessionState}
 use Rattle.asp_job.specs.History.{with_lane}
 use Rattle.asp_job.specs.Journal.{AreRight, IsRight}
-use Rattle.asp_job.specs.Keys as job
-use Rattle.asp_job.specs.Keys.{is_askable, is_busy, is_closing, is_live, keeps_busy, made, opened, opens, session_of}
+use Rattle.asp_job.specs.Keys.{is_askable, is_busy, is_live, keeps_busy, made, opened, opens, session_of}
 use Rattle.asp_job.specs.Rules.{Rules}
 use Rattle.asp_job.specs.Running.{is_page}
-use Rattle.asp_job.specs.Runs.{draw_of, drawn, is_open, is_stage_unfinished, is_stage_waiting, is_unfinished, is_waiting}
+use Rattle.asp_job.specs.Runs.{draw_of, drawn, is_stage_unfinished, is_stage_waiting, is_unfinished, is_waiting}
 use Rattle.asp_job.specs.Runs.{job_of, key_of, numbers, stage_of}
 use Rattle.asp_job.specs.Turns.{goes_before, is_behind, key_asked_by, owed}
 use Rattle.asp_journal.specs.Keyed.{is_session_end}
 use Rattle.asp_journal.proofs.Numbers.{filter_more}
 use Rattle.asp_journal.proofs.Others.{own_number, stage_other}
 use Rattle.asp_session.specs.declared.key.KeyState.{KeyState}
-use Rattle.asp_session.specs.declared.key.Waiter.{Waiter}
-use Rattle.asp_session.specs.Account.{Account}
 use Rattle.asp_session.specs.Steps as session
 use Rattle.asp_session.specs.Steps.{after_begin, asked_at, barred, begun, changed, ends_next, new_key, queued, touched}
 use Rattle.asp_session.specs.Steps.{with_key, without_first}
@@ -37,7 +32,7 @@ use Rattle.asp_core.specs.Sessions.{waiter_of, waiters_of, waits_keyed}
 use Rattle.asp_core.proofs.Accounts.{session_here}
 use Rattle.asp_core.proofs.Jobs.{admit_right}
 use Rattle.asp_core.proofs.Made.{keys_made}
-use Rattle.asp_core.proofs.Right.{begin_right, drawn_next, is_drawn, may_begin_waits, numbered}
+use Rattle.asp_core.proofs.Right.{begin_right, is_drawn, may_begin_waits, numbered}
 use Rattle.asp_core.proofs.Rising.{any_found, any_none, any_same, changed_none, filter_twice, first_map, in_passing}
 use Rattle.asp_core.proofs.Rising.{map_same, none_before, none_of_any, or_none, pass_same, passing_rise}
 use Rattle.asp_core.proofs.Steadying.{closing_unmade, keyed_work, no_session_beyond, none_of_unmade, not_behind}

@@ -1,6 +1,6 @@
 -- What an entry that draws a run makes of the account of the session keys.
 use Rattle.std.proofs.Common.{◌≡◌, ℕ, ◌+◌, ◌<◌, ◌≤◌, ◌==◌, ◌&&◌, ◌||◌, Bool, true, false, not, if◌then◌else◌}
-use Rattle.std.proofs.Common.{nat_le, List, [], ◌∷◌, ◌++◌, filter, map, is_some, Option, Some, None, unwrap_or, refl}
+use Rattle.std.proofs.Common.{List, [], ◌∷◌, ◌++◌, filter, map, is_some, Option, refl}
 use Rattle.std.proofs.Common.{ap, sym, ◌∙◌, arith, inl, inr, append-nil}
 use Rattle.std.specs.List.{list_any}
 use Rattle.std.proofs.lemmas.Bool.{cases_Bool, eqb-true, eq-eqb}
@@ -8,37 +8,33 @@ use Rattle.std.proofs.lemmas.List.{map-append}
 use Rattle.asp_job.specs.declared.entry.Entry.{Entry}
 use Rattle.asp_job.specs.declared.entry.Stage.{Stage}
 use Rattle.asp_job.specs.declared.entry.Stage.TheVariants.{Ended, Waiting}
-use Rattle.asp_job.specs.declared.entry.What.{What}
 use Rattle.asp_job.specs.declared.entry.What.TheVariants.{Admit, Queue, Refuse}
 use Rattle.asp_job.specs.declared.job.Job.{Job}
 use Rattle.asp_job.specs.declared.job.Work.{Work}
 use Rattle.asp_job.specs.declared.job.Work.TheVariants as work
 use Rattle.asp_job.specs.declared.session.SessionState.{SessionState}
-use Rattle.asp_job.specs.History.{run_in, with_lane}
+use Rattle.asp_job.specs.History.{with_lane}
 use Rattle.asp_job.specs.Journal.{AreRight, IsRight}
-use Rattle.asp_job.specs.Keys as job
-use Rattle.asp_job.specs.Keys.{asked_in, closes, is_busy, is_closing, is_live, keeps_busy, last_asked, made, opened}
+use Rattle.asp_job.specs.Keys.{closes, is_busy, is_closing, is_live, keeps_busy, made}
 use Rattle.asp_job.specs.Keys.{session_of}
 use Rattle.asp_job.specs.Rules.{Rules}
 use Rattle.asp_job.specs.Runs.{drawn, is_open, is_stage_unfinished, is_stage_waiting, is_unfinished, is_waiting, job_of}
 use Rattle.asp_job.specs.Runs.{key_of, numbers, stage_of}
-use Rattle.asp_job.specs.Turns.{IsAdmit, key_asked_by, key_for, needs_key, owed}
+use Rattle.asp_job.specs.Turns.{owed}
 use Rattle.asp_journal.specs.Keyed.{is_session_end}
 use Rattle.asp_journal.proofs.Numbers.{filter_more}
-use Rattle.asp_journal.proofs.Others.{key_other, own_number, stage_other}
+use Rattle.asp_journal.proofs.Others.{key_other, stage_other}
 use Rattle.asp_session.specs.declared.key.KeyState.{KeyState}
 use Rattle.asp_session.specs.declared.key.Waiter.{Waiter}
 use Rattle.asp_session.specs.Account.{Account}
-use Rattle.asp_session.specs.Steps.{asked_at, barred, changed, new_key, queued, touched, with_key}
-use Rattle.asp_core.specs.Sessions.{account_of, account_queued, asked_for, if_keyed, is_running, keys_by, runs_for}
+use Rattle.asp_session.specs.Steps.{barred, changed, queued}
+use Rattle.asp_core.specs.Sessions.{account_of, account_queued, if_keyed, is_running, keys_by, runs_for}
 use Rattle.asp_core.specs.Sessions.{state_at, waiter_of, waiters_of, waits_keyed}
-use Rattle.asp_core.proofs.Jobs.{admit_right}
 use Rattle.asp_core.proofs.Others.{job_other}
 use Rattle.asp_core.proofs.Right.{drawn_next}
-use Rattle.asp_core.proofs.Rising.{any_more, any_none, any_same, changed_map, changed_none, map_same, or_none}
+use Rattle.asp_core.proofs.Rising.{any_more, any_same, changed_map, map_same, or_none}
 use Rattle.asp_core.proofs.Rising.{passing_rise}
-use Rattle.asp_core.proofs.Owing.{IsLiveKey, IsOwed, queue_owed}
-use Rattle.asp_core.proofs.Steadying.{closing_unmade, none_of_unmade, no_session_beyond}
+use Rattle.asp_core.proofs.Owing.{IsOwed, queue_owed}
 
 -- ---- records of which each field is the same
 

@@ -38,7 +38,7 @@ due_if : (b : Bool) (keys : List ℕ) (n : ℕ) → length keys ≤ n → length
 due_if true keys n h = omega arith
 due_if false keys n h = h
 
-due_length : (sessions : ℕ → Option SessionState) (past : List Entry) (moment : ℕ)
+pub due_length : (sessions : ℕ → Option SessionState) (past : List Entry) (moment : ℕ)
     → length (due_at sessions past moment) ≤ made past
 due_length sessions past moment =
     let all = passed_few (is_due_key sessions past moment) (numbers (made past)) in

@@ -1,5 +1,5 @@
 -- How a job comes. `sessions` is the session of each key.
-use Rattle.std.specs.Prelude.{◌≡◌, ℕ, Bool, true, false, if◌then◌else◌, List, [], ◌∷◌, ◌++◌, Option, None}
+use Rattle.std.specs.Prelude.{◌≡◌, ℕ, true, false, List, [], ◌∷◌, ◌++◌, Option, None}
 use Rattle.asp_job.specs.declared.answer.Answer.{Answer}
 use Rattle.asp_job.specs.declared.entry.Entry.{Entry}
 use Rattle.asp_job.specs.declared.entry.What.{What}
@@ -8,7 +8,6 @@ use Rattle.asp_job.specs.declared.job.Job.{Job}
 use Rattle.asp_job.specs.declared.session.SessionState.{SessionState}
 use Rattle.asp_job.specs.History.{with_lane}
 use Rattle.asp_job.specs.Journal.{admission, job_now, past_after, admit_entry, tick_entries}
-use Rattle.asp_job.specs.Keys.{makes_key}
 use Rattle.asp_job.specs.Rules.{Rules}
 use Rattle.asp_job.specs.Turns.{key_asked_by}
 use Rattle.asp_response.specs.declared.fixed.Unavailable.TheVariants as cause
@@ -36,7 +35,6 @@ answer_if _ answer = None
 -- what is kept of a job that came is that of its entry
 pub record IsDrawn (what : What) (drawn : Drawn) : Type 0 where
   pub told_is : drawn.told ≡ told_of what
-  pub fresh_is : drawn.fresh ≡ makes_key what
   pub answer_is : drawn.answer ≡ answer_for what
 
 -- the entry of a job
@@ -63,7 +61,3 @@ entries_by rules sessions past lane job =
 abbrev pub entry_then : Rules → List Entry → ℕ → Job → Entry
 entry_then rules past lane job =
     admit_entry rules (past_after past (tick_entries rules past lane job.moment)) lane job
-
--- the table of sessions after an entry
-abbrev pub with_place : List (Option SessionState) → Bool → List (Option SessionState)
-with_place table fresh = if fresh then table ++ None ∷ [] else table

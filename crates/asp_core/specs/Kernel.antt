@@ -1,7 +1,7 @@
 -- What contracts see of a core, and of a run that was moved out of it. All of it is the profile's.
-use Rattle.std.specs.Prelude.{◌≡◌, ℕ, ◌+◌, ◌*◌, ◌-◌, ◌≤◌, ◌<◌, ◌==◌, ◌⊎◌, ◌++◌, ◌∷◌, true, false, if◌then◌else◌}
+use Rattle.std.specs.Prelude.{◌≡◌, ℕ, ◌+◌, ◌*◌, ◌-◌, ◌≤◌, ◌<◌, ◌⊎◌, ◌++◌, ◌∷◌, true, false, if◌then◌else◌}
 use Rattle.std.specs.Prelude.{nat_lt, min, ◌^◌, Bool}
-use Rattle.std.specs.Prelude.{List, [], length, reverse, slice_set, slice_index_or, All, Option, Some, None, IfSome}
+use Rattle.std.specs.Prelude.{List, [], length, reverse, Option, Some, None, IfSome}
 use Rattle.std.specs.Prelude.{Result, Ok, Err}
 use Rattle.vb_value.specs.declared.application.AppCall.{AppCall}
 use Rattle.vb_value.specs.declared.memory.Memory as memory
@@ -21,8 +21,8 @@ use Rattle.asp_job.specs.declared.session.SessionState.{SessionState}
 use Rattle.asp_job.specs.Application.{AppState, blocker_of}
 use Rattle.asp_job.specs.Calls.{IsAppCall, IsReply}
 use Rattle.asp_job.specs.History.{held_by, load, weight_load, call_entry, with_lane, HasNotFit}
-use Rattle.asp_job.specs.Journal.{IsValidJournal, queue_entries, begin_entry}
-use Rattle.asp_job.specs.Keys.{session_of, told, made, opened, live, due_at}
+use Rattle.asp_job.specs.Journal.{queue_entries, begin_entry}
+use Rattle.asp_job.specs.Keys.{session_of, told, live, due_at}
 use Rattle.asp_job.specs.Rules.{Rules, Cause, TooManySessions, OutOfMemory, JournalFull}
 use Rattle.asp_job.specs.Running.{Phase, Going, Wanting, Over}
 use Rattle.asp_job.specs.Runs.{unfinished, drawn, moment_of, is_halted, job_of}
@@ -32,8 +32,10 @@ use Rattle.asp_job.specs.Told.{Told, Outcome, Wants, Ends, Meaning}
 use Rattle.asp_job.specs.Turns.{IsRunning, IsNextRun, IsBegin, may_begin, serial_of, closing_runs}
 use Rattle.asp_response.specs.declared.fixed.Unavailable.TheVariants as cause
 use Rattle.asp_response.specs.Fixed.{unavailable_of}
+use Rattle.asp_session.specs.Account.{Account}
 use Rattle.asp_session.specs.Letters.{letters_of}
 use Rattle.asp_core.specs.Cookie.{cookie_key_in}
+use Rattle.asp_core.specs.Sessions.{IsAccountOf}
 use Rattle.asp_core.specs.Standing.{is_head, stand_ins}
 use Rattle.asp_core.specs.Ready.{ready, IsAnswered, bodies_with_one}
 use Rattle.asp_core.specs.declared.ready.TheConstants.{MOST_BODIES}
@@ -91,10 +93,6 @@ pub record IsHostOf {R Site : Type 0} (core : CoreView R Site) (runner : R) (sit
 
 -- ---- what a core keeps
 
--- the session of a key in a table whose first place is that of key 1
-abbrev pub session_at : List (Option SessionState) → ℕ → Option SessionState
-session_at table k = if k == 0 then None else slice_index_or table (k - 1) None
-
 -- what is to come for sure: the End and the Take of each unfinished run, the Takes of so many answers, and a Halt
 abbrev pub halts_to_come : List Entry → ℕ
 halts_to_come past = if is_halted past then 0 else 1
@@ -117,19 +115,15 @@ AreWellFormed (entry ∷ past) = IsWellFormed entry.what × AreWellFormed past
 abbrev pub IsSessionIn : Option SessionState → Type 0
 IsSessionIn session = IfSome session IsSession
 
--- The journal is valid, and its entries are well formed. The table of sessions, the count of those that were opened, the
--- Application object and the answers that wait are what it says, and the sessions are such as may be.
-pub record IsKept (rules : Rules) (past : List Entry) (table : List (Option SessionState)) (count : ℕ)
-    (held : AppState) (answers : List (ℕ × Answer)) : Type 0 where
-  pub account : IsValidJournal rules past
-  pub sessions : session_at table ≡ session_of rules past
-  pub keys : length table ≡ made past
-  pub opened_is : count ≡ opened rules past
+-- The journal is valid, and its entries are well formed. The account of the session keys, the Application object and
+-- the answers that wait are what it says.
+pub record IsKept (rules : Rules) (past : List Entry) (account : Account) (held : AppState)
+    (answers : List (ℕ × Answer)) : Type 0 where
+  pub sessions : IsAccountOf rules past account
   pub held_is : held ≡ held_by past
   pub answers_are : answers ≡ ready rules past
   pub answered : IsAnswered rules past
   pub formed : AreWellFormed past
-  pub valid : All IsSessionIn table
 
 -- it has at most so many entries, and weighs so much at most, with one End for each unfinished run
 pub record IsWithin (past : List Entry) : Type 0 where
@@ -170,9 +164,6 @@ abbrev pub NextFits : Rules → List Entry → ℕ → Type 0
 NextFits rules past lane = (run : ℕ) → IsNextRun past run → IsWithin (begin_entry rules past lane run ∷ past)
 
 -- ---- what events add, where these are the sessions of the keys
-
-abbrev pub due_by : List (Option SessionState) → List Entry → ℕ → List ℕ
-due_by table past moment = due_at (session_at table) past moment
 
 abbrev pub ticked : (ℕ → Option SessionState) → List Entry → ℕ → ℕ → List Entry
 ticked sessions past lane moment =
@@ -270,12 +261,6 @@ left_by (Some finished) = finished.session
 abbrev pub answer_left : Option Finished → Option Answer
 answer_left None = None
 answer_left (Some finished) = finished.answer
-
--- the table after an End of a run of the key
-abbrev pub table_after : List (Option SessionState) → EndKind → ℕ → Option SessionState → List (Option SessionState)
-table_after table kind.Done key session = if key == 0 then table else slice_set table (key - 1) session
-table_after table kind.Memory key session = table
-table_after table kind.JournalFull key session = table
 
 -- at some point since the run's last entry, the entry of the call that it wants did not fit
 abbrev pub HasNotFitFor : {State : Type 0} → List Entry → ℕ → RunView State → Type 0

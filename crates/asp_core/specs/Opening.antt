@@ -14,14 +14,16 @@ use Rattle.asp_job.specs.Session.{IsSession}
 use Rattle.asp_job.specs.Size.{IsSmall}
 use Rattle.asp_job.specs.Told.{Told, begun}
 use Rattle.asp_job.specs.Turns.{IsNextRun}
+use Rattle.asp_session.specs.Account.{Account}
 use Rattle.asp_session.specs.Letters.{letters_of}
 use Rattle.asp_core.specs.declared.opening.Opening.{Opening}
 use Rattle.asp_core.specs.declared.opening.SessionNumber.{SessionNumber}
 use Rattle.asp_core.specs.declared.ready.TheConstants.{MOST_BODIES}
 use Rattle.asp_core.specs.declared.run.Progress.TheVariants as progress
 use Rattle.asp_core.specs.Calm.{HasLoad, IsOver}
-use Rattle.asp_core.specs.Kernel.{RunView, IsKept, IsWithin, HasRoom, HasAnswerRoom, NoneIsNext, session_at}
+use Rattle.asp_core.specs.Kernel.{RunView, IsKept, IsSessionIn, IsWithin, HasRoom, HasAnswerRoom, NoneIsNext}
 use Rattle.asp_core.specs.Ready.{bodies_with_one}
+use Rattle.asp_core.specs.Sessions.{account_begun, sessions_in}
 use Rattle.asp_core.specs.Standing.{stand_ins}
 
 -- ---- what it begins with
@@ -74,10 +76,10 @@ abbrev pub IsIdleWith : List (ℕ × Answer) → List Entry → Type 0
 IsIdleWith answers past = NoneIsNext past ⊎ (MOST_BODIES < bodies_with_one answers past)
 
 -- what a run needs to begin: the parts of a core are those of its journal
-pub record CanBegin (rules : Rules) (past : List Entry) (table : List (Option SessionState)) (count : ℕ)
-    (answers : List (ℕ × Answer)) (capacity : ℕ) : Type 0 where
+pub record CanBegin (rules : Rules) (past : List Entry) (account : Account) (answers : List (ℕ × Answer))
+    (capacity : ℕ) : Type 0 where
   pub held : AppState
-  pub kept : IsKept rules past table count held answers
+  pub kept : IsKept rules past account held answers
   pub within : IsWithin past
   pub room : HasRoom past (length answers) capacity
 
@@ -87,11 +89,12 @@ pub record IsNext (past : List Entry) (run : ℕ) : Type 0 where
   pub few : length (unfinished past) < MOST_UNFINISHED
   pub going : is_halted past ≡ false
 
--- the Begin and the body of the run that is next fit, and that is the number of its session
-pub record IsNextWith (past : List Entry) (table : List (Option SessionState)) (count : ℕ)
-    (answers : List (ℕ × Answer)) (run : ℕ) (number : SessionNumber) : Type 0 where
+-- the Begin and the body of the run that is next fit, that is the number of its session, and its session may be
+pub record IsNextWith (past : List Entry) (account : Account) (answers : List (ℕ × Answer)) (run : ℕ)
+    (number : SessionNumber) : Type 0 where
   pub next : IsNext past run
-  pub number_is : IsNumberOf (draw_of past run) (session_at table (key_of past run)) count number
+  pub number_is : IsNumberOf (draw_of past run) (sessions_in account (key_of past run)) account.opened number
+  pub may : IsSessionIn (sessions_in account (key_of past run))
   pub light : bodies_with_one answers past ≤ MOST_BODIES
   pub load : HasLoad past 2 128
 
@@ -101,21 +104,16 @@ pub record IsNextOver (past : List Entry) (entries weight : ℕ) : Type 0 where
   pub next : IsNext past run
   pub over : IsOver past 2 128 entries weight
 
--- how many sessions were opened after the Begin of a run
-abbrev pub count_after : Rules → List Entry → ℕ → ℕ → ℕ
-count_after rules past run count =
-    if keys.opens (draw_of past run) (keys.session_of rules past (key_of past run)) then count + 1 else count
-
--- what the Begin of a run leaves of a journal and of the count of sessions, and the run
+-- what the Begin of a run leaves of a journal and of the account of the session keys, and the run
 pub record HasBegun {State : Type 0} (rules : Rules) (stands : State → Told → ℕ → Type 0) (lane : ℕ)
-    (journal : List Entry) (count : ℕ) (answers : List (ℕ × Answer)) (next : List Entry) (then_count : ℕ)
-    (capacity capacity_of : ℕ) (run : RunView State) : Type 0 where
+    (journal : List Entry) (account : Account) (answers : List (ℕ × Answer)) (next : List Entry)
+    (then_account : Account) (capacity capacity_of : ℕ) (run : RunView State) : Type 0 where
   pub is_next : IsNextRun (reverse journal) run.number
   pub few : length (unfinished (reverse journal)) < MOST_UNFINISHED
   pub going : is_halted (reverse journal) ≡ false
   pub light : bodies_with_one answers (reverse journal) ≤ MOST_BODIES
   pub journal_is : next ≡ journal ++ begin_entry rules (reverse journal) lane run.number ∷ []
-  pub count_is : then_count ≡ count_after rules (reverse journal) run.number count
+  pub account_is : then_account ≡ account_begun (reverse journal) run.number account
   pub within : IsWithin (reverse next)
   pub room : HasRoom (reverse next) (length answers) capacity
   pub answer_room : HasAnswerRoom (reverse next) (length answers) capacity_of

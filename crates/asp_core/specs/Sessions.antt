@@ -1,5 +1,5 @@
 -- The account of the session keys, read off a journal, and what each entry makes of it. All of it is the profile's.
-use Rattle.std.specs.Prelude.{◌≡◌, ℕ, ◌==◌, ◌&&◌, Bool, false, not, if◌then◌else◌, List, filter, map, Option}
+use Rattle.std.specs.Prelude.{◌≡◌, ℕ, ◌==◌, ◌&&◌, Bool, false, not, if◌then◌else◌, List, [], ◌∷◌, filter, map, Option}
 use Rattle.std.specs.List.{list_any}
 use Rattle.asp_job.specs.declared.entry.EndKind.{EndKind}
 use Rattle.asp_job.specs.declared.entry.EndKind.TheVariants as kind
@@ -7,6 +7,7 @@ use Rattle.asp_job.specs.declared.entry.Entry.{Entry}
 use Rattle.asp_job.specs.declared.entry.What.{What}
 use Rattle.asp_job.specs.declared.entry.What.TheVariants.{Queue, Admit, Begin, End}
 use Rattle.asp_job.specs.declared.session.SessionState.{SessionState}
+use Rattle.asp_job.specs.Journal.{IsValidJournal}
 use Rattle.asp_job.specs.Keys.{made, opened, live, session_of, session_left, told, last_asked, is_closing}
 use Rattle.asp_job.specs.Rules.{Rules}
 use Rattle.asp_job.specs.Runs.{numbers, drawn, key_of, job_of, is_unfinished, is_waiting}
@@ -108,6 +109,17 @@ account_after rules past (Queue run work key) account = account_queued (Queue ru
 account_after rules past (Admit run key fresh job) account = account_admitted (Admit run key fresh job) account
 account_after rules past _ account = account
 
+-- the steps of entries, the oldest first
+abbrev pub account_grown : Rules → List Entry → List Entry → Account → Account
+account_grown rules past [] account = account
+account_grown rules past (entry ∷ entries) account =
+    account_grown rules (entry ∷ past) entries (account_after rules past entry.what account)
+
+-- the same of entries that queue runs, and of such as leave the account
+abbrev pub account_closed : List Entry → Account → Account
+account_closed [] account = account
+account_closed (entry ∷ entries) account = account_closed entries (account_queued entry.what account)
+
 -- ---- what an account tells
 
 -- the session of each key
@@ -119,3 +131,8 @@ pub record Tells (account : Account) (past : List Entry) : Type 0 where
   pub keys_are : account.keys ≡ keys_by (sessions_in account) past
   pub waiting_are : account.waiting ≡ waiters_of past
   pub made_is : account.made ≡ made past
+
+-- the journal is valid, and the account is read off it
+pub record IsAccountOf (rules : Rules) (past : List Entry) (account : Account) : Type 0 where
+  pub journal : IsValidJournal rules past
+  pub account_is : account ≡ account_of rules account.seed past

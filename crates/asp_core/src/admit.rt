@@ -1,11 +1,10 @@
 //! The call of the core that takes a job.
 #![tactic(auto)]
 
-ghost use Rattle.std.specs.Prelude.{◌≡◌, ◌↔◌, ◌≤◌, ◌<◌, ℕ, length, reverse, true, false, Err, OnOk, OnErr, IfOk};
+ghost use Rattle.std.specs.Prelude.{◌≡◌, ◌↔◌, ◌≤◌, ℕ, length, reverse, true, false, Err, OnOk, OnErr, IfOk};
 ghost use Rattle.std.specs.Prelude.{vec_capacity, Result, Ok};
 ghost use Rattle.asp_job.specs.History as history;
 ghost use Rattle.asp_job.specs.Journal as journals;
-ghost use Rattle.asp_job.specs.Keys as spec;
 ghost use Rattle.asp_job.specs.Runs as runs;
 ghost use Rattle.asp_job.specs.Running.{is_page};
 ghost use Rattle.asp_job.specs.Size.{IsSmall};
@@ -13,17 +12,18 @@ ghost use Rattle.asp_job.specs.Turns as turns;
 ghost use Rattle.asp_job.specs.declared.entry.TheConstants.{MOST_ENTRIES, MOST_WAITING};
 ghost use Rattle.asp_core.specs.Drawing as drawing;
 ghost use Rattle.asp_core.specs.Kernel as kernel;
+ghost use Rattle.asp_core.specs.Sessions.{IsAccountOf};
 ghost use Rattle.asp_core.specs.Taking as taking;
 
 use crate::admitted::Admitted;
 use crate::events::with_job;
 use crate::kernel::Core;
-use crate::places::{add_answer, add_place};
+use crate::places::add_answer;
 use crate::setting::Setting;
 use crate::stop::{AdmitStop, EventStop, admit_stop};
-use asp_job::{Answer, Job, MOST_WAITING, Runner, SessionState};
+use asp_job::{Answer, Job, MOST_WAITING, Runner};
 use asp_journal::Journal;
-use vb_value::Memory;
+use asp_session::Sessions;
 
 fn refused_before(journal: &Journal) -> Option<AdmitStop>
     ensures { result ≡ taking.refused_before (reverse journal.now.items) }
@@ -37,14 +37,7 @@ fn refused_before(journal: &Journal) -> Option<AdmitStop>
     }
 }
 
-fn reserve_place(table: &mut Vec<Option<SessionState>>) -> Result<(), Memory>
-    ensures items { table.new.items ≡ table.old.items }
-    ensures room { OnOk result (length table.new.items < vec_capacity table.new) }
-{
-    Ok(table.reserve(1)?)
-}
-
-/// The journal, the answers and the table after a job. A refusal leaves them.
+/// The journal, the answers and the session keys after a job. A refusal leaves them.
 #[tactic(auto, using(crate::proofs::Admitting::answers_few))]
 pub(crate) fn take_job<R: Runner>(
     runner: &R,
@@ -52,22 +45,22 @@ pub(crate) fn take_job<R: Runner>(
     setting: &Setting,
     journal: &mut Journal,
     answers: &mut Vec<(u32, Answer)>,
-    table: &mut Vec<Option<SessionState>>,
+    sessions: &mut Sessions,
     lane: u32,
     job: &Job,
 ) -> Result<Admitted, EventStop>
-    requires sessions { kernel.session_at table.old.items
-        ≡ spec.session_of (kernel.rules_by (R.meaning runner.now site.now) setting.now) (reverse journal.old.items) }
+    requires account { IsAccountOf (kernel.rules_by (R.meaning runner.now site.now) setting.now)
+        (reverse journal.old.items) sessions.old.account }
     requires few { history.entries_in (reverse journal.old.items) ≤ MOST_ENTRIES }
     requires small { IsSmall job.now }
     ensures ok { OnOk result (taking.HasTaken (kernel.rules_by (R.meaning runner.now site.now) setting.now)
-        lane job.now journal.old.items table.old.items answers.old.items
-        journal.new.items table.new.items answers.new.items
+        lane job.now journal.old.items sessions.old.account answers.old.items
+        journal.new.items sessions.new.account answers.new.items
         (journal.new.capacity) (vec_capacity answers.new)) }
     ensures told { IfOk result (λ told. told ≡ drawing.told_of (drawing.entry_then
         (kernel.rules_by (R.meaning runner.now site.now) setting.now) (reverse journal.old.items) lane job.now).what) }
-    ensures err { OnErr result ((journal.new.items ≡ journal.old.items) × (table.new.items ≡ table.old.items)
-        × (answers.new.items ≡ answers.old.items)) }
+    ensures err { OnErr result ((journal.new.items ≡ journal.old.items)
+        × (sessions.new.account ≡ sessions.old.account) × (answers.new.items ≡ answers.old.items)) }
     ensures capacity { OnErr result ((journal.old.capacity ≤ journal.new.capacity)
         × (vec_capacity answers.old ≤ vec_capacity answers.new)) }
     ensures full { (entries weight : ℕ) → result ≡ Err (EventStop.JournalFull entries weight) →
@@ -75,23 +68,10 @@ pub(crate) fn take_job<R: Runner>(
         (kernel.rules_by (R.meaning runner.now site.now) setting.now) (reverse journal.old.items) lane job.now))
         entries weight }
 {
-    if reserve_place(table).is_err() {
-        return Err(EventStop::Memory);
-    }
-    let drawn = match with_job(
-        runner,
-        site,
-        setting,
-        journal,
-        answers,
-        table.as_slice(),
-        lane,
-        job,
-    ) {
+    let drawn = match with_job(runner, site, setting, journal, answers, sessions, lane, job) {
         Ok(drawn) => drawn,
         Err(stop) => return Err(stop),
     };
-    add_place(table, drawn.fresh);
     add_answer(answers, drawn.told.run, drawn.answer);
     Ok(drawn.told)
 }
@@ -131,7 +111,7 @@ impl<R: Runner> Core<R> {
             &self.house.setting,
             &mut self.kept.journal,
             &mut self.kept.answers,
-            &mut self.kept.table,
+            &mut self.kept.sessions,
             lane,
             job,
         );

@@ -24,11 +24,10 @@ pub struct Admitted {
     pub moment: u64,
 }
 
-/// A job that came: what is told of it, whether a key was made for it, and its answer, where it was refused.
+/// A job that came: what is told of it, and its answer, where it was refused.
 #[derive(Debug, Drop)]
 pub struct Drawn {
     pub told: Admitted,
-    pub fresh: bool,
     pub answer: Option<Answer>,
 }
 

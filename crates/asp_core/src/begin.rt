@@ -2,7 +2,6 @@
 #![tactic(auto)]
 
 ghost use Rattle.std.specs.Prelude.{◌≡◌, ◌≤◌, ◌<◌, ◌+◌, ◌*◌, ◌^◌, ◌++◌, ◌∷◌, ◌↔◌, [], ℕ, reverse, length, true, false};
-ghost use Rattle.std.specs.Prelude.{if◌then◌else◌};
 ghost use Rattle.std.specs.Prelude.{OnOk, OnErr, IfOk, IfErr, IfNone, IfSome, OnSome, Err, vec_capacity};
 ghost use Rattle.asp_job.specs.History as history;
 ghost use Rattle.asp_job.specs.Journal as journals;
@@ -14,8 +13,10 @@ ghost use Rattle.asp_core.specs.Calm.{HasLoad};
 ghost use Rattle.asp_core.specs.Kernel as kernel;
 ghost use Rattle.asp_core.specs.Opening as spec;
 ghost use Rattle.asp_core.specs.Ready as waits;
+ghost use Rattle.asp_core.specs.Sessions.{account_begun, sessions_in};
 ghost use Rattle.asp_core.specs.declared.ready.TheConstants.{MOST_BODIES};
 
+use crate::account::start_key;
 use crate::kernel::Core;
 use crate::keys::least_run;
 use crate::opening::{Opening, SessionNumber, open_run, session_number};
@@ -24,8 +25,9 @@ use crate::room::room_for;
 use crate::run::{Progress, Run};
 use crate::setting::Setting;
 use crate::stop::{BeginStop, begin_stop};
-use asp_job::{Answer, Entry, Runner, SessionState, What};
+use asp_job::{Answer, Entry, Runner, What};
 use asp_journal::Journal;
+use asp_session::Sessions;
 use std::alloc::Global;
 
 /// The run that is next, where there is room for the body of one more.
@@ -51,14 +53,13 @@ fn next_to_begin(journal: &Journal, answers: &[(u32, Answer)]) -> Option<u64>
 fn next_with_room(
     journal: &mut Journal,
     answers: &mut Vec<(u32, Answer)>,
-    table: &[Option<SessionState>],
-    opened: u32,
+    sessions: &Sessions,
 ) -> Result<(u32, SessionNumber), BeginStop>
     requires numbered { (run : ℕ) → turns.may_begin (reverse journal.old.items) run ≡ true →
         (0 < run) × (run ≤ runs.drawn (reverse journal.old.items)) }
     requires few { history.entries_in (reverse journal.old.items) ≤ MOST_ENTRIES }
-    requires count { opened + 1 < 2 ^ 31 }
-    ensures ok { IfOk result (λ next. spec.IsNextWith (reverse journal.old.items) table.now opened
+    requires count { sessions.now.account.opened + 1 < 2 ^ 31 }
+    ensures ok { IfOk result (λ next. spec.IsNextWith (reverse journal.old.items) sessions.now.account
         answers.old.items next.0 next.1) }
     ensures items { journal.new.items ≡ journal.old.items }
     ensures answers { answers.new.items ≡ answers.old.items }
@@ -78,23 +79,30 @@ fn next_with_room(
     let Some(next) = next_to_begin(journal, answers.as_slice()) else {
         return Err(BeginStop::Idle);
     };
-    let number = session_number(journal, table, opened, next);
+    let number = session_number(journal, sessions, next);
     if let Err(stop) = room_for(journal, answers, 2, 128) {
         return Err(begin_stop(stop));
     }
     Ok((next as u32, number))
 }
 
-/// Adds the Begin of a run, and counts the session that it opens.
-fn add_begin(journal: &mut Journal, opened: &mut u32, lane: u32, run: u32, number: SessionNumber)
+/// Adds the Begin of a run, whose key's run does not wait any more.
+fn add_begin(
+    journal: &mut Journal,
+    sessions: &mut Sessions,
+    lane: u32,
+    run: u32,
+    number: SessionNumber,
+)
     requires fit { IsFit (reverse journal.old.items) (What.Begin run number.serial) }
     requires room { length journal.old.items < journal.old.capacity }
-    requires count { opened.old + 1 < 2 ^ 31 }
+    requires count { sessions.old.account.opened + 1 < 2 ^ 31 }
     ensures items { journal.new.items ≡ journal.old.items
         ++ history.with_lane lane (What.Begin run number.serial) ∷ [] }
     ensures capacity { journal.new.capacity ≡ journal.old.capacity }
-    ensures count { opened.new ≡ (if number.is_new then opened.old + 1 else opened.old) }
+    ensures account { sessions.new.account ≡ account_begun (reverse journal.old.items) run sessions.old.account }
 {
+    start_key(sessions, journal.key_of(run as u64));
     journal.push_reserved(Entry {
         lane,
         what: What::Begin {
@@ -102,9 +110,6 @@ fn add_begin(journal: &mut Journal, opened: &mut u32, lane: u32, run: u32, numbe
             serial: number.serial,
         },
     });
-    if number.is_new {
-        *opened += 1;
-    }
 }
 
 /// The run, with the runner's state of it. Without memory the store comes back.
@@ -114,18 +119,18 @@ fn start_run<R: Runner>(
     alloc: Global,
     setting: &Setting,
     journal: &Journal,
-    table: &[Option<SessionState>],
+    sessions: &Sessions,
     number: SessionNumber,
     run: u32,
     store: R::Store,
 ) -> Result<Run<R>, R::Store>
     requires { spec.CanOpen (runs.draw_of (reverse journal.now.items) run)
-        (kernel.session_at table.now (runs.key_of (reverse journal.now.items) run)) number }
+        (sessions_in sessions.now.account (runs.key_of (reverse journal.now.items) run)) number }
     ensures { IfOk result (spec.HasOpened (R.stands runner.now site.now) setting.now.seed
         (runs.draw_of (reverse journal.now.items) run)
-        (kernel.session_at table.now (runs.key_of (reverse journal.now.items) run)) number run) }
+        (sessions_in sessions.now.account (runs.key_of (reverse journal.now.items) run)) number run) }
 {
-    let Ok(opening) = open_run(alloc, &setting.seed, journal, table, number, run as u64) else {
+    let Ok(opening) = open_run(alloc, &setting.seed, journal, sessions, number, run as u64) else {
         return Err(store);
     };
     let Opening {
@@ -146,24 +151,24 @@ fn start_run<R: Runner>(
     }
 }
 
-/// A run that is next, the journal with its Begin and the count of sessions. A refusal leaves both.
+/// A run that is next, the journal with its Begin and the session keys. A refusal leaves both.
 fn begin_run<R: Runner>(
     runner: &R,
     site: &R::Site,
     setting: &Setting,
     journal: &mut Journal,
     answers: &mut Vec<(u32, Answer)>,
-    table: &[Option<SessionState>],
-    opened: &mut u32,
+    sessions: &mut Sessions,
     lane: u32,
     store: R::Store,
 ) -> Result<Run<R>, (R::Store, BeginStop)>
     requires { spec.CanBegin (kernel.rules_by (R.meaning runner.now site.now) setting.now)
-        (reverse journal.old.items) table.now opened.old answers.old.items (journal.old.capacity) }
+        (reverse journal.old.items) sessions.old.account answers.old.items (journal.old.capacity) }
     ensures ok { IfOk result (spec.HasBegun (kernel.rules_by (R.meaning runner.now site.now) setting.now)
-        (R.stands runner.now site.now) lane journal.old.items opened.old answers.old.items
-        journal.new.items opened.new (journal.new.capacity) (vec_capacity answers.new)) }
-    ensures err { OnErr result ((journal.new.items ≡ journal.old.items) × (opened.new ≡ opened.old)) }
+        (R.stands runner.now site.now) lane journal.old.items sessions.old.account answers.old.items
+        journal.new.items sessions.new.account (journal.new.capacity) (vec_capacity answers.new)) }
+    ensures err { OnErr result ((journal.new.items ≡ journal.old.items)
+        × (sessions.new.account ≡ sessions.old.account)) }
     ensures answers { answers.new.items ≡ answers.old.items }
     ensures capacity { journal.old.capacity ≤ journal.new.capacity }
     ensures capacity_of_answers { vec_capacity answers.old ≤ vec_capacity answers.new }
@@ -176,7 +181,7 @@ fn begin_run<R: Runner>(
         kernel.NextFits (kernel.rules_by (R.meaning runner.now site.now) setting.now)
         (reverse journal.old.items) lane) }
 {
-    let (run, number) = match next_with_room(journal, answers, table, *opened) {
+    let (run, number) = match next_with_room(journal, answers, sessions) {
         Ok(next) => next,
         Err(stop) => return Err((store, stop)),
     };
@@ -186,13 +191,13 @@ fn begin_run<R: Runner>(
         journal.alloc(),
         setting,
         journal,
-        table,
+        sessions,
         number,
         run,
         store,
     ) {
         Ok(begun) => {
-            add_begin(journal, opened, lane, run, number);
+            add_begin(journal, sessions, lane, run, number);
             Ok(begun)
         }
         Err(store) => Err((store, BeginStop::Memory)),
@@ -236,8 +241,7 @@ impl<R: Runner> Core<R> {
             &self.house.setting,
             &mut self.kept.journal,
             &mut self.kept.answers,
-            self.kept.table.as_slice(),
-            &mut self.kept.opened,
+            &mut self.kept.sessions,
             lane,
             store,
         )

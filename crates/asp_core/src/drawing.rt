@@ -1,7 +1,7 @@
 //! The entries that a job adds to a journal.
 #![tactic(auto)]
 
-ghost use Rattle.std.specs.Prelude.{◌≡◌, ◌+◌, ◌-◌, ◌<◌, ◌≤◌, ◌^◌, ◌++◌, ◌∷◌, [], ℕ, min, reverse, length, sum_by};
+ghost use Rattle.std.specs.Prelude.{◌≡◌, ◌+◌, ◌-◌, ◌<◌, ◌≤◌, ◌^◌, ◌++◌, ◌∷◌, [], ℕ, min, reverse, length, sum_by, true};
 ghost use Rattle.std.specs.Prelude.{OnOk, OnErr, IfOk, Err};
 ghost use Rattle.std.specs.Prelude.{vec_capacity};
 ghost use Rattle.asp_job.specs.History as history;
@@ -12,34 +12,35 @@ ghost use Rattle.asp_job.specs.declared.entry.TheConstants.{MOST_ENTRIES};
 ghost use Rattle.asp_core.specs.Calm as calm;
 ghost use Rattle.asp_core.specs.Drawing as drawing;
 ghost use Rattle.asp_core.specs.Kernel as kernel;
+ghost use Rattle.asp_core.specs.Sessions.{IsAccountOf, Tells, account_admitted, account_grown, sessions_in};
 ghost use Rattle.asp_core.specs.Standing as standing;
+ghost use Rattle.asp_session.specs.Steps.{most_live};
 
+use crate::account::{ask, queue_runs};
 use crate::admitted::{Drawn, stand_in, told_of};
 use crate::cookie::asked_key;
-use crate::keys::{has_most_keys, is_askable};
-use crate::room::{entries_weight, room_for};
+use crate::room::{entries_weight, make_key_room, room_for};
 use crate::setting::Setting;
 use crate::stop::EventStop;
-use asp_job::{Answer, Entry, Job, Runner, SessionState, What};
+use asp_job::{Answer, Entry, Job, Runner, What};
 use asp_journal::{Journal, work_weight};
 use asp_response::Unavailable;
+use asp_session::Sessions;
 use std::alloc::Global;
 use vb_value::{Copied, List, Memory};
 
 /// How a job is admitted, or that it is refused.
-fn admission(
-    journal: &Journal,
-    table: &[Option<SessionState>],
-    keyed: bool,
-    asked: u32,
-    job: Job,
-) -> What
-    requires { history.entries_in (reverse journal.now.items) ≤ MOST_ENTRIES + MOST_ENTRIES + 1 }
-    ensures { result ≡ journals.admission keyed asked (kernel.session_at table.now) (reverse journal.now.items) job }
+#[tactic(auto, using(crate::proofs::Accounts::askable_is, crate::proofs::Accounts::most_are))]
+fn admission(journal: &Journal, sessions: &Sessions, keyed: bool, asked: u32, job: Job) -> What
+    requires few { history.entries_in (reverse journal.now.items) ≤ MOST_ENTRIES + MOST_ENTRIES + 1 }
+    requires tells { Tells sessions.now.account (reverse journal.now.items) }
+    ensures what { result ≡ journals.admission keyed asked
+        (sessions_in sessions.now.account) (reverse journal.now.items) job }
+    ensures free { keys.makes_key result ≡ true → length sessions.now.account.keys < most_live }
 {
     let run = journal.drawn() as u32 + 1;
-    let needs = keyed && !is_askable(journal, table, asked as u64);
-    if needs && has_most_keys(journal, table) {
+    let needs = keyed && !sessions.askable(asked);
+    if needs && sessions.is_full() {
         return What::Refuse { run, job };
     }
     let key = if needs {
@@ -60,12 +61,10 @@ fn admission(
 /// What is kept of a job that came, with the answer that it has where it is refused.
 fn drawn_of(what: &What, answer: Option<Answer>) -> Drawn
     ensures told { result.told ≡ drawing.told_of what.now }
-    ensures fresh { result.fresh ≡ keys.makes_key what.now }
     ensures answer { result.answer ≡ drawing.answer_if what.now answer }
 {
     Drawn {
         told: told_of(what),
-        fresh: matches!(what, What::Admit { fresh: true, .. }),
         answer: match what {
             What::Refuse { .. } => answer,
             _ => None,
@@ -94,18 +93,20 @@ fn admission_of<R: Runner>(
     site: &R::Site,
     setting: &Setting,
     journal: &Journal,
-    table: &[Option<SessionState>],
+    sessions: &Sessions,
     job: Job,
 ) -> What
     requires small { IsSmall job }
     requires few { history.entries_in (reverse journal.now.items) ≤ MOST_ENTRIES + MOST_ENTRIES + 1 }
-    ensures { result ≡ (drawing.drawn_by (kernel.rules_by (R.meaning runner.now site.now) setting.now)
-        (kernel.session_at table.now) (reverse journal.now.items) 0 job).what }
+    requires tells { Tells sessions.now.account (reverse journal.now.items) }
+    ensures what { result ≡ (drawing.drawn_by (kernel.rules_by (R.meaning runner.now site.now) setting.now)
+        (sessions_in sessions.now.account) (reverse journal.now.items) 0 job).what }
+    ensures free { keys.makes_key result ≡ true → length sessions.now.account.keys < most_live }
 {
     let now = job_now(journal, job);
     let keyed = runner.keyed(site, &now);
     let asked = asked_key(&setting.seed, &now);
-    admission(journal, table, keyed, asked, now)
+    admission(journal, sessions, keyed, asked, now)
 }
 
 /// What the entry of a job takes of memory: a copy of the job, and the answer that it has where it is refused.
@@ -118,31 +119,39 @@ pub fn prepared(alloc: Global, job: &Job) -> Result<(Job, Option<Answer>), Memor
     Ok((copy, answer))
 }
 
-/// Adds the entry of a job that came with the answer that it has where it is refused. It takes no memory.
+/// Adds the entry of a job that came with the answer that it has where it is refused, and its key and its run are asked
+/// for. It takes no memory.
 fn add_admission<R: Runner>(
     runner: &R,
     site: &R::Site,
     setting: &Setting,
     journal: &mut Journal,
-    table: &[Option<SessionState>],
+    sessions: &mut Sessions,
     lane: u32,
     job: Job,
     answer: Option<Answer>,
 ) -> Drawn
+    requires tells { Tells sessions.old.account (reverse journal.old.items) }
     requires small { IsSmall job }
     requires few { history.entries_in (reverse journal.old.items) ≤ MOST_ENTRIES + MOST_ENTRIES + 1 }
     requires answer { answer ≡ standing.stand_in Unavailable.TooManySessions job.work }
     requires room { length journal.old.items < journal.old.capacity }
+    requires key_room { 0 < sessions.old.key_room }
+    requires run_room { 0 < sessions.old.run_room }
     ensures items { journal.new.items ≡ journal.old.items
         ++ drawing.drawn_by (kernel.rules_by (R.meaning runner.now site.now) setting.now)
-        (kernel.session_at table.now) (reverse journal.old.items) lane job ∷ [] }
+        (sessions_in sessions.old.account) (reverse journal.old.items) lane job ∷ [] }
     ensures drawn { drawing.IsDrawn
         (drawing.drawn_by (kernel.rules_by (R.meaning runner.now site.now) setting.now)
-        (kernel.session_at table.now) (reverse journal.old.items) lane job).what result }
+        (sessions_in sessions.old.account) (reverse journal.old.items) lane job).what result }
+    ensures account { sessions.new.account ≡ account_admitted
+        (drawing.drawn_by (kernel.rules_by (R.meaning runner.now site.now) setting.now)
+        (sessions_in sessions.old.account) (reverse journal.old.items) lane job).what sessions.old.account }
     ensures capacity { journal.new.capacity ≡ journal.old.capacity }
 {
-    let what = admission_of(runner, site, setting, journal, table, job);
+    let what = admission_of(runner, site, setting, journal, sessions, job);
     let drawn = drawn_of(&what, answer);
+    ask(sessions, &what);
     journal.push_reserved(Entry { lane, what });
     drawn
 }
@@ -156,14 +165,53 @@ fn job_weight(more: &[Entry], job: &Job) -> u64
         .saturating_add(64)
 }
 
-/// Adds the entries of a job's Tick and the job's own, if they fit. A refusal leaves the journal.
+/// Adds the entries of a job's Tick and the job's own, with what they make of the session keys. It takes no memory.
+fn add_ticked<R: Runner>(
+    runner: &R,
+    site: &R::Site,
+    setting: &Setting,
+    journal: &mut Journal,
+    sessions: &mut Sessions,
+    lane: u32,
+    more: List<Entry>,
+    job: Job,
+    answer: Option<Answer>,
+) -> Drawn
+    requires few { history.entries_in (reverse journal.old.items) ≤ MOST_ENTRIES }
+    requires small { IsSmall job }
+    requires account { IsAccountOf (kernel.rules_by (R.meaning runner.now site.now) setting.now)
+        (reverse journal.old.items) sessions.old.account }
+    requires tick { more ≡ drawing.tick_before (sessions_in sessions.old.account) (reverse journal.old.items) lane job }
+    requires answer { answer ≡ standing.stand_in Unavailable.TooManySessions job.work }
+    requires room { length journal.old.items + length more < journal.old.capacity }
+    requires key_room { 0 < sessions.old.key_room }
+    requires run_room { length more < sessions.old.run_room }
+    ensures entries { journal.new.items ≡ journal.old.items ++ drawing.entries_by
+        (kernel.rules_by (R.meaning runner.now site.now) setting.now) (sessions_in sessions.old.account)
+        (reverse journal.old.items) lane job }
+    ensures drawn { drawing.IsDrawn (drawing.drawn_then
+        (kernel.rules_by (R.meaning runner.now site.now) setting.now) (sessions_in sessions.old.account)
+        (reverse journal.old.items) lane job).what result }
+    ensures account { sessions.new.account ≡ account_grown
+        (kernel.rules_by (R.meaning runner.now site.now) setting.now) (reverse journal.old.items)
+        (drawing.entries_by (kernel.rules_by (R.meaning runner.now site.now) setting.now)
+        (sessions_in sessions.old.account) (reverse journal.old.items) lane job) sessions.old.account }
+    ensures capacity { journal.new.capacity ≡ journal.old.capacity }
+{
+    queue_runs(sessions, more.as_slice());
+    journal.append_reserved(more);
+    add_admission(runner, site, setting, journal, sessions, lane, job, answer)
+}
+
+/// Adds the entries of a job's Tick and the job's own, if they fit, with what they make of the session keys. A refusal
+/// leaves the journal and the session keys.
 pub fn add_job<R: Runner>(
     runner: &R,
     site: &R::Site,
     setting: &Setting,
     journal: &mut Journal,
     answers: &mut Vec<(u32, Answer)>,
-    table: &[Option<SessionState>],
+    sessions: &mut Sessions,
     lane: u32,
     more: List<Entry>,
     job: Job,
@@ -171,15 +219,22 @@ pub fn add_job<R: Runner>(
 ) -> Result<Drawn, EventStop>
     requires few { history.entries_in (reverse journal.old.items) ≤ MOST_ENTRIES }
     requires small { IsSmall job }
-    requires tick { more ≡ drawing.tick_before (kernel.session_at table.now) (reverse journal.old.items) lane job }
+    requires account { IsAccountOf (kernel.rules_by (R.meaning runner.now site.now) setting.now)
+        (reverse journal.old.items) sessions.old.account }
+    requires tick { more ≡ drawing.tick_before (sessions_in sessions.old.account) (reverse journal.old.items) lane job }
     requires answer { answer ≡ standing.stand_in Unavailable.TooManySessions job.work }
     ensures entries { OnOk result (journal.new.items ≡ journal.old.items ++ drawing.entries_by
-        (kernel.rules_by (R.meaning runner.now site.now) setting.now) (kernel.session_at table.now)
+        (kernel.rules_by (R.meaning runner.now site.now) setting.now) (sessions_in sessions.old.account)
         (reverse journal.old.items) lane job) }
     ensures drawn { IfOk result (drawing.IsDrawn (drawing.drawn_then
-        (kernel.rules_by (R.meaning runner.now site.now) setting.now) (kernel.session_at table.now)
+        (kernel.rules_by (R.meaning runner.now site.now) setting.now) (sessions_in sessions.old.account)
         (reverse journal.old.items) lane job).what) }
-    ensures err { OnErr result (journal.new.items ≡ journal.old.items) }
+    ensures account { OnOk result (sessions.new.account ≡ account_grown
+        (kernel.rules_by (R.meaning runner.now site.now) setting.now) (reverse journal.old.items)
+        (drawing.entries_by (kernel.rules_by (R.meaning runner.now site.now) setting.now)
+        (sessions_in sessions.old.account) (reverse journal.old.items) lane job) sessions.old.account) }
+    ensures err { OnErr result ((journal.new.items ≡ journal.old.items)
+        × (sessions.new.account ≡ sessions.old.account)) }
     ensures answers { answers.new.items ≡ answers.old.items }
     ensures capacity { journal.old.capacity ≤ journal.new.capacity }
     ensures capacity_of_answers { vec_capacity answers.old ≤ vec_capacity answers.new }
@@ -190,13 +245,17 @@ pub fn add_job<R: Runner>(
         (length answers.old.items + 1) (vec_capacity answers.new)) }
     ensures full { (entries weight : ℕ) → result ≡ Err (EventStop.JournalFull entries weight) →
         kernel.IsTooMuch (journals.past_after (reverse journal.old.items) (drawing.entries_by
-        (kernel.rules_by (R.meaning runner.now site.now) setting.now) (kernel.session_at table.now)
+        (kernel.rules_by (R.meaning runner.now site.now) setting.now) (sessions_in sessions.old.account)
         (reverse journal.old.items) lane job)) entries weight }
 {
     let weight = job_weight(more.as_slice(), &job);
     if let Err(stop) = room_for(journal, answers, more.len() + 1, weight) {
         return Err(stop);
     }
-    journal.append_reserved(more);
-    Ok(add_admission(runner, site, setting, journal, table, lane, job, answer))
+    if let Err(stop) = make_key_room(sessions, 1, more.len() + 1) {
+        return Err(stop);
+    }
+    Ok(add_ticked(
+        runner, site, setting, journal, sessions, lane, more, job, answer,
+    ))
 }

@@ -11,13 +11,16 @@ ghost use Rattle.asp_job.specs.Running.{IsBounded};
 ghost use Rattle.asp_core.specs.Ends as spec;
 ghost use Rattle.asp_core.specs.Kernel as kernel;
 ghost use Rattle.asp_core.specs.Ready as waits;
+ghost use Rattle.asp_core.specs.Sessions.{account_ended, after_of};
 ghost use Rattle.asp_core.specs.Start as starts;
 
+use crate::account::end_key;
 use crate::kernel::Core;
 use crate::places::add_answer;
 use crate::run::{Run, StandIns};
 use asp_job::{Answer, EndKind, Entry, Fail, Finished, Runner, SessionState, What};
 use asp_journal::Journal;
+use asp_session::Sessions;
 
 /// What a run leaves: its answer, its session, why it failed, and how many objects it made and ended.
 #[derive(Debug, Drop)]
@@ -90,21 +93,6 @@ fn end_what(run: u32, kind: EndKind, left: &Left) -> What
     }
 }
 
-/// Keeps the session that a run leaves, if it ended by itself.
-fn keep_session(
-    table: &mut [Option<SessionState>],
-    kind: EndKind,
-    key: u32,
-    session: Option<SessionState>,
-)
-    requires { key ≤ length table.old }
-    ensures { table.new ≡ kernel.table_after table.old kind key session }
-{
-    if matches!(kind, EndKind::Done) && key != 0 {
-        table[(key - 1) as usize] = session;
-    }
-}
-
 /// Why the first run failed, after the end of a run that failed so.
 fn fail_after(before: Option<Fail>, run: u32, fail: Option<Fail>) -> Option<Fail>
     ensures { result ≡ starts.fail_after before run fail }
@@ -117,7 +105,7 @@ fn fail_after(before: Option<Fail>, run: u32, fail: Option<Fail>) -> Option<Fail
 fn end_run(
     journal: &mut Journal,
     answers: &mut Vec<(u32, Answer)>,
-    table: &mut Vec<Option<SessionState>>,
+    sessions: &mut Sessions,
     start_fail: &mut Option<Fail>,
     lane: u32,
     run: u32,
@@ -125,7 +113,7 @@ fn end_run(
     left: Left,
 )
     requires bounded { IfSome left.answer IsBounded }
-    requires key { runs.key_of (reverse journal.old.items) run ≤ length table.old.items }
+    requires session { kernel.IsSessionIn left.session }
     requires timely { runs.is_open (reverse journal.old.items) run ≡ true }
     requires numbered { (0 < run) × (run ≤ runs.drawn (reverse journal.old.items)) }
     requires room { length journal.old.items < journal.old.capacity }
@@ -135,8 +123,8 @@ fn end_run(
     ensures capacity { journal.new.capacity ≡ journal.old.capacity }
     ensures answers { answers.new.items ≡ waits.with_answer answers.old.items run left.answer }
     ensures capacity_of_answers { vec_capacity answers.new ≡ vec_capacity answers.old }
-    ensures table { table.new.items ≡ kernel.table_after table.old.items kind
-        (runs.key_of (reverse journal.old.items) run) left.session }
+    ensures account { sessions.new.account ≡ account_ended (runs.key_of (reverse journal.old.items) run)
+        (after_of kind left.session) sessions.old.account }
     ensures start { start_fail.new ≡ starts.fail_after start_fail.old run left.fail }
 {
     let key = journal.key_of(run as u64);
@@ -148,7 +136,7 @@ fn end_run(
         made: _,
         finished: _,
     } = left;
-    keep_session(table.as_mut_slice(), kind, key, session);
+    end_key(sessions, key, kind, session);
     *start_fail = fail_after(*start_fail, run, fail);
     add_answer(answers, run, answer);
     journal.push_reserved(Entry { lane, what });
@@ -170,7 +158,7 @@ impl<R: Runner> Core<R> {
         end_run(
             &mut self.kept.journal,
             &mut self.kept.answers,
-            &mut self.kept.table,
+            &mut self.kept.sessions,
             &mut self.kept.start_fail,
             lane,
             number,

@@ -6,14 +6,17 @@ ghost use Rattle.std.specs.Prelude.{OnErr, IfOk, IfErr};
 ghost use Rattle.vb_value.specs.Outcome.{Gives, Adds};
 ghost use Rattle.asp_job.specs.History as history;
 ghost use Rattle.asp_job.specs.Journal as journals;
+ghost use Rattle.asp_job.specs.Keys as keys;
 ghost use Rattle.asp_job.specs.Runs as runs;
 ghost use Rattle.asp_job.specs.Turns as turns;
 ghost use Rattle.asp_job.specs.declared.entry.TheConstants.{MOST_ENTRIES};
 ghost use Rattle.asp_core.specs.Kernel as kernel;
+ghost use Rattle.asp_core.specs.Sessions.{Tells, sessions_in};
 
-use crate::keys::{due_at, live};
-use asp_job::{Entry, SessionState, What, Work};
+use crate::keys::due_at;
+use asp_job::{Entry, What, Work};
 use asp_journal::Journal;
+use asp_session::Sessions;
 use std::alloc::Global;
 use vb_value::{List, Memory};
 
@@ -38,19 +41,21 @@ fn add_closing(entries: &mut List<Entry>, lane: u32, first: u32, keys: &[u32]) -
     Ok(())
 }
 
+#[tactic(auto, using(crate::proofs::Expiring::due_few))]
 fn due_entries(
     alloc: Global,
     journal: &Journal,
-    table: &[Option<SessionState>],
+    sessions: &Sessions,
     lane: u32,
     moment: u64,
 ) -> Result<List<Entry>, Memory>
-    requires { history.entries_in (reverse journal.now.items) ≤ MOST_ENTRIES }
+    requires few { history.entries_in (reverse journal.now.items) ≤ MOST_ENTRIES }
+    requires tells { Tells sessions.now.account (reverse journal.now.items) }
     ensures { Gives result (history.with_lane lane (What.Tick moment)
         ∷ journals.queue_entries lane (runs.drawn (reverse journal.now.items) + 1)
-        (turns.closing_runs (kernel.due_by table.now (reverse journal.now.items) moment))) }
+        (turns.closing_runs (keys.due_at (sessions_in sessions.now.account) (reverse journal.now.items) moment))) }
 {
-    let keys = due_at(alloc, journal, table, moment)?;
+    let keys = due_at(alloc, journal, sessions, moment)?;
     let first = journal.drawn() as u32 + 1;
     let mut entries = List::new(alloc);
     entries.push(Entry {
@@ -66,32 +71,34 @@ fn due_entries(
 pub fn tick_entries(
     alloc: Global,
     journal: &Journal,
-    table: &[Option<SessionState>],
+    sessions: &Sessions,
     lane: u32,
     moment: u64,
 ) -> Result<List<Entry>, Memory>
-    requires { history.entries_in (reverse journal.now.items) ≤ MOST_ENTRIES }
-    ensures { Gives result (kernel.ticked (kernel.session_at table.now) (reverse journal.now.items) lane moment) }
+    requires few { history.entries_in (reverse journal.now.items) ≤ MOST_ENTRIES }
+    requires tells { Tells sessions.now.account (reverse journal.now.items) }
+    ensures { Gives result (kernel.ticked (sessions_in sessions.now.account) (reverse journal.now.items) lane moment) }
 {
     if journal.moment() < moment {
-        due_entries(alloc, journal, table, lane, moment)
+        due_entries(alloc, journal, sessions, lane, moment)
     } else {
         Ok(List::new(alloc))
     }
 }
 
 /// A Stop and the runs that are then owed.
-#[tactic(auto, using(crate::proofs::Closing::queue_last))]
+#[tactic(auto, using(crate::proofs::Closing::queue_last, crate::proofs::Expiring::live_few, crate::proofs::Accounts::live_are))]
 pub fn stop_entries(
     alloc: Global,
     journal: &Journal,
-    table: &[Option<SessionState>],
+    sessions: &Sessions,
     lane: u32,
 ) -> Result<List<Entry>, Memory>
-    requires { history.entries_in (reverse journal.now.items) ≤ MOST_ENTRIES }
-    ensures { Gives result (kernel.stopped_by (kernel.session_at table.now) (reverse journal.now.items) lane) }
+    requires few { history.entries_in (reverse journal.now.items) ≤ MOST_ENTRIES }
+    requires tells { Tells sessions.now.account (reverse journal.now.items) }
+    ensures { Gives result (kernel.stopped_by (sessions_in sessions.now.account) (reverse journal.now.items) lane) }
 {
-    let keys = live(alloc, journal, table)?;
+    let keys = sessions.live(alloc)?;
     let first = journal.drawn() as u32 + 1;
     let mut entries = List::new(alloc);
     entries.push(Entry {

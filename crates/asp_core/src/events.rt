@@ -6,11 +6,11 @@ ghost use Rattle.std.specs.Prelude.{OnOk, OnErr, IfOk, Err};
 ghost use Rattle.std.specs.Prelude.{vec_capacity};
 ghost use Rattle.asp_job.specs.History as history;
 ghost use Rattle.asp_job.specs.Journal as journals;
-ghost use Rattle.asp_job.specs.Keys as spec;
 ghost use Rattle.asp_job.specs.declared.entry.TheConstants.{MOST_ENTRIES};
 ghost use Rattle.asp_job.specs.Size.{IsSmall};
 ghost use Rattle.asp_core.specs.Drawing as drawing;
 ghost use Rattle.asp_core.specs.Kernel as kernel;
+ghost use Rattle.asp_core.specs.Sessions.{IsAccountOf, Tells, account_grown, sessions_in};
 
 use crate::admitted::Drawn;
 use crate::drawing::{add_job, prepared};
@@ -18,8 +18,9 @@ use crate::entries::{stop_entries, tick_entries};
 use crate::room::add_calm;
 use crate::setting::Setting;
 use crate::stop::EventStop;
-use asp_job::{Answer, Entry, Job, Runner, SessionState};
+use asp_job::{Answer, Entry, Job, Runner};
 use asp_journal::Journal;
+use asp_session::Sessions;
 use std::alloc::Global;
 use std::snapshot::Snapshot;
 use vb_value::{List, Memory};
@@ -29,36 +30,36 @@ use vb_value::{List, Memory};
 fn ticked(
     alloc: Global,
     journal: &Journal,
-    table: &[Option<SessionState>],
+    sessions: &Sessions,
     lane: u32,
     moment: u64,
 ) -> Result<(List<Entry>, u32), Memory>
-    requires { history.entries_in (reverse journal.now.items) ≤ MOST_ENTRIES }
+    requires few { history.entries_in (reverse journal.now.items) ≤ MOST_ENTRIES }
+    requires tells { Tells sessions.now.account (reverse journal.now.items) }
     ensures entries { IfOk result (λ made. made.0
-        ≡ kernel.ticked (kernel.session_at table.now) (reverse journal.now.items) lane moment) }
+        ≡ kernel.ticked (sessions_in sessions.now.account) (reverse journal.now.items) lane moment) }
     ensures count { IfOk result (λ made. made.1
-        ≡ kernel.expired_by (kernel.session_at table.now) (reverse journal.now.items) moment) }
+        ≡ kernel.expired_by (sessions_in sessions.now.account) (reverse journal.now.items) moment) }
 {
-    let entries = tick_entries(alloc, journal, table, lane, moment)?;
+    let entries = tick_entries(alloc, journal, sessions, lane, moment)?;
     let expired = entries.len().saturating_sub(1) as u32;
     Ok((entries, expired))
 }
 
-/// The journal after a Tick, and how many keys' sessions are over by it. A refusal leaves it.
-#[tactic(auto, using(crate::proofs::Kept::ticked_is, crate::proofs::Fits::tick_fit, crate::proofs::Fits::tick_calm))]
+/// The journal and the session keys after a Tick, and how many keys' sessions are over by it. A refusal leaves them.
+#[tactic(auto, using(crate::proofs::Expiring::of_ticks))]
 pub fn with_tick<R: Runner>(
     runner: &Snapshot<R>,
     site: &Snapshot<R::Site>,
     setting: &Setting,
     journal: &mut Journal,
     answers: &mut Vec<(u32, Answer)>,
-    table: &[Option<SessionState>],
+    sessions: &mut Sessions,
     lane: u32,
     moment: u64,
 ) -> Result<u32, EventStop>
-    requires sessions { kernel.session_at table.now
-        ≡ spec.session_of
-        (kernel.rules_by (R.meaning runner.now.value site.now.value) setting.now) (reverse journal.old.items) }
+    requires account { IsAccountOf (kernel.rules_by (R.meaning runner.now.value site.now.value) setting.now)
+        (reverse journal.old.items) sessions.old.account }
     requires small { history.entries_in (reverse journal.old.items) ≤ MOST_ENTRIES }
     ensures entries { OnOk result (journal.new.items ≡ journal.old.items
         ++ journals.tick_entries
@@ -66,7 +67,12 @@ pub fn with_tick<R: Runner>(
         (reverse journal.old.items) lane moment) }
     ensures count { IfOk result (λ count. count ≡ kernel.expired
         (kernel.rules_by (R.meaning runner.now.value site.now.value) setting.now) (reverse journal.old.items) moment) }
-    ensures err { OnErr result (journal.new.items ≡ journal.old.items) }
+    ensures account { OnOk result (sessions.new.account ≡ account_grown
+        (kernel.rules_by (R.meaning runner.now.value site.now.value) setting.now) (reverse journal.old.items)
+        (journals.tick_entries (kernel.rules_by (R.meaning runner.now.value site.now.value) setting.now)
+        (reverse journal.old.items) lane moment) sessions.old.account) }
+    ensures err { OnErr result ((journal.new.items ≡ journal.old.items)
+        × (sessions.new.account ≡ sessions.old.account)) }
     ensures answers { answers.new.items ≡ answers.old.items }
     ensures capacity { journal.old.capacity ≤ journal.new.capacity }
     ensures capacity_of_answers { vec_capacity answers.old ≤ vec_capacity answers.new }
@@ -82,35 +88,39 @@ pub fn with_tick<R: Runner>(
         moment))
         entries weight }
 {
-    let (more, expired) = match ticked(journal.alloc(), journal, table, lane, moment) {
+    let (more, expired) = match ticked(journal.alloc(), journal, sessions, lane, moment) {
         Ok(made) => made,
         Err(_) => return Err(EventStop::Memory),
     };
-    match add_calm(journal, answers, more) {
+    match add_calm(journal, answers, sessions, more) {
         Ok(()) => Ok(expired),
         Err(stop) => Err(stop),
     }
 }
 
-/// The journal after a Stop. A refusal leaves it.
-#[tactic(auto, using(crate::proofs::Kept::stop_made, crate::proofs::Fits::stop_fit, crate::proofs::Fits::stop_calm))]
+/// The journal and the session keys after a Stop. A refusal leaves them.
+#[tactic(auto, using(crate::proofs::Expiring::of_stops))]
 pub fn with_stop<R: Runner>(
     runner: &Snapshot<R>,
     site: &Snapshot<R::Site>,
     setting: &Setting,
     journal: &mut Journal,
     answers: &mut Vec<(u32, Answer)>,
-    table: &[Option<SessionState>],
+    sessions: &mut Sessions,
     lane: u32,
 ) -> Result<(), EventStop>
-    requires sessions { kernel.session_at table.now
-        ≡ spec.session_of
-        (kernel.rules_by (R.meaning runner.now.value site.now.value) setting.now) (reverse journal.old.items) }
+    requires account { IsAccountOf (kernel.rules_by (R.meaning runner.now.value site.now.value) setting.now)
+        (reverse journal.old.items) sessions.old.account }
     requires small { history.entries_in (reverse journal.old.items) ≤ MOST_ENTRIES }
     ensures entries { OnOk result (journal.new.items ≡ journal.old.items
         ++ journals.stop_entries
         (kernel.rules_by (R.meaning runner.now.value site.now.value) setting.now) (reverse journal.old.items) lane) }
-    ensures err { OnErr result (journal.new.items ≡ journal.old.items) }
+    ensures account { OnOk result (sessions.new.account ≡ account_grown
+        (kernel.rules_by (R.meaning runner.now.value site.now.value) setting.now) (reverse journal.old.items)
+        (journals.stop_entries (kernel.rules_by (R.meaning runner.now.value site.now.value) setting.now)
+        (reverse journal.old.items) lane) sessions.old.account) }
+    ensures err { OnErr result ((journal.new.items ≡ journal.old.items)
+        × (sessions.new.account ≡ sessions.old.account)) }
     ensures answers { answers.new.items ≡ answers.old.items }
     ensures capacity { journal.old.capacity ≤ journal.new.capacity }
     ensures capacity_of_answers { vec_capacity answers.old ≤ vec_capacity answers.new }
@@ -125,13 +135,13 @@ pub fn with_stop<R: Runner>(
         (kernel.rules_by (R.meaning runner.now.value site.now.value) setting.now) (reverse journal.old.items) lane))
         entries weight }
 {
-    match stop_entries(journal.alloc(), journal, table, lane) {
-        Ok(more) => add_calm(journal, answers, more),
+    match stop_entries(journal.alloc(), journal, sessions, lane) {
+        Ok(more) => add_calm(journal, answers, sessions, more),
         Err(_) => Err(EventStop::Memory),
     }
 }
 
-/// The journal after a job. A refusal leaves it.
+/// The journal and the session keys after a job. A refusal leaves them.
 #[tactic(auto)]
 pub fn with_job<R: Runner>(
     runner: &R,
@@ -139,19 +149,24 @@ pub fn with_job<R: Runner>(
     setting: &Setting,
     journal: &mut Journal,
     answers: &mut Vec<(u32, Answer)>,
-    table: &[Option<SessionState>],
+    sessions: &mut Sessions,
     lane: u32,
     job: &Job,
 ) -> Result<Drawn, EventStop>
-    requires sessions { kernel.session_at table.now
-        ≡ spec.session_of (kernel.rules_by (R.meaning runner.now site.now) setting.now) (reverse journal.old.items) }
+    requires account { IsAccountOf (kernel.rules_by (R.meaning runner.now site.now) setting.now)
+        (reverse journal.old.items) sessions.old.account }
     requires few { history.entries_in (reverse journal.old.items) ≤ MOST_ENTRIES }
     requires small { IsSmall job.now }
     ensures entries { OnOk result (journal.new.items ≡ journal.old.items ++ journals.admit_entries
         (kernel.rules_by (R.meaning runner.now site.now) setting.now) (reverse journal.old.items) lane job.now) }
     ensures drawn { IfOk result (drawing.IsDrawn (drawing.entry_then
         (kernel.rules_by (R.meaning runner.now site.now) setting.now) (reverse journal.old.items) lane job.now).what) }
-    ensures err { OnErr result (journal.new.items ≡ journal.old.items) }
+    ensures account { OnOk result (sessions.new.account ≡ account_grown
+        (kernel.rules_by (R.meaning runner.now site.now) setting.now) (reverse journal.old.items)
+        (journals.admit_entries (kernel.rules_by (R.meaning runner.now site.now) setting.now)
+        (reverse journal.old.items) lane job.now) sessions.old.account) }
+    ensures err { OnErr result ((journal.new.items ≡ journal.old.items)
+        × (sessions.new.account ≡ sessions.old.account)) }
     ensures answers { answers.new.items ≡ answers.old.items }
     ensures capacity { journal.old.capacity ≤ journal.new.capacity }
     ensures capacity_of_answers { vec_capacity answers.old ≤ vec_capacity answers.new }
@@ -165,13 +180,13 @@ pub fn with_job<R: Runner>(
         (kernel.rules_by (R.meaning runner.now site.now) setting.now) (reverse journal.old.items) lane job.now))
         entries weight }
 {
-    let more = match tick_entries(journal.alloc(), journal, table, lane, job.moment) {
+    let more = match tick_entries(journal.alloc(), journal, sessions, lane, job.moment) {
         Ok(more) => more,
         Err(_) => return Err(EventStop::Memory),
     };
     match prepared(journal.alloc(), job) {
         Ok((job, answer)) => add_job(
-            runner, site, setting, journal, answers, table, lane, more, job, answer,
+            runner, site, setting, journal, answers, sessions, lane, more, job, answer,
         ),
         Err(_) => Err(EventStop::Memory),
     }

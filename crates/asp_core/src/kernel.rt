@@ -1,4 +1,4 @@
-//! The core: it keeps the journal, and tables of what the journal says.
+//! The core: it keeps the journal, and what the journal says.
 #![tactic(auto)]
 
 ghost use Rattle.std.specs.Prelude.{◌≡◌, ◌+◌, ◌-◌, ◌^◌, ◌<◌, ◌≤◌, ◌++◌, ◌∷◌, [], ℕ, List as Items, reverse, length, OnOk};
@@ -21,6 +21,7 @@ use crate::tables::{Keeps, Tables};
 use asp_app::Application;
 use asp_job::{Answer, Entry, Runner, What, Work};
 use asp_journal::Journal;
+use asp_session::Sessions;
 use std::alloc::Global;
 use std::marker::Model;
 use std::snapshot::Snapshot;
@@ -101,8 +102,7 @@ impl<R: Runner> Core<R> {
         Ok(CoreOf {
             kept: Tables {
                 journal,
-                table: Vec::new(alloc),
-                opened: 0,
+                sessions: Sessions::new(alloc, seed),
                 application: Application::new(alloc),
                 answers,
                 start_fail: None,
@@ -192,7 +192,7 @@ impl<R: Runner> Core<R> {
             &self.house.setting,
             &mut self.kept.journal,
             &mut self.kept.answers,
-            self.kept.table.as_slice(),
+            &mut self.kept.sessions,
             lane,
             moment,
         )
@@ -218,7 +218,7 @@ impl<R: Runner> Core<R> {
             &self.house.setting,
             &mut self.kept.journal,
             &mut self.kept.answers,
-            self.kept.table.as_slice(),
+            &mut self.kept.sessions,
             lane,
         )
     }

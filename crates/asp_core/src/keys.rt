@@ -1,115 +1,36 @@
-//! What a journal and the sessions tell of runs and keys.
-#![tactic(auto, using(asp_journal::proofs::Numbers::filter_more))]
+//! Which keys' sessions are over, and which run is next.
+#![tactic(auto)]
 
-ghost use Rattle.std.specs.Prelude.{◌≡◌, ◌≤◌, ◌+◌, ◌-◌, ◌<◌, ◌^◌, ◌*◌, ◌==◌, ◌&&◌, Option, reverse, length, ℕ, false};
-ghost use Rattle.std.specs.Prelude.{true, List, filter, min};
-ghost use Rattle.std.specs.Prelude.{IfOk, IfNone, IfSome, OnSome};
-ghost use Rattle.std.specs.Option.{option_copied};
-ghost use Rattle.asp_job.specs.History as history;
+ghost use Rattle.std.specs.Prelude.{◌≡◌, ◌≤◌, ◌<◌, reverse, length, ℕ, false, true, IfNone, IfSome, OnSome};
+ghost use Rattle.vb_value.specs.Outcome.{Gives};
 ghost use Rattle.asp_job.specs.Keys as spec;
 ghost use Rattle.asp_job.specs.Runs as runs;
 ghost use Rattle.asp_job.specs.Turns as turns;
-ghost use Rattle.asp_job.specs.declared.entry.TheConstants.{MOST_UNFINISHED, MOST_LIVE, MOST_ENTRIES};
-ghost use Rattle.asp_job.specs.declared.session.SessionState.{SessionState};
+ghost use Rattle.asp_job.specs.declared.entry.TheConstants.{MOST_UNFINISHED};
 ghost use Rattle.asp_core.specs.Kernel as kernel;
+ghost use Rattle.asp_core.specs.Sessions.{Tells, sessions_in};
 
-use asp_job::{MOST_LIVE, MOST_UNFINISHED, SessionState};
+use asp_job::MOST_UNFINISHED;
 use asp_journal::Journal;
+use asp_session::Sessions;
 use std::alloc::Global;
 use vb_value::{List, Memory};
 
-/// The session of a key.
-pub fn session_at(table: &[Option<SessionState>], key: u64) -> Option<&SessionState>
-    ensures { option_copied result ≡ kernel.session_at table.now key }
-{
-    if key == 0 || key > table.len() as u64 {
-        return None;
-    }
-    table[(key - 1) as usize].as_ref()
-}
-
-fn is_live(journal: &Journal, table: &[Option<SessionState>], key: u64) -> bool
-    ensures { result ≡ spec.is_live (kernel.session_at table.now) (reverse journal.now.items) key }
-{
-    session_at(table, key).is_some() || journal.is_busy(key)
-}
-
-/// Whether a job may ask for a key.
-pub fn is_askable(journal: &Journal, table: &[Option<SessionState>], key: u64) -> bool
-    ensures { result ≡ spec.is_askable (kernel.session_at table.now) (reverse journal.now.items) key }
-{
-    key != 0 && key <= journal.made() && is_live(journal, table, key) && !journal.is_closing(key)
-}
-
-fn is_due(journal: &Journal, session: Option<&SessionState>, moment: u64, key: u64) -> bool
-    ensures { result ≡ spec.is_due (option_copied session.entry) (reverse journal.now.items) moment key }
-{
-    match session {
-        None => false,
-        Some(session) => !journal.is_busy(key)
-            && journal.last_asked(key) as u128 + session.timeout as u128 * 60 <= moment as u128,
-    }
-}
-
-fn is_due_key(journal: &Journal, table: &[Option<SessionState>], moment: u64, key: u64) -> bool
-    ensures { result ≡ spec.is_due_key (kernel.session_at table.now) (reverse journal.now.items) moment key }
-{
-    is_due(journal, session_at(table, key), moment, key)
-}
-
 /// The keys whose sessions are over at a moment.
+#[tactic(auto, using(crate::proofs::Expiring::due_told, crate::proofs::Expiring::due_none))]
 pub fn due_at(
     alloc: Global,
     journal: &Journal,
-    table: &[Option<SessionState>],
+    sessions: &Sessions,
     moment: u64,
 ) -> Result<List<u32>, Memory>
-    requires { history.entries_in (reverse journal.now.items) ≤ MOST_ENTRIES }
-    ensures keys { IfOk result (λ keys. keys ≡ spec.due_at (kernel.session_at table.now) (reverse journal.now.items) moment) }
-    ensures within { IfOk result (λ keys. length keys ≤ history.entries_in (reverse journal.now.items)) }
+    requires { Tells sessions.now.account (reverse journal.now.items) }
+    ensures { Gives result (spec.due_at (sessions_in sessions.now.account) (reverse journal.now.items) moment) }
 {
-    let mut keys = List::new(alloc);
     if journal.is_stopping() {
-        return Ok(keys);
+        return Ok(List::new(alloc));
     }
-    for i in 0..journal.made() as u32 {
-        if is_due_key(journal, table, moment, i as u64 + 1) {
-            keys.push(i + 1)?;
-        }
-    }
-    Ok(keys)
-}
-
-/// The keys that are live.
-pub fn live(
-    alloc: Global,
-    journal: &Journal,
-    table: &[Option<SessionState>],
-) -> Result<List<u32>, Memory>
-    requires { history.entries_in (reverse journal.now.items) ≤ MOST_ENTRIES }
-    ensures keys { IfOk result (λ keys. keys ≡ spec.live (kernel.session_at table.now) (reverse journal.now.items)) }
-    ensures within { IfOk result (λ keys. length keys ≤ history.entries_in (reverse journal.now.items)) }
-{
-    let mut keys = List::new(alloc);
-    for i in 0..journal.made() as u32 {
-        if is_live(journal, table, i as u64 + 1) {
-            keys.push(i + 1)?;
-        }
-    }
-    Ok(keys)
-}
-
-/// Whether no new key can be made.
-pub fn has_most_keys(journal: &Journal, table: &[Option<SessionState>]) -> bool
-    ensures { result ≡ turns.has_most_keys (kernel.session_at table.now) (reverse journal.now.items) }
-{
-    let mut live = 0;
-    for i in 0..journal.made() {
-        if is_live(journal, table, i + 1) {
-            live += 1;
-        }
-    }
-    MOST_LIVE as u64 <= live
+    sessions.due(alloc, moment)
 }
 
 /// The least of the runs that may begin, where few are unfinished and no Halt stands.

@@ -1,6 +1,7 @@
 //! The core of a host: it keeps the journal of a site's runs, one event after another.
 #![tactic(auto)]
 
+mod account;
 mod admit;
 mod admitted;
 mod begin;

@@ -7,15 +7,15 @@ ghost use Rattle.vb_value.specs.Outcome.{Gives};
 ghost use Rattle.asp_job.specs.Runs as runs;
 ghost use Rattle.asp_core.specs.Kernel as kernel;
 ghost use Rattle.asp_core.specs.Opening as spec;
+ghost use Rattle.asp_core.specs.Sessions.{sessions_in};
 ghost use Rattle.asp_core.specs.Standing as standing;
 
 use crate::admitted::stand_in;
-use crate::keys::session_at;
 use crate::run::StandIns;
 use asp_job::{Job, SessionState, Work, copy_session};
 use asp_journal::Journal;
 use asp_response::Unavailable;
-use asp_session::letters;
+use asp_session::{Sessions, letters};
 use std::alloc::Global;
 use vb_value::{List, Memory, Text};
 
@@ -46,22 +46,20 @@ fn serial_if(opened: u32, opens: bool, session: Option<&SessionState>) -> u32
     }
 }
 
-/// The number of the session with which the run begins, where so many were opened.
-pub fn session_number(
-    journal: &Journal,
-    table: &[Option<SessionState>],
-    opened: u32,
-    run: u64,
-) -> SessionNumber
-    requires { opened + 1 < 2 ^ 31 }
-    ensures { spec.IsNumberOf (runs.draw_of (reverse journal.now.items) run)
-        (kernel.session_at table.now (runs.key_of (reverse journal.now.items) run)) opened result }
+/// The number of the session with which the run begins.
+pub fn session_number(journal: &Journal, sessions: &Sessions, run: u64) -> SessionNumber
+    requires { sessions.now.account.opened + 1 < 2 ^ 31 }
+    ensures number { spec.IsNumberOf (runs.draw_of (reverse journal.now.items) run)
+        (sessions_in sessions.now.account (runs.key_of (reverse journal.now.items) run))
+        sessions.now.account.opened result }
+    ensures may { kernel.IsSessionIn
+        (sessions_in sessions.now.account (runs.key_of (reverse journal.now.items) run)) }
 {
     let key = journal.key_of(run);
-    let held = session_at(table, key as u64);
+    let held = sessions.session(key);
     let is_new = journal.is_page_run(run) && key != 0 && held.is_none();
     SessionNumber {
-        serial: serial_if(opened, is_new, held),
+        serial: serial_if(sessions.opened(), is_new, held),
         is_new,
     }
 }
@@ -127,17 +125,17 @@ pub fn open_run(
     alloc: Global,
     seed: &[u8; 32],
     journal: &Journal,
-    table: &[Option<SessionState>],
+    sessions: &Sessions,
     number: SessionNumber,
     run: u64,
 ) -> Result<Opening, Memory>
     requires { runs.is_fresh (reverse journal.now.items) run ≡ true → 0 < runs.key_of (reverse journal.now.items) run }
     ensures { IfOk result (spec.IsOpening seed.now (runs.draw_of (reverse journal.now.items) run)
-        (kernel.session_at table.now (runs.key_of (reverse journal.now.items) run)) number) }
+        (sessions_in sessions.now.account (runs.key_of (reverse journal.now.items) run)) number) }
 {
     let job = journal.job_of(run)?;
     let key = journal.key_of(run);
-    let session = session_if(alloc, number, session_at(table, key as u64))?;
+    let session = session_if(alloc, number, sessions.session(key))?;
     let cookie = cookie_if(alloc, seed, journal.is_fresh(run), key)?;
     let stand_ins = stand_ins(alloc, &job.work)?;
     Ok(Opening {

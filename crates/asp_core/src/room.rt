@@ -11,10 +11,13 @@ ghost use Rattle.asp_job.specs.declared.entry.TheConstants.{MOST_ENTRIES};
 ghost use Rattle.asp_journal.specs.Tables.{AreFit};
 ghost use Rattle.asp_core.specs.Calm as spec;
 ghost use Rattle.asp_core.specs.Kernel as kernel;
+ghost use Rattle.asp_core.specs.Sessions.{account_closed};
 
+use crate::account::queue_runs;
 use crate::stop::EventStop;
 use asp_job::{Answer, Entry, MOST_ENTRIES, MOST_WEIGHT};
 use asp_journal::{Journal, what_weight};
+use asp_session::Sessions;
 use vb_value::{List, Memory};
 
 /// What entries weigh. 2^64 - 1 stands for a greater weight.
@@ -101,17 +104,35 @@ pub fn room_for(
     Ok(())
 }
 
-/// Adds entries that begin and end no run, if they fit. A refusal leaves the journal.
+/// Makes room for the session keys of a job and for so many runs.
+pub fn make_key_room(sessions: &mut Sessions, keys: u32, runs: usize) -> Result<(), EventStop>
+    requires { runs < 2 ^ 32 }
+    ensures account { sessions.new.account ≡ sessions.old.account }
+    ensures keys { OnOk result (keys ≤ sessions.new.key_room) }
+    ensures runs { OnOk result (runs ≤ sessions.new.run_room) }
+    ensures memory { OnErr result (result ≡ Err EventStop.Memory) }
+{
+    match sessions.room(keys, runs as u32) {
+        Ok(()) => Ok(()),
+        Err(_) => Err(EventStop::Memory),
+    }
+}
+
+/// Adds entries that begin and end no run, if they fit, and queues the runs that they queue. A refusal leaves the journal
+/// and the session keys.
 pub fn add_calm(
     journal: &mut Journal,
     answers: &mut Vec<(u32, Answer)>,
+    sessions: &mut Sessions,
     more: List<Entry>,
 ) -> Result<(), EventStop>
     requires few { history.entries_in (reverse journal.old.items) ≤ MOST_ENTRIES }
     requires fit { AreFit (reverse journal.old.items) more }
     requires calm { spec.AreCalm more }
     ensures ok { OnOk result (journal.new.items ≡ journal.old.items ++ more) }
-    ensures err { OnErr result (journal.new.items ≡ journal.old.items) }
+    ensures account { OnOk result (sessions.new.account ≡ account_closed more sessions.old.account) }
+    ensures err { OnErr result ((journal.new.items ≡ journal.old.items)
+        × (sessions.new.account ≡ sessions.old.account)) }
     ensures answers { answers.new.items ≡ answers.old.items }
     ensures capacity { journal.old.capacity ≤ journal.new.capacity }
     ensures capacity_of_answers { vec_capacity answers.old ≤ vec_capacity answers.new }
@@ -127,6 +148,10 @@ pub fn add_calm(
     if let Err(stop) = room_for(journal, answers, more.len(), weight) {
         return Err(stop);
     }
+    if let Err(stop) = make_key_room(sessions, 0, more.len()) {
+        return Err(stop);
+    }
+    queue_runs(sessions, more.as_slice());
     journal.append_reserved(more);
     Ok(())
 }

@@ -8,8 +8,9 @@ ghost use Rattle.asp_core.specs.Kernel.{HasAnswerRoom, HasRoom, IsKept, IsWithin
 ghost use Rattle.asp_core.specs.Start.{start_fail};
 
 use asp_app::Application;
-use asp_job::{Answer, Fail, SessionState};
+use asp_job::{Answer, Fail};
 use asp_journal::Journal;
+use asp_session::Sessions;
 
 /// What is kept beside a journal.
 pub trait Keeps {
@@ -20,13 +21,12 @@ pub trait Keeps {
     ghost keeps: { Self → Rules → Type 0 };
 }
 
-/// The journal, and tables of what it says: the session of each key, how many were opened, the Application object, the
-/// answers that wait, and why the first run failed.
+/// The journal, and what it says: the session keys, the Application object, the answers that wait, and why the first run
+/// failed.
 #[derive(Drop)]
 pub struct Tables {
     pub(crate) journal: Journal,
-    pub(crate) table: Vec<Option<SessionState>>,
-    pub(crate) opened: u32,
+    pub(crate) sessions: Sessions,
     pub(crate) application: Application,
     pub(crate) answers: Vec<(u32, Answer)>,
     pub(crate) start_fail: Option<Fail>,
@@ -36,7 +36,7 @@ impl Keeps for Tables {
     ghost journal = { λ kept. kept.journal.items };
 
     ghost keeps = { λ kept rules.
-        IsKept rules (reverse kept.journal.items) kept.table.items kept.opened kept.application kept.answers.items
+        IsKept rules (reverse kept.journal.items) kept.sessions.account kept.application kept.answers.items
         × IsWithin (reverse kept.journal.items)
         × HasRoom (reverse kept.journal.items) (length kept.answers.items) kept.journal.capacity
         × HasAnswerRoom (reverse kept.journal.items) (length kept.answers.items) (vec_capacity kept.answers)

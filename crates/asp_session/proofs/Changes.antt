@@ -137,3 +137,14 @@ pub finished_may : (after : After) (before : Option SessionState)
 finished_may Kept before may was = was
 finished_may (Now None) before may was = tt
 finished_may (Now (Some session)) before may was = may session refl
+
+-- so may the session of a key, if it has one
+pub kept_session : (made key : ℕ) (entries : List (ℕ × KeyState)) → All (IsKeyOf made) entries
+    → IfSome (session_in key entries) IsSession
+kept_session made key entries all =
+    by (session_in key entries) (λ session found. found_session made key entries session all found)
+  where
+    by : (found : Option SessionState) → ((session : SessionState) → Some session ≡ found → IsSession session)
+        → IfSome found IsSession
+    by None may = tt
+    by (Some session) may = may session refl

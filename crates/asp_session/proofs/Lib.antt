@@ -1,3 +1,4 @@
 pub mod Changes
+pub mod Moved
 pub mod Queueing
 pub mod Spelling

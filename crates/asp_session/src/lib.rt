@@ -3,6 +3,7 @@
 
 mod after;
 mod cookie;
+mod crossing;
 mod key;
 mod keys;
 mod sessions;
@@ -11,5 +12,6 @@ mod waiting;
 
 pub use after::After;
 pub use cookie::{key_of_letters, letters};
+pub use crossing::sessions_cross;
 pub use sessions::Sessions;
 pub use stop::KeyStop;

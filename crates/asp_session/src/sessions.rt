@@ -1,5 +1,6 @@
 //! The session keys of a site.
-ghost use Rattle.std.specs.Prelude.{◌≡◌, ◌≢◌, ◌<◌, ◌≤◌, ◌+◌, IfOk, IfSome, IsOk, OnOk, Err};
+ghost use Rattle.std.specs.Prelude.{◌≡◌, ◌≢◌, ◌<◌, ◌≤◌, ◌+◌, IfOk, IfSome, IsOk, OnOk, Err, length, nat_lt, not};
+ghost use Rattle.std.specs.Option.{option_copied};
 ghost use Rattle.vb_value.specs.Outcome.{Answers, Changes, Gives};
 ghost use Rattle.asp_job.specs.Session.{IsSession};
 ghost use Rattle.asp_session.specs.declared.after.After.TheVariants as left;
@@ -78,6 +79,21 @@ impl Sessions {
             Some(state) => !state.closing,
             None => false,
         }
+    }
+
+    /// Whether as many keys are live as may be.
+    pub fn is_full(&self) -> bool
+        ensures { result ≡ not (nat_lt (length self.now.account.keys) step.most_live) }
+    {
+        self.keys.len() >= MOST_KEYS
+    }
+
+    /// The session of the key, if it has one.
+    pub fn session(&self, key: u32) -> Option<&SessionState>
+        ensures session { option_copied result ≡ step.session_of key self.now.account }
+        ensures may { IfSome (option_copied result) IsSession }
+    {
+        keys::session_of(&self.keys, key)
     }
 
     /// The live keys, in order.
@@ -177,12 +193,20 @@ impl Sessions {
         ensures account { Changes result self.old.account self.new.account (step.after_begin key self.old.account) }
     {
         let given = self.peek(alloc, key)?;
-        let opens = given.1.is_none() && !waiting::ends_next(&self.waiting, key);
+        self.start(key);
+        Ok(given)
+    }
+
+    /// The first run that waits for the key begins, and is given nothing. It takes no memory.
+    pub fn start(&mut self, key: u32)
+        requires few { self.old.account.opened < 2147483647 }
+        ensures { self.new.account ≡ step.after_begin key self.old.account }
+    {
+        let opens = self.session(key).is_none() && !waiting::ends_next(&self.waiting, key);
         let opened = if opens { self.opened + 1 } else { self.opened };
         self.opened = opened;
         keys::begin(&mut self.keys, key);
         waiting::take_first(&mut self.waiting, key);
-        Ok(given)
     }
 
     /// The unfinished run of the key ends. A key without a session that no run waits for is forgotten.

@@ -46,7 +46,8 @@ returns-clause-ok c = record {
     few = c.in-Some.ensures.few;
     going = c.in-Some.ensures.going;
   };
-  number_is = c.session_number-number.ensures;
+  number_is = c.session_number-number.ensures.number;
+  may = c.session_number-number.ensures.may;
   light = rw c.as_slice.ensures.value at c.in-Some.ensures.light;
   load = c.in_default-room_for.ensures.within;
 }

@@ -3,14 +3,22 @@ use Rattle.asp_job.specs.declared.entry.Entry.{Entry}
 use Rattle.asp_job.specs.Journal.{admit_entries, past_after}
 use Rattle.asp_core.specs.Drawing.{IsDrawn, entry_then}
 use Rattle.asp_core.specs.Kernel.{IsTooMuch, rules_by}
+use Rattle.asp_core.specs.Sessions.{account_grown, sessions_in}
 use Rattle.asp_core.proofs.Admitting.{job_entry, job_made}
+use Rattle.asp_core.proofs.Growing.{account_tells}
 use Rattle.asp_core.proofs.events.with_job.Goals as goal
+
+pub tick_entries-requires-clause-tells : goal.tick_entries-requires-clause-tells
+tick_entries-requires-clause-tells g c =
+    let m = rules_by (g.R.Runner.meaning c.args.runner.now c.args.site.now) c.args.setting.now in
+    (account_tells m (reverse c.args.journal.now.items) c.args.sessions.now.account c.requires.account).0
 
 pub returns-in-Ok-prepared-clause-entries : goal.returns-in-Ok-prepared-clause-entries
 returns-in-Ok-prepared-clause-entries g c =
     let m = rules_by (g.R.Runner.meaning c.args.runner.now c.args.site.now) c.args.setting.now in
     let past = reverse c.args.journal.now.items in
-    let made = job_made m past c.args.table.now c.args.lane c.in-Ok-prepared.job c.requires.sessions
+    let made = job_made m past (sessions_in c.args.sessions.now.account) c.args.lane c.in-Ok-prepared.job
+    (account_tells m past c.args.sessions.now.account c.requires.account).1
     ∙ ap (admit_entries m past c.args.lane) c.in-Ok-prepared.ensures.job in
     let old = c.args.journal.now.items in
     subst (λ (more : List Entry). OnOk c.add_job.result (c.add_job.new.journal.items ≡ old ++ more)) made
@@ -20,7 +28,8 @@ pub returns-in-Ok-prepared-clause-drawn : goal.returns-in-Ok-prepared-clause-dra
 returns-in-Ok-prepared-clause-drawn g c =
     let m = rules_by (g.R.Runner.meaning c.args.runner.now c.args.site.now) c.args.setting.now in
     let past = reverse c.args.journal.now.items in
-    let made = job_entry m past c.args.table.now c.args.lane c.in-Ok-prepared.job c.requires.sessions
+    let made = job_entry m past (sessions_in c.args.sessions.now.account) c.args.lane c.in-Ok-prepared.job
+    (account_tells m past c.args.sessions.now.account c.requires.account).1
     ∙ ap (entry_then m past c.args.lane) c.in-Ok-prepared.ensures.job in
     subst (λ (entry : Entry). IfOk c.add_job.result (IsDrawn entry.what)) made c.add_job.ensures.drawn
 
@@ -28,7 +37,19 @@ pub returns-in-Ok-prepared-clause-full : goal.returns-in-Ok-prepared-clause-full
 returns-in-Ok-prepared-clause-full g c entries weight e =
     let m = rules_by (g.R.Runner.meaning c.args.runner.now c.args.site.now) c.args.setting.now in
     let past = reverse c.args.journal.now.items in
-    let made = job_made m past c.args.table.now c.args.lane c.in-Ok-prepared.job c.requires.sessions
+    let made = job_made m past (sessions_in c.args.sessions.now.account) c.args.lane c.in-Ok-prepared.job
+    (account_tells m past c.args.sessions.now.account c.requires.account).1
     ∙ ap (admit_entries m past c.args.lane) c.in-Ok-prepared.ensures.job in
     subst (λ (more : List Entry). IsTooMuch (past_after past more) entries weight) made
     (c.add_job.ensures.full entries weight e)
+
+pub returns-in-Ok-prepared-clause-account : goal.returns-in-Ok-prepared-clause-account
+returns-in-Ok-prepared-clause-account g c =
+    let m = rules_by (g.R.Runner.meaning c.args.runner.now c.args.site.now) c.args.setting.now in
+    let past = reverse c.args.journal.now.items in
+    let account = c.args.sessions.now.account in
+    let made = job_made m past (sessions_in account) c.args.lane c.in-Ok-prepared.job
+    (account_tells m past account c.requires.account).1
+    ∙ ap (admit_entries m past c.args.lane) c.in-Ok-prepared.ensures.job in
+    subst (λ (more : List Entry). OnOk c.add_job.result
+    (c.add_job.new.sessions.account ≡ account_grown m past more account)) made c.add_job.ensures.account

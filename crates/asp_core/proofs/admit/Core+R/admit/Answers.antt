@@ -3,12 +3,14 @@ use Rattle.std.proofs.Common.{Err}
 use Rattle.asp_core.specs.declared.stop.AdmitStop.TheVariants as admit
 use Rattle.std.proofs.lemmas.Grind.{common_steps}
 use Rattle.asp_core.specs.Drawing.{entry_then, told_of}
-use Rattle.asp_core.specs.Kernel.{CoreView, IsTooMuch, rules_by, rules_of, past_of, grown, session_at}
+use Rattle.asp_core.specs.Kernel.{CoreView, IsTooMuch, rules_by, rules_of, past_of, grown}
 use Rattle.asp_core.specs.Taking.{refused_before}
 use Rattle.asp_job.specs.Journal.{admit_entries, past_after}
 use Rattle.asp_core.proofs.Admitting.{job_made, kept_taken}
 use Rattle.asp_core.proofs.Refusing.{full_back, none_before}
 use Rattle.asp_core.specs.Calm.{AreCalm}
+use Rattle.asp_core.specs.Sessions.{sessions_in}
+use Rattle.asp_core.proofs.Growing.{account_tells}
 use Rattle.asp_core.proofs.Failing.{fail_calm, fail_either}
 use Rattle.asp_core.proofs.Fits.{job_calm}
 use Rattle.asp_core.proofs.Same.{on_err, on_ok, view_of}
@@ -27,8 +29,7 @@ invariant_of-self g c =
     let free = none_before past none in
     let ok = rw (runner, site) at c.take_job-made.ensures.ok in
     let all = kept_taken c.take_job-made.result m house.setting core.journal.items c.take_job-made.new.journal.items
-    core.table.items
-    c.take_job-made.new.table.items core.opened core.application core.answers.items
+    core.sessions.account c.take_job-made.new.sessions.account core.application core.answers.items
     c.take_job-made.new.answers.items c.args.lane c.args.job.now
     core.journal.capacity c.take_job-made.new.journal.capacity (vec_capacity core.answers)
     (vec_capacity c.take_job-made.new.answers)
@@ -37,8 +38,10 @@ invariant_of-self g c =
     let rules = rules_by m house.setting in
     let next = c.take_job-made.new.journal.items in
     let more = admit_entries rules past c.args.lane c.args.job.now in
-    let made = job_made rules past core.table.items c.args.lane c.args.job.now c.self.invariant.0.sessions in
-    let calm = subst AreCalm made (job_calm rules (session_at core.table.items) past c.args.lane c.args.job.now) in
+    let sessions = sessions_in core.sessions.account in
+    let made = job_made rules past sessions c.args.lane c.args.job.now
+    (account_tells rules past core.sessions.account c.self.invariant.0.sessions).1 in
+    let calm = subst AreCalm made (job_calm rules sessions past c.args.lane c.args.job.now) in
     let same = on_ok c.take_job-made.result _ _ (λ taken.
     fail_calm rules core.journal.items next more taken.journal_is calm) ok in
     let still = on_err c.take_job-made.result _ _ (λ both. both.0) c.take_job-made.ensures.err in (

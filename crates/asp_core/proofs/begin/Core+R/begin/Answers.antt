@@ -23,7 +23,7 @@ begin_run-requires g c =
     c.requires.host.runner_is ∙ sym (ap (λ v. v.runner) c.self.view_is) in
     let site : c.args.site.now ≡ house.site.value =
     c.requires.host.site_is ∙ sym (ap (λ v. v.site) c.self.view_is) in
-    rw (runner, site, c.as_slice.ensures.value) (record {
+    rw (runner, site) (record {
       held = core.application;
       kept = c.self.invariant.0;
       within = c.self.invariant.1;
@@ -41,7 +41,7 @@ invariant_of-self g c =
     c.requires.host.site_is ∙ sym (ap (λ v. v.site) c.self.view_is) in
     let ok = rw (runner, site) at c.begin_run.ensures.ok in
     let all = kept_either_begun c.begin_run.result m (g.R.Runner.stands house.runner.value house.site.value) c.args.lane
-    core.journal.items c.begin_run.new.journal.items core.table.items core.opened c.begin_run.new.opened
+    core.journal.items c.begin_run.new.journal.items core.sessions.account c.begin_run.new.sessions.account
     core.application core.answers.items c.begin_run.new.answers.items
     core.journal.capacity c.begin_run.new.journal.capacity
     (vec_capacity core.answers) (vec_capacity c.begin_run.new.answers)
@@ -115,8 +115,8 @@ returns-clause-run g c =
     c.requires.host.site_is ∙ sym (ap (λ v. v.site) c.self.view_is) in
     let ok = rw (runner, site) at c.begin_run.ensures.ok in
     on_each c.begin_run.result _ _ (λ run has. begun_run g.R.Runner.meaning g.R.Runner.stands house.runner.value
-    house.site.value house.setting c.args.lane core.journal.items c.begin_run.new.journal.items core.opened
-    c.begin_run.new.opened core.answers.items
+    house.site.value house.setting c.args.lane core.journal.items c.begin_run.new.journal.items core.sessions.account
+    c.begin_run.new.sessions.account core.answers.items
     c.begin_run.new.journal.capacity (vec_capacity c.begin_run.new.answers) run has) ok
 
 pub returns-clause-idle : goal.returns-clause-idle

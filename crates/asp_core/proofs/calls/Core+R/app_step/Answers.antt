@@ -26,7 +26,7 @@ invariant_of-self g c =
     IsRunOf g.R.Runner.meaning g.R.Runner.stands v c.args.lane run) (sym c.self.view_is) c.requires.run in
     let ok = rw (runner, c.as_slice.ensures.value) at c.make_call.ensures.ok in
     let all = kept_either_called c.make_call.result m (g.R.Runner.stands house.runner.value) c.args.lane core.journal.items
-    c.make_call.new.journal.items core.table.items core.opened core.application c.make_call.new.application
+    c.make_call.new.journal.items core.sessions.account core.application c.make_call.new.application
     core.answers.items run c.make_call.new.run core.journal.capacity c.make_call.new.journal.capacity
     (vec_capacity core.answers) c.self.invariant.0 c.self.invariant.1 c.self.invariant.2 c.self.invariant.3
     is.running (λ call wants. run_wants g.R.Runner.meaning g.R.Runner.stands view c.args.lane run call is wants)
@@ -105,7 +105,7 @@ returns-clause-full g c entries weight e =
     let run = c.args.run.now in
     subst (λ (v : CoreView g.row.R.Denot g.row.R-Site.Denot).
     IsTooMuch (past_after (past_of v) (called v c.args.lane run)) entries weight) c.self.view_is
-    (full_called m view core.table.items core.opened core.application core.answers.items c.args.lane run entries
+    (full_called m view core.sessions.account core.application core.answers.items c.args.lane run entries
     weight c.self.invariant.0 (c.make_call.ensures.full entries weight e)).0
 
 pub returns-clause-not_fit : goal.returns-clause-not_fit
@@ -116,5 +116,5 @@ returns-clause-not_fit g c entries weight e =
     let m = rules_by (g.R.Runner.meaning house.runner.value house.site.value) house.setting in
     let run = c.args.run.now in
     subst (λ (v : CoreView g.row.R.Denot g.row.R-Site.Denot). HasNotFitFor (past_of v) c.args.lane run) c.self.view_is
-    (full_called m view core.table.items core.opened core.application core.answers.items c.args.lane run entries
+    (full_called m view core.sessions.account core.application core.answers.items c.args.lane run entries
     weight c.self.invariant.0 (c.make_call.ensures.full entries weight e)).1

@@ -34,16 +34,16 @@ end_run-requires g c =
     let rules = rules_by (g.R.Runner.meaning house.runner.value house.site.value) house.setting in
     let number : c.number-number.result ≡ run = c.number-number.ensures in
     let room = end_room rules core.journal.items run (length core.answers.items) core.journal.capacity
-    (vec_capacity core.answers) core.table.items core.opened core.application core.answers.items c.self.invariant.0
+    (vec_capacity core.answers) core.sessions.account core.application core.answers.items c.self.invariant.0
     ends.0.unfinished c.self.invariant.2 c.self.invariant.3 in
     let len_of : length core.answers.items ≡ vec_len core.answers = grind (arith, common_steps) in
     let one = room.0 in
     let two = room.1 in
     record {
       bounded = ends.1.bounded;
-      key = rw number room.2;
+      session = ends.1.valid;
       timely = rw number (unfinished_open past run ends.0.unfinished);
-      numbered = rw number (end_numbered rules past run c.self.invariant.0.account.entries ends.0.unfinished);
+      numbered = rw number (end_numbered rules past run c.self.invariant.0.sessions.journal.entries ends.0.unfinished);
       room = one;
       answer_room = omega arith;
     }
@@ -70,14 +70,14 @@ invariant_of-self g c =
     let made : c.end_run.new.journal.items ≡ core.journal.items ++ with_lane lane (end_what run kind left) ∷ [] =
     c.end_run.ensures.journal
     ∙ ap (λ n. core.journal.items ++ with_lane lane (end_what n kind left) ∷ []) number in
-    let all = kept_after_end rules core.journal.items c.end_run.new.journal.items core.table.items core.opened
+    let all = kept_after_end rules core.journal.items c.end_run.new.journal.items core.sessions.account
     core.application core.answers.items lane run kind left core.journal.capacity (vec_capacity core.answers)
     c.self.invariant.0 c.self.invariant.1 c.self.invariant.2 c.self.invariant.3 ends.0 ends.1 made in
     let failed = end_fails rules core.journal.items c.end_run.new.journal.items core.start_fail
     c.end_run.new.start_fail lane run kind left ends.1 c.self.invariant.4 made
     (c.end_run.ensures.start ∙ ap (λ n. fail_after core.start_fail n left.fail) number) in
     rw (
-      c.end_run.ensures.table,
+      c.end_run.ensures.account,
       c.end_run.ensures.answers,
       c.free.ensures,
       c.end_run.ensures.capacity,

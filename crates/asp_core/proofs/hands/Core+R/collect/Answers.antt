@@ -19,13 +19,17 @@ take_run-requires g c =
     let past = reverse core.journal.items in
     let rules = rules_by (g.R.Runner.meaning house.runner.value house.site.value) house.setting in
     let none : collect_stop past c.args.lane c.args.run ≡ None = grind (arith, common_steps) in
-    let can = can_take rules past c.args.lane c.args.run c.self.invariant.0.account.entries c.self.invariant.0.answered
+    let can = can_take rules past c.args.lane c.args.run c.self.invariant.0.sessions.journal.entries c.self.invariant.0.answered
     none in
     let some : IsSome (lookup (nat_eq c.args.run) core.answers.items) =
     subst (λ list. IsSome (lookup (nat_eq c.args.run) list)) (sym c.self.invariant.0.answers_are) can.some in
     let room = take_room core.journal.items core.answers.items c.args.run core.journal.capacity c.self.invariant.2
     some in
-    record { waits = some; fit = take_fit rules past c.args.lane c.args.run c.self.invariant.0.account.entries can; room = room }
+    record {
+      waits = some;
+      fit = take_fit rules past c.args.lane c.args.run c.self.invariant.0.sessions.journal.entries can;
+      room = room;
+    }
 
 pub invariant_of-self : goal.invariant_of-self
 invariant_of-self g c =
@@ -34,9 +38,9 @@ invariant_of-self g c =
     let past = reverse core.journal.items in
     let rules = rules_by (g.R.Runner.meaning house.runner.value house.site.value) house.setting in
     let none : collect_stop past c.args.lane c.args.run ≡ None = grind (arith, common_steps) in
-    let can = can_take rules past c.args.lane c.args.run c.self.invariant.0.account.entries c.self.invariant.0.answered
+    let can = can_take rules past c.args.lane c.args.run c.self.invariant.0.sessions.journal.entries c.self.invariant.0.answered
     none in
-    let all = kept_after_take rules core.journal.items c.take_run.new.journal.items core.table.items core.opened
+    let all = kept_after_take rules core.journal.items c.take_run.new.journal.items core.sessions.account
     core.application core.answers.items c.args.lane c.args.run core.journal.capacity
     (vec_capacity core.answers)
     c.self.invariant.0 c.self.invariant.1 c.self.invariant.2 c.self.invariant.3 can c.take_run.ensures.journal in
@@ -52,7 +56,7 @@ returns-clause-answer g c =
     let past = reverse core.journal.items in
     let rules = rules_by (g.R.Runner.meaning house.runner.value house.site.value) house.setting in
     let none : collect_stop past c.args.lane c.args.run ≡ None = grind (arith, common_steps) in
-    let can = can_take rules past c.args.lane c.args.run c.self.invariant.0.account.entries c.self.invariant.0.answered
+    let can = can_take rules past c.args.lane c.args.run c.self.invariant.0.sessions.journal.entries c.self.invariant.0.answered
     none in
     let given = sym can.found ∙ ap (lookup (nat_eq c.args.run)) (sym c.self.invariant.0.answers_are)
     ∙ c.take_run.ensures.answer in

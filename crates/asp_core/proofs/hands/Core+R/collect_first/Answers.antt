@@ -21,13 +21,17 @@ take_run-answer-requires g c =
     let run = c.in-Some.run' in
     let kept = c.self.invariant.0 in
     let first : IsFirst past c.args.lane core.answers.items run = grind (arith, common_steps) in
-    let can = can_take_run rules past c.args.lane run core.answers.items kept.account.entries kept.answered
+    let can = can_take_run rules past c.args.lane run core.answers.items kept.sessions.journal.entries kept.answered
     kept.answers_are first in
     let some : IsSome (lookup (nat_eq run) core.answers.items) =
     subst (λ list. IsSome (lookup (nat_eq run) list)) (sym kept.answers_are) can.some in
     let room = take_room core.journal.items core.answers.items run core.journal.capacity c.self.invariant.2
     some in
-    record { waits = some; fit = take_fit rules past c.args.lane run c.self.invariant.0.account.entries can; room = room }
+    record {
+      waits = some;
+      fit = take_fit rules past c.args.lane run c.self.invariant.0.sessions.journal.entries can;
+      room = room;
+    }
 
 pub invariant_of-self : goal.invariant_of-self
 invariant_of-self g c =
@@ -38,10 +42,10 @@ invariant_of-self g c =
     let run = c.in-Some.run' in
     let kept = c.self.invariant.0 in
     let first : IsFirst past c.args.lane core.answers.items run = grind (arith, common_steps) in
-    let can = can_take_run rules past c.args.lane run core.answers.items kept.account.entries kept.answered
+    let can = can_take_run rules past c.args.lane run core.answers.items kept.sessions.journal.entries kept.answered
     kept.answers_are first in
     let taken = c.take_run-answer in
-    let all = kept_after_take rules core.journal.items taken.new.journal.items core.table.items core.opened
+    let all = kept_after_take rules core.journal.items taken.new.journal.items core.sessions.account
     core.application core.answers.items c.args.lane run core.journal.capacity (vec_capacity core.answers)
     kept c.self.invariant.1 c.self.invariant.2 c.self.invariant.3 can taken.ensures.journal in
     let same = fail_push rules core.journal.items taken.new.journal.items (with_lane c.args.lane (Take run))
@@ -58,7 +62,7 @@ returns-clause-first g c =
     let run = c.in-Some.run' in
     let kept = c.self.invariant.0 in
     let first : IsFirst past c.args.lane core.answers.items run = grind (arith, common_steps) in
-    let is = first_is rules past c.args.lane run c.take_run-answer.result core.answers.items kept.account.entries
+    let is = first_is rules past c.args.lane run c.take_run-answer.result core.answers.items kept.sessions.journal.entries
     kept.answered kept.answers_are first c.take_run-answer.ensures.answer in
     subst (λ (v : CoreView g.row.R.Denot g.row.R-Site.Denot). Some (run, c.take_run-answer.result)
     ≡ first_for (past_of v) c.args.lane (ready (rules_of g.R.Runner.meaning v) (past_of v))) c.self.view_is is
@@ -72,7 +76,7 @@ returns-clause-answer g c =
     let run = c.in-Some.run' in
     let kept = c.self.invariant.0 in
     let first : IsFirst past c.args.lane core.answers.items run = grind (arith, common_steps) in
-    let can = can_take_run rules past c.args.lane run core.answers.items kept.account.entries kept.answered
+    let can = can_take_run rules past c.args.lane run core.answers.items kept.sessions.journal.entries kept.answered
     kept.answers_are first in
     let given = sym can.found ∙ ap (lookup (nat_eq run)) (sym kept.answers_are) ∙ c.take_run-answer.ensures.answer in
     subst (λ (v : CoreView g.row.R.Denot g.row.R-Site.Denot). answer_of_run (rules_of g.R.Runner.meaning v) (past_of v)

@@ -17,7 +17,7 @@ invariant_of-self g c =
     let next = c.push_reserved.new.self.items in
     let going : is_halted (reverse journal) ≡ false = grind (arith, common_steps) in
     let made : next ≡ journal ++ with_lane c.args.lane Halt ∷ [] = c.push_reserved.ensures.items in
-    let kept = kept_after_halt m journal next core.table.items core.opened core.application core.answers.items
+    let kept = kept_after_halt m journal next core.sessions.account core.application core.answers.items
     c.args.lane core.journal.capacity (vec_capacity core.answers) c.self.invariant.0 c.self.invariant.1
     c.self.invariant.2 c.self.invariant.3 going made in
     let same = fail_push m journal next (with_lane c.args.lane Halt) made refl in

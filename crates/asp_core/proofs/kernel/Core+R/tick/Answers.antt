@@ -5,7 +5,8 @@ use Rattle.asp_job.specs.Keys.{session_of}
 use Rattle.asp_core.proofs.Failing.{fail_calm, fail_either}
 use Rattle.asp_core.proofs.Fits.{tick_calm}
 use Rattle.asp_core.proofs.Kept.{kept_after_tick}
-use Rattle.asp_core.proofs.Same.{kept_either, on_ok, view_of}
+use Rattle.asp_core.specs.Sessions.{account_grown}
+use Rattle.asp_core.proofs.Same.{kept_either, on_both, on_err, on_ok, view_of}
 use Rattle.asp_core.proofs.kernel.Core+R.tick.Goals as goal
 
 pub invariant_of-self : goal.invariant_of-self
@@ -15,17 +16,21 @@ invariant_of-self g c =
     let m = rules_by (g.R.Runner.meaning house.runner.value house.site.value) house.setting in
     let past = reverse core.journal.items in
     let next = c.with_tick.new.journal.items in
-    let kept = on_ok c.with_tick.result (next ≡ core.journal.items ++ tick_entries m past c.args.lane c.args.moment)
-    (IsKept m (reverse next) core.table.items core.opened core.application core.answers.items)
-    (λ made. kept_after_tick m core.journal.items next core.table.items core.opened core.application core.answers.items
-    c.args.lane c.args.moment c.self.invariant.0 made) c.with_tick.ensures.entries in
-    let all = kept_either c.with_tick.result m core.journal.items next core.table.items core.opened core.application
+    let more = tick_entries m past c.args.lane c.args.moment in
+    let account = core.sessions.account in
+    let then_account = c.with_tick.new.sessions.account in
+    let kept = on_both c.with_tick.result (next ≡ core.journal.items ++ more)
+    (then_account ≡ account_grown m past more account)
+    (IsKept m (reverse next) then_account core.application core.answers.items)
+    (λ made grown. kept_after_tick m core.journal.items next account then_account core.application core.answers.items
+    c.args.lane c.args.moment c.self.invariant.0 made grown) c.with_tick.ensures.entries c.with_tick.ensures.account in
+    let all = kept_either c.with_tick.result m core.journal.items next account then_account core.application
     core.answers.items c.with_tick.new.answers.items core.journal.capacity
     c.with_tick.new.journal.capacity (vec_capacity core.answers) (vec_capacity c.with_tick.new.answers)
     c.self.invariant.0 c.self.invariant.1 c.self.invariant.2 c.self.invariant.3 kept c.with_tick.ensures.within
     c.with_tick.ensures.room c.with_tick.ensures.answer_room c.with_tick.ensures.err c.with_tick.ensures.capacity
     c.with_tick.ensures.capacity_of_answers c.with_tick.ensures.answers in
-    let more = tick_entries m past c.args.lane c.args.moment in
+    let still = on_err c.with_tick.result _ _ (λ both. both.0) c.with_tick.ensures.err in
     let same = on_ok c.with_tick.result _ _ (λ made. fail_calm m core.journal.items next more made
     (tick_calm (session_of m past) past more c.args.lane c.args.moment refl)) c.with_tick.ensures.entries in (
       all.0,
@@ -33,7 +38,7 @@ invariant_of-self g c =
       all.2,
       all.3,
       fail_either c.with_tick.result m core.journal.items next core.start_fail
-          c.self.invariant.4 same c.with_tick.ensures.err,
+          c.self.invariant.4 same still,
     )
 
 pub returns-clause-ok : goal.returns-clause-ok

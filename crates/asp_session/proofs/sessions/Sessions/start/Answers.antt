@@ -3,7 +3,7 @@ use Rattle.std.specs.List.{All}
 use Rattle.asp_session.specs.Kept.{IsKeyOf}
 use Rattle.asp_session.specs.Steps.{begun}
 use Rattle.asp_session.proofs.Changes.{changed_keys}
-use Rattle.asp_session.proofs.sessions.Sessions.begin.Goals as goal
+use Rattle.asp_session.proofs.sessions.Sessions.start.Goals as goal
 
 pub invariant_of-self : goal.invariant_of-self
 invariant_of-self c =
