@@ -27,7 +27,9 @@ use Rattle.act_laws.proofs.Calling.{block_fits}
 use Rattle.act_laws.proofs.Inside.{Inners, one, two, Same}
 use Rattle.act_laws.proofs.Joined.{Link, Alike, Joined, Past, gives, ends, gone, then_joined}
 use Rattle.act_laws.proofs.Linked.{Fits, turned, then_fits, value_fits}
-use Rattle.act_laws.proofs.Keeping.{ask_keeps, state_of}
+use Rattle.act_laws.specs.Ticks.{state_of}
+use Rattle.act_laws.proofs.Keeping.{ask_keeps}
+use Rattle.act_laws.proofs.Spending.{ask_spends}
 use Rattle.act_laws.proofs.Linked.{fails_fit, world_fits}
 use Rattle.act_laws.proofs.Meaning.{inners, each_level}
 use Rattle.act_laws.proofs.Releasing.{settle_last_joined, end_all_joined}
@@ -158,6 +160,7 @@ pub asks_fit : (l : Link) → ((member : Member) (arguments : List Value)
 asks_fit l asks member arguments = record {
   joined = asks member arguments;
   keeps = ask_keeps l.other member arguments;
+  spends = ask_spends l.other member arguments;
 }
 
 -- an act in the one is as in the other

@@ -10,7 +10,7 @@ use Rattle.vb_meaning.specs.declared.world.World.{World}
 use Rattle.vb_meaning.specs.Asking.{Host}
 use Rattle.vb_meaning.specs.State.{State, Does, on_world, lifted}
 use Rattle.vb_meaning.specs.Step.{Step, Returns, Ends, Run, and_then, ◌>>=◌, pure, ends as step_ends}
-use Rattle.act_laws.proofs.Keeping.{state_of}
+use Rattle.act_laws.specs.Ticks.{state_of}
 use Rattle.act_laws.proofs.Wantless.{Wantless, NoWant}
 
 -- Two environments with what they do, and how they and the replies that are left belong together: while what is done

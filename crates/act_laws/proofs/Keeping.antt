@@ -43,11 +43,6 @@ goes_settled (stop.Limit kind line) settled = settled.onward
 goes_settled (stop.Wants call) settled = settled.onward
 goes_settled stop.Memory settled = settled.onward
 
--- the state after a step
-abbrev pub state_of : {S A : Type 0} → Step S A → S
-state_of (Returns value s) = s
-state_of (Ends why s) = s
-
 -- one after the other
 pub next_keeps : {S A B : Type 0} (of : S → Account) (next : A → Run S B) → ((value : A) → Keeps of (next value))
     → (a : Account) (step : Step S A) → Kept of a step → Kept of a (and_then step next)
@@ -124,3 +119,7 @@ pub kept_moved : {S A : Type 0} (of : S → Account) (a b : Account) → b ≡ a
     → (AddsUp b → Kept of b step) → AddsUp a → Kept of a step
 kept_moved of a b same step kept right =
     subst (λ c. Kept of c step) same (kept (subst AddsUp (sym same) right))
+
+-- what is read off a world of its objects, and the ticks that are left
+abbrev pub told : World → Account × ℕ
+told world = (account_of world, world.ticks)

@@ -6,6 +6,8 @@ pub mod Numbers
 pub mod Accounts
 pub mod Marks
 pub mod Keeping
+pub mod Spending
+pub mod Ticking
 pub mod Counting
 pub mod Joined
 pub mod Linked
@@ -31,3 +33,4 @@ pub mod Wanting
 pub mod Asking
 pub mod Lacking
 pub mod Settled
+pub mod NoneBack

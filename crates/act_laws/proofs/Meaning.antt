@@ -27,7 +27,7 @@ use Rattle.vb_meaning.specs.Places.{held_so_far}
 use Rattle.vb_meaning.specs.Releases.{release}
 use Rattle.vb_meaning.specs.State.{Does}
 use Rattle.vb_meaning.specs.Statements.{clears_err}
-use Rattle.act_laws.specs.Objects.{account_of}
+use Rattle.act_laws.proofs.Keeping.{told}
 use Rattle.act_laws.proofs.Assigning.{assign_to_fits}
 use Rattle.act_laws.proofs.Calling.{enter_of_fits}
 use Rattle.act_laws.proofs.Expressions.{valued_fits, argument_of_fits, written_or_fits}
@@ -44,11 +44,11 @@ use Rattle.act_laws.proofs.WantlessScopes.{erase_all_wantless}
 
 -- ---- statements
 
--- what an Exit does to Err leaves the account of objects
+-- what an Exit does to Err leaves the account of objects, and the ticks
 left_still : (kind : ExitKind) (world : World)
-    → account_of (if clears_err kind then cleared world else world) ≡ account_of world
+    → told (if clears_err kind then cleared world else world) ≡ told world
 left_still kind world = elim (clears_err kind)
-    as (λ b. account_of (if b then cleared world else world) ≡ account_of world) [
+    as (λ b. told (if b then cleared world else world) ≡ told world) [
       | true ↦ refl
       | false ↦ refl
     ]

@@ -1,7 +1,7 @@
 -- What scripts do to the world alone wants no call, lacks no memory, and keeps the account of objects.
 use Rattle.std.proofs.Common.{ℕ, ◌-◌, nat_lt, pos, Bool, true, false, if◌then◌else◌}
 use Rattle.std.proofs.Common.{Option, Some, None, Result, Ok, Err}
-use Rattle.std.proofs.Common.{◌≡◌, IsTrue, refl, subst, sym, is_ok}
+use Rattle.std.proofs.Common.{◌≡◌, ◌≤◌, IsTrue, refl, subst, sym, ap, arith, is_ok}
 use Rattle.vb_value.specs.declared.fault.VbError.{VbError}
 use Rattle.vb_heap.specs.declared.fault.HeapStop.{HeapStop}
 use Rattle.vb_heap.specs.declared.fault.HeapStop.TheVariants as heap
@@ -20,7 +20,10 @@ use Rattle.vb_meaning.specs.Stops.{heap_stop}
 use Rattle.act_laws.specs.Objects.{AddsUp, Kept, Settled, account_of}
 use Rattle.act_laws.proofs.Accounts.{onward_still, settled_still}
 use Rattle.act_laws.proofs.Keeping.{Keeps, goes_settled, kept_moved, line_keeps, next_keeps, still_ends}
-use Rattle.act_laws.proofs.Keeping.{still_gives}
+use Rattle.act_laws.proofs.Keeping.{still_gives, told}
+use Rattle.act_laws.specs.Ticks.{state_of}
+use Rattle.act_laws.proofs.Spending.{Spends, line_spends, next_spends, no_less, still_spends, ticks_moved, ticks_of}
+use Rattle.act_laws.proofs.Spending.{turned_spends}
 use Rattle.act_laws.proofs.Marks.{account_in}
 use Rattle.act_laws.proofs.Roomy.{IsRoomy}
 
@@ -33,10 +36,11 @@ NoWant (Ends (stop.Limit kind line) s) = Unit {0}
 NoWant (Ends stop.Page s) = Unit {0}
 NoWant (Ends stop.Memory s) = ⊥
 
--- what neither a call nor memory stops, and what keeps the account of objects
+-- what neither a call nor memory stops, what keeps the account of objects, and what gives no tick back
 pub record Wantless {A : Type 0} (run : Run World A) : Type 0 where
   pub no_want : (world : World) → NoWant (run world)
   pub keeps : Keeps account_of run
+  pub spends : Spends ticks_of run
 
 -- one after the other
 pub then_wantless : {A B : Type 0} {first : Run World A} {next : A → Run World B} → Wantless first
@@ -45,6 +49,8 @@ then_wantless {A} {B} {first} {next} one other = record {
   no_want = λ world. go (first world) (one.no_want world);
   keeps = λ world right. next_keeps account_of next (λ value. (other value).keeps) (account_of world) (first world)
       (one.keeps world right);
+  spends = turned_spends ticks_of (λ (step : Step World A). and_then step next) first
+      (next_spends ticks_of next (λ value. (other value).spends)) one.spends;
 }
   where
     go : (step : Step World A) → NoWant step → NoWant (and_then step next)
@@ -56,11 +62,18 @@ then_wantless {A} {B} {first} {next} one other = record {
     go (Ends stop.Memory world) none = none
 
 pub pure_wantless : {A : Type 0} (value : A) → Wantless (pure value)
-pure_wantless value = record { no_want = λ world. tt; keeps = still_gives account_of value }
+pure_wantless value = record {
+  no_want = λ world. tt;
+  keeps = still_gives account_of value;
+  spends = still_spends ticks_of value;
+}
 
 pub error_wantless : {A : Type 0} (what : Cause) (line : Option ℕ) → Wantless {A = A} (ends (stop.Error what line))
-error_wantless {A} what line =
-    record { no_want = λ world. tt; keeps = still_ends A account_of (stop.Error what line) }
+error_wantless {A} what line = record {
+  no_want = λ world. tt;
+  keeps = still_ends A account_of (stop.Error what line);
+  spends = λ world. no_less world.ticks;
+}
 
 pub fails_wantless : {A : Type 0} (error : VbError) → Wantless (fails {A = A} error)
 fails_wantless error = error_wantless (cause.Language error.number) None
@@ -75,21 +88,24 @@ pub seeing_wantless : {A : Type 0} (run : World → Run World A) → ((world : W
 seeing_wantless run each = record {
   no_want = λ world. (each world).no_want world;
   keeps = λ world right. (each world).keeps world right;
+  spends = λ world. (each world).spends world;
 }
 
--- what is done in a changed world, whose account of objects is the same
+-- what is done in a changed world, whose account of objects is the same, and which has the same ticks
 pub changing_wantless : {A : Type 0} (change : World → World)
-    → ((world : World) → account_of (change world) ≡ account_of world) → {run : Run World A} → Wantless run
+    → ((world : World) → told (change world) ≡ told world) → {run : Run World A} → Wantless run
     → Wantless (λ world. run (change world))
 changing_wantless change same {run} one = record {
   no_want = λ world. one.no_want (change world);
-  keeps = λ world right. kept_moved account_of (account_of world) (account_of (change world)) (same world)
-      (run (change world)) (one.keeps (change world)) right;
+  keeps = λ world right. kept_moved account_of (account_of world) (account_of (change world))
+      (ap (λ found. found.0) (same world)) (run (change world)) (one.keeps (change world)) right;
+  spends = λ world. ticks_moved world (change world) (same world) (state_of (run (change world))).ticks
+      (one.spends (change world));
 }
 
--- a value, and a changed world, whose account of objects is the same
+-- a value, and such a changed world
 pub change_wantless : {A : Type 0} (value : A) (change : World → World)
-    → ((world : World) → account_of (change world) ≡ account_of world) → Wantless (λ world. Returns value (change world))
+    → ((world : World) → told (change world) ≡ told world) → Wantless (λ world. Returns value (change world))
 change_wantless value change same = changing_wantless change same (pure_wantless value)
 
 heap_no_want : {A : Type 0} (world changed : World) (found : Result A HeapStop) → IsRoomy found
@@ -106,6 +122,11 @@ heap_keeps world changed (Ok value) right settled = settled refl
 heap_keeps world changed (Err why) right settled =
     goes_settled (heap_stop why) (settled_still (account_of world) right)
 
+heap_spends : {A : Type 0} (world changed : World) → changed.ticks ≡ world.ticks → (found : Result A HeapStop)
+    → (state_of (heap_answer found changed world)).ticks ≤ world.ticks
+heap_spends world changed same (Ok value) = omega (arith, same)
+heap_spends world changed same (Err why) = no_less world.ticks
+
 -- the names of the procedure change
 pub framed_wantless : (change : Frame → Frame) → Wantless (in_frame change)
 framed_wantless change = change_wantless tt (with_frame change) (λ world. refl)
@@ -119,6 +140,7 @@ pub settling_wantless : {A : Type 0} (answer : Store → Result A HeapStop) (cha
 settling_wantless answer change roomy settles = record {
   no_want = λ world. heap_no_want world (with_heap change world) (answer world.heap) (roomy world.heap);
   keeps = λ world right. heap_keeps world (with_heap change world) (answer world.heap) right (settles world right);
+  spends = λ world. heap_spends world (with_heap change world) refl (answer world.heap);
 }
 
 -- one that leaves the account of objects
@@ -136,6 +158,7 @@ pub line_wantless : {A : Type 0} (line : ℕ) {run : Run World A} → Wantless r
 line_wantless {A} line {run} one = record {
   no_want = λ world. go (run world) (one.no_want world);
   keeps = λ world right. line_keeps account_of line (account_of world) (run world) (one.keeps world right);
+  spends = turned_spends ticks_of (in_line line) run (line_spends ticks_of line) one.spends;
 }
   where
     go : (step : Step World A) → NoWant step → NoWant (in_line line step)
@@ -161,6 +184,7 @@ unfolding tick
 tick_wantless = record {
   no_want = λ world. go world (nat_lt 0 world.ticks);
   keeps = λ world right. kept world right (nat_lt 0 world.ticks);
+  spends = λ world. fewer world (nat_lt 0 world.ticks);
 }
   where
     go : (world : World) (left : Bool) → NoWant {S = World} {A = Unit {0}}
@@ -168,6 +192,12 @@ tick_wantless = record {
         else Ends (stop.Limit Ticks None) world)
     go world true = tt
     go world false = tt
+
+    fewer : (world : World) (left : Bool) → ticks_of (state_of {S = World} {A = Unit {0}}
+        (if left then Returns tt (record world { ticks = world.ticks - 1 })
+        else Ends (stop.Limit Ticks None) world)) ≤ world.ticks
+    fewer world true = omega arith
+    fewer world false = no_less world.ticks
 
     kept : (world : World) → AddsUp (account_of world) → (left : Bool) → Kept {S = World} {A = Unit {0}} account_of
         (account_of world) (if left then Returns tt (record world { ticks = world.ticks - 1 })
@@ -179,6 +209,7 @@ pub deep_wantless : {A : Type 0} → Wantless (too_deep {A = A})
 deep_wantless {A} = record {
   no_want = λ world. go world world.terminates;
   keeps = λ world right. goes_settled (depth_stop world) (settled_still (account_of world) right);
+  spends = λ world. no_less world.ticks;
 }
   where
     go : (world : World) (terminates : Bool) → NoWant {S = World} {A = A}

@@ -21,6 +21,7 @@ use Rattle.vb_meaning.specs.Step.{Returns}
 use Rattle.act_laws.specs.Calls.{LeavesOnly, Noting, WantsOnly, calls_of, noting, wanted}
 use Rattle.act_laws.specs.Objects.{AddsUp, account_at, account_of}
 use Rattle.act_laws.specs.Terminators.{HaveEnded, KeepsAll, RunsEach}
+use Rattle.act_laws.specs.Ticks.{NoneComeBack}
 
 -- an act that wants no call ends the same, and leaves the same environment, where more replies stand behind
 abbrev pub RepliesBeyond : Type 0 → Type 0
@@ -101,3 +102,8 @@ pub record ReleasesOnce (E : Type 0) (m : Inner E) (s : State E) : Type 0 where
 abbrev pub ReleasePointsSettle : Type 0 → Type 0
 ReleasePointsSettle E = (host : Host E) (program : Program) (levels : ℕ) (s : State E)
     → ReleasesOnce E (inside E host program levels) s
+
+-- Ticks never come back: at each level of a program, and from each state, nothing that is done gives one back.
+abbrev pub TicksNeverComeBack : Type 0 → Type 0
+TicksNeverComeBack E = (host : Host E) (program : Program) (levels : ℕ) (s : State E)
+    → NoneComeBack E (inside E host program levels) s

@@ -1,4 +1,5 @@
 pub mod Calls
 pub mod Objects
 pub mod Terminators
+pub mod Ticks
 pub mod Laws

@@ -3,6 +3,7 @@
 ghost use Rattle.act_laws.specs.Laws.{CallsInOrder, CallsStay, NotesChangeNothing, ObjectsEnd};
 ghost use Rattle.act_laws.specs.Laws.{OnlyAskingChanges, OnlyObjectsLack, OnlyObjectsWant};
 ghost use Rattle.act_laws.specs.Laws.{ReleasePointsSettle, RepliesBeyond, TerminatorsRunOnce};
+ghost use Rattle.act_laws.specs.Laws.{TicksNeverComeBack};
 
 /// An act that has ended takes no account of more replies.
 pub fn replies_beyond<E>()
@@ -53,4 +54,10 @@ pub fn terminators_run_once<E>()
 /// first.
 pub fn release_points_settle<E>()
     ensures { ReleasePointsSettle E }
+{}
+
+/// No step of an act gives a tick back: behind each expression, argument, assignment, call, statement, procedure,
+/// terminator and release point, and behind the act and the page's end, no more ticks are left than before it.
+pub fn ticks_never_come_back<E>()
+    ensures { TicksNeverComeBack E }
 {}
