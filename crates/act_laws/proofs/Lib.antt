@@ -34,3 +34,4 @@ pub mod Asking
 pub mod Lacking
 pub mod Settled
 pub mod NoneBack
+pub mod OneText

@@ -1,14 +1,22 @@
 -- Laws of an act, of the replies that it is given, and of the objects that it makes, for the objects of a host whatever
 -- they do.
-use Rattle.std.specs.Prelude.{ℕ, ◌≡◌, ◌≢◌, Bool, IsTrue, List, [], ◌++◌, length, slice_get, Some, None, Err}
+use Rattle.std.specs.Prelude.{ℕ, ◌≡◌, ◌≢◌, Bool, IsTrue, List, [], ◌∷◌, ◌++◌, length, slice_get, Some, None}
+use Rattle.std.specs.Prelude.{Ok, Err}
 use Rattle.vb_value.specs.declared.application.AppCall.{AppCall}
 use Rattle.vb_value.specs.declared.application.AppReply.{AppReply}
-use Rattle.vb_value.specs.declared.value.Value.{Value}
+use Rattle.vb_value.specs.declared.value.Value.{Value, Str}
 use Rattle.vb_syntax.specs.declared.act.Act.{Act}
+use Rattle.vb_syntax.specs.declared.act.Act.TheVariants as act
 use Rattle.vb_syntax.specs.declared.act.ActDone.{ActDone}
+use Rattle.vb_syntax.specs.declared.act.ActEnd.TheVariants as end
 use Rattle.vb_syntax.specs.declared.act.AskStop.TheVariants as why
+use Rattle.vb_syntax.specs.declared.act.Given.TheVariants as given
 use Rattle.vb_syntax.specs.declared.member.Member.{Member}
+use Rattle.vb_syntax.specs.declared.member.Member.TheVariants.{ResponseWrite}
 use Rattle.vb_syntax.specs.declared.program.Program.{Program}
+use Rattle.vb_syntax.specs.declared.program.statement.Statement.{Statement}
+use Rattle.vb_syntax.specs.declared.program.statement.StatementKind.{out-StatementKind}
+use Rattle.vb_syntax.specs.declared.program.statement.StatementKind.TheOpen.{StatementKind-F}
 use Rattle.vb_heap.specs.Releases.{oldest_loose}
 use Rattle.vb_meaning.specs.declared.plain_end.PlainEnd.TheVariants.{Ends}
 use Rattle.vb_meaning.specs.Acts.{act_of, fresh_world}
@@ -107,3 +115,20 @@ ReleasePointsSettle E = (host : Host E) (program : Program) (levels : ℕ) (s : 
 abbrev pub TicksNeverComeBack : Type 0 → Type 0
 TicksNeverComeBack E = (host : Host E) (program : Program) (levels : ℕ) (s : State E)
     → NoneComeBack E (inside E host program levels) s
+
+-- a page that is one text: no variables, no constants, and no statement but that
+pub record IsOneText (program : Program) (text : List ℕ) : Type 0 where
+  pub statement : Statement
+  pub body : program.unit.body ≡ statement ∷ []
+  pub says : out-StatementKind statement.kind ≡ StatementKind-F.PageText text
+  pub variables : program.unit.variables ≡ []
+  pub constants : program.unit.constants ≡ []
+
+-- A page of one text asks Response.Write once, with that text. Where that gives a value, the act has ended, by its end and
+-- without an object, and leaves the objects of the page as Response.Write did.
+abbrev pub OneTextIsWritten : Type 0 → Type 0
+OneTextIsWritten E = (host : Host E) (program : Program) (text : List ℕ) → IsOneText program text
+    → (env after : E) (replies : List AppReply) (value : Value)
+    → host.asked ResponseWrite (Str text ∷ []) env ≡ Ok (given.Value value, after)
+    → act_of E host program act.Body env replies
+    ≡ (Some (Ends (record { end = end.Done; made = 0; finished = 0 })), after)

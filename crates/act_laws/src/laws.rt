@@ -1,7 +1,7 @@
 //! Laws of an act, of the replies that it is given, and of the objects that it makes. The functions do nothing: their
 //! contracts are the laws.
 ghost use Rattle.act_laws.specs.Laws.{CallsInOrder, CallsStay, NotesChangeNothing, ObjectsEnd};
-ghost use Rattle.act_laws.specs.Laws.{OnlyAskingChanges, OnlyObjectsLack, OnlyObjectsWant};
+ghost use Rattle.act_laws.specs.Laws.{OneTextIsWritten, OnlyAskingChanges, OnlyObjectsLack, OnlyObjectsWant};
 ghost use Rattle.act_laws.specs.Laws.{ReleasePointsSettle, RepliesBeyond, TerminatorsRunOnce};
 ghost use Rattle.act_laws.specs.Laws.{TicksNeverComeBack};
 
@@ -60,4 +60,10 @@ pub fn release_points_settle<E>()
 /// terminator and release point, and behind the act and the page's end, no more ticks are left than before it.
 pub fn ticks_never_come_back<E>()
     ensures { TicksNeverComeBack E }
+{}
+
+/// A page that is one text asks Response.Write once, with that text, and ends. Where that gives a value, no object was
+/// made, and the objects of the page are as Response.Write left them.
+pub fn one_text_is_written<E>()
+    ensures { OneTextIsWritten E }
 {}

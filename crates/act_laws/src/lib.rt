@@ -4,7 +4,7 @@
 mod laws;
 
 pub use laws::{
-    calls_in_order, calls_stay, notes_change_nothing, objects_end, only_asking_changes,
+    calls_in_order, calls_stay, notes_change_nothing, objects_end, one_text_is_written, only_asking_changes,
     only_objects_lack, only_objects_want, release_points_settle, replies_beyond,
     terminators_run_once, ticks_never_come_back,
 };
