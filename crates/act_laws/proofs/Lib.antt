@@ -6,6 +6,8 @@ pub mod Numbers
 pub mod Accounts
 pub mod Marks
 pub mod Keeping
+pub mod Standings
+pub mod Entering
 pub mod Spending
 pub mod Ticking
 pub mod Counting

@@ -2,4 +2,5 @@ pub mod Calls
 pub mod Objects
 pub mod Terminators
 pub mod Ticks
+pub mod Entries
 pub mod Laws
