@@ -20,8 +20,9 @@ use Rattle.vb_meaning.specs.Step.{Step, Returns, Ends, ◌>>◌, ends as step_en
 use Rattle.act_laws.proofs.Inside.{Inners, one, two, Same, seen_fits}
 use Rattle.act_laws.specs.Objects.{Account, Kept, Settled, account_at, account_of}
 use Rattle.act_laws.proofs.Joined.{Link, Alike, JoinedTurn, Past, gives, ends, gone}
-use Rattle.act_laws.proofs.Keeping.{kept_from, kept_moved, told}
-use Rattle.act_laws.proofs.Linked.{Fits, Turns, turned, then_fits, letting_fits, value_fits}
+use Rattle.act_laws.proofs.Keeping.{kept_from, kept_moved, told, told_of}
+use Rattle.act_laws.proofs.Linked.{Fits, Turns, turned, then_fits, letting_fits, next_turns, value_fits}
+use Rattle.act_laws.proofs.Telling.{TellsOn, changed_told}
 use Rattle.act_laws.proofs.Marks.{dropped_still}
 use Rattle.act_laws.proofs.Linked.{fails_fit, error_fits, moved_fits, world_fits, choice_fits, either_fits}
 use Rattle.act_laws.proofs.Releasing.{settle_fits}
@@ -43,7 +44,7 @@ module _ (l : Link) (i : Inners l) where
   -- ---- how a procedure is left
 
   left_still : (caller world : World) → told (calling.left caller world) ≡ told world
-  left_still caller world = ap (λ account. (account, world.ticks))
+  left_still caller world = ap (λ seen. told_of seen.0 world.ticks seen.1)
       (dropped_still (world.frame.own ++ calling.cell_of world.frame.result) world.heap world.finished)
 
   left_same : (caller world : World) → account_of (calling.left caller world) ≡ account_of world
@@ -92,7 +93,8 @@ module _ (l : Link) (i : Inners l) where
 
   abandoned_turns : (caller : World)
       → Turns l (calling.abandoned l.E (one i) caller) (calling.abandoned l.F (two i) caller)
-  abandoned_turns caller = record { joined = abandoned_joined caller; keeps = keeps; spends = spends }
+  abandoned_turns caller =
+      record { joined = abandoned_joined caller; keeps = keeps; spends = spends; tells = tells }
     where
       keeps : (before : Account) (step : Step (State l.F) Exit) → Kept account_at before step
           → Kept account_at before (calling.abandoned l.F (two i) caller step)
@@ -119,6 +121,19 @@ module _ (l : Link) (i : Inners l) where
       spends (Ends (stop.Limit kind line) s) = no_less (ticks_at s)
       spends (Ends (stop.Wants call) s) = no_less (ticks_at s)
       spends (Ends stop.Memory s) = no_less (ticks_at s)
+
+      tells : (noting : l.tells) → TellsOn (l.telling noting) (calling.abandoned l.F (two i) caller)
+      tells noting s (Returns exit after) right kept before =
+          (next_turns {A = Exit} (λ exit. returned_fits caller)).tells noting s (Returns exit after) right kept before
+      tells noting s (Ends (stop.Error what line) after) right kept before =
+          (next_turns {A = Exit} (λ exit. moved_fits (calling.left caller) (left_still caller)
+          (then_fits (settle_fits l i) (λ done. error_fits {A = Value} l what line)))).tells noting s
+          (Returns Next after) right kept before
+      tells noting s (Ends stop.Page after) right kept before = changed_told (l.telling noting) s after
+          (calling.left caller after.world) right.adds_up kept.onward (left_still caller after.world) before
+      tells noting s (Ends (stop.Limit kind line) after) right kept before = before
+      tells noting s (Ends (stop.Wants call) after) right kept before = before
+      tells noting s (Ends stop.Memory after) right kept before = before
 
   -- ---- how it is entered
 

@@ -194,7 +194,7 @@ module _ (program : Program) (object : ℕ) (class : Option ℕ) (a m : World) (
   other_told number apart = ap (λ found. numbered number found) told
       ∙ other_replaced (standings a.heap.objects) object number (true, class) apart
 
-  own_told : standing object m ≡ Some (true, class)
+  pub own_told : standing object m ≡ Some (true, class)
   own_told = ap (λ found. numbered object found) told
       ∙ there_replaced (standings a.heap.objects) object (false, class) (true, class) live
 

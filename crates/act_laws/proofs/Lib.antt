@@ -8,6 +8,8 @@ pub mod Marks
 pub mod Keeping
 pub mod Standings
 pub mod Entering
+pub mod Telling
+pub mod Entered
 pub mod Spending
 pub mod Ticking
 pub mod Counting

@@ -17,13 +17,16 @@ use Rattle.act_laws.specs.Ticks.{state_of}
 use Rattle.act_laws.proofs.Keeping.{Keeps, kept_moved, lifted_keeps, next_keeps, still_ends, still_gives, told}
 use Rattle.act_laws.proofs.Spending.{Spends, SpendsOn, lifted_spends, next_spends, no_less, still_spends, ticks_at}
 use Rattle.act_laws.proofs.Spending.{ticks_moved, turned_spends}
+use Rattle.act_laws.proofs.Telling.{Tells, TellsOn, lifted_tells, moved_tells, next_tells, still_told}
 use Rattle.act_laws.proofs.Wantless.{Wantless}
 
--- something that is done in the one as in the other, keeps the account of objects, and gives no tick back
+-- something that is done in the one as in the other, keeps the account of objects, gives no tick back, and enters
+-- terminators as it should where that is noted
 pub record Fits {A : Type 0} (l : Link) (first : Does l.E A) (second : Does l.F A) : Type 0 where
   pub joined : Joined l first second
   pub keeps : Keeps account_at second
   pub spends : Spends ticks_at second
+  pub tells : (noting : l.tells) → Tells (l.telling noting) second
 
 -- ---- steps
 
@@ -34,6 +37,7 @@ pub record Turns {A B : Type 0} (l : Link) (turn : Step (State l.E) A → Step (
   pub keeps : (before : Account) (step : Step (State l.F) A) → Kept account_at before step
       → Kept account_at before (other step)
   pub spends : SpendsOn ticks_at other
+  pub tells : (noting : l.tells) → TellsOn (l.telling noting) other
 
 -- what is done, and then something is made of the step
 pub turned : {A B : Type 0} {l : Link} {turn : Step (State l.E) A → Step (State l.E) B}
@@ -43,16 +47,20 @@ turned {other} {second} turns fit = record {
   joined = sides.turn_joined turns.joined fit.joined;
   keeps = λ s right. turns.keeps (account_at s) (second s) (fit.keeps s right);
   spends = turned_spends ticks_at other second turns.spends fit.spends;
+  tells = λ noting s right.
+      turns.tells noting s (second s) right (fit.keeps s right.adds_up) (fit.tells noting s right);
 }
 
 -- what follows a step
 pub next_turns : {A B : Type 0} {l : Link} {next : A → Does l.E B} {other : A → Does l.F B}
     → ((value : A) → Fits l (next value) (other value))
     → Turns l (λ step. and_then step next) (λ step. and_then step other)
-next_turns {other} fit = record {
+next_turns {l} {other} fit = record {
   joined = sides.next_turn (λ value. (fit value).joined);
   keeps = next_keeps account_at other (λ value. (fit value).keeps);
   spends = next_spends ticks_at other (λ value. (fit value).spends);
+  tells = λ noting. next_tells (l.telling noting) other (λ value. (fit value).keeps)
+      (λ value. (fit value).tells noting);
 }
 
 -- ---- what is done
@@ -69,6 +77,7 @@ value_fits l value = record {
   joined = sides.value_joined l value;
   keeps = still_gives account_at value;
   spends = still_spends ticks_at value;
+  tells = λ noting s right. still_told (l.telling noting) s;
 }
 
 -- an end for another reason than a call
@@ -78,6 +87,7 @@ error_fits {A} l what line = record {
   joined = sides.error_joined l what line;
   keeps = still_ends A account_at (stop.Error what line);
   spends = λ s. no_less (ticks_at s);
+  tells = λ noting s right. still_told (l.telling noting) s;
 }
 
 pub limit_fits : {A : Type 0} (l : Link) (kind : LimitKind) (line : Option ℕ)
@@ -86,6 +96,7 @@ limit_fits {A} l kind line = record {
   joined = sides.limit_joined l kind line;
   keeps = still_ends A account_at (stop.Limit kind line);
   spends = λ s. no_less (ticks_at s);
+  tells = λ noting s right. still_told (l.telling noting) s;
 }
 
 -- an error of the language
@@ -104,6 +115,7 @@ world_fits l {change} wantless = record {
   joined = sides.world_joined l wantless;
   keeps = λ s right. lifted_keeps s.env s.replies (account_at s) (change s.world) (wantless.keeps s.world right);
   spends = λ s. lifted_spends s.env s.replies s.world.ticks (change s.world) (wantless.spends s.world);
+  tells = λ noting s right. lifted_tells (l.telling noting) s (change s.world) (wantless.stays s.world);
 }
 
 -- one of two
@@ -125,7 +137,7 @@ pub moved_fits : {A : Type 0} {l : Link} (change : World → World)
     → ((world : World) → told (change world) ≡ told world) → {first : Does l.E A} {second : Does l.F A}
     → Fits l first second
     → Fits l (λ s. first (record s { world = change s.world })) (λ s. second (record s { world = change s.world }))
-moved_fits change same {first} {second} fit = record {
+moved_fits {l} change same {first} {second} fit = record {
   joined = sides.moved_joined change fit.joined;
   keeps = λ s right. kept_moved account_at (account_of s.world) (account_of (change s.world))
       (ap (λ found. found.0) (same s.world))
@@ -133,6 +145,7 @@ moved_fits change same {first} {second} fit = record {
   spends = λ s. ticks_moved s.world (change s.world) (same s.world)
       (state_of (second (record s { world = change s.world }))).world.ticks
       (fit.spends (record s { world = change s.world }));
+  tells = λ noting. moved_tells (l.telling noting) change same second fit.keeps (fit.tells noting);
 }
 
 -- what is done as the world has it
@@ -143,6 +156,7 @@ seeing_fits first second each = record {
   joined = sides.seeing_joined first second (λ world. (each world).joined);
   keeps = λ s right. (each s.world).keeps s right;
   spends = λ s. (each s.world).spends s;
+  tells = λ noting s right. (each s.world).tells noting s right;
 }
 
 -- what is done, and what it held is held no more

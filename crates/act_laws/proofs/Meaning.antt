@@ -119,7 +119,7 @@ pub record Levels (l : Link) (program : Program) (levels : ℕ) : Type 0 where
       → Fits l (meaning.enter l.E l.host program levels owner procedure arguments)
       (meaning.enter l.F l.other program levels owner procedure arguments)
 
-module _ (l : Link) (asks : (member : Member) (arguments : List Value)
+module _ (l : Link) (silent : l.tells → ⊥) (asks : (member : Member) (arguments : List Value)
     → Fits l (ask l.host member arguments) (ask l.other member arguments)) (program : Program) where
   -- the same as what the rules of a construct stand on
   abbrev pub inners : (levels : ℕ) → Levels l program levels → Inners l
@@ -143,6 +143,8 @@ module _ (l : Link) (asks : (member : Member) (arguments : List Value)
     call_fits = known.call;
     statement_fits = known.statement;
     enter_fits = known.enter;
+    same_program = λ noting. absurd (silent noting);
+    enters = λ noting. absurd (silent noting);
     asks = asks;
   }
 

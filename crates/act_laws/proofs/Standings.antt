@@ -12,8 +12,11 @@ use Rattle.act_laws.specs.Entries.{standing, standings}
 use Rattle.act_laws.specs.Objects.{Account, HasBegun, IsLive, account_of, marks}
 
 -- what is said of one object
+abbrev pub looks : Bool → Option ℕ → Bool × Option ℕ
+looks begun class = (begun, class)
+
 abbrev pub look : Object → Bool × Option ℕ
-look object = (object.ending, class_in object.content)
+look object = looks object.ending (class_in object.content)
 
 pub looked_at : (objects : List (ℕ × Object)) (number : ℕ)
     → numbered number (standings objects) ≡ option_map look (numbered number objects)

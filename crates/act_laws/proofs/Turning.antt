@@ -1,5 +1,5 @@
 -- What is made of steps, in two environments side by side: their lines, and what On Error makes of an error.
-use Rattle.std.proofs.Common.{ℕ, List, Bool, true, false, if◌then◌else◌, Option, Some, None}
+use Rattle.std.proofs.Common.{ℕ, List, Bool, true, false, if◌then◌else◌, Option, Some, None, refl}
 use Rattle.vb_value.specs.declared.application.AppCall.{AppCall}
 use Rattle.vb_value.specs.declared.application.AppReply.{AppReply}
 use Rattle.vb_value.specs.declared.value.Value.{Value}
@@ -13,7 +13,8 @@ use Rattle.vb_meaning.specs.State.{State}
 use Rattle.vb_meaning.specs.Statements.{out_of_with, with_subjects}
 use Rattle.vb_meaning.specs.Step.{Step, Returns, Ends}
 use Rattle.act_laws.proofs.Joined.{Link, Alike, gives, ends, gone, Past, JoinedTurn}
-use Rattle.act_laws.proofs.Keeping.{line_keeps, resumed_keeps}
+use Rattle.act_laws.proofs.Keeping.{kept_onward, line_keeps, resumed_keeps}
+use Rattle.act_laws.proofs.Telling.{TellsOn, changed_told, line_tells, resumed_tells}
 use Rattle.act_laws.proofs.Spending.{SpendsOn, line_spends, no_less, resumed_spends, ticks_at}
 use Rattle.act_laws.proofs.Linked.{Turns}
 use Rattle.act_laws.specs.Objects.{Account, Kept, account_at}
@@ -50,6 +51,7 @@ line_turns l line = record {
   joined = line_joined l line;
   keeps = line_keeps account_at line;
   spends = line_spends ticks_at line;
+  tells = λ noting. line_tells (l.telling noting) line;
 }
 
 -- On Error
@@ -106,6 +108,7 @@ resumed_turns l instead = record {
   joined = resumed_joined l instead;
   keeps = resumed_keeps instead;
   spends = resumed_spends instead;
+  tells = λ noting. resumed_tells (l.telling noting) instead;
 }
 
 -- the end of a terminator
@@ -174,7 +177,7 @@ with_joined {A} l m other subjects = record { alike = alike; goes_on = goes_on }
 pub with_turns : {A : Type 0} (l : Link) (m : Inner l.E) (other : Inner l.F) (subjects : List Value)
     → Turns {A = A} l (out_of_with l.E m subjects) (out_of_with l.F other subjects)
 with_turns {A} l m other subjects =
-    record { joined = with_joined l m other subjects; keeps = keeps; spends = spends }
+    record { joined = with_joined l m other subjects; keeps = keeps; spends = spends; tells = tells }
   where
     keeps : (before : Account) (step : Step (State l.F) A) → Kept account_at before step
         → Kept account_at before (out_of_with l.F other subjects step)
@@ -184,3 +187,10 @@ with_turns {A} l m other subjects =
     spends : SpendsOn {A = A} ticks_at (out_of_with l.F other subjects)
     spends (Returns value s) = no_less (ticks_at s)
     spends (Ends why s) = no_less (ticks_at s)
+
+    tells : (noting : l.tells) → TellsOn (l.telling noting) {A = A} (out_of_with l.F other subjects)
+    tells noting s (Returns value after) right kept before = changed_told (l.telling noting) s after
+        (with_subjects l.F other subjects after.world) right.adds_up kept.onward refl before
+    tells noting s (Ends why after) right kept before = changed_told (l.telling noting) s after
+        (with_subjects l.F other subjects after.world) right.adds_up
+        (kept_onward {A = A} account_at (account_at s) (Ends why after) kept) refl before
