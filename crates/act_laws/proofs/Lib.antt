@@ -39,3 +39,4 @@ pub mod Lacking
 pub mod Settled
 pub mod NoneBack
 pub mod OneText
+pub mod Noting

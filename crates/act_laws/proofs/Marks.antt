@@ -60,7 +60,7 @@ marks_more [] number object = refl
 marks_more (first ∷ others) number object =
     ap (λ rest. (first.0, first.1.ending) ∷ rest) (marks_more others number object)
 
-marked_by : (objects : List (ℕ × Object)) (number : ℕ)
+pub marked_by : (objects : List (ℕ × Object)) (number : ℕ)
     → numbered number (marks objects) ≡ option_map (λ (object : Object). object.ending) (numbered number objects)
 marked_by [] number = refl
 marked_by (first ∷ others) number = elim (is_number number first.0)

@@ -90,11 +90,11 @@ module _ (l : Link) (i : Inners l) where
   executed_fits line StatementKind-F.Declaration = value_fits l Next
   executed_fits line said = whole_fits line (then_fits (world_fits l tick_wantless) (λ done. does_fits said))
 
-  statement_of_fits : (found : Statement) → Same l i (λ E m. executing.statement_of E m found)
+  pub statement_of_fits : (found : Statement) → Same l i (λ E m. executing.statement_of E m found)
   unfolding executing.statement_of
   statement_of_fits found = executed_fits found.line (out-StatementKind found.kind)
 
-refused_fits : (l : Link) (line : ℕ) (said : executing.Said)
+pub refused_fits : (l : Link) (line : ℕ) (said : executing.Said)
     → Fits l (executing.refused line said) (executing.refused line said)
 refused_fits l line StatementKind-F.Declaration = value_fits l Next
 refused_fits l line said =
