@@ -40,3 +40,4 @@ pub mod Settled
 pub mod NoneBack
 pub mod OneText
 pub mod Noting
+pub mod Entries

@@ -31,7 +31,7 @@ use Rattle.vb_meaning.specs.Meaning as meaning
 use Rattle.vb_meaning.specs.State.{Does, State}
 use Rattle.vb_meaning.specs.Step.{Step, Returns, Ends}
 use Rattle.act_laws.specs.Entries.{AreOf, EntersEach, Noted, Notes, beside_notes, ends_by, entering, is_among}
-use Rattle.act_laws.specs.Entries.{noted_entry, noted_inside, running_again, said_beside}
+use Rattle.act_laws.specs.Entries.{noted_entry, noted_levels, running_again, said_beside}
 use Rattle.act_laws.specs.Objects.{Account, AddsUp, IsEnding, Kept, account_at, account_of}
 use Rattle.act_laws.specs.Ticks.{state_of}
 use Rattle.act_laws.proofs.Assigning.{assign_to_fits}
@@ -271,20 +271,20 @@ module _ (E : Type 0) (host : Host E) (program : Program) where
   -- the constructs of the program, with the notes and without
   pub record Levels (levels : ℕ) : Type 0 where
     pub value : (x : Expression)
-        → Fits beside (meaning.value E host program levels x) ((noted_inside E host program levels).value x)
+        → Fits beside (meaning.value E host program levels x) ((noted_levels E host program levels).value x)
     pub argument : (x : Expression)
-        → Fits beside (meaning.argument E host program levels x) ((noted_inside E host program levels).argument x)
+        → Fits beside (meaning.argument E host program levels x) ((noted_levels E host program levels).argument x)
     pub assign : (how : Assigned) (path : Path) (found : Value)
         → Fits beside (meaning.assign E host program levels how path found)
-        ((noted_inside E host program levels).assign how path found)
+        ((noted_levels E host program levels).assign how path found)
     pub call : (path : Path)
-        → Fits beside (meaning.call E host program levels path) ((noted_inside E host program levels).call path)
+        → Fits beside (meaning.call E host program levels path) ((noted_levels E host program levels).call path)
     pub statement : (x : Statement)
-        → Fits beside (meaning.statement E host program levels x) ((noted_inside E host program levels).statement x)
+        → Fits beside (meaning.statement E host program levels x) ((noted_levels E host program levels).statement x)
     pub enter : (owner : Owner) (procedure : Procedure) (arguments : List Argument)
         → Fits beside (meaning.enter E host program levels owner procedure arguments)
-        ((noted_inside E host program levels).enter owner procedure arguments)
-    pub notes : NotesEntries telling_of (noted_inside E host program levels).enter
+        ((noted_levels E host program levels).enter owner procedure arguments)
+    pub notes : NotesEntries telling_of (noted_levels E host program levels).enter
 
   abbrev pub inners : (levels : ℕ) → Levels levels → Inners beside
   inners levels known = record {
@@ -295,12 +295,12 @@ module _ (E : Type 0) (host : Host E) (program : Program) where
     call = meaning.call E host program levels;
     statement = meaning.statement E host program levels;
     enter = meaning.enter E host program levels;
-    other_value = (noted_inside E host program levels).value;
-    other_argument = (noted_inside E host program levels).argument;
-    other_assign = (noted_inside E host program levels).assign;
-    other_call = (noted_inside E host program levels).call;
-    other_statement = (noted_inside E host program levels).statement;
-    other_enter = (noted_inside E host program levels).enter;
+    other_value = (noted_levels E host program levels).value;
+    other_argument = (noted_levels E host program levels).argument;
+    other_assign = (noted_levels E host program levels).assign;
+    other_call = (noted_levels E host program levels).call;
+    other_statement = (noted_levels E host program levels).statement;
+    other_enter = (noted_levels E host program levels).enter;
     value_fits = known.value;
     argument_fits = known.argument;
     assign_fits = known.assign;

@@ -5,7 +5,9 @@ use Rattle.vb_value.specs.declared.application.AppReply.{AppReply}
 use Rattle.vb_value.specs.declared.value.Value.{Value}
 use Rattle.vb_syntax.specs.declared.act.Act.{Act}
 use Rattle.vb_syntax.specs.declared.program.Program.{Program}
-use Rattle.vb_syntax.specs.declared.program.expression.Expression.{out-Expression}
+use Rattle.vb_syntax.specs.declared.program.expression.Expression.{Expression, out-Expression}
+use Rattle.vb_syntax.specs.declared.program.expression.Path.{Path}
+use Rattle.vb_syntax.specs.declared.program.statement.Statement.{Statement}
 use Rattle.vb_syntax.specs.declared.program.statement.StatementKind.{out-StatementKind}
 use Rattle.vb_syntax.specs.declared.program.unit.Procedure.{Procedure}
 use Rattle.vb_heap.specs.declared.object.Object.{Object}
@@ -15,8 +17,9 @@ use Rattle.vb_heap.specs.Store.{is_number, numbered}
 use Rattle.vb_meaning.specs.declared.plain_end.PlainEnd.{PlainEnd}
 use Rattle.vb_meaning.specs.declared.reached.Argument.{Argument}
 use Rattle.vb_meaning.specs.declared.reached.Argument.TheVariants.{Value as OfValue}
+use Rattle.vb_meaning.specs.declared.reached.Assigned.{Assigned}
 use Rattle.vb_meaning.specs.declared.world.World.{World}
-use Rattle.vb_meaning.specs.Acts.{act_in, fresh_world}
+use Rattle.vb_meaning.specs.Acts.{act_in, fresh_world, page_begins, part}
 use Rattle.vb_meaning.specs.Asking.{Host, Said}
 use Rattle.vb_meaning.specs.Assigning.{assign_to}
 use Rattle.vb_meaning.specs.Calling.{enter_of}
@@ -26,11 +29,12 @@ use Rattle.vb_meaning.specs.Expressions.{argument_of, bare, valued, written_or}
 use Rattle.vb_meaning.specs.Inner.{Inner, Owner}
 use Rattle.vb_meaning.specs.Meaning.{most_levels}
 use Rattle.vb_meaning.specs.Objects.{class_at}
-use Rattle.vb_meaning.specs.Releases.{terminator_in}
+use Rattle.vb_meaning.specs.Releases.{end_all, settle, settle_last, terminator_in}
 use Rattle.vb_meaning.specs.State.{Does, State, on_world}
 use Rattle.vb_meaning.specs.Statements.{call_of}
-use Rattle.vb_meaning.specs.Step.{Step, Returns, Ends, ◌>>=◌, pure}
+use Rattle.vb_meaning.specs.Step.{Step, Returns, Ends, ◌>>=◌, ◌>>◌, pure}
 use Rattle.act_laws.specs.Objects.{AddsUp, HasBegun, IsEnding, account_of}
+use Rattle.act_laws.specs.Ticks.{state_of}
 
 -- ---- notes
 
@@ -108,25 +112,30 @@ noted_last E host program = record {
   enter = entering (λ owner procedure arguments. on_world too_deep);
 }
 
+-- the same constructs, of that program
+abbrev pub of_program : {E : Type 0} → Host E → Program → Inner (Noted E) → Inner (Noted E)
+of_program host program inside = record inside { host = beside_notes host; program = program }
+
 -- one level more
 abbrev pub noted_next : (E : Type 0) → Host E → Program → Inner (Noted E) → Inner (Noted E)
-noted_next E host program inside =
-    let m = record inside { host = beside_notes host; program = program } in
-    record {
-      host = beside_notes host;
-      program = program;
-      value = valued (Noted E) m;
-      argument = argument_of (Noted E) m;
-      assign = assign_to (Noted E) m;
-      call = call_of (Noted E) m;
-      statement = statement_of (Noted E) m;
-      enter = entering (enter_of (Noted E) m);
-    }
+noted_next E host program inside = record {
+  host = beside_notes host;
+  program = program;
+  value = valued (Noted E) (of_program host program inside);
+  argument = argument_of (Noted E) (of_program host program inside);
+  assign = assign_to (Noted E) (of_program host program inside);
+  call = call_of (Noted E) (of_program host program inside);
+  statement = statement_of (Noted E) (of_program host program inside);
+  enter = entering (enter_of (Noted E) (of_program host program inside));
+}
+
+abbrev pub noted_levels : (E : Type 0) → Host E → Program → ℕ → Inner (Noted E)
+noted_levels E host program zero = noted_last E host program
+noted_levels E host program (suc levels) = noted_next E host program (noted_levels E host program levels)
 
 -- the constructs inside one, where so many more may be begun
 abbrev pub noted_inside : (E : Type 0) → Host E → Program → ℕ → Inner (Noted E)
-noted_inside E host program zero = noted_last E host program
-noted_inside E host program (suc levels) = noted_next E host program (noted_inside E host program levels)
+noted_inside E host program levels = of_program host program (noted_levels E host program levels)
 
 -- an act with its notes
 abbrev pub noted_act : (E : Type 0) → Host E → Program → Act → E → List AppReply → Option PlainEnd × Noted E
@@ -186,3 +195,22 @@ pub record EntersEach (program : Program) (before : World) (noted : Notes) (afte
   -- an object keeps its class
   pub classes : (number : ℕ) (begun again : Bool) (class other : Option ℕ)
       → standing number before ≡ Some (begun, class) → standing number after ≡ Some (again, other) → other ≡ class
+
+-- what is done enters terminators so
+abbrev pub EntersBy : {E A : Type 0} → Program → State (Noted E) → Does (Noted E) A → Type 0
+EntersBy program s run =
+    EntersEach program s.world s.env.1 (state_of (run s)).world (state_of (run s)).env.1
+
+-- from a state, all that is done enters terminators so
+pub record EntersAll (E : Type 0) (program : Program) (m : Inner (Noted E)) (s : State (Noted E)) : Type 0 where
+  pub value : (x : Expression) → EntersBy program s (m.value x)
+  pub argument : (x : Expression) → EntersBy program s (m.argument x)
+  pub assign : (how : Assigned) (path : Path) (found : Value) → EntersBy program s (m.assign how path found)
+  pub call : (path : Path) → EntersBy program s (m.call path)
+  pub statement : (x : Statement) → EntersBy program s (m.statement x)
+  pub enter : (owner : Owner) (procedure : Procedure) (arguments : List Argument)
+      → EntersBy program s (m.enter owner procedure arguments)
+  pub settle : EntersBy program s (settle (Noted E) m)
+  -- an act up to the page's end, and the page's end
+  pub part : (which : Act) → EntersBy program s (on_world (page_begins program.unit) >> part (Noted E) m which)
+  pub page_end : EntersBy program s (settle_last (Noted E) m >> end_all (Noted E) m)

@@ -1,6 +1,6 @@
 -- Laws of an act, of the replies that it is given, and of the objects that it makes, for the objects of a host whatever
 -- they do.
-use Rattle.std.specs.Prelude.{ℕ, ◌≡◌, ◌≢◌, Bool, IsTrue, List, [], ◌∷◌, ◌++◌, length, slice_get, Some, None}
+use Rattle.std.specs.Prelude.{ℕ, ◌≡◌, ◌≢◌, Bool, Option, IsTrue, List, [], ◌∷◌, ◌++◌, length, slice_get, Some, None}
 use Rattle.std.specs.Prelude.{Ok, Err}
 use Rattle.vb_value.specs.declared.application.AppCall.{AppCall}
 use Rattle.vb_value.specs.declared.application.AppReply.{AppReply}
@@ -27,6 +27,7 @@ use Rattle.vb_meaning.specs.Releases.{settle}
 use Rattle.vb_meaning.specs.State.{State}
 use Rattle.vb_meaning.specs.Step.{Returns}
 use Rattle.act_laws.specs.Calls.{LeavesOnly, Noting, WantsOnly, calls_of, noting, wanted}
+use Rattle.act_laws.specs.Entries.{AreOf, EntersAll, Noted, entries_of, noted_act, noted_inside, terminators}
 use Rattle.act_laws.specs.Objects.{AddsUp, account_at, account_of}
 use Rattle.act_laws.specs.Terminators.{HaveEnded, KeepsAll, RunsEach}
 use Rattle.act_laws.specs.Ticks.{NoneComeBack}
@@ -132,3 +133,24 @@ OneTextIsWritten E = (host : Host E) (program : Program) (text : List ℕ) → I
     → host.asked ResponseWrite (Str text ∷ []) env ≡ Ok (given.Value value, after)
     → act_of E host program act.Body env replies
     ≡ (Some (Ends (record { end = end.Done; made = 0; finished = 0 })), after)
+
+-- That the terminators which are entered are noted changes nothing of an act.
+abbrev pub EntriesChangeNothing : Type 0 → Type 0
+EntriesChangeNothing E = (host : Host E) (program : Program) (which : Act) (env : E) (replies : List AppReply)
+    → noted_act E host program which env replies
+    ≡ (
+      (act_of E host program which env replies).0,
+      ((act_of E host program which env replies).1, (noted_act E host program which env replies).1.1),
+    )
+
+-- At each level of a program, and from each state whose notes belong to it, all that is done enters the terminator of a live
+-- object once where the object begins to end and its class has one, and enters no other.
+abbrev pub TerminatorsAreEntered : Type 0 → Type 0
+TerminatorsAreEntered E = (host : Host E) (program : Program) (levels : ℕ) (s : State (Noted E))
+    → AreOf s.world s.env.1 → EntersAll E program (noted_inside E host program levels) s
+
+-- Of each object, what an act enters as its terminator is that of a class, once, or nothing.
+abbrev pub NoneEnteredTwice : Type 0 → Type 0
+NoneEnteredTwice E = (host : Host E) (program : Program) (which : Act) (env : E) (replies : List AppReply)
+    (object : ℕ) → (class : Option ℕ)
+    × (entries_of object (noted_act E host program which env replies).1.1.entered ≡ terminators program class)

@@ -1,6 +1,7 @@
 //! Laws of an act, of the replies that it is given, and of the objects that it makes. The functions do nothing: their
 //! contracts are the laws.
-ghost use Rattle.act_laws.specs.Laws.{CallsInOrder, CallsStay, NotesChangeNothing, ObjectsEnd};
+ghost use Rattle.act_laws.specs.Laws.{CallsInOrder, CallsStay, EntriesChangeNothing, NoneEnteredTwice};
+ghost use Rattle.act_laws.specs.Laws.{NotesChangeNothing, ObjectsEnd, TerminatorsAreEntered};
 ghost use Rattle.act_laws.specs.Laws.{OneTextIsWritten, OnlyAskingChanges, OnlyObjectsLack, OnlyObjectsWant};
 ghost use Rattle.act_laws.specs.Laws.{ReleasePointsSettle, RepliesBeyond, TerminatorsRunOnce};
 ghost use Rattle.act_laws.specs.Laws.{TicksNeverComeBack};
@@ -66,4 +67,21 @@ pub fn ticks_never_come_back<E>()
 /// made, and the objects of the page are as Response.Write left them.
 pub fn one_text_is_written<E>()
     ensures { OneTextIsWritten E }
+{}
+
+/// That the terminators which are entered are noted changes nothing of an act.
+pub fn entries_change_nothing<E>()
+    ensures { EntriesChangeNothing E }
+{}
+
+/// A terminator is entered once for each object whose class has one, when the object begins to end, and so in that
+/// order: whatever is done, a live object that has begun to end behind it has had the terminator of its class entered, and
+/// no other object has.
+pub fn terminators_are_entered<E>()
+    ensures { TerminatorsAreEntered E }
+{}
+
+/// Of each object, what an act enters as its terminator is that of a class, once, or nothing.
+pub fn none_entered_twice<E>()
+    ensures { NoneEnteredTwice E }
 {}
