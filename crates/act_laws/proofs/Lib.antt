@@ -41,3 +41,4 @@ pub mod NoneBack
 pub mod OneText
 pub mod Noting
 pub mod Entries
+pub mod NewNumbers

@@ -164,7 +164,7 @@ field_made_wantless object field (Some array) = line_wantless array.line
     (store_roomy (cell_place cell) value) (λ store count. refl))))
 field_made_wantless object field None = pure_wantless tt
 
-fields_made_wantless : (object : ObjNo) (number : ℕ) (fields : List Field)
+pub fields_made_wantless : (object : ObjNo) (number : ℕ) (fields : List Field)
     → Wantless (making.fields_made object number fields)
 fields_made_wantless object number [] = pure_wantless tt
 fields_made_wantless object number (field ∷ fields) =

@@ -17,17 +17,19 @@ use Rattle.vb_syntax.specs.declared.program.Program.{Program}
 use Rattle.vb_syntax.specs.declared.program.statement.Statement.{Statement}
 use Rattle.vb_syntax.specs.declared.program.statement.StatementKind.{out-StatementKind}
 use Rattle.vb_syntax.specs.declared.program.statement.StatementKind.TheOpen.{StatementKind-F}
-use Rattle.vb_heap.specs.Releases.{oldest_loose}
+use Rattle.vb_heap.specs.Releases.{oldest_loose, with_ending}
 use Rattle.vb_meaning.specs.declared.plain_end.PlainEnd.TheVariants.{Ends}
+use Rattle.vb_meaning.specs.declared.stop.Stop.TheVariants as stop
 use Rattle.vb_meaning.specs.Acts.{act_of, fresh_world}
 use Rattle.vb_meaning.specs.Asking.{Host}
 use Rattle.vb_meaning.specs.Inner.{Inner}
 use Rattle.vb_meaning.specs.Meaning.{inside}
-use Rattle.vb_meaning.specs.Releases.{settle}
-use Rattle.vb_meaning.specs.State.{State}
-use Rattle.vb_meaning.specs.Step.{Returns}
+use Rattle.vb_meaning.specs.Releases.{in_world, settle, terminate}
+use Rattle.vb_meaning.specs.State.{State, with_heap}
+use Rattle.vb_meaning.specs.Step.{Step, Returns, Ends as Ends_of, ◌>>◌}
 use Rattle.act_laws.specs.Calls.{LeavesOnly, Noting, WantsOnly, calls_of, noting, wanted}
 use Rattle.act_laws.specs.Entries.{AreOf, EntersAll, Noted, entries_of, noted_act, noted_inside, terminators}
+use Rattle.act_laws.specs.Numbers.{GivesNew}
 use Rattle.act_laws.specs.Objects.{AddsUp, account_at, account_of}
 use Rattle.act_laws.specs.Terminators.{HaveEnded, KeepsAll, RunsEach}
 use Rattle.act_laws.specs.Ticks.{NoneComeBack}
@@ -101,10 +103,26 @@ TerminatorsRunOnce E = AddsUp (account_of fresh_world) × ((host : Host E) (prog
     → AddsUp (account_at s)
     → RunsEach E (inside E host program levels) s × KeepsAll E (inside E host program levels) s)
 
+-- a step that comes to its end, or stops the page, leaves Err as it was, and whether a terminator is being run
+abbrev pub LeavesErr : {E : Type 0} → State E → Step (State E) (Unit {0}) → Type 0
+LeavesErr before (Returns done s) =
+    (s.world.err ≡ before.world.err) × (s.world.terminates ≡ before.world.terminates)
+LeavesErr before (Ends_of stop.Page s) =
+    (s.world.err ≡ before.world.err) × (s.world.terminates ≡ before.world.terminates)
+LeavesErr before (Ends_of (stop.Error what line) s) = Unit {0}
+LeavesErr before (Ends_of (stop.Limit kind line) s) = Unit {0}
+LeavesErr before (Ends_of (stop.Wants call) s) = Unit {0}
+LeavesErr before (Ends_of stop.Memory s) = Unit {0}
+
 -- A release point where each live object has a reference does nothing, and neither does a second one right behind the
--- first.
+-- first. Where a live object has none, the oldest such ends, and behind its terminator stands a release point again.
+-- It leaves Err.
 pub record ReleasesOnce (E : Type 0) (m : Inner E) (s : State E) : Type 0 where
   pub still : oldest_loose s.world.heap ≡ None → settle E m s ≡ Returns tt s
+  pub next : AddsUp (account_at s) → (object : ℕ) → oldest_loose s.world.heap ≡ Some object
+      → settle E m s
+      ≡ (terminate E m object >> settle E m) (in_world E (with_heap (with_ending (Some object)) s.world) s)
+  pub leaves : LeavesErr s (settle E m s)
   pub again : AddsUp (account_at s) → (after : State E) → settle E m s ≡ Returns tt after
       → settle E m after ≡ Returns tt after
 
@@ -154,3 +172,8 @@ abbrev pub NoneEnteredTwice : Type 0 → Type 0
 NoneEnteredTwice E = (host : Host E) (program : Program) (which : Act) (env : E) (replies : List AppReply)
     (object : ℕ) → (class : Option ℕ)
     × (entries_of object (noted_act E host program which env replies).1.1.entered ≡ terminators program class)
+
+-- What New and CreateObject give is an object with a number that no object had before it.
+abbrev pub NewNumbersAreFree : Type 0 → Type 0
+NewNumbersAreFree E = (host : Host E) (program : Program) (levels : ℕ) (s : State E) → AddsUp (account_at s)
+    → GivesNew E (inside E host program levels) s

@@ -3,4 +3,5 @@ pub mod Objects
 pub mod Terminators
 pub mod Ticks
 pub mod Entries
+pub mod Numbers
 pub mod Laws

@@ -1,7 +1,7 @@
 //! Laws of an act, of the replies that it is given, and of the objects that it makes. The functions do nothing: their
 //! contracts are the laws.
-ghost use Rattle.act_laws.specs.Laws.{CallsInOrder, CallsStay, EntriesChangeNothing, NoneEnteredTwice};
-ghost use Rattle.act_laws.specs.Laws.{NotesChangeNothing, ObjectsEnd, TerminatorsAreEntered};
+ghost use Rattle.act_laws.specs.Laws.{CallsInOrder, CallsStay, EntriesChangeNothing, NewNumbersAreFree};
+ghost use Rattle.act_laws.specs.Laws.{NoneEnteredTwice, NotesChangeNothing, ObjectsEnd, TerminatorsAreEntered};
 ghost use Rattle.act_laws.specs.Laws.{OneTextIsWritten, OnlyAskingChanges, OnlyObjectsLack, OnlyObjectsWant};
 ghost use Rattle.act_laws.specs.Laws.{ReleasePointsSettle, RepliesBeyond, TerminatorsRunOnce};
 ghost use Rattle.act_laws.specs.Laws.{TicksNeverComeBack};
@@ -52,7 +52,8 @@ pub fn terminators_run_once<E>()
 {}
 
 /// A release point where each live object has a reference does nothing, and neither does a second one right behind the
-/// first.
+/// first. Where a live object has none, the oldest such ends, and behind its terminator stands a release point again.
+/// A release point leaves Err.
 pub fn release_points_settle<E>()
     ensures { ReleasePointsSettle E }
 {}
@@ -84,4 +85,9 @@ pub fn terminators_are_entered<E>()
 /// Of each object, what an act enters as its terminator is that of a class, once, or nothing.
 pub fn none_entered_twice<E>()
     ensures { NoneEnteredTwice E }
+{}
+
+/// What New and CreateObject give is an object with a number that no object had before it.
+pub fn new_numbers_are_free<E>()
+    ensures { NewNumbersAreFree E }
 {}
