@@ -6,6 +6,7 @@ use Rattle.std.proofs.lemmas.List.Sums.{sum_by-append, sum_by-cons, sum_by-set}
 use Rattle.std.proofs.lemmas.Option.{get_or_from_slice_get, slice_get_cases}
 use Rattle.std.specs.Map.{values_of}
 use Rattle.std.specs.Option.{option_map_or}
+use Rattle.vb_value.specs.declared.fault.VbError.{VbError}
 use Rattle.vb_value.specs.declared.session.Pair.{Pair}
 use Rattle.vb_value.specs.declared.value.ObjNo.{ObjNo}
 use Rattle.vb_value.specs.declared.value.Value.{Value}
@@ -36,14 +37,17 @@ in_content : (object : ℕ) (content : Content) (found : Dictionary) → content
 in_content object content found is = ap (λ inside. count_of object (content_references inside)) is
     ∙ counted object (λ (pair : Pair). references pair.item) found.pairs
 
+abbrev answer : Dictionary → Result Dictionary VbError
+answer dictionary = Ok dictionary
+
+same_dictionary : (one other : Dictionary) → answer one ≡ answer other → one ≡ other
+same_dictionary one other same = cc
+
 -- what a dictionary's object is, once it is found
 entries_there : (thing : Object) (content : Content) (found : Dictionary) → thing.content ≡ content
     → dictionary_in content ≡ Ok found → thing.content ≡ Entries found
 entries_there thing (Entries dictionary) found is said =
-    is ∙ ap (λ inside. Entries inside) (same_of dictionary found said)
-  where
-    same_of : (one other : Dictionary) → Ok one ≡ Ok other → one ≡ other
-    same_of one other same = cc
+    is ∙ ap (λ inside. Entries inside) (same_dictionary dictionary found said)
 entries_there thing (Fields class cells) found is said = absurd (cc)
 
 -- the references of the objects with one dictionary changed
@@ -149,7 +153,7 @@ ended_table_refers object ended thing found store is ending entries =
     let same = ap (in_cells object) cells in
     let whole : references_to object (without_object ended (Some thing) store) + times_in_items object found
     ≡ references_to object store = omega (arith, before, after, less, own, same) in
-    ap (λ data. references_to object data + times_in_items object found) (ended_is ended thing store ending) ∙ whole
+    ap (λ left. references_to object left + times_in_items object found) (ended_is ended thing store ending) ∙ whole
 
 -- what is not there does not go
 none_goes : (number : ℕ) (cells : List (ℕ × Value)) → numbered number cells ≡ None → without number cells ≡ cells
@@ -193,5 +197,5 @@ ended_object_refers object ended class thing fields store is ending inside =
     let gone = cells_less object fields store.cells in
     let whole : references_to object (without_object ended (Some thing) store) + times_in_cells object fields store.cells
     ≡ references_to object store = omega (arith, before, after, less, own, same, gone) in
-    ap (λ data. references_to object data + times_in_cells object fields store.cells)
+    ap (λ left. references_to object left + times_in_cells object fields store.cells)
     (ended_is ended thing store ending) ∙ whole

@@ -34,11 +34,11 @@ no_cell (first ∷ others) made number below above =
     differ number first.0 (λ same. omega (arith, below.0, above, same)) in
     rw apart (no_cell others made number below.1 above)
 
-one_of : (deep fitting : Bool) (made cell : CellNo) (nest data : HeapStop)
-    → (if deep then Err nest else (if fitting then Ok made else Err data)) ≡ Ok cell → cell ≡ made
-one_of true fitting made cell nest data is = absurd (cc)
-one_of false true made cell nest data is = cc
-one_of false false made cell nest data is = absurd (cc)
+one_of : (deep fitting : Bool) (made cell : CellNo) (nest full : HeapStop)
+    → (if deep then Err nest else (if fitting then Ok made else Err full)) ≡ Ok cell → cell ≡ made
+one_of true fitting made cell nest full is = absurd (cc)
+one_of false true made cell nest full is = cc
+one_of false false made cell nest full is = absurd (cc)
 
 -- ---- fields
 
