@@ -68,14 +68,14 @@ module _ (program : Program) (a b c : World) (first second third : Notes) (right
       (found.0, other.no_more number before ∙ found.1)
   both_made number above has (inr not) = elim (cases_lt number b.heap.objects_made) [
     | inl below ↦ let now = standing_of number b false (not_begun_live number (account_of b) below not) in (
-        now.0,
-        other.once number now.0 now.1 has
-            ∙ ap (λ found. found ++ terminators program now.0) (one.not_yet number not),
-      )
+      now.0,
+      other.once number now.0 now.1 has
+          ∙ ap (λ found. found ++ terminators program now.0) (one.not_yet number not),
+    )
     | inr unmade ↦ let found = other.made number unmade has in (
-        found.0,
-        found.1 ∙ ap (λ entries. entries ++ terminators program found.0) (one.not_yet number not),
-      )
+      found.0,
+      found.1 ∙ ap (λ entries. entries ++ terminators program found.0) (one.not_yet number not),
+    )
   ]
 
   both_classes : (number : ℕ) (begun again : Bool) (class end : Option ℕ) → standing number a ≡ Some (begun, class)
@@ -88,8 +88,11 @@ module _ (program : Program) (a b c : World) (first second third : Notes) (right
       let marked = mark_of a.heap.objects number ∙ ap (λ found. option_map (λ (told : Bool × Option ℕ). told.0) found) is in
       let below = there_below (account_of a).objects a.heap.objects_made number begun right.below marked in
       let made = onward.made in
-      let gone = later.ended number (omega (arith, below, made), mark_of b.heap.objects number
-      ∙ ap (λ found. option_map (λ (told : Bool × Option ℕ). told.0) found) there) in
+      let gone = later.ended number (
+        omega (arith, below, made),
+        mark_of b.heap.objects number
+            ∙ ap (λ found. option_map (λ (told : Bool × Option ℕ). told.0) found) there,
+      ) in
       let there_still = mark_of c.heap.objects number
       ∙ ap (λ found. option_map (λ (told : Bool × Option ℕ). told.0) found) later_is in
       let both : None ≡ Some again = sym gone.1 ∙ there_still in absurd (cc)

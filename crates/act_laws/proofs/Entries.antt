@@ -165,8 +165,7 @@ module _ (E : Type 0) (host : Host E) (program : Program) where
       by : HasBegun object (account_at comes.last) ⊎ (HasBegun object (account_at comes.last) → ⊥)
           → (class : Option ℕ) × (entries_of object env.1.entered ≡ terminators program class)
       by (inl has) =
-          let found = comes.told.enters.made object (omega (arith, made)) has in
-          (
+          let found = comes.told.enters.made object (omega (arith, made)) has in (
             found.0,
             ap (λ (env : Noted E). entries_of object env.1.entered) comes.is ∙ found.1
                 ∙ ap (λ entered. entries_of object entered ++ terminators program found.0) none,
