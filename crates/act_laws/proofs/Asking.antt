@@ -92,8 +92,8 @@ pub asking_keeps : (E : Type 0) (host : Host E) (Holds : E → Type 0)
 asking_keeps E host Holds asked answered program which env replies holds =
     holds_after E host Holds asked answered (act_of E host program which env replies)
     (act_of E host program which env replies)
-    (acts_alike (beside_itself E host Holds asked answered) (λ none. none) (asks_alike E host Holds asked answered) program which env
-    replies env replies (refl, refl, holds))
+    (acts_alike (beside_itself E host Holds asked answered) (λ none. none) (asks_alike E host Holds asked answered)
+    program which env replies env replies (refl, refl, holds))
 
 left : {E : Type 0} (test : E → Bool) (said : Said E) → LeavesOnly test said
     → Leaves (λ env. IsTrue (test env)) said

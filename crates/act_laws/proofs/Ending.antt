@@ -41,7 +41,8 @@ no_oldest test [] is = refl
 no_oldest test (first ∷ others) is = absurd (omega (arith, is))
 
 -- where as many objects have ended as may be made, none is there
-pub none_loose : {E : Type 0} (s : State E) → AddsUp (account_at s) → most_objects ≤ s.world.finished + 0 → HasNoneLoose s
+pub none_loose : {E : Type 0} (s : State E) → AddsUp (account_at s) → most_objects ≤ s.world.finished + 0
+    → HasNoneLoose s
 none_loose s right enough = no_oldest (is_loose s.world.heap) s.world.heap.objects
     (omega (arith, right.count, right.most, enough))
 

@@ -2,12 +2,13 @@
 use Rattle.std.proofs.Common.{ℕ, zero, suc, ◌+◌, ◌-◌, ◌≡◌, ◌<◌, Bool, true, false, List, [], Option, Some, None}
 use Rattle.std.proofs.Common.{refl, sym, ap, subst, ◌∙◌}
 use Rattle.std.specs.Option.{option_map, option_map_or}
-use Rattle.vb_value.specs.declared.value.Value.{Value, Empty}
+use Rattle.vb_value.specs.declared.value.Value.{Value}
 use Rattle.vb_syntax.specs.declared.program.unit.Procedure.{Procedure}
 use Rattle.vb_heap.specs.declared.object.Object.{Object}
 use Rattle.vb_heap.specs.Limits.{most_objects}
 use Rattle.vb_heap.specs.Objects.{class_in}
-use Rattle.vb_heap.specs.Releases.{ending, ends_now, finished as finished_object, object_of, objects_ending, oldest_live}
+use Rattle.vb_heap.specs.Releases.{ending, ends_now, object_of}
+use Rattle.vb_heap.specs.Releases.{oldest_live}
 use Rattle.vb_heap.specs.Releases.{oldest_loose, with_ending}
 use Rattle.vb_heap.specs.Store.{Store, numbered, replaced, without}
 use Rattle.vb_meaning.specs.declared.reached.Argument.{Argument}
@@ -19,14 +20,15 @@ use Rattle.vb_meaning.specs.Objects.{class_at}
 use Rattle.vb_meaning.specs.Places.{let_go}
 use Rattle.vb_meaning.specs.Releases as releases
 use Rattle.vb_meaning.specs.State.{State, Does, with_heap}
-use Rattle.vb_meaning.specs.Step.{Step, Returns, Ends, ◌>>◌, and_then, pure, ends as step_ends}
-use Rattle.act_laws.specs.Entries.{AreOf, EntersEach, Notes, is_among, noted_entry, standing, standings}
-use Rattle.act_laws.specs.Objects.{Account, AddsUp, IsEnding, IsLive, Kept, Onward, Settled, account_at, account_of}
+use Rattle.vb_meaning.specs.Step.{Step, Returns, Ends, ◌>>◌, pure, ends as step_ends}
+use Rattle.act_laws.specs.Entries.{AreOf, EntersEach, is_among, noted_entry, standing, standings}
+use Rattle.act_laws.specs.Objects.{AddsUp, IsEnding, IsLive, Kept, Onward, Settled, account_at, account_of}
 use Rattle.act_laws.specs.Ticks.{state_of}
 use Rattle.act_laws.proofs.Accounts.{onward_then, settled_still, with_mark}
 use Rattle.act_laws.proofs.Coming.{Comes, comes_kept, comes_then, one_comes}
 use Rattle.act_laws.proofs.Ending as ends
-use Rattle.act_laws.proofs.Entering.{begins_enters, begins_onward, begins_right, ended_enters, ended_onward, enters_then}
+use Rattle.act_laws.proofs.Entering.{begins_enters, begins_onward, begins_right, ended_enters, ended_onward}
+use Rattle.act_laws.proofs.Entering.{enters_then}
 use Rattle.act_laws.proofs.Entering.{is_ending, not_running, noted_end, own_told, still_enters}
 use Rattle.act_laws.proofs.Keeping.{Keeps, line_keeps, next_keeps, still_ends, still_gives}
 use Rattle.act_laws.proofs.Marks.{account_in, ended_at, ended_gone, ending_marks, loose_is_live, oldest_is_live}
@@ -51,7 +53,8 @@ ending_told objects object class (Some thing) is live = standings_replaced objec
     kind_of (Some told) = told.1
     kind_of None = None
 
-    same_kind : (begun : Bool) (kind class : Option ℕ) → Some (looks begun kind) ≡ Some (looks false class) → kind ≡ class
+    same_kind : (begun : Bool) (kind class : Option ℕ) → Some (looks begun kind) ≡ Some (looks false class)
+        → kind ≡ class
     same_kind begun kind class same = ap kind_of same
 
 class_told : (objects : List (ℕ × Object)) (object : ℕ) (begun : Bool) (class : Option ℕ) (found : Option Object)
@@ -182,13 +185,15 @@ module _ {F : Type 0} (t : Telling F) (m : Inner F) (same_program : t.program �
     unfolding releases.terminate
     one_told =
         let kind = releases.class_number (numbered object begun.heap.objects) in
-        let is : kind ≡ class = class_told begun.heap.objects object true class (numbered object begun.heap.objects) refl
+        let is : kind ≡ class = class_told begun.heap.objects object true class (numbered object begun.heap.objects)
+        refl
         (own_told t.program object class s.world first.world (t.notes s.env) right live told account) in
         let step = releases.terminator_of F m object kind first in
         terminated_told step
         (ends.terminator_keeps F m keeps object kind (releases.terminator_in (class_at m.program kind)) first
         onward.adds_up)
-        (subst (λ number. HasEntered t object (releases.terminator_in (class_at t.program number)) first (state_of step)) is
+        (subst (λ number. HasEntered t object (releases.terminator_in (class_at t.program number)) first
+        (state_of step)) is
         (subst (λ program. HasEntered t object (releases.terminator_in (class_at program kind)) first (state_of step))
         (sym same_program) (kind_entered kind)))
 

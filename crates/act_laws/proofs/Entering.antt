@@ -1,5 +1,6 @@
 -- From worlds and their notes to later ones: how terminators are entered.
-use Rattle.std.proofs.Common.{ℕ, ◌+◌, ◌≡◌, ◌≢◌, ◌<◌, ◌≤◌, ◌⊎◌, Bool, true, false, if◌then◌else◌, cond, List, [], ◌∷◌, ◌++◌}
+use Rattle.std.proofs.Common.{ℕ, ◌+◌, ◌≡◌, ◌<◌, ◌≤◌, ◌⊎◌, Bool, true, false, if◌then◌else◌, List, [], ◌∷◌}
+use Rattle.std.proofs.Common.{◌++◌}
 use Rattle.std.proofs.Common.{Option, Some, None, refl, sym, ap, subst, ◌∙◌, inl, inr, arith, append_assoc, append-nil}
 use Rattle.std.proofs.lemmas.Bool.{cases_lt}
 use Rattle.std.specs.Option.{option_map}
@@ -11,8 +12,9 @@ use Rattle.vb_meaning.specs.Objects.{class_at}
 use Rattle.vb_meaning.specs.Releases.{terminator_in}
 use Rattle.act_laws.specs.Entries.{AreOf, EntersEach, Notes, entries_of, is_among, listed, noted_entry, standing}
 use Rattle.act_laws.specs.Entries.{standings, terminators}
-use Rattle.act_laws.specs.Objects.{Account, AddsUp, HasBegun, HasEnded, IsEnding, IsLive, Onward, Settled, account_of}
-use Rattle.act_laws.proofs.Accounts.{end_onward, mark_onward, marked, not_there, there_below, unmarked, with_end, with_mark}
+use Rattle.act_laws.specs.Objects.{Account, AddsUp, HasBegun, IsEnding, IsLive, Onward, Settled, account_of}
+use Rattle.act_laws.proofs.Accounts.{end_onward, mark_onward, marked, not_there, there_below, unmarked, with_end}
+use Rattle.act_laws.proofs.Accounts.{with_mark}
 use Rattle.act_laws.proofs.Numbers.{compared, itself, other_replaced, other_without, there_replaced}
 use Rattle.act_laws.proofs.Standings.{begun_or_not, live_by, mark_of, not_begun_live, same_class, standing_of}
 
@@ -85,7 +87,8 @@ module _ (program : Program) (a b c : World) (first second third : Notes) (right
       other.classes number found.0 again found.1 end there later_is
       ∙ one.classes number begun found.0 class found.1 is there
   both_classes number begun again class end is later_is None there =
-      let marked = mark_of a.heap.objects number ∙ ap (λ found. option_map (λ (told : Bool × Option ℕ). told.0) found) is in
+      let marked = mark_of a.heap.objects number ∙ ap (λ found. option_map (λ (told : Bool × Option ℕ). told.0) found)
+      is in
       let below = there_below (account_of a).objects a.heap.objects_made number begun right.below marked in
       let made = onward.made in
       let gone = later.ended number (
@@ -270,7 +273,8 @@ module _ (program : Program) (object : ℕ) (class : Option ℕ) (a m : World) (
 -- ---- an object has ended
 
 module _ (program : Program) (object : ℕ) (u f : World) (notes : Notes) (right : AddsUp (account_of u))
-    (ends : IsEnding object (account_of u)) (told : standings f.heap.objects ≡ without object (standings u.heap.objects))
+    (ends : IsEnding object (account_of u)) (told : standings f.heap.objects
+    ≡ without object (standings u.heap.objects))
     (account : account_of f ≡ with_end object (account_of u)) where
   pub ended_onward : Onward (account_of u) (account_of f)
   ended_onward = subst (λ found. Onward (account_of u) found) (sym account)

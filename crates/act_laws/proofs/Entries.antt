@@ -1,5 +1,6 @@
 -- The terminators that an act enters.
-use Rattle.std.proofs.Common.{ℕ, ◌≡◌, List, [], ◌++◌, Option, Some, None, refl, sym, ap, subst, ◌∙◌, inl, inr, ◌⊎◌, arith}
+use Rattle.std.proofs.Common.{ℕ, ◌≡◌, List, [], ◌++◌, Option, Some, None, refl, sym, ap, subst, ◌∙◌, inl, inr, ◌⊎◌}
+use Rattle.std.proofs.Common.{arith}
 use Rattle.vb_value.specs.declared.application.AppReply.{AppReply}
 use Rattle.vb_syntax.specs.declared.act.Act.{Act}
 use Rattle.vb_syntax.specs.declared.act.ActEnd.{ActEnd}
@@ -19,14 +20,14 @@ use Rattle.vb_meaning.specs.Meaning.{most_levels}
 use Rattle.vb_meaning.specs.Releases.{end_all, in_world, settle_last}
 use Rattle.vb_meaning.specs.State.{State, on_world}
 use Rattle.vb_meaning.specs.Step.{Step, Returns, Ends, ◌>>◌}
-use Rattle.act_laws.specs.Entries.{AreOf, Noted, entries_of, no_notes, noted_act, noted_inside, terminators}
+use Rattle.act_laws.specs.Entries.{Noted, entries_of, no_notes, noted_act, noted_inside, terminators}
 use Rattle.act_laws.specs.Laws.{EntriesChangeNothing, NoneEnteredTwice, TerminatorsAreEntered}
-use Rattle.act_laws.specs.Objects.{HasBegun, Kept, Settled, account_at, account_of}
+use Rattle.act_laws.specs.Objects.{HasBegun, Kept, Settled, account_at}
 use Rattle.act_laws.specs.Ticks.{state_of}
 use Rattle.act_laws.proofs.Acting.{ActsAlike, act_alike, both_end, both_lack, both_want, one_wants, runs_fits}
-use Rattle.act_laws.proofs.Entered.{NotesEntries, page_end_keeps, page_end_tells, settle_tells}
+use Rattle.act_laws.proofs.Entered.{page_end_keeps, page_end_tells, settle_tells}
 use Rattle.act_laws.proofs.Finishing.{fresh_adds_up}
-use Rattle.act_laws.proofs.Keeping.{Keeps, kept_onward, told_of}
+use Rattle.act_laws.proofs.Keeping.{Keeps, told_of}
 use Rattle.act_laws.proofs.Marks.{emptied_still}
 use Rattle.act_laws.proofs.Noting.{beside, levels_noted, telling_of}
 use Rattle.act_laws.proofs.Standings.{begun_or_not}

@@ -59,7 +59,8 @@ asks_alone E host member arguments = record {
 abbrev pub levels_alone : (E : Type 0) (host : Host E) (program : Program) (levels : ℕ) → Inners (alone E host)
 levels_alone E host program levels =
     let asks = asks_fit (alone E host) (λ none. none) (asks_alone E host) in
-    inners (alone E host) (λ none. none) asks program levels (each_level (alone E host) (λ none. none) asks program levels)
+    inners (alone E host) (λ none. none) asks program levels
+    (each_level (alone E host) (λ none. none) asks program levels)
 
 -- ---- how many have ended
 

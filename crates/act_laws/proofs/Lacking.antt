@@ -80,5 +80,5 @@ module _ (E : Type 0) (host : Host E)
 pub objects_lack : (E : Type 0) → OnlyObjectsLack E
 objects_lack E host asked answered program which env replies =
     there E host asked answered (act_of E host program which env replies) (act_of E host program which env replies)
-    (acts_alike (beside_itself E host asked answered) (λ none. none) (asks_alike E host asked answered) program which env replies env
-    replies (refl, refl))
+    (acts_alike (beside_itself E host asked answered) (λ none. none) (asks_alike E host asked answered) program which
+    env replies env replies (refl, refl))

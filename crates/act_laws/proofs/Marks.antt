@@ -32,7 +32,7 @@ use Rattle.act_laws.specs.Entries.{standings}
 use Rattle.act_laws.specs.Objects.{Account, AddsUp, Differ, IsEnding, IsLive, Settled, marks}
 use Rattle.act_laws.proofs.Accounts.{made_live, with_mark}
 use Rattle.act_laws.proofs.Numbers.{compared, itself}
-use Rattle.act_laws.proofs.Standings.{looks, standings_more, standings_replaced, standings_same, standings_without}
+use Rattle.act_laws.proofs.Standings.{looks, standings_more, standings_same}
 use Rattle.act_laws.proofs.Standings.{still_there}
 
 -- the account of data of which so many objects have ended

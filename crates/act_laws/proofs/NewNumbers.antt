@@ -1,12 +1,13 @@
 -- The numbers of the objects that New and CreateObject give are new.
-use Rattle.std.proofs.Common.{ℕ, ◌+◌, ◌≡◌, ◌<◌, ◌≤◌, Bool, true, false, if◌then◌else◌, IsTrue, List, [], ◌∷◌, length}
-use Rattle.std.proofs.Common.{Option, Some, None, Result, Ok, Err, is_ok, refl, sym, ap, subst, ◌∙◌, arith, codes, slice_get}
+use Rattle.std.proofs.Common.{ℕ, ◌≡◌, ◌<◌, Bool, true, false, if◌then◌else◌, IsTrue, List, [], ◌∷◌, length}
+use Rattle.std.proofs.Common.{Option, Some, None, Result, Ok, Err, is_ok, refl, sym, ap, subst, ◌∙◌, arith, codes}
+use Rattle.std.proofs.Common.{slice_get}
 use Rattle.std.specs.Option.{option_and_then, option_map}
 use Rattle.vb_value.specs.declared.fault.VbError.{VbError}
 use Rattle.vb_value.specs.declared.value.ObjNo.{ObjNo}
 use Rattle.vb_value.specs.declared.value.Value.{Value, Obj}
 use Rattle.vb_value.specs.Conversions.{to_str_of}
-use Rattle.vb_value.specs.Errors.{cannot_create_object, undefined_class, wrong_number}
+use Rattle.vb_value.specs.Errors.{cannot_create_object}
 use Rattle.vb_value.specs.Folding.{same_name}
 use Rattle.vb_syntax.specs.declared.program.unit.Class.{Class}
 use Rattle.vb_syntax.specs.declared.program.unit.Field.{Field}
@@ -17,25 +18,25 @@ use Rattle.vb_heap.specs.Entries.{new_table_of, with_new_table}
 use Rattle.vb_heap.specs.Limits.{fits}
 use Rattle.vb_heap.specs.Objects.{new_object_of, with_new_object}
 use Rattle.vb_heap.specs.Releases.{object_of}
-use Rattle.vb_heap.specs.Store.{Store, numbered}
+use Rattle.vb_heap.specs.Store.{numbered}
 use Rattle.vb_meaning.specs.declared.reached.Argument.{Argument}
 use Rattle.vb_meaning.specs.declared.world.World.{World}
 use Rattle.vb_meaning.specs.Inner.{Inner, Owner}
 use Rattle.vb_meaning.specs.Making as making
 use Rattle.vb_meaning.specs.Meaning.{inside}
 use Rattle.vb_meaning.specs.Objects.{class_at}
-use Rattle.vb_meaning.specs.Places.{hold, letting_go}
+use Rattle.vb_meaning.specs.Places.{hold}
 use Rattle.vb_meaning.specs.Reading.{create_object, created}
-use Rattle.vb_meaning.specs.State.{Does, State, heap_answer, lifted, on_heap, on_world, with_heap}
+use Rattle.vb_meaning.specs.State.{State, heap_answer, lifted, on_heap, with_heap}
 use Rattle.vb_meaning.specs.Step.{Step, Returns, Ends, Run, and_then, ◌>>=◌, ◌>>◌, pure, given, fails}
 use Rattle.act_laws.specs.Laws.{NewNumbersAreFree}
-use Rattle.act_laws.specs.Numbers.{Gives, GivesNew, IsNext}
+use Rattle.act_laws.specs.Numbers.{Gives, IsNext}
 use Rattle.act_laws.specs.Objects.{AddsUp, Kept, account_at, account_of, marks}
 use Rattle.act_laws.proofs.Finishing.{levels_alone}
 use Rattle.act_laws.proofs.Keeping.{Keeps}
 use Rattle.act_laws.proofs.Marks.{marked_by, object_settles}
 use Rattle.act_laws.proofs.Numbers.{none_above}
-use Rattle.act_laws.proofs.Wantless.{Wantless, then_wantless}
+use Rattle.act_laws.proofs.Wantless.{then_wantless}
 use Rattle.act_laws.proofs.WantlessPlaces.{hold_wantless}
 use Rattle.act_laws.proofs.WantlessScopes.{fields_made_wantless}
 

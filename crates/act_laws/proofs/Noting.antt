@@ -1,9 +1,8 @@
 -- An environment beside itself with the terminators that are entered noted.
-use Rattle.std.proofs.Common.{ℕ, zero, suc, ◌≡◌, ◌≤◌, List, [], ◌∷◌, ◌++◌, Bool, true, false, if◌then◌else◌, cond}
+use Rattle.std.proofs.Common.{ℕ, zero, suc, ◌≡◌, ◌≤◌, List, [], ◌∷◌, Bool, true, false, if◌then◌else◌}
 use Rattle.std.proofs.Common.{Option, Some, None, Ok, Err, refl, sym, ap, subst, ◌∙◌}
 use Rattle.std.specs.Option.{option_map}
 use Rattle.vb_value.specs.declared.application.AppReply.{AppReply}
-use Rattle.vb_value.specs.declared.value.ObjNo.{ObjNo}
 use Rattle.vb_value.specs.declared.value.Value.{Value}
 use Rattle.vb_syntax.specs.declared.act.Given.TheVariants as given
 use Rattle.vb_syntax.specs.declared.member.Member.{Member}
@@ -20,11 +19,9 @@ use Rattle.vb_heap.specs.Store.{numbered}
 use Rattle.vb_meaning.specs.declared.reached.Argument.{Argument}
 use Rattle.vb_meaning.specs.declared.reached.Argument.TheVariants.{Value as OfValue}
 use Rattle.vb_meaning.specs.declared.reached.Assigned.{Assigned}
-use Rattle.vb_meaning.specs.declared.stop.Stop.{Stop}
 use Rattle.vb_meaning.specs.declared.stop.Stop.TheVariants as stop
 use Rattle.vb_meaning.specs.declared.world.World.{World}
 use Rattle.vb_meaning.specs.Asking.{Host, Said, ask, heard, name_values}
-use Rattle.vb_meaning.specs.Calling.{enter_of}
 use Rattle.vb_meaning.specs.Expressions.{bare}
 use Rattle.vb_meaning.specs.Inner.{Owner}
 use Rattle.vb_meaning.specs.Meaning as meaning
@@ -32,7 +29,7 @@ use Rattle.vb_meaning.specs.State.{Does, State}
 use Rattle.vb_meaning.specs.Step.{Step, Returns, Ends}
 use Rattle.act_laws.specs.Entries.{AreOf, EntersEach, Noted, Notes, beside_notes, ends_by, entering, is_among}
 use Rattle.act_laws.specs.Entries.{noted_entry, noted_levels, running_again, said_beside}
-use Rattle.act_laws.specs.Objects.{Account, AddsUp, IsEnding, Kept, account_at, account_of}
+use Rattle.act_laws.specs.Objects.{Account, IsEnding, Kept, account_at, account_of}
 use Rattle.act_laws.specs.Ticks.{state_of}
 use Rattle.act_laws.proofs.Assigning.{assign_to_fits}
 use Rattle.act_laws.proofs.Calling.{enter_of_fits}
@@ -40,15 +37,15 @@ use Rattle.act_laws.proofs.Entered.{HasEntered, NotesEntries}
 use Rattle.act_laws.proofs.Entering.{still_enters}
 use Rattle.act_laws.proofs.Expressions.{argument_of_fits, valued_fits, written_or_fits}
 use Rattle.act_laws.proofs.Inside.{Inners}
-use Rattle.act_laws.proofs.Joined.{Link, Alike, Joined, Past, gives, ends, gone}
+use Rattle.act_laws.proofs.Joined.{Link, Alike, Joined, gives, ends, gone}
 use Rattle.act_laws.proofs.Keeping.{ask_keeps}
 use Rattle.act_laws.proofs.Linked.{Fits, then_fits, value_fits, world_fits}
 use Rattle.act_laws.proofs.Links.{ends_for}
 use Rattle.act_laws.proofs.Marks.{ended_at, marked_by}
 use Rattle.act_laws.proofs.Meaning.{refused_fits, statement_of_fits}
-use Rattle.act_laws.proofs.Spending.{Spends, ask_spends, ticks_at}
+use Rattle.act_laws.proofs.Spending.{ask_spends, ticks_at}
 use Rattle.act_laws.proofs.Statements.{call_of_fits}
-use Rattle.act_laws.proofs.Telling.{Right, Telling, Tells, Told}
+use Rattle.act_laws.proofs.Telling.{Telling, Tells, Told}
 use Rattle.act_laws.proofs.Wantless.{deep_wantless}
 
 -- what was entered, where others are said to be run

@@ -1,5 +1,5 @@
 -- A page of one text writes it and ends.
-use Rattle.std.proofs.Common.{ℕ, ◌-◌, ◌≡◌, List, [], ◌∷◌, Option, Some, Ok, refl, ap, ◌∙◌, subst, sym}
+use Rattle.std.proofs.Common.{ℕ, ◌-◌, ◌≡◌, List, [], ◌∷◌, Option, Some, Ok, refl, ap, ◌∙◌}
 use Rattle.vb_value.specs.declared.application.AppReply.{AppReply}
 use Rattle.vb_value.specs.declared.value.Value.{Value, Str}
 use Rattle.vb_syntax.specs.declared.act.Act.TheVariants as act
@@ -24,9 +24,9 @@ use Rattle.vb_meaning.specs.Executing.{executed, statement_of}
 use Rattle.vb_meaning.specs.Inner.{Inner}
 use Rattle.vb_meaning.specs.Meaning.{inside, most_levels, statement}
 use Rattle.vb_meaning.specs.Releases.{end_all, release, settle, settle_last}
-use Rattle.vb_meaning.specs.State.{Does, State, lifted, on_world}
+use Rattle.vb_meaning.specs.State.{State, lifted, on_world}
 use Rattle.vb_meaning.specs.Statements.{write}
-use Rattle.vb_meaning.specs.Step.{Step, Returns, Run, and_then, ◌>>=◌, ◌>>◌, pure}
+use Rattle.vb_meaning.specs.Step.{Returns, Run, and_then, ◌>>=◌, ◌>>◌, pure}
 use Rattle.act_laws.specs.Laws.{IsOneText, OneTextIsWritten}
 
 -- the world behind one statement

@@ -1,5 +1,5 @@
 -- A release point where nothing is loose does nothing; else the oldest loose object ends, and then it goes on.
-use Rattle.std.proofs.Common.{ℕ, zero, suc, ◌+◌, ◌-◌, ◌≡◌, ◌<◌, ◌≤◌, Bool, true, false, List, Option, Some, None}
+use Rattle.std.proofs.Common.{ℕ, zero, suc, ◌+◌, ◌-◌, ◌≡◌, ◌≤◌, Bool, true, false, List, Option, Some, None}
 use Rattle.std.proofs.Common.{refl, sym, ap, subst, ◌∙◌, inl, inr, arith}
 use Rattle.std.proofs.lemmas.Bool.{cases_lt}
 use Rattle.vb_value.specs.declared.value.Value.{Value}
@@ -9,7 +9,6 @@ use Rattle.vb_heap.specs.Releases.{oldest_loose, with_ending}
 use Rattle.vb_heap.specs.Store.{numbered}
 use Rattle.vb_meaning.specs.declared.reached.Argument.{Argument}
 use Rattle.vb_meaning.specs.declared.stop.Stop.TheVariants as stop
-use Rattle.vb_meaning.specs.declared.world.World.{World}
 use Rattle.vb_meaning.specs.Inner.{Inner, Owner}
 use Rattle.vb_meaning.specs.Meaning.{inside}
 use Rattle.vb_meaning.specs.Releases as releases
@@ -53,7 +52,8 @@ module _ (E : Type 0) (m : Inner E) (enter : (owner : Owner) (procedure : Proced
 
   one_of : (s : State E) → AddsUp (account_at s) → (object : ℕ) → oldest_loose s.world.heap ≡ Some object
       → One (account_at s) (ended_one E m enter object s)
-  one_of s right object is = one_ends E m enter (λ world. world) (λ world. refl) object s right (loose_live s right object is)
+  one_of s right object is = one_ends E m enter (λ world. world) (λ world. refl) object s right
+      (loose_live s right object is)
 
   released_same : (s : State E) → AddsUp (account_at s) → (one other : Does E (Unit {0})) → (found : Option ℕ)
       → oldest_loose s.world.heap ≡ found

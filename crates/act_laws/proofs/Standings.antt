@@ -110,7 +110,8 @@ live_by number world class is = mark_of world.heap.objects number
 
 -- what is marked has a standing
 marked_standing : (mark : Bool) (found : Option (Bool × Option ℕ))
-    → option_map (λ (told : Bool × Option ℕ). told.0) found ≡ Some mark → (class : Option ℕ) × (found ≡ Some (mark, class))
+    → option_map (λ (told : Bool × Option ℕ). told.0) found ≡ Some mark
+    → (class : Option ℕ) × (found ≡ Some (mark, class))
 marked_standing mark None is = absurd (cc)
 marked_standing mark (Some told) is = (told.1, ap (λ b. Some (b, told.1)) (inside told.0 mark is))
   where

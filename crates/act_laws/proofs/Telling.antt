@@ -1,7 +1,6 @@
 -- Environments that note the terminators that are entered: what is done enters them as it should.
-use Rattle.std.proofs.Common.{ℕ, ◌≡◌, List, [], ◌∷◌, ◌++◌, Bool, true, false, if◌then◌else◌, Option, Some, None, Ok, Err}
+use Rattle.std.proofs.Common.{ℕ, ◌≡◌, Bool, true, false, if◌then◌else◌, Option}
 use Rattle.std.proofs.Common.{refl, sym, ap, subst, ◌∙◌}
-use Rattle.vb_value.specs.declared.application.AppReply.{AppReply}
 use Rattle.vb_syntax.specs.declared.program.Program.{Program}
 use Rattle.vb_heap.specs.Store.{numbered}
 use Rattle.vb_meaning.specs.declared.cause.Cause.{Cause}
@@ -9,9 +8,9 @@ use Rattle.vb_meaning.specs.declared.stop.Stop.TheVariants as stop
 use Rattle.vb_meaning.specs.declared.world.World.{World}
 use Rattle.vb_meaning.specs.Errors.{in_line, raised_by, resumed, with_err}
 use Rattle.vb_meaning.specs.State.{Does, State, lifted}
-use Rattle.vb_meaning.specs.Step.{Step, Returns, Ends, Run, and_then}
+use Rattle.vb_meaning.specs.Step.{Step, Returns, Ends, and_then}
 use Rattle.act_laws.specs.Entries.{AreOf, EntersEach, Notes}
-use Rattle.act_laws.specs.Objects.{Account, AddsUp, Kept, Onward, Settled, account_at, account_of}
+use Rattle.act_laws.specs.Objects.{AddsUp, Kept, Onward, Settled, account_at}
 use Rattle.act_laws.specs.Ticks.{state_of}
 use Rattle.act_laws.proofs.Accounts.{onward_still, settled_still}
 use Rattle.act_laws.proofs.Entering.{Stay, enters_then, right_on, stay_enters, still_enters}

@@ -1,6 +1,6 @@
 -- Release points and the page's end give no tick back.
 use Rattle.std.proofs.Common.{ℕ, zero, suc, ◌-◌, ◌≤◌, Bool, true, false, List, [], Option, Some, None}
-use Rattle.vb_value.specs.declared.value.Value.{Value, Empty}
+use Rattle.vb_value.specs.declared.value.Value.{Empty}
 use Rattle.vb_syntax.specs.declared.program.unit.Procedure.{Procedure}
 use Rattle.vb_heap.specs.Limits.{most_objects}
 use Rattle.vb_heap.specs.Releases.{oldest_live, oldest_loose, with_ending}
@@ -14,13 +14,14 @@ use Rattle.vb_meaning.specs.Objects.{class_at}
 use Rattle.vb_meaning.specs.Places.{let_go}
 use Rattle.vb_meaning.specs.Releases as releases
 use Rattle.vb_meaning.specs.State.{State, Does, with_heap}
-use Rattle.vb_meaning.specs.Step.{Step, Returns, Ends, ◌>>◌, pure, ends as step_ends}
+use Rattle.vb_meaning.specs.Step.{Returns, Ends, ◌>>◌, pure, ends as step_ends}
 use Rattle.act_laws.specs.Ticks.{state_of}
 use Rattle.act_laws.proofs.Spending.{Spends, SpendsOn, line_spends, no_less, still_spends, then_spends, ticks_at}
 use Rattle.act_laws.proofs.Spending.{turned_spends}
 
 module _ (E : Type 0) where
-  stopped_spends : (page_ended : Bool) (s : State E) → ticks_at (state_of (releases.stopped E page_ended s)) ≤ ticks_at s
+  stopped_spends : (page_ended : Bool) (s : State E) → ticks_at (state_of (releases.stopped E page_ended s))
+      ≤ ticks_at s
   stopped_spends true s = no_less (ticks_at s)
   stopped_spends false s = no_less (ticks_at s)
 

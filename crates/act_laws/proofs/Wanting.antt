@@ -78,5 +78,5 @@ pub objects_alone : (E : Type 0) → OnlyObjectsWant E
 objects_alone E host test asked answered program which env replies call =
     passes E host test asked answered (act_of E host program which env replies)
     (act_of E host program which env replies)
-    (acts_alike (beside_itself E host test asked answered) (λ none. none) (asks_alike E host test asked answered) program which env
-    replies env replies (refl, refl)) call
+    (acts_alike (beside_itself E host test asked answered) (λ none. none) (asks_alike E host test asked answered)
+    program which env replies env replies (refl, refl)) call

@@ -59,7 +59,8 @@ then_wantless {A} {B} {first} {next} one other = record {
 }
   where
     on : (step : Step World A) (world : World) → Stay world (state_of step) → Stay world (state_of (and_then step next))
-    on (Returns value after) world stay = λ number found is. (other value).stays after number found (stay number found is)
+    on (Returns value after) world stay = λ number found is.
+        (other value).stays after number found (stay number found is)
     on (Ends why after) world stay = stay
 
     go : (step : Step World A) → NoWant step → NoWant (and_then step next)

@@ -68,8 +68,9 @@ abbrev pub is_among : ℕ → List ℕ → Bool
 is_among number [] = false
 is_among number (first ∷ others) = if is_number number first then true else is_among number others
 
--- The object whose terminator a procedure is entered as, if it is: that whose method it is, where that object is ending and
--- its terminator is not being run already. What the script itself calls of an object is not entered as its terminator.
+-- The object whose terminator a procedure is entered as, if it is: that whose method it is, where that object is ending
+-- and its terminator is not being run already. What the script itself calls of an object is not entered as its
+-- terminator.
 abbrev pub ends_by : Owner → World → Notes → Option ℕ
 ends_by None world notes = None
 ends_by (Some (object, class)) world notes = if ends_now (numbered object.0 world.heap.objects)

@@ -143,8 +143,8 @@ pub record IsOneText (program : Program) (text : List ℕ) : Type 0 where
   pub variables : program.unit.variables ≡ []
   pub constants : program.unit.constants ≡ []
 
--- A page of one text asks Response.Write once, with that text. Where that gives a value, the act has ended, by its end and
--- without an object, and leaves the objects of the page as Response.Write did.
+-- A page of one text asks Response.Write once, with that text. Where that gives a value, the act has ended, by its end
+-- and without an object, and leaves the objects of the page as Response.Write did.
 abbrev pub OneTextIsWritten : Type 0 → Type 0
 OneTextIsWritten E = (host : Host E) (program : Program) (text : List ℕ) → IsOneText program text
     → (env after : E) (replies : List AppReply) (value : Value)
@@ -161,8 +161,8 @@ EntriesChangeNothing E = (host : Host E) (program : Program) (which : Act) (env 
       ((act_of E host program which env replies).1, (noted_act E host program which env replies).1.1),
     )
 
--- At each level of a program, and from each state whose notes belong to it, all that is done enters the terminator of a live
--- object once where the object begins to end and its class has one, and enters no other.
+-- At each level of a program, and from each state whose notes belong to it, all that is done enters the terminator of a
+-- live object once where the object begins to end and its class has one, and enters no other.
 abbrev pub TerminatorsAreEntered : Type 0 → Type 0
 TerminatorsAreEntered E = (host : Host E) (program : Program) (levels : ℕ) (s : State (Noted E))
     → AreOf s.world s.env.1 → EntersAll E program (noted_inside E host program levels) s

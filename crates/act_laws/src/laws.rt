@@ -76,8 +76,8 @@ pub fn entries_change_nothing<E>()
 {}
 
 /// A terminator is entered once for each object whose class has one, when the object begins to end, and so in that
-/// order: whatever is done, a live object that has begun to end behind it has had the terminator of its class entered, and
-/// no other object has.
+/// order: whatever is done, a live object that has begun to end behind it has had the terminator of its class entered,
+/// and no other object has.
 pub fn terminators_are_entered<E>()
     ensures { TerminatorsAreEntered E }
 {}

@@ -1,10 +1,9 @@
 -- How references come and go with the entries of dictionaries and with objects that end.
-use Rattle.std.proofs.Common.{ℕ, zero, suc, ◌+◌, ◌≡◌, ◌∙◌, Bool, true, false, if◌then◌else◌, List, [], ◌∷◌, ◌++◌, drop}
-use Rattle.std.proofs.Common.{remove, slice_get, slice_set, sum_by, take, get_or, Option, Some, None, Result, Ok, Err}
-use Rattle.std.proofs.Common.{refl, sym, ap, subst, inl, inr, arith}
+use Rattle.std.proofs.Common.{ℕ, zero, suc, ◌+◌, ◌≡◌, ◌∙◌, Bool, true, false, if◌then◌else◌, List, [], ◌∷◌}
+use Rattle.std.proofs.Common.{remove, slice_get, slice_set, sum_by, get_or, Option, Some, None, Result, Ok}
+use Rattle.std.proofs.Common.{refl, ap, inl, inr, arith}
 use Rattle.std.proofs.lemmas.List.Sums.{sum_by-append, sum_by-cons, sum_by-set}
 use Rattle.std.proofs.lemmas.Option.{get_or_from_slice_get, slice_get_cases}
-use Rattle.std.specs.Map.{values_of}
 use Rattle.std.specs.Option.{option_map_or}
 use Rattle.vb_value.specs.declared.fault.VbError.{VbError}
 use Rattle.vb_value.specs.declared.session.Pair.{Pair}
@@ -93,7 +92,8 @@ pairs_set : (object : ℕ) (pairs : List Pair) (at : ℕ) (item : Value) (pair :
 pairs_set object pairs at item pair there = elim ((slice_get_cases pairs at).1) [
   | inl here ↦
       let is : get_or pairs at pair ≡ pair = get_or_from_slice_get pairs at pair pair there in
-      let swapped = sum_by-set (λ (pair : Pair). times_in object pair.item) pairs at (with_item item pair) pair here.1 in
+      let swapped = sum_by-set (λ (pair : Pair). times_in object pair.item) pairs at (with_item item pair)
+      pair here.1 in
       rw is at swapped
   | inr past ↦ absurd (cc)
 ]
@@ -195,7 +195,8 @@ ended_object_refers object ended class thing fields store is ending inside =
     ≡ in_cells object (without_all fields store.cells) =
     ap (λ content. in_cells object (without_all (fields_of content) store.cells)) inside in
     let gone = cells_less object fields store.cells in
-    let whole : references_to object (without_object ended (Some thing) store) + times_in_cells object fields store.cells
+    let whole : references_to object (without_object ended (Some thing) store)
+    + times_in_cells object fields store.cells
     ≡ references_to object store = omega (arith, before, after, less, own, same, gone) in
     ap (λ left. references_to object left + times_in_cells object fields store.cells)
     (ended_is ended thing store ending) ∙ whole

@@ -1,11 +1,11 @@
 -- How references to objects come and go.
-use Rattle.std.proofs.Common.{ℕ, zero, suc, ◌+◌, ◌≡◌, ◌∙◌, Bool, true, false, if◌then◌else◌, cond, ℤ, List, [], ◌∷◌, ◌++◌}
-use Rattle.std.proofs.Common.{drop, take, sum_by, get_or, slice_get, slice_set, Option, Some, None, Result, Ok, Err}
+use Rattle.std.proofs.Common.{ℕ, ◌+◌, ◌≡◌, ◌∙◌, ℤ, List, [], ◌∷◌}
+use Rattle.std.proofs.Common.{◌++◌}
+use Rattle.std.proofs.Common.{drop, take, sum_by, get_or, slice_get, slice_set, Option, Some, None, Ok}
 use Rattle.std.proofs.Common.{refl, sym, ap, inl, inr, arith}
 use Rattle.std.proofs.lemmas.List.{take-append-drop}
 use Rattle.std.proofs.lemmas.List.Sums.{sum_by-append, sum_by-cons, sum_by-set}
 use Rattle.std.proofs.lemmas.Option.{get_or_from_slice_get, slice_get_cases}
-use Rattle.std.specs.List.{flat_map}
 use Rattle.std.specs.Map.{values_of}
 use Rattle.std.specs.Option.{option_map_or}
 use Rattle.vb_value.specs.declared.value.Array.{Array}
@@ -17,7 +17,7 @@ use Rattle.vb_heap.specs.declared.object.Content.TheVariants.{Entries, Fields}
 use Rattle.vb_heap.specs.declared.object.Object.{Object}
 use Rattle.vb_heap.specs.declared.place.CellNo.{CellNo}
 use Rattle.vb_heap.specs.declared.place.Place.{Place}
-use Rattle.vb_heap.specs.Cells.{read_of, value_there, with_new_cell, with_stored, without_cell}
+use Rattle.vb_heap.specs.Cells.{value_there, with_new_cell, with_stored, without_cell}
 use Rattle.vb_heap.specs.Counts.{count_of}
 use Rattle.vb_heap.specs.Dictionary.{no_entries}
 use Rattle.vb_heap.specs.Entries.{with_new_table}
@@ -26,7 +26,7 @@ use Rattle.vb_heap.specs.Objects.{cells_from, empty_cells, live, with_new_object
 use Rattle.vb_heap.specs.Places.{array_changed, in_range, item_at, item_changed, item_of, items_changed, position}
 use Rattle.vb_heap.specs.Places.{value_in, with_value}
 use Rattle.vb_heap.specs.References.{object_references, references, references_to}
-use Rattle.vb_heap.specs.Store.{Store, is_number, numbered, replaced, without}
+use Rattle.vb_heap.specs.Store.{Store, numbered, replaced, without}
 use Rattle.vb_heap.proofs.Numbered.{values_both}
 use Rattle.vb_heap.proofs.ValueReferences.{references_arr}
 use Rattle.heap_laws.specs.Moves.{DroppedCellRefers, HeldRefers, LetGoRefers, NewCellRefers, NewObjectRefers}

@@ -1,23 +1,23 @@
 -- The cells of new variables and of the fields of new objects.
 use Rattle.std.proofs.Common.{ℕ, zero, suc, ◌+◌, ◌≡◌, ◌<◌, ◌≤◌, ◌∙◌, Bool, true, false, if◌then◌else◌, List, [], ◌∷◌}
-use Rattle.std.proofs.Common.{◌++◌, length, slice_get, Option, Some, None, Result, Ok, Err, refl, sym, ap, subst, inl, inr}
+use Rattle.std.proofs.Common.{◌++◌, length, slice_get, Some, None, Ok, Err, refl, sym, ap, subst, inl}
+use Rattle.std.proofs.Common.{inr}
 use Rattle.std.proofs.Common.{arith, length-append}
 use Rattle.std.proofs.lemmas.Bool.{cases_lt}
 use Rattle.std.proofs.lemmas.Option.{slice_get_past}
-use Rattle.vb_value.specs.declared.fault.VbError.{VbError}
 use Rattle.vb_value.specs.declared.value.Value.{Value}
 use Rattle.vb_heap.specs.declared.fault.HeapStop.{HeapStop}
 use Rattle.vb_heap.specs.declared.object.Content.TheVariants.{Fields}
 use Rattle.vb_heap.specs.declared.object.Object.{Object}
 use Rattle.vb_heap.specs.declared.place.CellNo.{CellNo}
 use Rattle.vb_heap.specs.Below.{EachBelow}
-use Rattle.vb_heap.specs.Cells.{new_cell_of, with_new_cell}
+use Rattle.vb_heap.specs.Cells.{with_new_cell}
 use Rattle.vb_heap.specs.Limits.{fits, is_too_deep}
-use Rattle.vb_heap.specs.Objects.{cells_from, field_in, field_there, live, with_new_object}
+use Rattle.vb_heap.specs.Objects.{cells_from, field_in, field_there, live}
 use Rattle.std.specs.Cmp.{nat_cmp_is}
 use Rattle.std.specs.Ordering.{is_eq, nat_cmp}
 use Rattle.std.specs.declared.cmp.Ordering.TheVariants.{Equal}
-use Rattle.vb_heap.specs.Store.{Store, is_number, numbered}
+use Rattle.vb_heap.specs.Store.{is_number, numbered}
 use Rattle.heap_laws.specs.Objects.{CellsAreNew}
 use Rattle.heap_laws.proofs.Cells.{differ}
 

@@ -1,6 +1,6 @@
 -- References, counted in parts.
 use Rattle.std.proofs.Common.{ℕ, ◌+◌, ◌≡◌, List, [], ◌∷◌, ◌++◌, sum_by, refl, sym, ap, ◌∙◌, arith, cond, ◌==◌}
-use Rattle.std.proofs.Common.{Bool, true, false, if◌then◌else◌, Some, None}
+use Rattle.std.proofs.Common.{Bool, true, false, if◌then◌else◌, Some}
 use Rattle.std.proofs.lemmas.List.Sums.{sum_by-append, sum_by-cons}
 use Rattle.std.specs.List.{flat_map}
 use Rattle.std.specs.Map.{values_of}

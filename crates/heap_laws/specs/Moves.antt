@@ -98,8 +98,8 @@ DroppedItemsRefer = (object : ℕ) (table : ObjNo) (store : Store) (found : Dict
 
 -- ---- an object that ends
 
--- A dictionary that ends takes the references of its items with it, and an object of a class those of its fields. An object
--- that is not ending stays.
+-- A dictionary that ends takes the references of its items with it, and an object of a class those of its fields. An
+-- object that is not ending stays.
 abbrev pub EndedTableRefers : Type 0
 EndedTableRefers = (object ended : ℕ) (thing : Object) (found : Dictionary) (store : Store)
     → numbered ended store.objects ≡ Some thing → thing.ending ≡ true → thing.content ≡ Entries found

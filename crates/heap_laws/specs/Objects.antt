@@ -79,8 +79,8 @@ pub record OthersReferToNone : Type 0 where
 
 -- ---- new objects
 
--- The number that a new object of a class or a new dictionary gets is one that no object has, where the objects that are
--- there have numbers of made ones. So have those that are there then, and they stand in order.
+-- The number that a new object of a class or a new dictionary gets is one that no object has, where the objects that
+-- are there have numbers of made ones. So have those that are there then, and they stand in order.
 pub record IsNew (store after : Store) : Type 0 where
   pub free : numbered store.objects_made store.objects ≡ None
   pub made : after.objects_made ≡ store.objects_made + 1
@@ -93,9 +93,9 @@ NumbersAreNew = (store : Store) → EachBelow store.objects_made store.objects �
 
 -- ---- cells
 
--- The cell of a new variable has the number that the next cell is to have, and so has the first field of a new object, the
--- others those behind it, one for one. From then on the next number is greater by as many. No cell that is there has a number
--- from the next on, where those that are there have numbers of made ones.
+-- The cell of a new variable has the number that the next cell is to have, and so has the first field of a new object,
+-- the others those behind it, one for one. From then on the next number is greater by as many. No cell that is there
+-- has a number from the next on, where those that are there have numbers of made ones.
 pub record CellsAreNew : Type 0 where
   pub free : (store : Store) (number : ℕ) → EachBelow store.cells_made store.cells → store.cells_made ≤ number
       → numbered number store.cells ≡ None

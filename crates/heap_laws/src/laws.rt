@@ -23,8 +23,8 @@ pub fn references_add_up()
     ensures { ReferencesAddUp }
 {}
 
-/// An object that a release point ends has no reference, and each live object of a smaller number has one. Where it ends
-/// none, each live object has one.
+/// An object that a release point ends has no reference, and each live object of a smaller number has one. Where it
+/// ends none, each live object has one.
 pub fn loose_objects_end()
     ensures ended { EndedIsLoose }
     ensures older { OlderAreHeld }
