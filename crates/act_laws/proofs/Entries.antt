@@ -17,21 +17,24 @@ use Rattle.vb_meaning.specs.Asking.{Host}
 use Rattle.vb_meaning.specs.Errors.{raised_by}
 use Rattle.vb_meaning.specs.Inner.{Inner, Owner}
 use Rattle.vb_meaning.specs.Meaning.{most_levels}
-use Rattle.vb_meaning.specs.Releases.{end_all, in_world, settle_last}
-use Rattle.vb_meaning.specs.State.{State, on_world}
+use Rattle.vb_meaning.specs.Releases.{end_all, in_world, settle, settle_last}
+use Rattle.vb_meaning.specs.State.{Does, State, on_world}
 use Rattle.vb_meaning.specs.Step.{Step, Returns, Ends, ◌>>◌}
-use Rattle.act_laws.specs.Entries.{Noted, entries_of, no_notes, noted_act, noted_inside, terminators}
+use Rattle.act_laws.specs.Entries.{AreOf, EntersAll, EntersBy, EntersEach, Noted, NotesStay, entries_of, no_notes}
+use Rattle.act_laws.specs.Entries.{noted_act, noted_inside, terminators}
 use Rattle.act_laws.specs.Laws.{EntriesChangeNothing, NoneEnteredTwice, TerminatorsAreEntered}
 use Rattle.act_laws.specs.Objects.{HasBegun, Kept, Settled, account_at}
 use Rattle.act_laws.specs.Ticks.{state_of}
 use Rattle.act_laws.proofs.Acting.{ActsAlike, act_alike, both_end, both_lack, both_want, one_wants, runs_fits}
 use Rattle.act_laws.proofs.Entered.{page_end_keeps, page_end_tells, settle_tells}
+use Rattle.act_laws.proofs.Ending.{settle_keeps}
 use Rattle.act_laws.proofs.Finishing.{fresh_adds_up}
 use Rattle.act_laws.proofs.Keeping.{Keeps, told_of}
+use Rattle.act_laws.proofs.Linked.{Fits}
 use Rattle.act_laws.proofs.Marks.{emptied_still}
 use Rattle.act_laws.proofs.Noting.{beside, levels_noted, telling_of}
 use Rattle.act_laws.proofs.Standings.{begun_or_not}
-use Rattle.act_laws.proofs.Telling.{Telling, Right, Told, changed_told, next_tells}
+use Rattle.act_laws.proofs.Telling.{Telling, Right, Told, changed_told, next_tells, right_after}
 
 -- ---- notes change nothing
 
@@ -57,24 +60,58 @@ entries_nothing E host program which env replies = same_act E host program
 
 -- ---- all that is done
 
+-- no notes are those of the world in which an act begins
+fresh_notes : AreOf acts.fresh_world no_notes
+fresh_notes = record {
+  adds_up = fresh_adds_up;
+  ending = λ number is. absurd (cc);
+  running = λ number is. absurd (cc);
+}
+
+module _ (E : Type 0) (host : Host E) (program : Program) where
+  entered_by : {A : Type 0} (s : State (Noted E)) → Right (telling_of E host program) s → (step : Step (State (Noted E)) A)
+      → Kept account_at (account_at s) step → Told (telling_of E host program) s (state_of step)
+      → EntersEach program s.world s.env.1 (state_of step).world (state_of step).env.1 × NotesStay step
+  entered_by s right (Returns value after) kept told =
+      (told.enters, right_after (telling_of E host program) s after right kept told)
+  entered_by s right (Ends (stop.Error what line) after) kept told =
+      (told.enters, right_after (telling_of E host program) s after right kept told)
+  entered_by s right (Ends stop.Page after) kept told =
+      (told.enters, right_after (telling_of E host program) s after right kept told)
+  entered_by s right (Ends (stop.Limit kind line) after) kept told = (told.enters, tt)
+  entered_by s right (Ends (stop.Wants call) after) kept told = (told.enters, tt)
+  entered_by s right (Ends stop.Memory after) kept told = (told.enters, tt)
+
+  by_fits : {A : Type 0} {first : Does E A} {second : Does (Noted E) A} → Fits (beside E host program) first second
+      → (s : State (Noted E)) → Right (telling_of E host program) s → EntersBy program s second
+  by_fits {second} fits s right = entered_by s right (second s) (fits.keeps s right.adds_up) (fits.tells tt s right)
+
+  each_entered : (levels : ℕ) (s : State (Noted E)) → AreOf s.world s.env.1
+      → EntersAll E program (noted_inside E host program levels) s
+  each_entered levels s right =
+      let i = levels_noted E host program levels in
+      let m = noted_inside E host program levels in
+      let t = telling_of E host program in
+      let keeps : (owner : Owner) (procedure : Procedure) (arguments : List Argument)
+      → Keeps account_at (m.enter owner procedure arguments) =
+      λ owner procedure arguments. (i.enter_fits owner procedure arguments).keeps in
+      record {
+        value = λ x. by_fits (i.value_fits x) s right;
+        argument = λ x. by_fits (i.argument_fits x) s right;
+        assign = λ how path found. by_fits (i.assign_fits how path found) s right;
+        call = λ path. by_fits (i.call_fits path) s right;
+        statement = λ x. by_fits (i.statement_fits x) s right;
+        enter = λ owner procedure arguments. by_fits (i.enter_fits owner procedure arguments) s right;
+        settle = entered_by s right (settle (Noted E) m s) (settle_keeps (Noted E) m keeps s right.adds_up)
+            (settle_tells t m refl keeps (i.enters tt) s right);
+        part = λ which. by_fits (runs_fits (beside E host program) i which) s right;
+        page_end = entered_by s right ((settle_last (Noted E) m >> end_all (Noted E) m) s)
+            (page_end_keeps t m refl keeps (i.enters tt) s right.adds_up)
+            (page_end_tells t m refl keeps (i.enters tt) s right);
+      }
+
 pub all_entered : (E : Type 0) → TerminatorsAreEntered E
-all_entered E host program levels s right =
-    let i = levels_noted E host program levels in
-    let m = noted_inside E host program levels in
-    let keeps : (owner : Owner) (procedure : Procedure) (arguments : List Argument)
-    → Keeps account_at (m.enter owner procedure arguments) =
-    λ owner procedure arguments. (i.enter_fits owner procedure arguments).keeps in
-    record {
-      value = λ x. ((i.value_fits x).tells tt s right).enters;
-      argument = λ x. ((i.argument_fits x).tells tt s right).enters;
-      assign = λ how path found. ((i.assign_fits how path found).tells tt s right).enters;
-      call = λ path. ((i.call_fits path).tells tt s right).enters;
-      statement = λ x. ((i.statement_fits x).tells tt s right).enters;
-      enter = λ owner procedure arguments. ((i.enter_fits owner procedure arguments).tells tt s right).enters;
-      settle = (settle_tells (telling_of E host program) m refl keeps (i.enters tt) s right).enters;
-      part = λ which. ((runs_fits (beside E host program) i which).tells tt s right).enters;
-      page_end = (page_end_tells (telling_of E host program) m refl keeps (i.enters tt) s right).enters;
-    }
+all_entered E = (fresh_notes, λ host program levels s right. each_entered E host program levels s right)
 
 -- ---- an act
 
@@ -143,11 +180,7 @@ module _ (E : Type 0) (host : Host E) (program : Program) where
   begun env replies = record { world = acts.fresh_world; env = (env, no_notes); replies = replies }
 
   fresh_right : (env : E) (replies : List AppReply) → Right t (begun env replies)
-  fresh_right env replies = record {
-    adds_up = fresh_adds_up;
-    ending = λ number is. absurd (cc);
-    running = λ number is. absurd (cc);
-  }
+  fresh_right env replies = fresh_notes
 
   whole : (which : Act) (env : E) (replies : List AppReply)
       → Comes (begun env replies) (noted_act E host program which env replies).1

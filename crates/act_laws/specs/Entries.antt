@@ -18,6 +18,7 @@ use Rattle.vb_meaning.specs.declared.plain_end.PlainEnd.{PlainEnd}
 use Rattle.vb_meaning.specs.declared.reached.Argument.{Argument}
 use Rattle.vb_meaning.specs.declared.reached.Argument.TheVariants.{Value as OfValue}
 use Rattle.vb_meaning.specs.declared.reached.Assigned.{Assigned}
+use Rattle.vb_meaning.specs.declared.stop.Stop.TheVariants as stop
 use Rattle.vb_meaning.specs.declared.world.World.{World}
 use Rattle.vb_meaning.specs.Acts.{act_in, fresh_world, page_begins, part}
 use Rattle.vb_meaning.specs.Asking.{Host, Said}
@@ -197,10 +198,20 @@ pub record EntersEach (program : Program) (before : World) (noted : Notes) (afte
   pub classes : (number : ℕ) (begun again : Bool) (class other : Option ℕ)
       → standing number before ≡ Some (begun, class) → standing number after ≡ Some (again, other) → other ≡ class
 
+-- behind a step the notes belong to the world, unless a limit or a call that is wanted ended it: these leave terminators
+-- that have not come to their end
+abbrev pub NotesStay : {E A : Type 0} → Step (State (Noted E)) A → Type 0
+NotesStay (Returns value s) = AreOf s.world s.env.1
+NotesStay (Ends (stop.Error what line) s) = AreOf s.world s.env.1
+NotesStay (Ends stop.Page s) = AreOf s.world s.env.1
+NotesStay (Ends (stop.Limit kind line) s) = Unit {0}
+NotesStay (Ends (stop.Wants call) s) = Unit {0}
+NotesStay (Ends stop.Memory s) = Unit {0}
+
 -- what is done enters terminators so
 abbrev pub EntersBy : {E A : Type 0} → Program → State (Noted E) → Does (Noted E) A → Type 0
 EntersBy program s run =
-    EntersEach program s.world s.env.1 (state_of (run s)).world (state_of (run s)).env.1
+    EntersEach program s.world s.env.1 (state_of (run s)).world (state_of (run s)).env.1 × NotesStay (run s)
 
 -- from a state, all that is done enters terminators so
 pub record EntersAll (E : Type 0) (program : Program) (m : Inner (Noted E)) (s : State (Noted E)) : Type 0 where

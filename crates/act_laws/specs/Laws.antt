@@ -28,7 +28,7 @@ use Rattle.vb_meaning.specs.Releases.{in_world, settle, terminate}
 use Rattle.vb_meaning.specs.State.{State, with_heap}
 use Rattle.vb_meaning.specs.Step.{Step, Returns, Ends as Ends_of, ◌>>◌}
 use Rattle.act_laws.specs.Calls.{LeavesOnly, Noting, WantsOnly, calls_of, noting, wanted}
-use Rattle.act_laws.specs.Entries.{AreOf, EntersAll, Noted, entries_of, noted_act, noted_inside, terminators}
+use Rattle.act_laws.specs.Entries.{AreOf, EntersAll, Noted, entries_of, noted_act, noted_inside, terminators, no_notes}
 use Rattle.act_laws.specs.Numbers.{GivesNew}
 use Rattle.act_laws.specs.Objects.{AddsUp, account_at, account_of}
 use Rattle.act_laws.specs.Terminators.{HaveEnded, KeepsAll, RunsEach}
@@ -162,10 +162,12 @@ EntriesChangeNothing E = (host : Host E) (program : Program) (which : Act) (env 
     )
 
 -- At each level of a program, and from each state whose notes belong to it, all that is done enters the terminator of a
--- live object once where the object begins to end and its class has one, and enters no other.
+-- live object once where the object begins to end and its class has one, and enters no other. Those of the world in
+-- which an act begins do.
 abbrev pub TerminatorsAreEntered : Type 0 → Type 0
-TerminatorsAreEntered E = (host : Host E) (program : Program) (levels : ℕ) (s : State (Noted E))
-    → AreOf s.world s.env.1 → EntersAll E program (noted_inside E host program levels) s
+TerminatorsAreEntered E = AreOf fresh_world no_notes
+    × ((host : Host E) (program : Program) (levels : ℕ) (s : State (Noted E))
+    → AreOf s.world s.env.1 → EntersAll E program (noted_inside E host program levels) s)
 
 -- Of each object, what an act enters as its terminator is that of a class, once, or nothing.
 abbrev pub NoneEnteredTwice : Type 0 → Type 0
