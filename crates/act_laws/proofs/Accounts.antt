@@ -17,6 +17,7 @@ use Rattle.act_laws.proofs.Numbers.{other_without, with_one_more, there_replaced
 pub onward_still : (account : Account) → AddsUp account → Onward account account
 onward_still account right = record {
   adds_up = right;
+  made = omega arith;
   finished = omega arith;
   begun = λ number has. has;
   ended = λ number has. has;
@@ -25,6 +26,7 @@ onward_still account right = record {
 pub onward_then : {a b c : Account} → Onward a b → Onward b c → Onward a c
 onward_then {a} {b} {c} first second = record {
   adds_up = second.adds_up;
+  made = omega (arith, first.made, second.made);
   finished = omega (arith, first.finished, second.finished);
   begun = λ number has. second.begun number (first.begun number has);
   ended = λ number has. second.ended number (first.ended number has);
@@ -127,6 +129,7 @@ made_live account right most = record {
           omega (arith, length_is, right.count);
       most = most;
     };
+    made = omega arith;
     finished = omega arith;
     begun = λ number has. (omega (arith, has.0), λ live. has.1 (sym (kept_number account number right has.0) ∙ live));
     ended = λ number has. (omega (arith, has.0), kept_number account number right has.0 ∙ has.1);
@@ -145,7 +148,7 @@ pub marked : (account : Account) (at : ℕ) → AddsUp account → IsLive at acc
 marked account at right live = there_replaced account.objects at false true live
 
 -- any other object is as it was
-unmarked : (account : Account) (at number : ℕ) → number ≢ at
+pub unmarked : (account : Account) (at number : ℕ) → number ≢ at
     → numbered number (with_mark at account).objects ≡ numbered number account.objects
 unmarked account at number apart = other_replaced account.objects at number true (differ number at apart)
 
@@ -168,6 +171,7 @@ mark_onward account at right live = record {
     count = let same = length-set_value (is_number at) account.objects true in omega (arith, same, right.count);
     most = right.most;
   };
+  made = omega arith;
   finished = omega arith;
   begun = λ number has. begun_marked account at number right live has;
   ended = λ number has. (has.0, none_replaced account.objects at number true has.1);
@@ -201,7 +205,7 @@ begun_ended account gone number right has = (
   ],
 )
 
-end_onward : (account : Account) (gone : ℕ) → AddsUp account → IsEnding gone account
+pub end_onward : (account : Account) (gone : ℕ) → AddsUp account → IsEnding gone account
     → Onward account (with_end gone account)
 end_onward account gone right is = record {
   adds_up = record {
@@ -210,6 +214,7 @@ end_onward account gone right is = record {
     count = let less = length_without account.objects gone true is in omega (arith, less, right.count);
     most = right.most;
   };
+  made = omega arith;
   finished = omega arith;
   begun = λ number has. begun_ended account gone number right has;
   ended = λ number has. (has.0, none_without account.objects gone number has.1);

@@ -27,7 +27,9 @@ use Rattle.act_laws.proofs.Calling.{block_fits}
 use Rattle.act_laws.proofs.Inside.{Inners, one, two, Same}
 use Rattle.act_laws.proofs.Joined.{Link, Alike, Joined, Past, gives, ends, gone, then_joined}
 use Rattle.act_laws.proofs.Linked.{Fits, turned, then_fits, value_fits}
-use Rattle.act_laws.proofs.Keeping.{ask_keeps, state_of}
+use Rattle.act_laws.specs.Ticks.{state_of}
+use Rattle.act_laws.proofs.Keeping.{ask_keeps}
+use Rattle.act_laws.proofs.Spending.{ask_spends}
 use Rattle.act_laws.proofs.Linked.{fails_fit, world_fits}
 use Rattle.act_laws.proofs.Meaning.{inners, each_level}
 use Rattle.act_laws.proofs.Releasing.{settle_last_joined, end_all_joined}
@@ -143,7 +145,7 @@ module _ (l : Link) (i : Inners l) where
   pub runs_fits : (which : Act) → Same l i (λ E m. on_world (acts.page_begins m.program.unit) >> acts.part E m which)
   runs_fits which = then_fits (world_fits l (page_begins_wantless i.program.unit)) (λ done. part_fits which)
 
-  act_alike : (which : Act) (world : World) (env : l.E) (replies : List AppReply) (other_env : l.F)
+  pub act_alike : (which : Act) (world : World) (env : l.E) (replies : List AppReply) (other_env : l.F)
       (others : List AppReply) → l.now env replies other_env others
       → ActsAlike l (acts.act_in l.E (one i) which (record { world = world; env = env; replies = replies }))
       (acts.act_in l.F (two i) which (record { world = world; env = other_env; replies = others }))
@@ -151,24 +153,26 @@ module _ (l : Link) (i : Inners l) where
       ends_alike _ _ ((runs_fits which).joined.alike world env replies other_env others now)
 
 -- a question in the one and in the other
-pub asks_fit : (l : Link) → ((member : Member) (arguments : List Value)
+pub asks_fit : (l : Link) → (l.tells → ⊥) → ((member : Member) (arguments : List Value)
     → Joined l (ask l.host member arguments) (ask l.other member arguments))
     → (member : Member) (arguments : List Value)
     → Fits l (ask l.host member arguments) (ask l.other member arguments)
-asks_fit l asks member arguments = record {
+asks_fit l silent asks member arguments = record {
   joined = asks member arguments;
   keeps = ask_keeps l.other member arguments;
+  spends = ask_spends l.other member arguments;
+  tells = λ noting. absurd (silent noting);
 }
 
 -- an act in the one is as in the other
-pub acts_alike : (l : Link) → ((member : Member) (arguments : List Value)
+pub acts_alike : (l : Link) → (l.tells → ⊥) → ((member : Member) (arguments : List Value)
     → Joined l (ask l.host member arguments) (ask l.other member arguments))
     → (program : Program) (which : Act) (env : l.E) (replies : List AppReply) (other_env : l.F)
     (others : List AppReply) → l.now env replies other_env others
     → ActsAlike l (acts.act_of l.E l.host program which env replies)
     (acts.act_of l.F l.other program which other_env others)
 unfolding acts.act_of
-acts_alike l asks program which env replies other_env others now =
-    act_alike l (inners l (asks_fit l asks) program most_levels
-    (each_level l (asks_fit l asks) program most_levels)) which acts.fresh_world
+acts_alike l silent asks program which env replies other_env others now =
+    act_alike l (inners l silent (asks_fit l silent asks) program most_levels
+    (each_level l silent (asks_fit l silent asks) program most_levels)) which acts.fresh_world
     env replies other_env others now

@@ -38,6 +38,8 @@ module _ (E : Type 0) (host : Host E) (Holds : E → Type 0)
     both_want = λ env replies other others. Holds env;
     both_lack = λ env replies other others. Holds env;
     past = λ call other others. ⊥;
+    tells = ⊥;
+    telling = λ none. absurd none;
   }
 
   heard_alike : (member : Member) (arguments : List Value) (world : World) (replies : List AppReply) (said : Said E)
@@ -90,8 +92,8 @@ pub asking_keeps : (E : Type 0) (host : Host E) (Holds : E → Type 0)
 asking_keeps E host Holds asked answered program which env replies holds =
     holds_after E host Holds asked answered (act_of E host program which env replies)
     (act_of E host program which env replies)
-    (acts_alike (beside_itself E host Holds asked answered) (asks_alike E host Holds asked answered) program which env
-    replies env replies (refl, refl, holds))
+    (acts_alike (beside_itself E host Holds asked answered) (λ none. none) (asks_alike E host Holds asked answered)
+    program which env replies env replies (refl, refl, holds))
 
 left : {E : Type 0} (test : E → Bool) (said : Said E) → LeavesOnly test said
     → Leaves (λ env. IsTrue (test env)) said

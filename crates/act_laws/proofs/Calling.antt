@@ -1,5 +1,5 @@
 -- Blocks and procedures, in two environments side by side.
-use Rattle.std.proofs.Common.{nat_lt, ◌==◌, List, [], ◌∷◌, ◌++◌, length, if◌then◌else◌, ◌≡◌, refl, subst, sym}
+use Rattle.std.proofs.Common.{nat_lt, ◌==◌, List, [], ◌∷◌, ◌++◌, length, if◌then◌else◌, ◌≡◌, refl, ap, subst, sym}
 use Rattle.vb_value.specs.declared.application.AppCall.{AppCall}
 use Rattle.vb_value.specs.declared.value.Value.{Value}
 use Rattle.vb_value.specs.Errors.{wrong_number}
@@ -20,11 +20,13 @@ use Rattle.vb_meaning.specs.Step.{Step, Returns, Ends, ◌>>◌, ends as step_en
 use Rattle.act_laws.proofs.Inside.{Inners, one, two, Same, seen_fits}
 use Rattle.act_laws.specs.Objects.{Account, Kept, Settled, account_at, account_of}
 use Rattle.act_laws.proofs.Joined.{Link, Alike, JoinedTurn, Past, gives, ends, gone}
-use Rattle.act_laws.proofs.Keeping.{kept_from, kept_moved}
-use Rattle.act_laws.proofs.Linked.{Fits, Turns, turned, then_fits, letting_fits, value_fits}
+use Rattle.act_laws.proofs.Keeping.{kept_from, kept_moved, told, told_of}
+use Rattle.act_laws.proofs.Linked.{Fits, Turns, turned, then_fits, letting_fits, next_turns, value_fits}
+use Rattle.act_laws.proofs.Telling.{TellsOn, changed_told}
 use Rattle.act_laws.proofs.Marks.{dropped_still}
 use Rattle.act_laws.proofs.Linked.{fails_fit, error_fits, moved_fits, world_fits, choice_fits, either_fits}
 use Rattle.act_laws.proofs.Releasing.{settle_fits}
+use Rattle.act_laws.proofs.Spending.{SpendsOn, no_less, ticks_at}
 use Rattle.act_laws.proofs.Wantless.{seeing_wantless, tick_wantless, deep_wantless}
 use Rattle.act_laws.proofs.WantlessPlaces.{hold_wantless}
 use Rattle.act_laws.proofs.WantlessScopes.{begins_wantless, result_wantless}
@@ -41,9 +43,12 @@ module _ (l : Link) (i : Inners l) where
 
   -- ---- how a procedure is left
 
-  left_still : (caller world : World) → account_of (calling.left caller world) ≡ account_of world
-  left_still caller world =
-      dropped_still (world.frame.own ++ calling.cell_of world.frame.result) world.heap world.finished
+  left_still : (caller world : World) → told (calling.left caller world) ≡ told world
+  left_still caller world = ap (λ seen. told_of seen.0 world.ticks seen.1)
+      (dropped_still (world.frame.own ++ calling.cell_of world.frame.result) world.heap world.finished)
+
+  left_same : (caller world : World) → account_of (calling.left caller world) ≡ account_of world
+  left_same caller world = ap (λ found. found.0) (left_still caller world)
 
   returned_fits : (caller : World) → Same l i (λ E m. calling.returned E m caller)
   returned_fits caller = letting_fits (then_fits
@@ -88,7 +93,8 @@ module _ (l : Link) (i : Inners l) where
 
   abandoned_turns : (caller : World)
       → Turns l (calling.abandoned l.E (one i) caller) (calling.abandoned l.F (two i) caller)
-  abandoned_turns caller = record { joined = abandoned_joined caller; keeps = keeps }
+  abandoned_turns caller =
+      record { joined = abandoned_joined caller; keeps = keeps; spends = spends; tells = tells }
     where
       keeps : (before : Account) (step : Step (State l.F) Exit) → Kept account_at before step
           → Kept account_at before (calling.abandoned l.F (two i) caller step)
@@ -98,13 +104,36 @@ module _ (l : Link) (i : Inners l) where
           let t = in_world l.F (calling.left caller s.world) s in
           let after = (then_fits (settle_fits l i) (λ done. error_fits {A = Value} l what line)).keeps t in
           kept_from account_at kept ((settle l.F (two i) >> step_ends (stop.Error what line)) t)
-          (kept_moved account_at (account_at s) (account_at t) (left_still caller s.world)
+          (kept_moved account_at (account_at s) (account_at t) (left_same caller s.world)
           ((settle l.F (two i) >> step_ends (stop.Error what line)) t) after kept.onward.adds_up)
       keeps before (Ends stop.Page s) kept =
-          subst (λ account. Settled before account) (sym (left_still caller s.world)) kept
+          subst (λ account. Settled before account) (sym (left_same caller s.world)) kept
       keeps before (Ends (stop.Limit kind line) s) kept = kept
       keeps before (Ends (stop.Wants call) s) kept = kept
       keeps before (Ends stop.Memory s) kept = kept
+
+      spends : SpendsOn ticks_at (calling.abandoned l.F (two i) caller)
+      spends (Returns exit s) = (returned_fits caller).spends s
+      spends (Ends (stop.Error what line) s) =
+          (then_fits (settle_fits l i) (λ done. error_fits {A = Value} l what line)).spends
+          (in_world l.F (calling.left caller s.world) s)
+      spends (Ends stop.Page s) = no_less (ticks_at s)
+      spends (Ends (stop.Limit kind line) s) = no_less (ticks_at s)
+      spends (Ends (stop.Wants call) s) = no_less (ticks_at s)
+      spends (Ends stop.Memory s) = no_less (ticks_at s)
+
+      tells : (noting : l.tells) → TellsOn (l.telling noting) (calling.abandoned l.F (two i) caller)
+      tells noting s (Returns exit after) right kept before =
+          (next_turns {A = Exit} (λ exit. returned_fits caller)).tells noting s (Returns exit after) right kept before
+      tells noting s (Ends (stop.Error what line) after) right kept before =
+          (next_turns {A = Exit} (λ exit. moved_fits (calling.left caller) (left_still caller)
+          (then_fits (settle_fits l i) (λ done. error_fits {A = Value} l what line)))).tells noting s
+          (Returns Next after) right kept before
+      tells noting s (Ends stop.Page after) right kept before = changed_told (l.telling noting) s after
+          (calling.left caller after.world) right.adds_up kept.onward (left_still caller after.world) before
+      tells noting s (Ends (stop.Limit kind line) after) right kept before = before
+      tells noting s (Ends (stop.Wants call) after) right kept before = before
+      tells noting s (Ends stop.Memory after) right kept before = before
 
   -- ---- how it is entered
 

@@ -41,14 +41,15 @@ no_oldest test [] is = refl
 no_oldest test (first ∷ others) is = absurd (omega (arith, is))
 
 -- where as many objects have ended as may be made, none is there
-none_loose : {E : Type 0} (s : State E) → AddsUp (account_at s) → most_objects ≤ s.world.finished + 0 → HasNoneLoose s
+pub none_loose : {E : Type 0} (s : State E) → AddsUp (account_at s) → most_objects ≤ s.world.finished + 0
+    → HasNoneLoose s
 none_loose s right enough = no_oldest (is_loose s.world.heap) s.world.heap.objects
     (omega (arith, right.count, right.most, enough))
 
 module _ (E : Type 0) (m : Inner E)
     (enter : (owner : Owner) (procedure : Procedure) (arguments : List Argument)
     → Keeps account_at (m.enter owner procedure arguments)) where
-  terminator_keeps : (object : ℕ) (class : Option ℕ) (found : Option Procedure)
+  pub terminator_keeps : (object : ℕ) (class : Option ℕ) (found : Option Procedure)
       → Keeps account_at (releases.terminator E m object class found)
   terminator_keeps object (Some class) (Some procedure) = enter _ procedure []
   terminator_keeps object (Some class) None = still_gives account_at Empty
@@ -72,11 +73,11 @@ module _ (E : Type 0) (m : Inner E)
       (releases.terminator_of E m object class (releases.in_world E (releases.terminating s.world) s)) is
 
   -- a live object's terminator begins and is run, in a world that has the same account of objects
-  abbrev ended_in : (World → World) → ℕ → Does E (Unit {0})
+  abbrev pub ended_in : (World → World) → ℕ → Does E (Unit {0})
   ended_in change object s = releases.terminate E m object
       (releases.in_world E (change (with_heap (with_ending (Some object)) s.world)) s)
 
-  one_ends : (change : World → World) → ((world : World) → account_of (change world) ≡ account_of world)
+  pub one_ends : (change : World → World) → ((world : World) → account_of (change world) ≡ account_of world)
       → (object : ℕ) (s : State E) → AddsUp (account_at s) → IsLive object (account_at s)
       → One (account_at s) (ended_in change object s)
   one_ends change same object s right live =
@@ -90,15 +91,15 @@ module _ (E : Type 0) (m : Inner E)
       (subst (λ account. IsEnding object account) (sym is) (marked (account_at s) object right live))))
 
   -- in a release point, and at the page's end
-  abbrev ended_one : ℕ → Does E (Unit {0})
+  abbrev pub ended_one : ℕ → Does E (Unit {0})
   ended_one = ended_in (λ world. world)
 
-  abbrev ended_last : ℕ → Does E (Unit {0})
+  abbrev pub ended_last : ℕ → Does E (Unit {0})
   ended_last = ended_in releases.behind_page
 
   -- ---- a release point
 
-  one_released : (P : State E → Type 0) (more : Does E (Unit {0})) (found : Option ℕ) (s : State E)
+  pub one_released : (P : State E → Type 0) (more : Does E (Unit {0})) (found : Option ℕ) (s : State E)
       → AddsUp (account_at s) → ((object : ℕ) → found ≡ Some object → IsLive object (account_at s))
       → (found ≡ None → P s)
       → ((t : State E) → Settled (account_at s) (account_at t) → s.world.finished < t.world.finished
@@ -129,7 +130,7 @@ module _ (E : Type 0) (m : Inner E)
 
   -- ---- the page's end
 
-  one_closed : (P : State E → Type 0) (more : Does E (Unit {0})) (found : Option ℕ) (s : State E)
+  pub one_closed : (P : State E → Type 0) (more : Does E (Unit {0})) (found : Option ℕ) (s : State E)
       → AddsUp (account_at s) → ((object : ℕ) → found ≡ Some object → IsLive object (account_at s))
       → (found ≡ None → P s)
       → ((t : State E) → Settled (account_at s) (account_at t) → s.world.finished < t.world.finished

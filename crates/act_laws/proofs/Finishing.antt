@@ -44,6 +44,8 @@ alone E host = record {
   both_want = λ env replies other others. ⊥;
   both_lack = λ env replies other others. ⊥;
   past = λ call other others. Unit {0};
+  tells = ⊥;
+  telling = λ none. absurd none;
 }
 
 pub asks_alone : (E : Type 0) (host : Host E) (member : Member) (arguments : List Value)
@@ -56,8 +58,9 @@ asks_alone E host member arguments = record {
 -- the constructs of a program, of which so many more may be begun
 abbrev pub levels_alone : (E : Type 0) (host : Host E) (program : Program) (levels : ℕ) → Inners (alone E host)
 levels_alone E host program levels =
-    let asks = asks_fit (alone E host) (asks_alone E host) in
-    inners (alone E host) asks program levels (each_level (alone E host) asks program levels)
+    let asks = asks_fit (alone E host) (λ none. none) (asks_alone E host) in
+    inners (alone E host) (λ none. none) asks program levels
+    (each_level (alone E host) (λ none. none) asks program levels)
 
 -- ---- how many have ended
 
@@ -109,7 +112,7 @@ module _ (E : Type 0) (m : Inner E)
   page_tells how before none s settled =
       let t = in_world E (acts.page_left s.world) s in
       let same : account_at t ≡ account_at s =
-      emptied_still s.world.page (let_go_to 0 s.world.heap) s.world.finished in
+      ap (λ seen. seen.0) (emptied_still s.world.page (let_go_to 0 s.world.heap) s.world.finished) in
       let still : Settled before (account_at t) = subst (λ account. Settled before account) (sym same) settled in
       closed_tells how (account_at t) (λ number ends. none number (still.stood number ends))
       ((settle_last E m >> end_all E m) t) (page_comes E m enter t still.onward.adds_up)

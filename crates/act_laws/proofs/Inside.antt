@@ -1,5 +1,5 @@
 -- What the rules of a construct stand on, in two environments side by side.
-use Rattle.std.proofs.Common.{List}
+use Rattle.std.proofs.Common.{List, ◌≡◌}
 use Rattle.vb_value.specs.declared.value.Value.{Value}
 use Rattle.vb_syntax.specs.declared.member.Member.{Member}
 use Rattle.vb_syntax.specs.declared.program.Program.{Program}
@@ -15,6 +15,7 @@ use Rattle.vb_meaning.specs.Asking.{ask}
 use Rattle.vb_meaning.specs.Inner.{Inner, Owner}
 use Rattle.vb_meaning.specs.State.{Does}
 use Rattle.act_laws.proofs.Joined.{Link}
+use Rattle.act_laws.proofs.Entered.{NotesEntries}
 use Rattle.act_laws.proofs.Linked.{Fits, seeing_fits}
 
 -- what the constructs inside do in the one and in the other
@@ -40,6 +41,9 @@ pub record Inners (l : Link) : Type 0 where
   pub statement_fits : (x : Statement) → Fits l (statement x) (other_statement x)
   pub enter_fits : (owner : Owner) (procedure : Procedure) (arguments : List Argument)
       → Fits l (enter owner procedure arguments) (other_enter owner procedure arguments)
+  -- the program is that whose terminators are noted, and what is entered as a terminator is noted
+  pub same_program : (noting : l.tells) → (l.telling noting).program ≡ program
+  pub enters : (noting : l.tells) → NotesEntries (l.telling noting) other_enter
   pub asks : (member : Member) (arguments : List Value)
       → Fits l (ask l.host member arguments) (ask l.other member arguments)
 

@@ -10,7 +10,8 @@ use Rattle.vb_meaning.specs.declared.world.World.{World}
 use Rattle.vb_meaning.specs.Asking.{Host}
 use Rattle.vb_meaning.specs.State.{State, Does, on_world, lifted}
 use Rattle.vb_meaning.specs.Step.{Step, Returns, Ends, Run, and_then, ◌>>=◌, pure, ends as step_ends}
-use Rattle.act_laws.proofs.Keeping.{state_of}
+use Rattle.act_laws.specs.Ticks.{state_of}
+use Rattle.act_laws.proofs.Telling.{Telling}
 use Rattle.act_laws.proofs.Wantless.{Wantless, NoWant}
 
 -- Two environments with what they do, and how they and the replies that are left belong together: while what is done
@@ -25,6 +26,9 @@ pub record Link : Type 1 where
   pub both_want : E → List AppReply → F → List AppReply → Type 0
   pub both_lack : E → List AppReply → F → List AppReply → Type 0
   pub past : AppCall → F → List AppReply → Type 0
+  -- whether the second notes the terminators that are entered, and where
+  pub tells : Type 0
+  pub telling : tells → Telling F
 
 -- how they belong together where both have ended for this reason
 abbrev pub Ended : (l : Link) → Stop → l.E → List AppReply → l.F → List AppReply → Type 0

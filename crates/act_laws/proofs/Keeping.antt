@@ -14,7 +14,9 @@ use Rattle.vb_meaning.specs.Errors.{in_line, resumed, with_err, raised_by}
 use Rattle.vb_meaning.specs.State.{State, lifted}
 use Rattle.vb_meaning.specs.Step.{Step, Returns, Ends, Run, and_then}
 use Rattle.vb_meaning.specs.Stops.{ask_stop}
-use Rattle.act_laws.specs.Objects.{Account, AddsUp, Goes, Kept, Settled, account_at, account_of}
+use Rattle.act_laws.specs.Entries.{standings}
+use Rattle.act_laws.specs.Objects.{Account, AddsUp, Goes, Kept, Onward, Settled, account_at, account_of}
+use Rattle.act_laws.specs.Ticks.{state_of}
 use Rattle.act_laws.proofs.Accounts.{onward_still, onward_then, settled_still, settled_then}
 
 -- something that is done from any account that adds up
@@ -42,11 +44,6 @@ goes_settled stop.Page settled = settled
 goes_settled (stop.Limit kind line) settled = settled.onward
 goes_settled (stop.Wants call) settled = settled.onward
 goes_settled stop.Memory settled = settled.onward
-
--- the state after a step
-abbrev pub state_of : {S A : Type 0} → Step S A → S
-state_of (Returns value s) = s
-state_of (Ends why s) = s
 
 -- one after the other
 pub next_keeps : {S A B : Type 0} (of : S → Account) (next : A → Run S B) → ((value : A) → Keeps of (next value))
@@ -124,3 +121,20 @@ pub kept_moved : {S A : Type 0} (of : S → Account) (a b : Account) → b ≡ a
     → (AddsUp b → Kept of b step) → AddsUp a → Kept of a step
 kept_moved of a b same step kept right =
     subst (λ c. Kept of c step) same (kept (subst AddsUp (sym same) right))
+
+-- what is read off a world: its account, the ticks that are left, and what is said of its objects
+abbrev pub told_of : Account → ℕ → List (ℕ × (Bool × Option ℕ)) → Account × ℕ × List (ℕ × (Bool × Option ℕ))
+told_of account ticks objects = (account, ticks, objects)
+
+abbrev pub told : World → Account × ℕ × List (ℕ × (Bool × Option ℕ))
+told world = told_of (account_of world) world.ticks (standings world.heap.objects)
+
+-- how the account goes on, whether a step gives a value or ends
+pub kept_onward : {S A : Type 0} (of : S → Account) (a : Account) (step : Step S A) → Kept of a step
+    → Onward a (of (state_of step))
+kept_onward of a (Returns value s) kept = kept.onward
+kept_onward of a (Ends (stop.Error what line) s) kept = kept.onward
+kept_onward of a (Ends stop.Page s) kept = kept.onward
+kept_onward of a (Ends (stop.Limit kind line) s) kept = kept
+kept_onward of a (Ends (stop.Wants call) s) kept = kept
+kept_onward of a (Ends stop.Memory s) kept = kept

@@ -34,6 +34,8 @@ module _ (E : Type 0) (host : Host E)
     both_want = λ env replies other others. Unit {0};
     both_lack = λ env replies other others. ⊥;
     past = λ call other others. ⊥;
+    tells = ⊥;
+    telling = λ none. absurd none;
   }
 
   heard_alike : (member : Member) (arguments : List Value) (world : World) (replies : List AppReply) (said : Said E)
@@ -78,5 +80,5 @@ module _ (E : Type 0) (host : Host E)
 pub objects_lack : (E : Type 0) → OnlyObjectsLack E
 objects_lack E host asked answered program which env replies =
     there E host asked answered (act_of E host program which env replies) (act_of E host program which env replies)
-    (acts_alike (beside_itself E host asked answered) (asks_alike E host asked answered) program which env replies env
-    replies (refl, refl))
+    (acts_alike (beside_itself E host asked answered) (λ none. none) (asks_alike E host asked answered) program which
+    env replies env replies (refl, refl))

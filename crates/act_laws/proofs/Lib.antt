@@ -6,6 +6,12 @@ pub mod Numbers
 pub mod Accounts
 pub mod Marks
 pub mod Keeping
+pub mod Standings
+pub mod Entering
+pub mod Telling
+pub mod Entered
+pub mod Spending
+pub mod Ticking
 pub mod Counting
 pub mod Joined
 pub mod Linked
@@ -31,3 +37,8 @@ pub mod Wanting
 pub mod Asking
 pub mod Lacking
 pub mod Settled
+pub mod NoneBack
+pub mod OneText
+pub mod Noting
+pub mod Entries
+pub mod NewNumbers

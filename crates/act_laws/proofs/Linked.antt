@@ -1,6 +1,6 @@
 -- Two environments side by side: what is done in the one is done in the other, until a call that the one wants, and it
 -- keeps the account of objects.
-use Rattle.std.proofs.Common.{ℕ, Bool, true, false, if◌then◌else◌, Result, Ok, Err, Option, None, ◌≡◌, refl}
+use Rattle.std.proofs.Common.{ℕ, Bool, true, false, if◌then◌else◌, Result, Ok, Err, Option, None, ◌≡◌, refl, ap}
 use Rattle.vb_value.specs.declared.fault.VbError.{VbError}
 use Rattle.vb_value.specs.declared.limit.LimitKind.{LimitKind}
 use Rattle.vb_meaning.specs.declared.cause.Cause.{Cause}
@@ -13,13 +13,20 @@ use Rattle.vb_meaning.specs.Step.{Step, Returns, Run, and_then, ◌>>=◌, pure,
 use Rattle.act_laws.specs.Objects.{Account, Kept, account_at, account_of}
 use Rattle.act_laws.proofs.Joined as sides
 use Rattle.act_laws.proofs.Joined.{Link, Joined, JoinedTurn}
-use Rattle.act_laws.proofs.Keeping.{Keeps, kept_moved, lifted_keeps, next_keeps, still_ends, still_gives}
+use Rattle.act_laws.specs.Ticks.{state_of}
+use Rattle.act_laws.proofs.Keeping.{Keeps, kept_moved, lifted_keeps, next_keeps, still_ends, still_gives, told}
+use Rattle.act_laws.proofs.Spending.{Spends, SpendsOn, lifted_spends, next_spends, no_less, still_spends, ticks_at}
+use Rattle.act_laws.proofs.Spending.{ticks_moved, turned_spends}
+use Rattle.act_laws.proofs.Telling.{Tells, TellsOn, lifted_tells, moved_tells, next_tells, still_told}
 use Rattle.act_laws.proofs.Wantless.{Wantless}
 
--- something that is done in the one as in the other, and keeps the account of objects
+-- something that is done in the one as in the other, keeps the account of objects, gives no tick back, and enters
+-- terminators as it should where that is noted
 pub record Fits {A : Type 0} (l : Link) (first : Does l.E A) (second : Does l.F A) : Type 0 where
   pub joined : Joined l first second
   pub keeps : Keeps account_at second
+  pub spends : Spends ticks_at second
+  pub tells : (noting : l.tells) → Tells (l.telling noting) second
 
 -- ---- steps
 
@@ -29,23 +36,31 @@ pub record Turns {A B : Type 0} (l : Link) (turn : Step (State l.E) A → Step (
   pub joined : JoinedTurn l turn other
   pub keeps : (before : Account) (step : Step (State l.F) A) → Kept account_at before step
       → Kept account_at before (other step)
+  pub spends : SpendsOn ticks_at other
+  pub tells : (noting : l.tells) → TellsOn (l.telling noting) other
 
 -- what is done, and then something is made of the step
 pub turned : {A B : Type 0} {l : Link} {turn : Step (State l.E) A → Step (State l.E) B}
     {other : Step (State l.F) A → Step (State l.F) B} {first : Does l.E A} {second : Does l.F A}
     → Turns l turn other → Fits l first second → Fits l (λ s. turn (first s)) (λ s. other (second s))
-turned {second} turns fit = record {
+turned {other} {second} turns fit = record {
   joined = sides.turn_joined turns.joined fit.joined;
   keeps = λ s right. turns.keeps (account_at s) (second s) (fit.keeps s right);
+  spends = turned_spends ticks_at other second turns.spends fit.spends;
+  tells = λ noting s right.
+      turns.tells noting s (second s) right (fit.keeps s right.adds_up) (fit.tells noting s right);
 }
 
 -- what follows a step
 pub next_turns : {A B : Type 0} {l : Link} {next : A → Does l.E B} {other : A → Does l.F B}
     → ((value : A) → Fits l (next value) (other value))
     → Turns l (λ step. and_then step next) (λ step. and_then step other)
-next_turns {other} fit = record {
+next_turns {l} {other} fit = record {
   joined = sides.next_turn (λ value. (fit value).joined);
   keeps = next_keeps account_at other (λ value. (fit value).keeps);
+  spends = next_spends ticks_at other (λ value. (fit value).spends);
+  tells = λ noting. next_tells (l.telling noting) other (λ value. (fit value).keeps)
+      (λ value. (fit value).tells noting);
 }
 
 -- ---- what is done
@@ -58,7 +73,12 @@ then_fits fit next = turned (next_turns next) fit
 
 -- a value, and no change
 pub value_fits : {A : Type 0} (l : Link) (value : A) → Fits l (pure value) (pure value)
-value_fits l value = record { joined = sides.value_joined l value; keeps = still_gives account_at value }
+value_fits l value = record {
+  joined = sides.value_joined l value;
+  keeps = still_gives account_at value;
+  spends = still_spends ticks_at value;
+  tells = λ noting s right. still_told (l.telling noting) s;
+}
 
 -- an end for another reason than a call
 pub error_fits : {A : Type 0} (l : Link) (what : Cause) (line : Option ℕ)
@@ -66,6 +86,8 @@ pub error_fits : {A : Type 0} (l : Link) (what : Cause) (line : Option ℕ)
 error_fits {A} l what line = record {
   joined = sides.error_joined l what line;
   keeps = still_ends A account_at (stop.Error what line);
+  spends = λ s. no_less (ticks_at s);
+  tells = λ noting s right. still_told (l.telling noting) s;
 }
 
 pub limit_fits : {A : Type 0} (l : Link) (kind : LimitKind) (line : Option ℕ)
@@ -73,6 +95,8 @@ pub limit_fits : {A : Type 0} (l : Link) (kind : LimitKind) (line : Option ℕ)
 limit_fits {A} l kind line = record {
   joined = sides.limit_joined l kind line;
   keeps = still_ends A account_at (stop.Limit kind line);
+  spends = λ s. no_less (ticks_at s);
+  tells = λ noting s right. still_told (l.telling noting) s;
 }
 
 -- an error of the language
@@ -90,6 +114,8 @@ pub world_fits : {A : Type 0} (l : Link) {change : Run World A} → Wantless cha
 world_fits l {change} wantless = record {
   joined = sides.world_joined l wantless;
   keeps = λ s right. lifted_keeps s.env s.replies (account_at s) (change s.world) (wantless.keeps s.world right);
+  spends = λ s. lifted_spends s.env s.replies s.world.ticks (change s.world) (wantless.spends s.world);
+  tells = λ noting s right. lifted_tells (l.telling noting) s (change s.world) (wantless.stays s.world);
 }
 
 -- one of two
@@ -106,15 +132,20 @@ pub either_fits : {A : Type 0} {l : Link} (test : Bool) {one other : Does l.E A}
 either_fits true one other = one
 either_fits false one other = other
 
--- what is done in a changed world, whose account of objects is the same
+-- what is done in a changed world, whose account of objects is the same, and which has the same ticks
 pub moved_fits : {A : Type 0} {l : Link} (change : World → World)
-    → ((world : World) → account_of (change world) ≡ account_of world) → {first : Does l.E A} {second : Does l.F A}
+    → ((world : World) → told (change world) ≡ told world) → {first : Does l.E A} {second : Does l.F A}
     → Fits l first second
     → Fits l (λ s. first (record s { world = change s.world })) (λ s. second (record s { world = change s.world }))
-moved_fits change same {first} {second} fit = record {
+moved_fits {l} change same {first} {second} fit = record {
   joined = sides.moved_joined change fit.joined;
-  keeps = λ s right. kept_moved account_at (account_of s.world) (account_of (change s.world)) (same s.world)
+  keeps = λ s right. kept_moved account_at (account_of s.world) (account_of (change s.world))
+      (ap (λ found. found.0) (same s.world))
       (second (record s { world = change s.world })) (fit.keeps (record s { world = change s.world })) right;
+  spends = λ s. ticks_moved s.world (change s.world) (same s.world)
+      (state_of (second (record s { world = change s.world }))).world.ticks
+      (fit.spends (record s { world = change s.world }));
+  tells = λ noting. moved_tells (l.telling noting) change same second fit.keeps (fit.tells noting);
 }
 
 -- what is done as the world has it
@@ -124,6 +155,8 @@ pub seeing_fits : {A : Type 0} {l : Link} (first : World → Does l.E A) (second
 seeing_fits first second each = record {
   joined = sides.seeing_joined first second (λ world. (each world).joined);
   keeps = λ s right. (each s.world).keeps s right;
+  spends = λ s. (each s.world).spends s;
+  tells = λ noting s right. (each s.world).tells noting s right;
 }
 
 -- what is done, and what it held is held no more

@@ -57,6 +57,8 @@ module _ (E : Type 0) (host : Host E) (n : ℕ) where
     both_lack = λ env replies other others.
         (other.0 ≡ env) × (others ≡ replies) × (length other.1 + length replies ≡ n);
     past = λ call other others. ⊥;
+    tells = ⊥;
+    telling = λ none. absurd none;
   }
 
   heard_same : (member : Member) (arguments : List Value) (world : World) (replies : List AppReply) (said : Said E)
@@ -106,6 +108,8 @@ module _ (E : Type 0) (host : Host E) (n : ℕ) where
       both_lack = λ env replies other others.
           (other.0 ≡ env) × (others ≡ replies ++ more) × (length other.1 + length replies ≡ n);
       past = λ call other others. slice_get other.1 n ≡ Some call;
+      tells = ⊥;
+      telling = λ none. absurd none;
     }
 
     heard_on : (call : AppCall) (member : Member) (arguments : List Value) (world : World) (others : List AppReply)

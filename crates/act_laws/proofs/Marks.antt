@@ -17,24 +17,40 @@ use Rattle.vb_heap.specs.Cells.{with_stored, without_cell}
 use Rattle.vb_heap.specs.declared.object.Object.{Object}
 use Rattle.vb_heap.specs.Dictionary.{Dictionary, no_entries}
 use Rattle.vb_heap.specs.DictionaryCalls as dictionary
-use Rattle.vb_heap.specs.Entries.{find_entry_of, dictionary_of, new_table_of, object_changed, with_dictionary}
+use Rattle.vb_heap.specs.Entries.{content_changed, find_entry_of, dictionary_of, new_table_of, object_changed}
+use Rattle.vb_heap.specs.Entries.{with_dictionary}
 use Rattle.vb_heap.specs.Entries.{with_new_table}
 use Rattle.vb_heap.specs.Limits.{fits, if_fits, most_cells, most_held, most_objects, most_weight}
-use Rattle.vb_heap.specs.Objects.{cells_from, live, new_object_of, with_fields, with_new_object, with_object}
+use Rattle.vb_heap.specs.Objects.{cells_from, class_in, live, new_object_of, with_fields, with_new_object, with_object}
 use Rattle.vb_heap.specs.PageWeight.{weight_of_page}
 use Rattle.vb_heap.specs.References.{references_to}
 use Rattle.vb_heap.specs.Releases.{ending, ends_now, finished as finished_object, oldest, oldest_live}
 use Rattle.vb_heap.specs.Releases.{is_loose, oldest_loose, with_ending}
 use Rattle.vb_heap.specs.Store.{Store, is_number, numbered, replaced, without}
 use Rattle.vb_meaning.specs.Places.{cell_place, cells_dropped, cells_emptied}
+use Rattle.act_laws.specs.Entries.{standings}
 use Rattle.act_laws.specs.Objects.{Account, AddsUp, Differ, IsEnding, IsLive, Settled, marks}
 use Rattle.act_laws.proofs.Accounts.{made_live, with_mark}
 use Rattle.act_laws.proofs.Numbers.{compared, itself}
+use Rattle.act_laws.proofs.Standings.{looks, standings_more, standings_same}
+use Rattle.act_laws.proofs.Standings.{still_there}
 
 -- the account of data of which so many objects have ended
 abbrev pub account_in : Store → ℕ → Account
 account_in store count =
     record { objects = marks store.objects; made = store.objects_made; finished = count }
+
+-- the same, with what is said of each object
+abbrev pub seen_in : Store → ℕ → Account × List (ℕ × (Bool × Option ℕ))
+seen_in store count = (account_in store count, standings store.objects)
+
+both_seen : (after before : Store) (count : ℕ) → account_in after count ≡ account_in before count
+    → standings after.objects ≡ standings before.objects → seen_in after count ≡ seen_in before count
+both_seen after before count account told = ap (λ found. with_standings found (standings after.objects)) account
+    ∙ ap (λ found. with_standings (account_in before count) found) told
+  where
+    with_standings : Account → List (ℕ × (Bool × Option ℕ)) → Account × List (ℕ × (Bool × Option ℕ))
+    with_standings account told = (account, told)
 
 -- ---- marks
 
@@ -44,7 +60,7 @@ marks_more [] number object = refl
 marks_more (first ∷ others) number object =
     ap (λ rest. (first.0, first.1.ending) ∷ rest) (marks_more others number object)
 
-marked_by : (objects : List (ℕ × Object)) (number : ℕ)
+pub marked_by : (objects : List (ℕ × Object)) (number : ℕ)
     → numbered number (marks objects) ≡ option_map (λ (object : Object). object.ending) (numbered number objects)
 marked_by [] number = refl
 marked_by (first ∷ others) number = elim (is_number number first.0)
@@ -86,40 +102,54 @@ dictionary_at change objects number (Some object) is = marks_replaced objects nu
     ∙ set_value_same (is_number number) (marks objects) object.ending
     (marked_by objects number ∙ ap (λ o. option_map (λ (object : Object). object.ending) o) is)
 
+class_kept : (change : Dictionary → Dictionary) (content : Content)
+    → class_in (content_changed change content) ≡ class_in content
+class_kept change (Fields class cells) = refl
+class_kept change (Entries dictionary) = refl
+
+known_at : (change : Dictionary → Dictionary) (objects : List (ℕ × Object)) (number : ℕ) (found : Option Object)
+    → numbered number objects ≡ found
+    → standings (option_map_or (λ object. replaced number (object_changed change object) objects) found objects)
+    ≡ standings objects
+known_at change objects number None is = refl
+known_at change objects number (Some object) is = standings_same objects number object (object_changed change object) is
+    (ap (λ class. looks object.ending class) (class_kept change object.content))
+
 -- a dictionary is changed
 pub dictionary_still : (change : Dictionary → Dictionary) (object : ObjNo) (store : Store) (count : ℕ)
-    → account_in (with_dictionary change object store) count ≡ account_in store count
-dictionary_still change object store count =
-    ap (λ (found : List (ℕ × Bool)). record { objects = found; made = store.objects_made; finished = count })
-    (dictionary_at change store.objects object.0 (numbered object.0 store.objects) refl)
+    → seen_in (with_dictionary change object store) count ≡ seen_in store count
+dictionary_still change object store count = both_seen (with_dictionary change object store) store count
+    (ap (λ (found : List (ℕ × Bool)). record { objects = found; made = store.objects_made; finished = count })
+    (dictionary_at change store.objects object.0 (numbered object.0 store.objects) refl))
+    (known_at change store.objects object.0 (numbered object.0 store.objects) refl)
 
 put_at_still : (object : ObjNo) (key item : Value) (at : Option ℕ) (store : Store) (count : ℕ)
-    → account_in (dictionary.put_at object key item at store) count ≡ account_in store count
+    → seen_in (dictionary.put_at object key item at store) count ≡ seen_in store count
 put_at_still object key item (Some at) store count = dictionary_still _ object store count
 put_at_still object key item None store count = dictionary_still _ object store count
 
 pub put_still : (object : ObjNo) (key item : Value) (store : Store) (count : ℕ)
-    → account_in (dictionary.with_put object key item store) count ≡ account_in store count
+    → seen_in (dictionary.with_put object key item store) count ≡ seen_in store count
 put_still object key item store count =
     put_at_still object key item (find_entry_of key (dictionary_of object store)) store count
 
 got_at_still : (object : ObjNo) (key : Value) (at : Option ℕ) (store : Store) (count : ℕ)
-    → account_in (dictionary.got_at object key at store) count ≡ account_in store count
+    → seen_in (dictionary.got_at object key at store) count ≡ seen_in store count
 got_at_still object key (Some at) store count = refl
 got_at_still object key None store count = dictionary_still _ object store count
 
 pub got_still : (object : ObjNo) (key : Value) (store : Store) (count : ℕ)
-    → account_in (dictionary.with_got object key store) count ≡ account_in store count
+    → seen_in (dictionary.with_got object key store) count ≡ seen_in store count
 got_still object key store count =
     got_at_still object key (find_entry_of key (dictionary_of object store)) store count
 
 removed_at_still : (object : ObjNo) (at : Option ℕ) (store : Store) (count : ℕ)
-    → account_in (dictionary.removed_at object at store) count ≡ account_in store count
+    → seen_in (dictionary.removed_at object at store) count ≡ seen_in store count
 removed_at_still object (Some at) store count = dictionary_still _ object store count
 removed_at_still object None store count = refl
 
 pub removed_still : (object : ObjNo) (key : Value) (store : Store) (count : ℕ)
-    → account_in (dictionary.with_removed object key store) count ≡ account_in store count
+    → seen_in (dictionary.with_removed object key store) count ≡ seen_in store count
 removed_still object key store count =
     removed_at_still object (find_entry_of key (dictionary_of object store)) store count
 
@@ -127,13 +157,13 @@ removed_still object key store count =
 
 -- the cells of names go
 pub dropped_still : (cells : List CellNo) (store : Store) (count : ℕ)
-    → account_in (cells_dropped cells store) count ≡ account_in store count
+    → seen_in (cells_dropped cells store) count ≡ seen_in store count
 dropped_still [] store count = refl
 dropped_still (cell ∷ cells) store count = dropped_still cells (without_cell cell store) count
 
 -- the values of cells go
 pub emptied_still : (cells : List CellNo) (store : Store) (count : ℕ)
-    → account_in (cells_emptied cells store) count ≡ account_in store count
+    → seen_in (cells_emptied cells store) count ≡ seen_in store count
 emptied_still [] store count = refl
 emptied_still (cell ∷ cells) store count = emptied_still cells (with_stored (cell_place cell) Empty store) count
 
@@ -168,6 +198,14 @@ made_settles content store count right few = subst (λ account. Settled (account
     }) (sym (marks_more store.objects store.objects_made (live content))))
     (made_live (account_in store count) right few)
 
+-- what is said of the objects that are there stays, where one more is made
+pub object_stays : (content : Content) (store : Store) (number : ℕ) (found : Bool × Option ℕ)
+    → numbered number (standings store.objects) ≡ Some found
+    → numbered number (standings (with_object content store).objects) ≡ Some found
+object_stays content store number found is =
+    ap (λ told. numbered number told) (standings_more store.objects ((store.objects_made, live content) ∷ []))
+    ∙ still_there (standings store.objects) (standings ((store.objects_made, live content) ∷ [])) number found is
+
 pub object_settles : (class fields : ℕ) (store : Store) (count : ℕ) → AddsUp (account_in store count)
     → IsTrue (is_ok (new_object_of class fields store))
     → Settled (account_in store count) (account_in (with_new_object class fields store) count)
@@ -200,7 +238,7 @@ ending_marks store number count live =
 
 -- ---- an object has ended
 
-ended_at : (store : Store) (number count : ℕ) (found : Option Object) → numbered number store.objects ≡ found
+pub ended_at : (store : Store) (number count : ℕ) (found : Option Object) → numbered number store.objects ≡ found
     → IsEnding number (account_in store count) → ends_now found ≡ true
 ended_at store number count None is ends = let none = marked_by store.objects number
     ∙ ap (λ o. option_map (λ (object : Object). object.ending) o) is in absurd (cc)

@@ -27,7 +27,7 @@ use Rattle.vb_meaning.specs.Places.{held_so_far}
 use Rattle.vb_meaning.specs.Releases.{release}
 use Rattle.vb_meaning.specs.State.{Does}
 use Rattle.vb_meaning.specs.Statements.{clears_err}
-use Rattle.act_laws.specs.Objects.{account_of}
+use Rattle.act_laws.proofs.Keeping.{told}
 use Rattle.act_laws.proofs.Assigning.{assign_to_fits}
 use Rattle.act_laws.proofs.Calling.{enter_of_fits}
 use Rattle.act_laws.proofs.Expressions.{valued_fits, argument_of_fits, written_or_fits}
@@ -44,11 +44,11 @@ use Rattle.act_laws.proofs.WantlessScopes.{erase_all_wantless}
 
 -- ---- statements
 
--- what an Exit does to Err leaves the account of objects
+-- what an Exit does to Err leaves the account of objects, and the ticks
 left_still : (kind : ExitKind) (world : World)
-    → account_of (if clears_err kind then cleared world else world) ≡ account_of world
+    → told (if clears_err kind then cleared world else world) ≡ told world
 left_still kind world = elim (clears_err kind)
-    as (λ b. account_of (if b then cleared world else world) ≡ account_of world) [
+    as (λ b. told (if b then cleared world else world) ≡ told world) [
       | true ↦ refl
       | false ↦ refl
     ]
@@ -90,11 +90,11 @@ module _ (l : Link) (i : Inners l) where
   executed_fits line StatementKind-F.Declaration = value_fits l Next
   executed_fits line said = whole_fits line (then_fits (world_fits l tick_wantless) (λ done. does_fits said))
 
-  statement_of_fits : (found : Statement) → Same l i (λ E m. executing.statement_of E m found)
+  pub statement_of_fits : (found : Statement) → Same l i (λ E m. executing.statement_of E m found)
   unfolding executing.statement_of
   statement_of_fits found = executed_fits found.line (out-StatementKind found.kind)
 
-refused_fits : (l : Link) (line : ℕ) (said : executing.Said)
+pub refused_fits : (l : Link) (line : ℕ) (said : executing.Said)
     → Fits l (executing.refused line said) (executing.refused line said)
 refused_fits l line StatementKind-F.Declaration = value_fits l Next
 refused_fits l line said =
@@ -119,7 +119,7 @@ pub record Levels (l : Link) (program : Program) (levels : ℕ) : Type 0 where
       → Fits l (meaning.enter l.E l.host program levels owner procedure arguments)
       (meaning.enter l.F l.other program levels owner procedure arguments)
 
-module _ (l : Link) (asks : (member : Member) (arguments : List Value)
+module _ (l : Link) (silent : l.tells → ⊥) (asks : (member : Member) (arguments : List Value)
     → Fits l (ask l.host member arguments) (ask l.other member arguments)) (program : Program) where
   -- the same as what the rules of a construct stand on
   abbrev pub inners : (levels : ℕ) → Levels l program levels → Inners l
@@ -143,6 +143,8 @@ module _ (l : Link) (asks : (member : Member) (arguments : List Value)
     call_fits = known.call;
     statement_fits = known.statement;
     enter_fits = known.enter;
+    same_program = λ noting. absurd (silent noting);
+    enters = λ noting. absurd (silent noting);
     asks = asks;
   }
 

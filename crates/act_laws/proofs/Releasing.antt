@@ -22,6 +22,8 @@ use Rattle.act_laws.proofs.Joined.{Link, Alike, Joined, JoinedTurn, Past, gives,
 use Rattle.act_laws.proofs.Joined.{moved_joined, seeing_joined, value_joined}
 use Rattle.act_laws.proofs.Keeping.{kept_from}
 use Rattle.act_laws.proofs.Linked.{Turns, then_fits, value_fits, error_fits}
+use Rattle.act_laws.proofs.Entered.{release_tells, settle_tells}
+use Rattle.act_laws.proofs.Ticking.{release_spends, settle_spends}
 use Rattle.act_laws.proofs.Turning.{line_joined, terminated_joined}
 
 module _ (l : Link) (i : Inners l) where
@@ -74,6 +76,9 @@ module _ (l : Link) (i : Inners l) where
   settle_fits = record {
     joined = settle_joined;
     keeps = settle_keeps l.F (two i) (λ owner procedure arguments. (i.enter_fits owner procedure arguments).keeps);
+    spends = settle_spends l.F (two i) (λ owner procedure arguments. (i.enter_fits owner procedure arguments).spends);
+    tells = λ noting. settle_tells (l.telling noting) (two i) (i.same_program noting)
+        (λ owner procedure arguments. (i.enter_fits owner procedure arguments).keeps) (i.enters noting);
   }
 
   release_joined : {A : Type 0} (mark : ℕ)
@@ -113,7 +118,14 @@ module _ (l : Link) (i : Inners l) where
 
   pub release_turns : {A : Type 0} (mark : ℕ)
       → Turns {A = A} l (releases.release l.E (one i) mark) (releases.release l.F (two i) mark)
-  release_turns {A} mark = record { joined = release_joined mark; keeps = keeps }
+  release_turns {A} mark = record {
+    joined = release_joined mark;
+    keeps = keeps;
+    spends = release_spends l.F (two i)
+        (λ owner procedure arguments. (i.enter_fits owner procedure arguments).spends) mark;
+    tells = λ noting. release_tells (l.telling noting) (two i) (i.same_program noting)
+        (λ owner procedure arguments. (i.enter_fits owner procedure arguments).keeps) (i.enters noting) mark;
+  }
     where
       keeps : (before : Account) (step : Step (State l.F) A) → Kept account_at before step
           → Kept account_at before (releases.release l.F (two i) mark step)

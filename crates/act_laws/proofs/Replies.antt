@@ -56,14 +56,14 @@ module _ (E : Type 0) where
   same_acts : (host : Host E) (program : Program) (which : Act) (env : E) (replies : List AppReply)
       → ActsAlike (the_same E host (length replies)) (act_of E host program which env replies)
       (act_of (Noting E) (noting host) program which (env, []) replies)
-  same_acts host program which env replies = acts_alike (the_same E host (length replies))
+  same_acts host program which env replies = acts_alike (the_same E host (length replies)) (λ none. none)
       (asks_same E host (length replies)) program which env replies (env, []) replies
       (refl, refl, omega arith)
 
   first_acts : (host : Host E) (program : Program) (which : Act) (env : E) (first more : List AppReply)
       → ActsAlike (the_first E host (length first) more) (act_of E host program which env first)
       (act_of (Noting E) (noting host) program which (env, []) (first ++ more))
-  first_acts host program which env first more = acts_alike (the_first E host (length first) more)
+  first_acts host program which env first more = acts_alike (the_first E host (length first) more) (λ none. none)
       (asks_first E host (length first) more) program which env first (env, []) (first ++ more)
       (refl, refl, omega arith)
 

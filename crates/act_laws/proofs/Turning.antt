@@ -1,5 +1,5 @@
 -- What is made of steps, in two environments side by side: their lines, and what On Error makes of an error.
-use Rattle.std.proofs.Common.{ℕ, List, Bool, true, false, if◌then◌else◌, Option, Some, None}
+use Rattle.std.proofs.Common.{ℕ, List, Bool, true, false, if◌then◌else◌, Option, Some, None, refl}
 use Rattle.vb_value.specs.declared.application.AppCall.{AppCall}
 use Rattle.vb_value.specs.declared.application.AppReply.{AppReply}
 use Rattle.vb_value.specs.declared.value.Value.{Value}
@@ -13,7 +13,9 @@ use Rattle.vb_meaning.specs.State.{State}
 use Rattle.vb_meaning.specs.Statements.{out_of_with, with_subjects}
 use Rattle.vb_meaning.specs.Step.{Step, Returns, Ends}
 use Rattle.act_laws.proofs.Joined.{Link, Alike, gives, ends, gone, Past, JoinedTurn}
-use Rattle.act_laws.proofs.Keeping.{line_keeps, resumed_keeps}
+use Rattle.act_laws.proofs.Keeping.{kept_onward, line_keeps, resumed_keeps}
+use Rattle.act_laws.proofs.Telling.{TellsOn, changed_told, line_tells, resumed_tells}
+use Rattle.act_laws.proofs.Spending.{SpendsOn, line_spends, no_less, resumed_spends, ticks_at}
 use Rattle.act_laws.proofs.Linked.{Turns}
 use Rattle.act_laws.specs.Objects.{Account, Kept, account_at}
 
@@ -45,7 +47,12 @@ line_joined {A} l line = record { alike = alike; goes_on = goes_on }
     alike _ second (gone call s _ past) = gone call s (in_line line second) (goes_on call second past)
 
 pub line_turns : {A : Type 0} (l : Link) (line : ℕ) → Turns {A = A} l (in_line line) (in_line line)
-line_turns l line = record { joined = line_joined l line; keeps = line_keeps account_at line }
+line_turns l line = record {
+  joined = line_joined l line;
+  keeps = line_keeps account_at line;
+  spends = line_spends ticks_at line;
+  tells = λ noting. line_tells (l.telling noting) line;
+}
 
 -- On Error
 resumed_joined : {A : Type 0} (l : Link) (instead : A) → JoinedTurn {A = A} l (resumed instead) (resumed instead)
@@ -97,7 +104,12 @@ resumed_joined {A} l instead = record { alike = alike; goes_on = goes_on }
     alike _ second (gone call s _ past) = gone call s (resumed instead second) (goes_on call second past)
 
 pub resumed_turns : {A : Type 0} (l : Link) (instead : A) → Turns {A = A} l (resumed instead) (resumed instead)
-resumed_turns l instead = record { joined = resumed_joined l instead; keeps = resumed_keeps instead }
+resumed_turns l instead = record {
+  joined = resumed_joined l instead;
+  keeps = resumed_keeps instead;
+  spends = resumed_spends instead;
+  tells = λ noting. resumed_tells (l.telling noting) instead;
+}
 
 -- the end of a terminator
 pub terminated_joined : (l : Link) (object : ℕ) (before : World)
@@ -164,9 +176,21 @@ with_joined {A} l m other subjects = record { alike = alike; goes_on = goes_on }
 
 pub with_turns : {A : Type 0} (l : Link) (m : Inner l.E) (other : Inner l.F) (subjects : List Value)
     → Turns {A = A} l (out_of_with l.E m subjects) (out_of_with l.F other subjects)
-with_turns {A} l m other subjects = record { joined = with_joined l m other subjects; keeps = keeps }
+with_turns {A} l m other subjects =
+    record { joined = with_joined l m other subjects; keeps = keeps; spends = spends; tells = tells }
   where
     keeps : (before : Account) (step : Step (State l.F) A) → Kept account_at before step
         → Kept account_at before (out_of_with l.F other subjects step)
     keeps before (Returns value s) kept = kept
     keeps before (Ends why s) kept = kept
+
+    spends : SpendsOn {A = A} ticks_at (out_of_with l.F other subjects)
+    spends (Returns value s) = no_less (ticks_at s)
+    spends (Ends why s) = no_less (ticks_at s)
+
+    tells : (noting : l.tells) → TellsOn (l.telling noting) {A = A} (out_of_with l.F other subjects)
+    tells noting s (Returns value after) right kept before = changed_told (l.telling noting) s after
+        (with_subjects l.F other subjects after.world) right.adds_up kept.onward refl before
+    tells noting s (Ends why after) right kept before = changed_told (l.telling noting) s after
+        (with_subjects l.F other subjects after.world) right.adds_up
+        (kept_onward {A = A} account_at (account_at s) (Ends why after) kept) refl before

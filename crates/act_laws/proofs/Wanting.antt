@@ -30,6 +30,8 @@ module _ (E : Type 0) (host : Host E) (test : AppCall → Bool)
     both_want = λ env replies other others. ⊥;
     both_lack = λ env replies other others. Unit {0};
     past = λ call other others. IsTrue (test call);
+    tells = ⊥;
+    telling = λ none. absurd none;
   }
 
   heard_alike : (member : Member) (arguments : List Value) (world : World) (replies : List AppReply) (said : Said E)
@@ -76,5 +78,5 @@ pub objects_alone : (E : Type 0) → OnlyObjectsWant E
 objects_alone E host test asked answered program which env replies call =
     passes E host test asked answered (act_of E host program which env replies)
     (act_of E host program which env replies)
-    (acts_alike (beside_itself E host test asked answered) (asks_alike E host test asked answered) program which env
-    replies env replies (refl, refl)) call
+    (acts_alike (beside_itself E host test asked answered) (λ none. none) (asks_alike E host test asked answered)
+    program which env replies env replies (refl, refl)) call

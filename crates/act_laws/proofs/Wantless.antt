@@ -1,11 +1,11 @@
 -- What scripts do to the world alone wants no call, lacks no memory, and keeps the account of objects.
 use Rattle.std.proofs.Common.{ℕ, ◌-◌, nat_lt, pos, Bool, true, false, if◌then◌else◌}
 use Rattle.std.proofs.Common.{Option, Some, None, Result, Ok, Err}
-use Rattle.std.proofs.Common.{◌≡◌, IsTrue, refl, subst, sym, is_ok}
+use Rattle.std.proofs.Common.{◌≡◌, ◌≤◌, IsTrue, refl, subst, sym, ap, ◌∙◌, arith, is_ok}
 use Rattle.vb_value.specs.declared.fault.VbError.{VbError}
 use Rattle.vb_heap.specs.declared.fault.HeapStop.{HeapStop}
 use Rattle.vb_heap.specs.declared.fault.HeapStop.TheVariants as heap
-use Rattle.vb_heap.specs.Store.{Store}
+use Rattle.vb_heap.specs.Store.{Store, numbered}
 use Rattle.vb_value.specs.declared.limit.LimitKind.TheVariants.{Ticks, Depth}
 use Rattle.vb_meaning.specs.declared.cause.Cause.{Cause}
 use Rattle.vb_meaning.specs.declared.cause.Cause.TheVariants as cause
@@ -17,11 +17,16 @@ use Rattle.vb_meaning.specs.Errors.{in_line, tick, too_deep, depth_stop}
 use Rattle.vb_meaning.specs.State.{on_heap, heap_answer, with_frame, with_heap}
 use Rattle.vb_meaning.specs.Step.{Step, Returns, Ends, Run, and_then, ◌>>=◌, pure, given, ends, fails}
 use Rattle.vb_meaning.specs.Stops.{heap_stop}
+use Rattle.act_laws.specs.Entries.{standings}
 use Rattle.act_laws.specs.Objects.{AddsUp, Kept, Settled, account_of}
 use Rattle.act_laws.proofs.Accounts.{onward_still, settled_still}
 use Rattle.act_laws.proofs.Keeping.{Keeps, goes_settled, kept_moved, line_keeps, next_keeps, still_ends}
-use Rattle.act_laws.proofs.Keeping.{still_gives}
-use Rattle.act_laws.proofs.Marks.{account_in}
+use Rattle.act_laws.proofs.Keeping.{still_gives, told}
+use Rattle.act_laws.specs.Ticks.{state_of}
+use Rattle.act_laws.proofs.Spending.{Spends, line_spends, next_spends, no_less, still_spends, ticks_moved, ticks_of}
+use Rattle.act_laws.proofs.Spending.{turned_spends}
+use Rattle.act_laws.proofs.Entering.{Stay}
+use Rattle.act_laws.proofs.Marks.{seen_in}
 use Rattle.act_laws.proofs.Roomy.{IsRoomy}
 
 -- a step that ended for no call, and not because memory ran out
@@ -33,10 +38,13 @@ NoWant (Ends (stop.Limit kind line) s) = Unit {0}
 NoWant (Ends stop.Page s) = Unit {0}
 NoWant (Ends stop.Memory s) = ⊥
 
--- what neither a call nor memory stops, and what keeps the account of objects
+-- what neither a call nor memory stops, what keeps the account of objects and what is said of each, and what gives no
+-- tick back
 pub record Wantless {A : Type 0} (run : Run World A) : Type 0 where
   pub no_want : (world : World) → NoWant (run world)
   pub keeps : Keeps account_of run
+  pub spends : Spends ticks_of run
+  pub stays : (world : World) → Stay world (state_of (run world))
 
 -- one after the other
 pub then_wantless : {A B : Type 0} {first : Run World A} {next : A → Run World B} → Wantless first
@@ -45,8 +53,16 @@ then_wantless {A} {B} {first} {next} one other = record {
   no_want = λ world. go (first world) (one.no_want world);
   keeps = λ world right. next_keeps account_of next (λ value. (other value).keeps) (account_of world) (first world)
       (one.keeps world right);
+  spends = turned_spends ticks_of (λ (step : Step World A). and_then step next) first
+      (next_spends ticks_of next (λ value. (other value).spends)) one.spends;
+  stays = λ world. on (first world) world (one.stays world);
 }
   where
+    on : (step : Step World A) (world : World) → Stay world (state_of step) → Stay world (state_of (and_then step next))
+    on (Returns value after) world stay = λ number found is.
+        (other value).stays after number found (stay number found is)
+    on (Ends why after) world stay = stay
+
     go : (step : Step World A) → NoWant step → NoWant (and_then step next)
     go (Returns value world) none = (other value).no_want world
     go (Ends (stop.Wants call) world) none = none
@@ -56,11 +72,20 @@ then_wantless {A} {B} {first} {next} one other = record {
     go (Ends stop.Memory world) none = none
 
 pub pure_wantless : {A : Type 0} (value : A) → Wantless (pure value)
-pure_wantless value = record { no_want = λ world. tt; keeps = still_gives account_of value }
+pure_wantless value = record {
+  no_want = λ world. tt;
+  keeps = still_gives account_of value;
+  spends = still_spends ticks_of value;
+  stays = λ world number found is. is;
+}
 
 pub error_wantless : {A : Type 0} (what : Cause) (line : Option ℕ) → Wantless {A = A} (ends (stop.Error what line))
-error_wantless {A} what line =
-    record { no_want = λ world. tt; keeps = still_ends A account_of (stop.Error what line) }
+error_wantless {A} what line = record {
+  no_want = λ world. tt;
+  keeps = still_ends A account_of (stop.Error what line);
+  spends = λ world. no_less world.ticks;
+  stays = λ world number found is. is;
+}
 
 pub fails_wantless : {A : Type 0} (error : VbError) → Wantless (fails {A = A} error)
 fails_wantless error = error_wantless (cause.Language error.number) None
@@ -75,21 +100,27 @@ pub seeing_wantless : {A : Type 0} (run : World → Run World A) → ((world : W
 seeing_wantless run each = record {
   no_want = λ world. (each world).no_want world;
   keeps = λ world right. (each world).keeps world right;
+  spends = λ world. (each world).spends world;
+  stays = λ world. (each world).stays world;
 }
 
--- what is done in a changed world, whose account of objects is the same
+-- what is done in a changed world, whose account of objects is the same, and which has the same ticks
 pub changing_wantless : {A : Type 0} (change : World → World)
-    → ((world : World) → account_of (change world) ≡ account_of world) → {run : Run World A} → Wantless run
+    → ((world : World) → told (change world) ≡ told world) → {run : Run World A} → Wantless run
     → Wantless (λ world. run (change world))
 changing_wantless change same {run} one = record {
   no_want = λ world. one.no_want (change world);
-  keeps = λ world right. kept_moved account_of (account_of world) (account_of (change world)) (same world)
-      (run (change world)) (one.keeps (change world)) right;
+  keeps = λ world right. kept_moved account_of (account_of world) (account_of (change world))
+      (ap (λ found. found.0) (same world)) (run (change world)) (one.keeps (change world)) right;
+  spends = λ world. ticks_moved world (change world) (same world) (state_of (run (change world))).ticks
+      (one.spends (change world));
+  stays = λ world number found is. one.stays (change world) number found
+      (ap (λ seen. numbered number seen.2) (same world) ∙ is);
 }
 
--- a value, and a changed world, whose account of objects is the same
+-- a value, and such a changed world
 pub change_wantless : {A : Type 0} (value : A) (change : World → World)
-    → ((world : World) → account_of (change world) ≡ account_of world) → Wantless (λ world. Returns value (change world))
+    → ((world : World) → told (change world) ≡ told world) → Wantless (λ world. Returns value (change world))
 change_wantless value change same = changing_wantless change same (pure_wantless value)
 
 heap_no_want : {A : Type 0} (world changed : World) (found : Result A HeapStop) → IsRoomy found
@@ -106,6 +137,16 @@ heap_keeps world changed (Ok value) right settled = settled refl
 heap_keeps world changed (Err why) right settled =
     goes_settled (heap_stop why) (settled_still (account_of world) right)
 
+heap_spends : {A : Type 0} (world changed : World) → changed.ticks ≡ world.ticks → (found : Result A HeapStop)
+    → (state_of (heap_answer found changed world)).ticks ≤ world.ticks
+heap_spends world changed same (Ok value) = omega (arith, same)
+heap_spends world changed same (Err why) = no_less world.ticks
+
+heap_stays : {A : Type 0} (world changed : World) → Stay world changed → (found : Result A HeapStop)
+    → Stay world (state_of (heap_answer found changed world))
+heap_stays world changed stay (Ok value) = stay
+heap_stays world changed stay (Err why) = λ number found is. is
+
 -- the names of the procedure change
 pub framed_wantless : (change : Frame → Frame) → Wantless (in_frame change)
 framed_wantless change = change_wantless tt (with_frame change) (λ world. refl)
@@ -115,20 +156,24 @@ pub settling_wantless : {A : Type 0} (answer : Store → Result A HeapStop) (cha
     → ((store : Store) → IsRoomy (answer store))
     → ((world : World) → AddsUp (account_of world) → IsTrue (is_ok (answer world.heap))
     → Settled (account_of world) (account_of (with_heap change world)))
-    → Wantless (on_heap answer change)
-settling_wantless answer change roomy settles = record {
+    → ((store : Store) (number : ℕ) (found : Bool × Option ℕ) → numbered number (standings store.objects) ≡ Some found
+    → numbered number (standings (change store).objects) ≡ Some found) → Wantless (on_heap answer change)
+settling_wantless answer change roomy settles stay = record {
   no_want = λ world. heap_no_want world (with_heap change world) (answer world.heap) (roomy world.heap);
   keeps = λ world right. heap_keeps world (with_heap change world) (answer world.heap) right (settles world right);
+  spends = λ world. heap_spends world (with_heap change world) refl (answer world.heap);
+  stays = λ world. heap_stays world (with_heap change world) (stay world.heap) (answer world.heap);
 }
 
--- one that leaves the account of objects
+-- one that leaves the account of objects, and what is said of each
 pub heap_wantless : {A : Type 0} (answer : Store → Result A HeapStop) (change : Store → Store)
     → ((store : Store) → IsRoomy (answer store))
-    → ((store : Store) (count : ℕ) → account_in (change store) count ≡ account_in store count)
+    → ((store : Store) (count : ℕ) → seen_in (change store) count ≡ seen_in store count)
     → Wantless (on_heap answer change)
 heap_wantless answer change roomy same = settling_wantless answer change roomy (λ world right done.
-    subst (λ account. Settled (account_of world) account) (sym (same world.heap world.finished))
+    subst (λ account. Settled (account_of world) account) (sym (ap (λ seen. seen.0) (same world.heap world.finished)))
     (settled_still (account_of world) right))
+    (λ store number found is. ap (λ seen. numbered number seen.1) (same store 0) ∙ is)
 
 -- what is done in a line
 pub line_wantless : {A : Type 0} (line : ℕ) {run : Run World A} → Wantless run
@@ -136,8 +181,14 @@ pub line_wantless : {A : Type 0} (line : ℕ) {run : Run World A} → Wantless r
 line_wantless {A} line {run} one = record {
   no_want = λ world. go (run world) (one.no_want world);
   keeps = λ world right. line_keeps account_of line (account_of world) (run world) (one.keeps world right);
+  spends = turned_spends ticks_of (in_line line) run (line_spends ticks_of line) one.spends;
+  stays = λ world. on (run world) world (one.stays world);
 }
   where
+    on : (step : Step World A) (world : World) → Stay world (state_of step) → Stay world (state_of (in_line line step))
+    on (Returns value after) world stay = stay
+    on (Ends why after) world stay = stay
+
     go : (step : Step World A) → NoWant step → NoWant (in_line line step)
     go (Returns value world) none = tt
     go (Ends (stop.Wants call) world) none = none
@@ -161,6 +212,8 @@ unfolding tick
 tick_wantless = record {
   no_want = λ world. go world (nat_lt 0 world.ticks);
   keeps = λ world right. kept world right (nat_lt 0 world.ticks);
+  spends = λ world. fewer world (nat_lt 0 world.ticks);
+  stays = λ world. still world (nat_lt 0 world.ticks);
 }
   where
     go : (world : World) (left : Bool) → NoWant {S = World} {A = Unit {0}}
@@ -168,6 +221,18 @@ tick_wantless = record {
         else Ends (stop.Limit Ticks None) world)
     go world true = tt
     go world false = tt
+
+    still : (world : World) (left : Bool) → Stay world (state_of {S = World} {A = Unit {0}}
+        (if left then Returns tt (record world { ticks = world.ticks - 1 })
+        else Ends (stop.Limit Ticks None) world))
+    still world true = λ number found is. is
+    still world false = λ number found is. is
+
+    fewer : (world : World) (left : Bool) → ticks_of (state_of {S = World} {A = Unit {0}}
+        (if left then Returns tt (record world { ticks = world.ticks - 1 })
+        else Ends (stop.Limit Ticks None) world)) ≤ world.ticks
+    fewer world true = omega arith
+    fewer world false = no_less world.ticks
 
     kept : (world : World) → AddsUp (account_of world) → (left : Bool) → Kept {S = World} {A = Unit {0}} account_of
         (account_of world) (if left then Returns tt (record world { ticks = world.ticks - 1 })
@@ -179,6 +244,8 @@ pub deep_wantless : {A : Type 0} → Wantless (too_deep {A = A})
 deep_wantless {A} = record {
   no_want = λ world. go world world.terminates;
   keeps = λ world right. goes_settled (depth_stop world) (settled_still (account_of world) right);
+  spends = λ world. no_less world.ticks;
+  stays = λ world number found is. is;
 }
   where
     go : (world : World) (terminates : Bool) → NoWant {S = World} {A = A}

@@ -27,7 +27,9 @@ use Rattle.vb_heap.specs.declared.place.CellNo.{CellNo}
 use Rattle.vb_heap.specs.declared.place.Place.{Place}
 use Rattle.vb_heap.specs.Cells.{store_of, with_stored}
 use Rattle.vb_heap.specs.Entries.{new_table_of, with_new_table}
-use Rattle.vb_heap.specs.Objects.{field_of, new_object_of, with_new_object}
+use Rattle.vb_heap.specs.declared.object.Content.TheVariants.{Entries, Fields}
+use Rattle.vb_heap.specs.Dictionary.{no_entries}
+use Rattle.vb_heap.specs.Objects.{cells_from, field_of, new_object_of, with_fields, with_new_object}
 use Rattle.vb_heap.specs.Store.{numbered}
 use Rattle.vb_meaning.specs.declared.range.Range.{Range}
 use Rattle.vb_meaning.specs.declared.reached.Argument.{Argument}
@@ -51,7 +53,7 @@ use Rattle.act_laws.proofs.Wantless.{Wantless, then_wantless, pure_wantless, fai
 use Rattle.act_laws.proofs.Wantless.{seeing_wantless, heap_wantless, choice_wantless, line_wantless}
 use Rattle.act_laws.proofs.Wantless.{changing_wantless, framed_wantless, settling_wantless}
 use Rattle.act_laws.proofs.Roomy.{object_roomy, store_roomy, table_roomy}
-use Rattle.act_laws.proofs.Marks.{object_settles, table_settles}
+use Rattle.act_laws.proofs.Marks.{object_settles, object_stays, table_settles}
 use Rattle.act_laws.proofs.WantlessPlaces.{new_cell_wantless, hold_wantless, variable_wantless}
 use Rattle.act_laws.proofs.WantlessPlaces.{target_wantless, held_wantless, read_wantless, store_wantless}
 
@@ -135,7 +137,8 @@ result_wantless None = pure_wantless Empty
 created_wantless : (name : List ℕ) → Wantless (created name)
 created_wantless name = choice_wantless (same_name (codes "scripting.dictionary") name)
     (then_wantless (settling_wantless new_table_of with_new_table table_roomy (λ world right fitting.
-    table_settles world.heap world.finished right fitting)) (λ object. pure_wantless (Obj object)))
+    table_settles world.heap world.finished right fitting) (object_stays (Entries no_entries)))
+    (λ object. pure_wantless (Obj object)))
     (fails_wantless cannot_create_object)
 
 pub create_object_wantless : (arguments : List Value) → Wantless (create_object arguments)
@@ -161,7 +164,7 @@ field_made_wantless object field (Some array) = line_wantless array.line
     (store_roomy (cell_place cell) value) (λ store count. refl))))
 field_made_wantless object field None = pure_wantless tt
 
-fields_made_wantless : (object : ObjNo) (number : ℕ) (fields : List Field)
+pub fields_made_wantless : (object : ObjNo) (number : ℕ) (fields : List Field)
     → Wantless (making.fields_made object number fields)
 fields_made_wantless object number [] = pure_wantless tt
 fields_made_wantless object number (field ∷ fields) =
@@ -174,7 +177,9 @@ pub object_made_wantless : (number : ℕ) (fields : List Field) → Wantless (
 object_made_wantless number fields =
     then_wantless (settling_wantless (new_object_of number (length fields)) (with_new_object number (length fields))
     (object_roomy number (length fields)) (λ world right fitting.
-    object_settles number (length fields) world.heap world.finished right fitting))
+    object_settles number (length fields) world.heap world.finished right fitting) (λ store.
+    object_stays (Fields number (cells_from store.cells_made (length fields)))
+    (with_fields (cells_from store.cells_made (length fields)) (length fields) store)))
     (λ object. then_wantless (then_wantless (hold_wantless (Obj object)) (λ done. fields_made_wantless object 0 fields))
     (λ done. pure_wantless object))
 

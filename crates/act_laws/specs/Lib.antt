@@ -1,4 +1,7 @@
 pub mod Calls
 pub mod Objects
 pub mod Terminators
+pub mod Ticks
+pub mod Entries
+pub mod Numbers
 pub mod Laws

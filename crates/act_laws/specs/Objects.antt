@@ -72,10 +72,11 @@ pub record AddsUp (account : Account) : Type 0 where
   pub count : account.finished + length account.objects ≡ account.made
   pub most : account.made ≤ most_objects
 
--- From an account to a later one: it adds up again, an object whose terminator has begun is not live again, and one
--- that has ended does not come back.
+-- From an account to a later one: it adds up again, as many objects were made or more, an object whose terminator has
+-- begun is not live again, and one that has ended does not come back.
 pub record Onward (before after : Account) : Type 0 where
   pub adds_up : AddsUp after
+  pub made : before.made ≤ after.made
   pub finished : before.finished ≤ after.finished
   pub begun : (number : ℕ) → HasBegun number before → HasBegun number after
   pub ended : (number : ℕ) → HasEnded number before → HasEnded number after

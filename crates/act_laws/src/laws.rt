@@ -1,8 +1,10 @@
 //! Laws of an act, of the replies that it is given, and of the objects that it makes. The functions do nothing: their
 //! contracts are the laws.
-ghost use Rattle.act_laws.specs.Laws.{CallsInOrder, CallsStay, NotesChangeNothing, ObjectsEnd};
-ghost use Rattle.act_laws.specs.Laws.{OnlyAskingChanges, OnlyObjectsLack, OnlyObjectsWant};
+ghost use Rattle.act_laws.specs.Laws.{CallsInOrder, CallsStay, EntriesChangeNothing, NewNumbersAreFree};
+ghost use Rattle.act_laws.specs.Laws.{NoneEnteredTwice, NotesChangeNothing, ObjectsEnd, TerminatorsAreEntered};
+ghost use Rattle.act_laws.specs.Laws.{OneTextIsWritten, OnlyAskingChanges, OnlyObjectsLack, OnlyObjectsWant};
 ghost use Rattle.act_laws.specs.Laws.{ReleasePointsSettle, RepliesBeyond, TerminatorsRunOnce};
+ghost use Rattle.act_laws.specs.Laws.{TicksNeverComeBack};
 
 /// An act that has ended takes no account of more replies.
 pub fn replies_beyond<E>()
@@ -50,7 +52,42 @@ pub fn terminators_run_once<E>()
 {}
 
 /// A release point where each live object has a reference does nothing, and neither does a second one right behind the
-/// first.
+/// first. Where a live object has none, the oldest such ends, and behind its terminator stands a release point again.
+/// A release point leaves Err.
 pub fn release_points_settle<E>()
     ensures { ReleasePointsSettle E }
+{}
+
+/// No step of an act gives a tick back: behind each expression, argument, assignment, call, statement, procedure,
+/// terminator and release point, and behind the act and the page's end, no more ticks are left than before it.
+pub fn ticks_never_come_back<E>()
+    ensures { TicksNeverComeBack E }
+{}
+
+/// A page that is one text asks Response.Write once, with that text, and ends. Where that gives a value, no object was
+/// made, and the objects of the page are as Response.Write left them.
+pub fn one_text_is_written<E>()
+    ensures { OneTextIsWritten E }
+{}
+
+/// That the terminators which are entered are noted changes nothing of an act.
+pub fn entries_change_nothing<E>()
+    ensures { EntriesChangeNothing E }
+{}
+
+/// A terminator is entered once for each object whose class has one, when the object begins to end, and so in that
+/// order: whatever is done, a live object that has begun to end behind it has had the terminator of its class entered,
+/// and no other object has.
+pub fn terminators_are_entered<E>()
+    ensures { TerminatorsAreEntered E }
+{}
+
+/// Of each object, what an act enters as its terminator is that of a class, once, or nothing.
+pub fn none_entered_twice<E>()
+    ensures { NoneEnteredTwice E }
+{}
+
+/// What New and CreateObject give is an object with a number that no object had before it.
+pub fn new_numbers_are_free<E>()
+    ensures { NewNumbersAreFree E }
 {}

@@ -1,6 +1,7 @@
 -- Entries of dictionaries, and the keys under which they stand.
-use Rattle.std.proofs.Common.{ℕ, zero, suc, ◌+◌, ◌<◌, ◌≡◌, ◌≢◌, ◌∙◌, nat_lt, Bool, true, false, if◌then◌else◌, cond, not}
-use Rattle.std.proofs.Common.{ℤ, pos, List, [], ◌∷◌, ◌++◌, length, map, slice_get, slice_set, option_map, Option, Some, None}
+use Rattle.std.proofs.Common.{ℕ, zero, suc, ◌+◌, ◌≡◌, ◌∙◌, nat_lt, Bool, true, false, if◌then◌else◌, cond}
+use Rattle.std.proofs.Common.{ℤ, pos, List, [], ◌∷◌, ◌++◌, length, map, slice_get, slice_set, option_map, Option, Some}
+use Rattle.std.proofs.Common.{None}
 use Rattle.std.proofs.Common.{Result, Ok, Err, refl, sym, ap, arith}
 use Rattle.std.specs.Prelude.{remove}
 use Rattle.std.specs.Cmp.{int_eq_equiv}
@@ -14,9 +15,9 @@ use Rattle.vb_value.specs.declared.value.ObjNo.{ObjNo}
 use Rattle.vb_value.specs.declared.value.Value.{Value}
 use Rattle.vb_heap.specs.declared.key.Key.{Key}
 use Rattle.vb_heap.specs.declared.key.Key.TheVariants.{Number, Text}
-use Rattle.vb_heap.specs.Dictionary.{Dictionary, KeysDiffer, entry_of}
+use Rattle.vb_heap.specs.Dictionary.{Dictionary, entry_of}
 use Rattle.vb_heap.specs.DictionaryCalls.{array_of, count_of, items_of, keys_of}
-use Rattle.vb_heap.specs.Entries.{dictionary_of, entry_added, entry_dropped, item_set}
+use Rattle.vb_heap.specs.Entries.{dictionary_of, entry_added, item_set}
 use Rattle.vb_heap.specs.Keys.{key_of, same, says}
 use Rattle.vb_heap.specs.Store.{Store}
 use Rattle.heap_laws.specs.Dictionaries.{AddedIsLast, CountsAgree, KeysStayInOrder, OthersStayAbsent, OthersStayAdded}

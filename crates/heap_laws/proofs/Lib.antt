@@ -8,3 +8,5 @@ pub mod Made
 pub mod Entries
 pub mod Keys
 pub mod Moves
+pub mod Items
+pub mod NewCells

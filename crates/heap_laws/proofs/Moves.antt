@@ -1,11 +1,11 @@
 -- How references to objects come and go.
-use Rattle.std.proofs.Common.{ℕ, zero, suc, ◌+◌, ◌≡◌, ◌∙◌, Bool, true, false, if◌then◌else◌, cond, ℤ, List, [], ◌∷◌, ◌++◌}
-use Rattle.std.proofs.Common.{drop, take, sum_by, get_or, slice_get, slice_set, Option, Some, None, Result, Ok, Err}
+use Rattle.std.proofs.Common.{ℕ, ◌+◌, ◌≡◌, ◌∙◌, ℤ, List, [], ◌∷◌}
+use Rattle.std.proofs.Common.{◌++◌}
+use Rattle.std.proofs.Common.{drop, take, sum_by, get_or, slice_get, slice_set, Option, Some, None, Ok}
 use Rattle.std.proofs.Common.{refl, sym, ap, inl, inr, arith}
 use Rattle.std.proofs.lemmas.List.{take-append-drop}
 use Rattle.std.proofs.lemmas.List.Sums.{sum_by-append, sum_by-cons, sum_by-set}
 use Rattle.std.proofs.lemmas.Option.{get_or_from_slice_get, slice_get_cases}
-use Rattle.std.specs.List.{flat_map}
 use Rattle.std.specs.Map.{values_of}
 use Rattle.std.specs.Option.{option_map_or}
 use Rattle.vb_value.specs.declared.value.Array.{Array}
@@ -17,7 +17,7 @@ use Rattle.vb_heap.specs.declared.object.Content.TheVariants.{Entries, Fields}
 use Rattle.vb_heap.specs.declared.object.Object.{Object}
 use Rattle.vb_heap.specs.declared.place.CellNo.{CellNo}
 use Rattle.vb_heap.specs.declared.place.Place.{Place}
-use Rattle.vb_heap.specs.Cells.{read_of, value_there, with_new_cell, with_stored, without_cell}
+use Rattle.vb_heap.specs.Cells.{value_there, with_new_cell, with_stored, without_cell}
 use Rattle.vb_heap.specs.Counts.{count_of}
 use Rattle.vb_heap.specs.Dictionary.{no_entries}
 use Rattle.vb_heap.specs.Entries.{with_new_table}
@@ -26,23 +26,23 @@ use Rattle.vb_heap.specs.Objects.{cells_from, empty_cells, live, with_new_object
 use Rattle.vb_heap.specs.Places.{array_changed, in_range, item_at, item_changed, item_of, items_changed, position}
 use Rattle.vb_heap.specs.Places.{value_in, with_value}
 use Rattle.vb_heap.specs.References.{object_references, references, references_to}
-use Rattle.vb_heap.specs.Store.{Store, is_number, numbered, replaced, without}
+use Rattle.vb_heap.specs.Store.{Store, numbered, replaced, without}
 use Rattle.vb_heap.proofs.Numbered.{values_both}
 use Rattle.vb_heap.proofs.ValueReferences.{references_arr}
 use Rattle.heap_laws.specs.Moves.{DroppedCellRefers, HeldRefers, LetGoRefers, NewCellRefers, NewObjectRefers}
 use Rattle.heap_laws.specs.Moves.{NewTableRefers, StoredRefers, times_in}
 use Rattle.heap_laws.proofs.Made.{others_refer}
-use Rattle.heap_laws.proofs.Sums.{add_up, count_both, counted}
+use Rattle.heap_laws.proofs.Sums.{add_up, count_both, counted, replaced_total, without_total}
 
 -- ---- the parts of all references
 
-abbrev in_cells : ℕ → List (ℕ × Value) → ℕ
+abbrev pub in_cells : ℕ → List (ℕ × Value) → ℕ
 in_cells object cells = sum_by (λ value. count_of object (references value)) (values_of cells)
 
-abbrev in_objects : ℕ → List (ℕ × Object) → ℕ
+abbrev pub in_objects : ℕ → List (ℕ × Object) → ℕ
 in_objects object objects = sum_by (λ thing. count_of object (object_references thing)) (values_of objects)
 
-parts : (object : ℕ) (store : Store) → references_to object store
+pub parts : (object : ℕ) (store : Store) → references_to object store
     ≡ in_cells object store.cells + in_objects object store.objects + count_of object store.held
 parts object store = add_up object store
 
@@ -76,31 +76,9 @@ new_cell_refers object value store =
     let one = one_cell object store.cells_made value in
     omega arith
 
-without_one : (object number : ℕ) (value : Value) (cells : List (ℕ × Value)) → numbered number cells ≡ Some value
+pub without_one : (object number : ℕ) (value : Value) (cells : List (ℕ × Value)) → numbered number cells ≡ Some value
     → in_cells object (without number cells) + times_in object value ≡ in_cells object cells
-without_one object number value [] is = absurd (cc)
-without_one object number value (first ∷ others) is =
-    by (is_number number first.0) refl is (without_one object number value others)
-  where
-    whole : in_cells object (first ∷ others) ≡ times_in object first.1 + in_cells object others
-    whole = sum_by-cons (λ found. count_of object (references found)) first.1 (values_of others)
-
-    by : (here : Bool) → is_number number first.0 ≡ here
-        → (if here then Some first.1 else numbered number others) ≡ Some value
-        → (numbered number others ≡ Some value
-        → in_cells object (without number others) + times_in object value ≡ in_cells object others)
-        → in_cells object (without number (first ∷ others)) + times_in object value ≡ in_cells object (first ∷ others)
-    by true same found deeper =
-        let one : first.1 ≡ value = cc in
-        let times : times_in object first.1 ≡ times_in object value = ap (times_in object) one in
-        let all = whole in
-        rw same (omega arith)
-    by false other found deeper =
-        let rest = deeper found in
-        let all = whole in
-        let less = sum_by-cons (λ found. count_of object (references found)) first.1
-        (values_of (without number others)) in
-        rw other (omega arith)
+without_one object number value cells is = without_total (times_in object) number value cells is
 
 pub dropped_cell_refers : DroppedCellRefers
 dropped_cell_refers object cell value store is =
@@ -232,32 +210,7 @@ value_moves object steps new value old is = exact object steps new value old is
 replaced_one : (object number : ℕ) (old new : Value) (cells : List (ℕ × Value)) → numbered number cells ≡ Some old
     → in_cells object (replaced number new cells) + times_in object old
     ≡ in_cells object cells + times_in object new
-replaced_one object number old new [] is = absurd (cc)
-replaced_one object number old new (first ∷ others) is =
-    by (is_number number first.0) refl is (replaced_one object number old new others)
-  where
-    whole : in_cells object (first ∷ others) ≡ times_in object first.1 + in_cells object others
-    whole = sum_by-cons (λ found. count_of object (references found)) first.1 (values_of others)
-
-    by : (here : Bool) → is_number number first.0 ≡ here
-        → (if here then Some first.1 else numbered number others) ≡ Some old
-        → (numbered number others ≡ Some old
-        → in_cells object (replaced number new others) + times_in object old
-        ≡ in_cells object others + times_in object new)
-        → in_cells object (replaced number new (first ∷ others)) + times_in object old
-        ≡ in_cells object (first ∷ others) + times_in object new
-    by true same found deeper =
-        let one : first.1 ≡ old = cc in
-        let times : times_in object first.1 ≡ times_in object old = ap (times_in object) one in
-        let all = whole in
-        let after = sum_by-cons (λ found. count_of object (references found)) new (values_of others) in
-        rw same (omega arith)
-    by false other found deeper =
-        let rest = deeper found in
-        let all = whole in
-        let after = sum_by-cons (λ found. count_of object (references found)) first.1
-        (values_of (replaced number new others)) in
-        rw other (omega arith)
+replaced_one object number old new cells is = replaced_total (times_in object) number old new cells is
 
 stored_in : (object : ℕ) (place : Place) (new old : Value) (store : Store) (found : Option Value)
     → numbered place.cell.0 store.cells ≡ found → and_then (value_there found) (value_in place.steps) ≡ Ok old

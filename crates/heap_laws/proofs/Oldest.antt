@@ -1,15 +1,16 @@
 -- The oldest of some things by their numbers that passes a test.
-use Rattle.std.proofs.Common.{ℕ, ◌≡◌, ◌≢◌, ◌<◌, Bool, true, false, not, ◌&&◌, ◌==◌, if◌then◌else◌, List, [], ◌∷◌, ◌++◌}
-use Rattle.std.proofs.Common.{Option, Some, None, refl, sym, ap, ◌∙◌, arith, subst}
+use Rattle.std.proofs.Common.{ℕ, ◌≡◌, ◌≢◌, ◌<◌, Bool, true, false, not, ◌&&◌, ◌==◌, if◌then◌else◌, List, [], ◌∷◌}
+use Rattle.std.proofs.Common.{Some, None, refl, sym, ap, ◌∙◌, arith}
 use Rattle.std.proofs.lemmas.Bool.Decides.{nat_tests}
 use Rattle.std.specs.Cmp.{nat_cmp_is}
 use Rattle.std.specs.Ordering.{is_eq, nat_cmp}
 use Rattle.std.specs.declared.cmp.Ordering.TheVariants.{Equal}
 use Rattle.vb_heap.specs.declared.object.Object.{Object}
 use Rattle.vb_heap.specs.References.{references_to}
-use Rattle.vb_heap.specs.Releases.{is_loose, oldest, oldest_live, oldest_loose}
-use Rattle.vb_heap.specs.Store.{Store, is_number, numbered}
-use Rattle.heap_laws.specs.Objects.{EachAbove, EndedIsLoose, InOrder, LastIsOldest, NoneIsLive, NoneIsLoose, OlderAreHeld}
+use Rattle.vb_heap.specs.Releases.{is_loose, oldest}
+use Rattle.vb_heap.specs.Store.{is_number, numbered}
+use Rattle.heap_laws.specs.Objects.{EachAbove, EndedIsLoose, InOrder, LastIsOldest, NoneIsLive, NoneIsLoose}
+use Rattle.heap_laws.specs.Objects.{OlderAreHeld}
 use Rattle.heap_laws.proofs.Cells.{differ, one}
 
 itself : (number : ℕ) → is_number number number ≡ true

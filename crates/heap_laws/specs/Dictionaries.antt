@@ -1,5 +1,6 @@
 -- Laws of dictionaries (Scripting.Dictionary).
-use Rattle.std.specs.Prelude.{ℕ, ◌≡◌, ◌≢◌, true, false, ℤ, pos, List, [], ◌∷◌, ◌++◌, length, map, remove, slice_get, Some, None}
+use Rattle.std.specs.Prelude.{ℕ, ◌≡◌, true, false, ℤ, pos, List, [], ◌∷◌, ◌++◌, length, map, remove, slice_get}
+use Rattle.std.specs.Prelude.{Some, None}
 use Rattle.std.specs.Prelude.{Ok}
 use Rattle.vb_value.specs.declared.session.Pair.{Pair}
 use Rattle.vb_value.specs.declared.value.ObjNo.{ObjNo}

@@ -1,5 +1,5 @@
 -- Laws of the objects of a page: which has no reference, what a value refers to, and which numbers are new.
-use Rattle.std.specs.Prelude.{ℕ, ◌+◌, ◌<◌, ◌≡◌, ◌≢◌, false, Bool, ℤ, List, [], ◌∷◌, Some, None}
+use Rattle.std.specs.Prelude.{ℕ, ◌+◌, ◌<◌, ◌≤◌, ◌≡◌, ◌≢◌, false, Bool, ℤ, List, [], ◌∷◌, Some, None, Ok}
 use Rattle.std.specs.List.{flat_map}
 use Rattle.vb_value.specs.declared.value.Array.{Array}
 use Rattle.vb_value.specs.declared.value.ObjNo.{ObjNo}
@@ -8,7 +8,9 @@ use Rattle.vb_value.specs.declared.value.Value.TheViews.{Arr}
 use Rattle.vb_heap.specs.declared.object.Object.{Object}
 use Rattle.vb_heap.specs.Below.{EachBelow}
 use Rattle.vb_heap.specs.Entries.{with_new_table}
-use Rattle.vb_heap.specs.Objects.{with_new_object}
+use Rattle.vb_heap.specs.declared.place.CellNo.{CellNo}
+use Rattle.vb_heap.specs.Cells.{new_cell_of, with_new_cell}
+use Rattle.vb_heap.specs.Objects.{field_in, with_new_object}
 use Rattle.vb_heap.specs.References.{references, references_to}
 use Rattle.vb_heap.specs.Releases.{oldest_live, oldest_loose}
 use Rattle.vb_heap.specs.Store.{Store, numbered}
@@ -77,8 +79,8 @@ pub record OthersReferToNone : Type 0 where
 
 -- ---- new objects
 
--- The number that a new object of a class or a new dictionary gets is one that no object has, where the objects that are
--- there have numbers of made ones. So have those that are there then, and they stand in order.
+-- The number that a new object of a class or a new dictionary gets is one that no object has, where the objects that
+-- are there have numbers of made ones. So have those that are there then, and they stand in order.
 pub record IsNew (store after : Store) : Type 0 where
   pub free : numbered store.objects_made store.objects ≡ None
   pub made : after.objects_made ≡ store.objects_made + 1
@@ -88,3 +90,19 @@ pub record IsNew (store after : Store) : Type 0 where
 abbrev pub NumbersAreNew : Type 0
 NumbersAreNew = (store : Store) → EachBelow store.objects_made store.objects → InOrder store.objects
     → ((class fields : ℕ) → IsNew store (with_new_object class fields store)) × IsNew store (with_new_table store)
+
+-- ---- cells
+
+-- The cell of a new variable has the number that the next cell is to have, and so has the first field of a new object,
+-- the others those behind it, one for one. From then on the next number is greater by as many. No cell that is there
+-- has a number from the next on, where those that are there have numbers of made ones.
+pub record CellsAreNew : Type 0 where
+  pub free : (store : Store) (number : ℕ) → EachBelow store.cells_made store.cells → store.cells_made ≤ number
+      → numbered number store.cells ≡ None
+  pub variable : (value : Value) (store : Store) (cell : CellNo) → new_cell_of value store ≡ Ok cell
+      → (cell.0 ≡ store.cells_made) × ((with_new_cell value store).cells_made ≡ store.cells_made + 1)
+  pub field : (class fields field : ℕ) (store : Store) (thing : Object) (cell : CellNo)
+      → numbered store.objects_made (with_new_object class fields store).objects ≡ Some thing
+      → numbered store.objects_made store.objects ≡ None
+      → field_in field thing.content ≡ Ok cell
+      → (cell.0 ≡ store.cells_made + field) × (cell.0 < (with_new_object class fields store).cells_made)

@@ -1,9 +1,11 @@
 //! Laws of the data of a page. The functions do nothing: their contracts are the laws.
 ghost use Rattle.heap_laws.specs.Laws.{OthersStay, ReferencesAddUp, StoredIsRead};
 ghost use Rattle.heap_laws.specs.Moves.{DroppedCellRefers, HeldRefers, LetGoRefers, NewCellRefers, NewObjectRefers};
-ghost use Rattle.heap_laws.specs.Moves.{NewTableRefers, StoredRefers};
-ghost use Rattle.heap_laws.specs.Objects.{ArrayRefersByItems, EndedIsLoose, LastIsOldest, NoneIsLive, NoneIsLoose};
-ghost use Rattle.heap_laws.specs.Objects.{NumbersAreNew, ObjectRefersToItself, OlderAreHeld, OthersReferToNone};
+ghost use Rattle.heap_laws.specs.Moves.{AddedItemRefers, DroppedItemRefers, DroppedItemsRefer, EndedObjectRefers};
+ghost use Rattle.heap_laws.specs.Moves.{EndedTableRefers, NewTableRefers, SetItemRefers, StoredRefers};
+ghost use Rattle.heap_laws.specs.Objects.{ArrayRefersByItems, CellsAreNew, EndedIsLoose, LastIsOldest, NoneIsLive};
+ghost use Rattle.heap_laws.specs.Objects.{NoneIsLoose, NumbersAreNew, ObjectRefersToItself, OlderAreHeld};
+ghost use Rattle.heap_laws.specs.Objects.{OthersReferToNone};
 
 /// What is stored at a place is read there.
 pub fn stored_is_read()
@@ -21,8 +23,8 @@ pub fn references_add_up()
     ensures { ReferencesAddUp }
 {}
 
-/// An object that a release point ends has no reference, and each live object of a smaller number has one. Where it ends
-/// none, each live object has one.
+/// An object that a release point ends has no reference, and each live object of a smaller number has one. Where it
+/// ends none, each live object has one.
 pub fn loose_objects_end()
     ensures ended { EndedIsLoose }
     ensures older { OlderAreHeld }
@@ -56,4 +58,24 @@ pub fn references_move()
     ensures let_go { LetGoRefers }
     ensures new_object { NewObjectRefers }
     ensures new_table { NewTableRefers }
+{}
+
+/// The same of the entries of a dictionary: an item that comes brings its references, and one that goes takes them.
+pub fn item_references_move()
+    ensures added { AddedItemRefers }
+    ensures set { SetItemRefers }
+    ensures dropped { DroppedItemRefers }
+    ensures emptied { DroppedItemsRefer }
+{}
+
+/// The same of an object that ends: a dictionary takes the references of its items with it, an object of a class those
+/// of its fields.
+pub fn ended_references_go()
+    ensures table { EndedTableRefers }
+    ensures object { EndedObjectRefers }
+{}
+
+/// A new variable, and each field of a new object, has a cell of its own, which was none before it.
+pub fn cells_are_new()
+    ensures { CellsAreNew }
 {}
