@@ -33,7 +33,7 @@ entries_same : (m : Rules) (past : List Entry) (lane : ℕ) (job : Job)
 entries_same m past lane job =
     let tick = tick_entries m past lane job.moment in
     ap (λ (sessions : ℕ → Option SessionState). tick ++ drawn_by m sessions (past_after past tick) lane job ∷ [])
-    (sym (quiet_tick m past lane job.moment))
+    (sym (quiet_tick m past lane job.moment).sessions)
 
 job_waits : (m : Rules) (past : List Entry) (job : Job) → unfinished (with_job m past job) ≡ unfinished past
 job_waits m past job =
