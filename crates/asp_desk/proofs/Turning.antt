@@ -1,0 +1,78 @@
+-- A call of the core in a turn is one turn of the lane, and leaves a hand of the host.
+use Rattle.std.proofs.Common.{◌≡◌, ℕ, List, refl, ap, sym, ◌∙◌, subst, reverse, Option, Some, IfSome}
+use Rattle.turn_desk.specs.Histories.{GrowsBy, own_part}
+use Rattle.turn_desk.specs.Shown.{IsLaneOf, LaneFits, LaneView, TurnView}
+use Rattle.asp_job.specs.declared.entry.Entry.{Entry}
+use Rattle.asp_job.specs.Journal.{IsValidJournal}
+use Rattle.asp_job.specs.Rules.{Rules}
+use Rattle.asp_job.specs.Told.{Meaning, Told}
+use Rattle.asp_core.specs.Kernel.{CoreView, RunView, rules_of}
+use Rattle.asp_desk.specs.Calls.{AddsEvents, IsTurn}
+use Rattle.asp_desk.specs.Hands.{Fixed, HandView, Holds, HostView, IsHandOf, IsSameHouse, IsUnderWay, core_at, fixed_of}
+use Rattle.asp_desk.specs.Hands.{rules_at}
+use Rattle.asp_desk.proofs.Holding.{core_is, holds_after}
+
+-- what stays the same of a core stays the host's
+pub fixed_is : {R Site : Type 0} (host : HostView R Site) (seen : List Entry) (core : CoreView R Site)
+    (fixed : Option (Fixed R Site)) → IsSameHouse (core_at host seen) core
+    → host.desk.fixed ≡ fixed_of host.runner host.site host.setting → fixed ≡ Some host.desk.fixed
+    → Some (fixed_of core.runner core.site core.setting) ≡ fixed
+fixed_is host seen core fixed same known is =
+    let runner = same.runner in let site = same.site in let setting = same.setting in cc
+
+-- a core of the same house with this journal
+pub core_next : {R Site : Type 0} (host : HostView R Site) (seen after : List Entry) (core : CoreView R Site)
+    → IsSameHouse (core_at host seen) core → after ≡ core.journal → core ≡ core_at host after
+core_next host seen after core same is = core_is host core after (sym is) same.runner same.site same.setting
+
+module _ {R Site S : Type 0} (meaning : R → Site → Meaning) (host : HostView R Site)
+    (old new : LaneView Entry (Fixed R Site)) (turn : TurnView S Entry (Fixed R Site)) (core next : CoreView R Site)
+    (number : ℕ) where
+  -- the call does in the turn what it does to the core
+  pub one_turn : {A : Type 0} (does : Rules → ℕ → List Entry → A → List Entry → Type 0) (answer : A)
+      → core ≡ core_at host turn.seen → (number ≡ old.number) × (turn.number ≡ old.number)
+      → (turn.desk ≡ old.desk) × (turn.fixed ≡ old.fixed) → LaneFits (λ (entry : Entry). entry.lane) turn.seen old
+      → does (rules_of meaning core) number core.journal answer next.journal
+      → GrowsBy (λ (entry : Entry). entry.lane) number core.journal next.journal → new.seen ≡ next.journal
+      → new.own ≡ own_part (λ (entry : Entry). entry.lane) turn.number next.journal
+      → (new.desk ≡ turn.desk) × (new.number ≡ turn.number) × (new.fixed ≡ turn.fixed)
+      → IsTurn (does (rules_at meaning host) old.number) old answer new
+  one_turn does answer found numbers lane fits done grows seen_is own same = record {
+    before = turn.seen;
+    fits = fits;
+    done = subst (λ after. does (rules_at meaning host) old.number turn.seen answer after) (sym seen_is)
+        (subst (λ n. does (rules_at meaning host) n turn.seen answer next.journal) numbers.0
+        (subst (λ c. does (rules_of meaning c) number c.journal answer next.journal) found done));
+    grows = subst (λ after. GrowsBy (λ (entry : Entry). entry.lane) old.number turn.seen after) (sym seen_is)
+        (subst (λ n. GrowsBy (λ (entry : Entry). entry.lane) n turn.seen next.journal) numbers.0
+        (subst (λ (c : CoreView R Site). GrowsBy (λ (entry : Entry). entry.lane) number c.journal next.journal) found
+        grows));
+    own = own ∙ ap (λ n. own_part (λ (entry : Entry). entry.lane) n next.journal) numbers.1
+        ∙ ap (λ xs. own_part (λ (entry : Entry). entry.lane) old.number xs) (sym seen_is);
+    lane = (same.0 ∙ lane.0, same.1 ∙ numbers.1, same.2 ∙ lane.1);
+  }
+
+module _ {R Site State : Type 0} (meaning : R → Site → Meaning) (stands : R → Site → State → Told → ℕ → Type 0)
+    (host : HostView R Site) (hand : HandView Entry (Fixed R Site) (RunView State)) where
+  -- a lane that has seen this journal and holds what it holds there
+  pub hand_is : (core : CoreView R Site) (number : ℕ) (held : Option (RunView State)) → IsLaneOf host.desk hand.lane
+      → core ≡ core_at host hand.lane.seen → hand.lane.number ≡ number → hand.run ≡ held
+      → Holds meaning stands core number held → IfSome held (λ run. IsUnderWay run.progress)
+      → IsHandOf meaning stands host hand
+  hand_is core number held lane found number_is run_is holds rests = (
+    lane,
+    subst (λ run. Holds meaning stands (core_at host hand.lane.seen) hand.lane.number run) (sym run_is)
+        (subst (λ n. Holds meaning stands (core_at host hand.lane.seen) n held) (sym number_is)
+        (subst (λ c. Holds meaning stands c number held) found holds)),
+    subst (λ run. IfSome run (λ (one : RunView State). IsUnderWay one.progress)) (sym run_is) rests,
+  )
+
+  -- the same after a call that leaves runs as they are
+  pub hand_after : (seen journal : List Entry) (number : ℕ) (held : Option (RunView State))
+      → AddsEvents number seen journal → IsValidJournal (rules_at meaning host) (reverse journal)
+      → Holds meaning stands (core_at host seen) number held → IfSome held (λ run. IsUnderWay run.progress)
+      → IsLaneOf host.desk hand.lane → hand.lane.seen ≡ journal → hand.lane.number ≡ number → hand.run ≡ held
+      → IsHandOf meaning stands host hand
+  hand_after seen journal number held adds valid holds rests lane seen_is number_is run_is =
+      hand_is (core_at host journal) number held lane (ap (core_at host) (sym seen_is)) number_is run_is
+      (holds_after meaning stands host number held seen journal adds valid holds) rests
