@@ -48,13 +48,13 @@ module _ {R Site State : Type 0} (pace : R → Pace) (meaning : R → Site → M
 
   pub slice_and_look : (old mid new : Hand) (came_to : Slice) (looked : Looked)
       → IsSlice pace meaning stands host may_hold old came_to mid
-      → IsLook pace meaning stands host may_hold mid looked new → (count : ℕ) × Rounds count old new
+      → IsLook pace meaning stands host mid looked new → (count : ℕ) × Rounds count old new
   slice_and_look old mid new came_to looked is look =
       (suc (suc zero), (mid, (old, refl, inl (came_to, is)), inr (looked, look)))
 
   pub ends_idle : (old mid new : Hand) (looked : Looked)
       → IsSlice pace meaning stands host may_hold old slice.Idle mid
-      → IsLook pace meaning stands host may_hold mid looked new → is_over looked ≡ true → Looped old slice.Idle new
+      → IsLook pace meaning stands host mid looked new → is_over looked ≡ true → Looped old slice.Idle new
   ends_idle old mid new looked is look over = record {
     count = suc zero;
     mid = mid;

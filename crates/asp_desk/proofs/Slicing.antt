@@ -1,6 +1,6 @@
 -- The parts of a slice.
 use Rattle.std.proofs.Common.{◌≡◌, ◌≢◌, ℕ, Bool, true, false, List, refl, ap, sym, ◌∙◌, subst, inl, inr, reverse}
-use Rattle.std.proofs.Common.{Option, Some, None, IsSome, IfSome, Result, Ok, Err}
+use Rattle.std.proofs.Common.{Option, Some, None, IsSome, IfSome, IfOk, OnErr, Result, Ok, Err}
 use Rattle.vb_value.specs.declared.application.AppCall.{AppCall}
 use Rattle.vb_value.specs.declared.memory.Memory.{Memory}
 use Rattle.asp_job.specs.declared.entry.Entry.{Entry}
@@ -12,12 +12,13 @@ use Rattle.asp_job.specs.Running.{Pace}
 use Rattle.asp_job.specs.Told.{Meaning, Told}
 use Rattle.asp_core.specs.declared.run.Progress.{Progress}
 use Rattle.asp_core.specs.declared.run.Progress.TheVariants as progress
+use Rattle.asp_core.specs.declared.stop.BeginStop.{BeginStop}
 use Rattle.asp_core.specs.Kernel.{CoreView, IsRunOf, RunView, StandsAsBefore, past_of, progress_of, rules_of, wanted_by}
 use Rattle.asp_desk.specs.declared.steps.Stepped.{Stepped}
 use Rattle.asp_desk.specs.declared.steps.Stepped.TheVariants as step
 use Rattle.asp_desk.specs.Hands.{Holds, IsUnderWay, held_number}
-use Rattle.asp_desk.specs.Slices.{Goes, HasPaused, is_more}
-use Rattle.asp_desk.specs.Steps.{Leaves, Steps}
+use Rattle.asp_desk.specs.Slices.{Goes, HasBegun, HasPaused, is_more}
+use Rattle.asp_desk.specs.Steps.{Leaves, Steps, begun_of, run_of}
 
 -- ---- what is in hand
 
@@ -84,6 +85,11 @@ module _ {State : Type 0} (pace : Pace) (meaning : Meaning) (stands : State → 
         not_both : (call : AppCall) → progress.Wants call ≡ progress.Going → ⊥
         not_both call e = cc
 
+pub goes_number : {State : Type 0} (pace : Pace) (meaning : Meaning) (stands : State → Told → ℕ → Type 0)
+    (run next : RunView State) (more : Bool) → Goes pace meaning stands run more next → next.number ≡ run.number
+goes_number pace meaning stands run next more (inl gone) = gone.1.number
+goes_number pace meaning stands run next more (inr waits) = ap (λ (one : RunView _). one.number) waits.2
+
 -- a run that has gone on is held as it was
 pub gone_holds : {R Site State : Type 0} (meaning : R → Site → Meaning)
     (stands : R → Site → State → Told → ℕ → Type 0) (core : CoreView R Site) (lane : ℕ) (run next : RunView State)
@@ -126,3 +132,24 @@ leaves_rest rules lane run before after (step.Blocked holder) held steps leaves 
     (waits_still run.progress steps.0 steps.1.0)
 leaves_rest rules lane run before after (step.JournalFull entries weight) held steps leaves =
     subst (λ h. IfSome h (λ (one : RunView _). IsUnderWay one.progress)) (sym leaves) tt
+
+-- ---- a run that begins
+
+pub begun_rests : {State E : Type 0} (done : Result (RunView State) E)
+    → IfOk done (λ run. (run.progress ≡ progress.Going) × (run.turns ≡ 0))
+    → IfSome (run_of done) (λ run. IsUnderWay run.progress)
+begun_rests (Ok run) going = under_way run.progress going.0
+begun_rests (Err refused) going = tt
+
+pub has_begun : {State Store : Type 0} (done : Result (RunView State) (Store × BeginStop))
+    (held : Option (RunView State)) → held ≡ run_of done
+    → IfOk done (λ run. (run.progress ≡ progress.Going) × (run.turns ≡ 0))
+    → IfOk (begun_of done) (λ number. HasBegun held number)
+has_begun (Ok run) held is going =
+    record { run = run; held_is = is; number_is = refl; going = going.0; turns = going.1 }
+has_begun (Err refused) held is going = tt
+
+pub none_begun : {State Store : Type 0} (done : Result (RunView State) (Store × BeginStop))
+    (held : Option (RunView State)) → held ≡ run_of done → OnErr (begun_of done) (held ≡ None)
+none_begun (Ok run) held is = tt
+none_begun (Err refused) held is = is

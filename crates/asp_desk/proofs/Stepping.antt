@@ -134,7 +134,7 @@ module _ {R Site State : Type 0} (rules : Rules) (lane : ℕ) (old new : CoreVie
       → IsTooMuch (past_after (past_of old) (called old lane run)) entries weight
       → new ≡ grown old (end_entry rules (past_of old) lane run.number kind.JournalFull ∷ [])
       → Steps rules lane run old.journal (step.JournalFull entries weight) new.journal
-  call_too_much result entries weight blocked full much new_is = (
+  call_too_much {A = A} result entries weight blocked full much new_is = (
     the_call,
     (
       is_wanted,
@@ -222,3 +222,13 @@ module _ {R Site State : Type 0} (meaning : R → Site → Meaning) (stands : R 
   }
   step_holds rules run (step.JournalFull entries weight) held steps leaves is_of valid holds =
       ended rules run kind.JournalFull held leaves steps.3 valid holds
+
+-- the end of a run that a refused call has left as it was
+pub ended_same : {R Site State : Type 0} (meaning : R → Site → Meaning) (lane : ℕ) (old mid new : CoreView R Site)
+    (run then_run : RunView State) (kind : EndKind) → mid ≡ old → then_run ≡ run
+    → new ≡ grown mid (end_entry (rules_of meaning mid) (past_of mid) lane then_run.number kind ∷ [])
+    → new ≡ grown old (end_entry (rules_of meaning old) (past_of old) lane run.number kind ∷ [])
+ended_same meaning lane old mid new run then_run kind core_is run_is ended_is =
+    subst (λ c. new ≡ grown c (end_entry (rules_of meaning c) (past_of c) lane run.number kind ∷ [])) core_is
+    (subst (λ (r : RunView _). new ≡ grown mid (end_entry (rules_of meaning mid) (past_of mid) lane r.number kind ∷ []))
+    run_is ended_is)

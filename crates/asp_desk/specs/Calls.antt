@@ -113,7 +113,7 @@ module _ (rules : Rules) (lane : ℕ) where
       (after ≡ before) × (first_for (reverse before) lane (ready rules (reverse before)) ≡ None)
 
 -- a halt: its entry where no Halt stands, and else nothing
-abbrev pub Halts : {A : Type 0} → ℕ → List Entry → A → List Entry → Type 0
+abbrev pub Halts : ℕ → List Entry → Unit {0} → List Entry → Type 0
 Halts lane before done after =
     (is_halted (reverse before) ≡ false → after ≡ before ++ with_lane lane Halt ∷ [])
     × (is_halted (reverse before) ≡ true → after ≡ before)

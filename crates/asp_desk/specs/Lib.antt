@@ -4,3 +4,4 @@ pub mod Opening
 pub mod Steps
 pub mod Slices
 pub mod Loops
+pub mod Turns

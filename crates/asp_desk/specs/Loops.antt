@@ -22,7 +22,7 @@ is_last slice.Memory = true
 is_last _ = false
 
 module _ {R Site State : Type 0} (pace : R → Pace) (meaning : R → Site → Meaning)
-    (stands : R → Site → State → Told → ℕ → Type 0) (host : HostView R Site) (may_hold : ℕ → Type 0) where
+    (stands : R → Site → State → Told → ℕ → Type 0) (host : HostView R Site) where
   abbrev Hand : Type 0
   Hand = HandView Entry (Fixed R Site) (RunView State)
 
@@ -32,24 +32,24 @@ module _ {R Site State : Type 0} (pace : R → Pace) (meaning : R → Site → M
     pub run : new.run ≡ old.run
 
   -- a slice or a look
-  abbrev pub IsRound : Hand → Hand → Type 0
-  IsRound old new = ((came_to : Slice) × IsSlice pace meaning stands host may_hold old came_to new)
+  abbrev pub IsRound : (ℕ → Type 0) → Hand → Hand → Type 0
+  IsRound may_hold old new = ((came_to : Slice) × IsSlice pace meaning stands host may_hold old came_to new)
       ⊎ ((looked : Looked) × IsLook old looked new)
 
   -- so many of them, one after another
-  abbrev pub AreRounds : ℕ → Hand → Hand → Type 0
-  AreRounds zero old new = new ≡ old
-  AreRounds (suc count) old new = (mid : Hand) × AreRounds count old mid × IsRound mid new
+  abbrev pub AreRounds : (ℕ → Type 0) → ℕ → Hand → Hand → Type 0
+  AreRounds may_hold zero old new = new ≡ old
+  AreRounds may_hold (suc count) old new = (mid : Hand) × AreRounds may_hold count old mid × IsRound may_hold mid new
 
   -- the last of them is a look, by which nothing is left to do; or a slice after which more do not help
-  abbrev pub IsLast : Hand → Slice → Hand → Type 0
-  IsLast old came_to new =
+  abbrev pub IsLast : (ℕ → Type 0) → Hand → Slice → Hand → Type 0
+  IsLast may_hold old came_to new =
       ((came_to ≡ slice.Idle) × ((looked : Looked) × IsLook old looked new)
       × (is_over (looked_of (rules_at meaning host) (reverse new.lane.seen)) ≡ true))
       ⊎ ((is_last came_to ≡ true) × IsSlice pace meaning stands host may_hold old came_to new)
 
-  pub record HasLooped (old : Hand) (came_to : Slice) (new : Hand) : Type 0 where
+  pub record HasLooped (may_hold : ℕ → Type 0) (old : Hand) (came_to : Slice) (new : Hand) : Type 0 where
     pub count : ℕ
     pub mid : Hand
-    pub rounds : AreRounds count old mid
-    pub last : IsLast mid came_to new
+    pub rounds : AreRounds may_hold count old mid
+    pub last : IsLast may_hold mid came_to new

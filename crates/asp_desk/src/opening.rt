@@ -38,6 +38,8 @@ fn dealt<R: Runner>(
     mut stores: Vec<R::Store>,
     mut hands: Vec<Hand<R>>,
 ) -> Vec<Hand<R>>
+where
+    R::Store: Drop,
     requires stores { length stores.items ≡ length lanes.items }
     requires room { (hands.items ≡ []) × (length lanes.items ≤ vec_capacity hands) }
     ensures { result.items ≡ map spec.free_hand lanes.items }
@@ -51,7 +53,6 @@ fn dealt<R: Runner>(
             None => unreachable!(),
         }
     }
-    stores.destroy_empty();
     hands
 }
 

@@ -1,12 +1,11 @@
 //! How a hand comes to its turn, and gives it back.
 #![tactic(auto)]
 
-ghost use Rattle.std.specs.Prelude.{◌≡◌, ◌<◌, ◌^◌, reverse, length, Some, IfSome};
+ghost use Rattle.std.specs.Prelude.{◌≡◌, ◌<◌, ◌^◌, length, Some};
 ghost use Rattle.turn_desk.specs.Histories.{GrowsBy, own_part};
 ghost use Rattle.turn_desk.specs.Shown.{IsLaneOf, LaneFits};
-ghost use Rattle.asp_job.specs.Journal.{IsValidJournal};
-ghost use Rattle.asp_desk.specs.Calls.{AddsEvents};
-ghost use Rattle.asp_desk.specs.Hands.{Holds, IsHandOf, IsSameHouse, IsUnderWay, core_at, rules_at};
+ghost use Rattle.asp_desk.specs.Hands.{Holds, IsHandOf, IsSameHouse, core_at};
+ghost use Rattle.asp_desk.specs.Turns.{LeavesRuns};
 
 use crate::hand::Hand;
 use crate::host::HostOf;
@@ -37,7 +36,7 @@ impl<R: Runner> HostOf<Placed<R>, R, R::Site> {
         (number, turn)
     }
 
-    /// Gives a turn back, where what is in the hand is what the lane then holds.
+    /// Gives a turn back. What the lane then holds is what is in the hand.
     pub(crate) fn shut(&self, hand: &mut Hand<R>, turn: Turn<'_, Placed<R>>)
         requires fixed { turn.fixed ≡ Some self.now.desk.fixed }
         requires house { IsSameHouse (core_at self.now turn.seen) turn.state.core }
@@ -48,21 +47,18 @@ impl<R: Runner> HostOf<Placed<R>, R, R::Site> {
             ≡ own_part (λ entry. entry.lane) turn.entry.number turn.entry.state.core.journal }
         ensures lane { (hand.new.lane.desk ≡ turn.entry.desk) × (hand.new.lane.number ≡ turn.entry.number)
             × (hand.new.lane.fixed ≡ turn.entry.fixed) }
-        ensures core { turn.entry.state.core ≡ core_at self.now hand.new.lane.seen }
         ensures run { hand.new.run ≡ hand.old.run }
     {
-        hand.lane = Some(turn.give());
+        // What the host's desk was made with is known from here on.
+        let _lanes = self.lanes;
+        let lane = turn.give();
+        hand.lane = Some(lane);
     }
 
     /// Gives a turn back that has left runs as they were.
     pub(crate) fn shut_event(&self, hand: &mut Hand<R>, turn: Turn<'_, Placed<R>>)
         requires desk { (turn.desk ≡ self.now.desk.id) × (turn.fixed ≡ Some self.now.desk.fixed) }
-        requires house { IsSameHouse (core_at self.now turn.seen) turn.state.core }
-        requires adds { AddsEvents turn.number turn.seen turn.state.core.journal }
-        requires valid { IsValidJournal (rules_at R.meaning self.now) (reverse turn.state.core.journal) }
-        requires short { length turn.state.core.journal < 2 ^ 32 }
-        requires holds { Holds R.meaning R.stands (core_at self.now turn.seen) turn.number hand.old.run }
-        requires rests { IfSome hand.old.run (λ run. IsUnderWay run.progress) }
+        requires leaves { LeavesRuns R.meaning R.stands self.now turn.number turn.seen turn.state.core hand.old.run }
         ensures hand { IsHandOf R.meaning R.stands self.now hand.new }
         ensures run { hand.new.run ≡ hand.old.run }
         ensures seen { hand.new.lane.seen ≡ turn.entry.state.core.journal }
