@@ -40,7 +40,8 @@ fresh_seen history number (suc count) = All-cons (λ (lane : Known Entry). lane.
 
 module _ {R Site State : Type 0} (meaning : R → Site → Meaning) (stands : R → Site → State → Told → ℕ → Type 0)
     (host : HostView R Site) where
-  holds_first : (lane : ℕ) → Holds {R = R} {Site = Site} {State = State} meaning stands (core_at host first_journal) lane None
+  holds_first : (lane : ℕ) → Holds {R = R} {Site = Site} {State = State} meaning stands (core_at host first_journal)
+      lane None
   holds_first lane = record {
     valid = first_valid _;
     run_is = tt;
@@ -51,7 +52,8 @@ module _ {R Site State : Type 0} (meaning : R → Site → Meaning) (stands : R 
       → IsHandOf {R = R} {Site = Site} {State = State} meaning stands host (free_hand (lane_view host.desk lane))
   of_known lane seen = (
     (refl, refl),
-    subst (λ journal. Holds {R = R} {Site = Site} {State = State} meaning stands (core_at host journal) lane.number None) (sym seen)
+    subst (λ journal. Holds {R = R} {Site = Site} {State = State} meaning stands (core_at host journal) lane.number
+        None) (sym seen)
         (holds_first lane.number),
     tt,
   )
@@ -61,12 +63,15 @@ module _ {R Site State : Type 0} (meaning : R → Site → Meaning) (stands : R 
   new_hands_are =
       let lanes = fresh_lanes (λ (entry : Entry). entry.lane) first_journal 0 host.desk.lanes in
       let seen = fresh_seen first_journal 0 host.desk.lanes in
-      All-map (IsHandOf {R = R} {Site = Site} {State = State} meaning stands host) free_hand (map (lane_view host.desk) lanes)
-      (All-map (λ lane. IsHandOf {R = R} {Site = Site} {State = State} meaning stands host (free_hand lane)) (lane_view host.desk) lanes
+      All-map (IsHandOf {R = R} {Site = Site} {State = State} meaning stands host) free_hand (map (lane_view
+      host.desk) lanes)
+      (All-map (λ lane. IsHandOf {R = R} {Site = Site} {State = State} meaning stands host (free_hand lane))
+      (lane_view host.desk) lanes
       (λ k d lt. of_known (get_or lanes k d) (seen k d lt)))
 
 -- the journal of a new host is one of each number of lanes, and short
 pub of_first : (lanes : ℕ) (journal : List Entry) → 1 ≤ lanes → journal ≡ first_journal
     → AreOfLanes (λ (entry : Entry). entry.lane) lanes journal
 of_first lanes journal some is = subst (λ entries. AreOfLanes (λ (entry : Entry). entry.lane) lanes entries) (sym is)
-    (All-cons (λ (entry : Entry). entry.lane < lanes) _ [] (omega arith) (All-nil (λ (entry : Entry). entry.lane < lanes)))
+    (All-cons (λ (entry : Entry). entry.lane < lanes) _ [] (omega arith) (All-nil (λ (entry : Entry). entry.lane <
+    lanes)))

@@ -1,5 +1,6 @@
 -- What a lane holds stays what it is, while other lanes add entries and while its own adds none of a run's.
-use Rattle.std.proofs.Common.{◌≡◌, ℕ, ◌++◌, List, [], ◌∷◌, reverse, refl, ap, sym, ◌∙◌, subst, Option, Some, None, IfSome}
+use Rattle.std.proofs.Common.{◌≡◌, ℕ, ◌++◌, List, [], ◌∷◌, reverse, refl, ap, sym, ◌∙◌, subst, Option, Some, None}
+use Rattle.std.proofs.Common.{IfSome}
 use Rattle.turn_desk.specs.Histories.{own_part}
 use Rattle.turn_desk.specs.Shown.{IsLaneOf, LaneFits, LaneView}
 use Rattle.asp_job.specs.declared.entry.Entry.{Entry}

@@ -72,7 +72,8 @@ before_event past lane r other (Queue run work key) event running = elim (cases_
   | inr apart ↦ before_other past lane r other (Queue run work key) apart running
 ]
 before_event past lane r other (Admit run key fresh job) event running = elim (cases_Bool (run == r)) [
-  | inl own ↦ absurd (let stage : stage_of (with_lane other (Admit run key fresh job) ∷ past) r ≡ Waiting = rw own refl in
+  | inl own ↦ absurd (let stage : stage_of (with_lane other (Admit run key fresh job) ∷ past) r ≡ Waiting = rw own
+      refl in
       let no : is_unfinished (with_lane other (Admit run key fresh job) ∷ past) r ≡ false =
       ap is_stage_unfinished stage in let yes = running.unfinished in cc)
   | inr apart ↦ before_other past lane r other (Admit run key fresh job) apart running
@@ -120,8 +121,11 @@ pub before_begin : (past : List Entry) (lane r other run serial : ℕ)
 before_begin past lane r other run serial running =
     let what = Begin run serial in
     elim (cases_Bool (run == r)) [
-      | inl own ↦ inr (eqb-true run r own, (let is : lane_of (with_lane other what ∷ past) r ≡ Some other = rw own refl in
-          let by = running.begun_by in cc))
+      | inl own ↦ inr (
+        eqb-true run r own,
+        (let is : lane_of (with_lane other what ∷ past) r ≡ Some other = rw own refl in
+            let by = running.begun_by in cc),
+      )
       | inr apart ↦ inl (before_other past lane r other what apart running)
     ]
 

@@ -60,7 +60,8 @@ less_paused (Err memory) e = λ is. cc
 under_way : (at : Progress) → at ≡ progress.Going → IsUnderWay at
 under_way at is = subst IsUnderWay (sym is) tt
 
-module _ {State : Type 0} (pace : Pace) (meaning : Meaning) (stands : State → Told → ℕ → Type 0) (run next : RunView State)
+module _ {State : Type 0} (pace : Pace) (meaning : Meaning) (stands : State → Told → ℕ → Type 0) (run next : RunView
+    State)
   where
     -- who has more to do may go on
     pub goes_further : Goes pace meaning stands run true next → IsUnderWay next.progress

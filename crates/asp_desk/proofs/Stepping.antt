@@ -1,6 +1,8 @@
 -- What a begin and a step of a run are as turns, and what the lane then holds.
-use Rattle.std.proofs.Common.{◌≡◌, ◌↔◌, ◌≢◌, ℕ, ◌==◌, ◌++◌, false, List, [], ◌∷◌, reverse, refl, ap, sym, ◌∙◌, subst, inl, inr}
-use Rattle.std.proofs.Common.{append-nil, arith, Option, Some, None, IsSome, IfSome, Result, Ok, Err, IfOk, IfErr, OnOk, OnErr}
+use Rattle.std.proofs.Common.{◌≡◌, ◌↔◌, ◌≢◌, ℕ, ◌==◌, ◌++◌, false, List, [], ◌∷◌, reverse, refl, ap, sym, ◌∙◌, subst}
+use Rattle.std.proofs.Common.{inl, inr}
+use Rattle.std.proofs.Common.{append-nil, arith, Option, Some, None, IsSome, IfSome, Result, Ok, Err, IfOk, IfErr}
+use Rattle.std.proofs.Common.{OnOk, OnErr}
 use Rattle.vb_value.specs.declared.application.AppCall.{AppCall}
 use Rattle.asp_job.specs.declared.entry.EndKind.{EndKind}
 use Rattle.asp_job.specs.declared.entry.EndKind.TheVariants as kind
@@ -19,7 +21,8 @@ use Rattle.asp_core.specs.declared.stop.AppStepStop.{AppStepStop}
 use Rattle.asp_core.specs.declared.stop.AppStepStop.TheVariants as app
 use Rattle.asp_core.specs.declared.stop.BeginStop.{BeginStop}
 use Rattle.asp_core.specs.declared.stop.BeginStop.TheVariants as stop
-use Rattle.asp_core.specs.Kernel.{CoreView, IsBeginTooMuch, IsIdle, IsRunOf, IsTooMuch, NextFits, RunView, blocker, called}
+use Rattle.asp_core.specs.Kernel.{CoreView, IsBeginTooMuch, IsIdle, IsRunOf, IsTooMuch, NextFits, RunView, blocker}
+use Rattle.asp_core.specs.Kernel.{called}
 use Rattle.asp_core.specs.Kernel.{grown, past_of, rules_of, wanted_by}
 use Rattle.asp_core.specs.Ready.{HasBodyRoom}
 use Rattle.asp_core.proofs.Bearing.{none_of, one_of}
@@ -152,7 +155,8 @@ module _ {R Site State : Type 0} (rules : Rules) (lane : ℕ) (old new : CoreVie
   pub call_dead : new ≡ grown old (end_entry rules (past_of old) lane run.number kind.Memory ∷ [])
       → Steps rules lane run old.journal step.Ended new.journal
   call_dead new_is = ap (λ (core : CoreView R Site). core.journal) new_is
-      ∙ ap (λ k. old.journal ++ end_entry rules (past_of old) lane run.number k ∷ []) (sym (dead_end run.progress wants))
+      ∙ ap (λ k. old.journal ++ end_entry rules (past_of old) lane run.number k ∷ []) (sym (dead_end run.progress
+      wants))
 
 -- ---- what the lane then holds
 

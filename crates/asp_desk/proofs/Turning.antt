@@ -1,7 +1,9 @@
 -- A call of the core in a turn is one turn of the lane, and leaves a hand of the host.
-use Rattle.std.proofs.Common.{◌≡◌, ℕ, ◌<◌, ◌^◌, length, List, refl, ap, sym, ◌∙◌, subst, reverse, Option, Some, IfSome}
+use Rattle.std.proofs.Common.{◌≡◌, ℕ, ◌<◌, ◌^◌, All, length, map, List, [], ◌∷◌, refl, ap, sym, ◌∙◌, subst, reverse}
+use Rattle.std.proofs.Common.{Option, Some, IfSome}
+use Rattle.std.proofs.lemmas.List.Elements.{All-cons, All-head, All-map, All-nil, All-tail}
 use Rattle.turn_desk.specs.Histories.{GrowsBy, own_part}
-use Rattle.turn_desk.specs.Shown.{IsLaneOf, LaneFits, LaneView, TurnView}
+use Rattle.turn_desk.specs.Shown.{DeskView, IsLaneOf, LaneFits, LaneView, TurnView}
 use Rattle.asp_job.specs.declared.entry.Entry.{Entry}
 use Rattle.asp_job.specs.Journal.{IsValidJournal}
 use Rattle.asp_job.specs.Rules.{Rules}
@@ -38,6 +40,25 @@ found_is host core seen journal fixed = core_is host core seen journal (ap (λ (
 pub house_found : {R Site : Type 0} (host : HostView R Site) (seen : List Entry) (core next : CoreView R Site)
     → core ≡ core_at host seen → IsSameHouse core next → IsSameHouse (core_at host seen) next
 house_found host seen core next is same = subst (λ c. IsSameHouse c next) is same
+
+module _ {R Site State : Type 0} where
+  -- a fact of each hand's lane, said of the hands
+  pub each_hand : (Fact : LaneView Entry (Fixed R Site) → Type 0)
+      (hands : List (HandView Entry (Fixed R Site) (RunView State))) → All Fact (map (λ hand. hand.lane) hands)
+      → All (λ hand. Fact hand.lane) hands
+  each_hand Fact [] all = All-nil (λ hand. Fact hand.lane)
+  each_hand Fact (hand ∷ hands) all = All-cons (λ one. Fact one.lane) hand hands
+      (All-head Fact hand.lane (map (λ one. one.lane) hands) all)
+      (each_hand Fact hands (All-tail Fact hand.lane (map (λ one. one.lane) hands) all))
+
+  -- the lanes of a host's hands are its desk's
+  pub lanes_are : (meaning : R → Site → Meaning) (stands : R → Site → State → Told → ℕ → Type 0)
+      (desk : DeskView (Fixed R Site)) (host : HostView R Site)
+      (hands : List (HandView Entry (Fixed R Site) (RunView State))) → desk ≡ host.desk
+      → All (IsHandOf meaning stands host) hands → All (IsLaneOf desk) (map (λ hand. hand.lane) hands)
+  lanes_are meaning stands desk host hands same are =
+      subst (λ d. All (IsLaneOf d) (map (λ hand. hand.lane) hands)) (sym same)
+      (All-map (IsLaneOf host.desk) (λ hand. hand.lane) hands (λ k d lt. (are k d lt).0))
 
 module _ {R Site S : Type 0} (meaning : R → Site → Meaning) (host : HostView R Site)
     (old new : LaneView Entry (Fixed R Site)) (turn : TurnView S Entry (Fixed R Site)) (core next : CoreView R Site)
@@ -104,7 +125,8 @@ module _ {R Site State : Type 0} (meaning : R → Site → Meaning) (stands : R 
       subst (λ (l : LaneView Entry (Fixed R Site)). Holds meaning stands (core_at host found) l.number held) (sym is)
       (holds_found meaning stands host own.number held own.seen found own refl refl part fits
       (subst (λ c. IsValidJournal (rules_of meaning c) (reverse c.journal)) core_is valid)
-      (subst (λ (l : LaneView Entry (Fixed R Site)). Holds meaning stands (core_at host l.seen) l.number held) is holds))
+      (subst (λ (l : LaneView Entry (Fixed R Site)). Holds meaning stands (core_at host l.seen) l.number held) is
+      holds))
 
   -- a call that leaves runs as they are, in a turn
   pub leaves_runs : (number lane old : ℕ) (found : List Entry) (core next : CoreView R Site)

@@ -34,7 +34,12 @@ impl<R: Runner> HostOf<Placed<R>, R, R::Site> {
     }
 
     /// The job of a page comes, under the next number. A moment that is greater than the journal's makes a Tick first.
-    pub fn admit<Rt: Wait>(&self, rt: &Rt, hand: &mut Hand<R>, job: &Job) -> Result<Admitted, AdmitStop>
+    pub fn admit<Rt: Wait>(
+        &self,
+        rt: &Rt,
+        hand: &mut Hand<R>,
+        job: &Job,
+    ) -> Result<Admitted, AdmitStop>
         requires hand { IsHandOf R.meaning R.stands self.now hand.old }
         requires page { is_page job.now.work ≡ true }
         requires small { IsSmall job.now }
@@ -82,7 +87,12 @@ impl<R: Runner> HostOf<Placed<R>, R, R::Site> {
     }
 
     /// Hands the answer of a run out, to the lane that asked for the run. It takes no memory.
-    pub fn collect<Rt: Wait>(&self, rt: &Rt, hand: &mut Hand<R>, run: u32) -> Result<Answer, CollectStop>
+    pub fn collect<Rt: Wait>(
+        &self,
+        rt: &Rt,
+        hand: &mut Hand<R>,
+        run: u32,
+    ) -> Result<Answer, CollectStop>
         requires { IsHandOf R.meaning R.stands self.now hand.old }
         ensures hand { IsHandOf R.meaning R.stands self.now hand.new }
         ensures run { hand.new.run ≡ hand.old.run }

@@ -37,7 +37,13 @@ impl<R: Runner> Placed<R> {
         done
     }
 
-    pub(crate) fn admit(&mut self, lane: u32, runner: &R, site: &R::Site, job: &Job) -> Result<Admitted, AdmitStop>
+    pub(crate) fn admit(
+        &mut self,
+        lane: u32,
+        runner: &R,
+        site: &R::Site,
+        job: &Job,
+    ) -> Result<Admitted, AdmitStop>
         requires host { IsHostOf self.old.core runner.now site.now }
         requires page { is_page job.now.work ≡ true }
         requires small { IsSmall job.now }

@@ -5,7 +5,6 @@
 mod bell;
 mod calls;
 mod closing;
-mod crossing;
 mod events;
 mod gate;
 mod hand;
@@ -19,7 +18,6 @@ mod steps;
 mod turns;
 
 pub use bell::Bell;
-pub use crossing::{hand_crosses, host_is_shared};
 pub use gate::{Gate, OpenGate, Verdict};
 pub use hand::{Hand, HandOf, Load};
 pub use host::{Host, HostOf};

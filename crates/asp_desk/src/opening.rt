@@ -64,7 +64,15 @@ fn parts<R: Runner>(
     site: &R::Site,
     setting: Setting,
     lanes: u32,
-) -> Result<(Desk<Placed<R>>, Vec<Lane<Placed<R>>>, Arc<Bell, Global>, Vec<Hand<R>>), Memory>
+) -> Result<
+    (
+        Desk<Placed<R>>,
+        Vec<Lane<Placed<R>>>,
+        Arc<Bell, Global>,
+        Vec<Hand<R>>,
+    ),
+    Memory,
+>
 where
     R::Store: Drop,
     requires { (1 ≤ lanes) × (lanes ≤ 32) }
@@ -80,7 +88,12 @@ where
     let core = Core::new(alloc, 0, runner, site, setting.seed, setting.strict)?;
     let (desk, dealt_lanes) = Desk::new(alloc, Placed { core }, lanes)?;
     let hands = Vec::with_capacity(alloc, lanes as usize)?;
-    Ok((desk, room, bell, dealt(dealt_lanes.into_vec(), stores, hands)))
+    Ok((
+        desk,
+        room,
+        bell,
+        dealt(dealt_lanes.into_vec(), stores, hands),
+    ))
 }
 
 impl<R: Runner> HostOf<Placed<R>, R, R::Site> {

@@ -82,7 +82,12 @@ impl<R: Runner> Placed<R> {
     }
 
     /// The call of a run that has paused, or its end.
-    fn call_or_end(&mut self, lane: u32, runner: &R, run: Run<R>) -> (Load<R::Store, Run<R>>, Stepped)
+    fn call_or_end(
+        &mut self,
+        lane: u32,
+        runner: &R,
+        run: Run<R>,
+    ) -> (Load<R::Store, Run<R>>, Stepped)
         requires host { runner.now ≡ self.old.core.runner }
         requires run { IsRunOf R.meaning R.stands self.old.core lane run }
         requires paused { run.progress ≢ Progress.Going }
@@ -106,7 +111,12 @@ impl<R: Runner> Placed<R> {
     }
 
     /// The same, and what is known of the core then.
-    pub(crate) fn step(&mut self, lane: u32, runner: &R, run: Run<R>) -> (Load<R::Store, Run<R>>, Stepped)
+    pub(crate) fn step(
+        &mut self,
+        lane: u32,
+        runner: &R,
+        run: Run<R>,
+    ) -> (Load<R::Store, Run<R>>, Stepped)
         requires host { runner.now ≡ self.old.core.runner }
         requires holds { Holds R.meaning R.stands self.old.core lane (Some run) }
         requires paused { run.progress ≢ Progress.Going }

@@ -28,4 +28,5 @@ returns-clause-turn g c =
     one_turn g.R.Runner.meaning c.args.self.now c.args.hand.now.lane c.shut_event.new.hand.lane c.open-number.result.1
     core next c.open-number.result.0 (λ rules lane. Collects rules lane c.args.run) c.collect-done.result
     (rw c.state-placed.ensures.state opened.core) opened.number opened.lane opened.fits c.collect-done.ensures.turn
-    (adds_grow c.open-number.result.0 core.journal next.journal c.collect-done.ensures.adds) shut.seen shut.own shut.lane
+    (adds_grow c.open-number.result.0 core.journal next.journal c.collect-done.ensures.adds) shut.seen shut.own
+    shut.lane

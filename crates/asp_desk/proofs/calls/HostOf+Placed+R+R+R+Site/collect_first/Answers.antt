@@ -27,5 +27,7 @@ returns-clause-turn g c =
     let shut = c.shut_event.ensures in
     one_turn g.R.Runner.meaning c.args.self.now c.args.hand.now.lane c.shut_event.new.hand.lane c.open-number.result.1
     core next c.open-number.result.0 CollectsFirst c.collect_first-given.result
-    (rw c.state-placed.ensures.state opened.core) opened.number opened.lane opened.fits c.collect_first-given.ensures.turn
-    (adds_grow c.open-number.result.0 core.journal next.journal c.collect_first-given.ensures.adds) shut.seen shut.own shut.lane
+    (rw c.state-placed.ensures.state opened.core) opened.number opened.lane opened.fits
+    c.collect_first-given.ensures.turn
+    (adds_grow c.open-number.result.0 core.journal next.journal c.collect_first-given.ensures.adds) shut.seen
+    shut.own shut.lane

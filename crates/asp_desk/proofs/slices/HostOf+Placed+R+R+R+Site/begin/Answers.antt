@@ -38,7 +38,8 @@ returns-clause-hand g c =
     hand_is g.R.Runner.meaning g.R.Runner.stands host c.shut.new.hand next c.open-number.result.0
     (run_of c.begin-done.result) (shut.lane.0 ∙ opened.lane.0 ∙ hand.0.0, shut.lane.2 ∙ opened.lane.1 ∙ hand.0.1)
     (core_next host found c.shut.new.hand.lane.seen next (house_found host found core next is done.house) shut.seen)
-    (shut.lane.1 ∙ opened.number.1 ∙ sym opened.number.0) (shut.run ∙ ap run_in c.put.ensures ∙ c.loaded-load.ensures.load)
+    (shut.lane.1 ∙ opened.number.1 ∙ sym opened.number.0) (shut.run ∙ ap run_in c.put.ensures ∙
+    c.loaded-load.ensures.load)
     (done.holds (holds_at g.R.Runner.meaning g.R.Runner.stands host core found c.open-number.result.0
     c.args.hand.now.lane.number c.args.hand.now.run None is opened.number.0 c.requires.free opened.holds))
     (begun_rests c.begin-done.result done.going)
@@ -51,7 +52,8 @@ returns-clause-turn g c =
     let done = c.begin-done.ensures in
     let shut = c.shut.ensures in
     one_turn g.R.Runner.meaning c.args.self.now c.args.hand.now.lane c.shut.new.hand.lane c.open-number.result.1 core
-    next c.open-number.result.0 Begins c.loaded-load.result.1 (rw c.state-placed.ensures.state opened.core) opened.number
+    next c.open-number.result.0 Begins c.loaded-load.result.1 (rw c.state-placed.ensures.state opened.core)
+    opened.number
     opened.lane opened.fits
     (subst (λ b. Begins (rules_of g.R.Runner.meaning core) c.open-number.result.0 core.journal b next.journal)
     (sym c.loaded-load.ensures.begun) done.turn) done.grows shut.seen shut.own shut.lane

@@ -41,7 +41,8 @@ returns-in-Err-Memory-clause-turn g c =
     let dead = c.in-Err-Memory in
     let is : c.app_step.result ≡ Err stop.Memory = dead.is ∙ ap Err dead.field-0-is in
     let err = rw is at e.err in
-    call_dead (rules_of g.R.Runner.meaning core) c.args.lane core c.end-store-in-Err-Memory.new.self c.args.run c.requires.wants
+    call_dead (rules_of g.R.Runner.meaning core) c.args.lane core c.end-store-in-Err-Memory.new.self c.args.run
+    c.requires.wants
     (ended_same g.R.Runner.meaning c.args.lane core c.app_step.new.self c.end-store-in-Err-Memory.new.self c.args.run
     c.app_step.new.run kind.Memory err.0 err.1 c.end-store-in-Err-Memory.ensures)
 

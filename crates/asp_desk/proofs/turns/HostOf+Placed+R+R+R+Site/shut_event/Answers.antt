@@ -17,6 +17,7 @@ pub returns-clause-hand : goal.returns-clause-hand
 returns-clause-hand g c =
     let shut = c.shut.ensures in
     let turn = c.args.turn in
-    hand_after g.R.Runner.meaning g.R.Runner.stands c.args.self.now c.shut.new.hand turn.seen turn.state.core turn.number
+    hand_after g.R.Runner.meaning g.R.Runner.stands c.args.self.now c.shut.new.hand turn.seen turn.state.core
+    turn.number
     c.args.hand.now.run c.requires.leaves (shut.lane.0 ∙ c.requires.desk.0, shut.lane.2 ∙ c.requires.desk.1) shut.seen
     shut.lane.1 shut.run
