@@ -1,7 +1,7 @@
 -- What calls add that leave runs as they are.
-use Rattle.std.proofs.Common.{◌≡◌, ℕ, ◌+◌, ◌++◌, Bool, true, false, if◌then◌else◌, List, [], ◌∷◌, reverse, refl, ap}
+use Rattle.std.proofs.Common.{◌≡◌, ℕ, ◌+◌, ◌++◌, Bool, true, false, if◌then◌else◌, List, [], ◌∷◌, refl, ap}
 use Rattle.std.proofs.Common.{sym}
-use Rattle.std.proofs.Common.{◌∙◌, append-nil, inl, inr, arith, Option, Some, None, Result, Ok, Err, OnOk, OnErr, IsOk}
+use Rattle.std.proofs.Common.{◌∙◌, append-nil, inl, inr, Option, Some, None, Result, Ok, Err, OnOk, OnErr, IsOk}
 use Rattle.std.proofs.Common.{IfSome, IfNone}
 use Rattle.std.proofs.lemmas.Bool.{cases_Bool, cases_lt}
 use Rattle.turn_desk.specs.Histories.{GrowsBy}
@@ -12,13 +12,12 @@ use Rattle.asp_job.specs.declared.entry.What.TheVariants.{Admit, App, Begin, End
 use Rattle.asp_job.specs.declared.job.Job.{Job}
 use Rattle.asp_job.specs.declared.job.Work.{Work}
 use Rattle.asp_job.specs.History.{with_lane}
-use Rattle.asp_job.specs.Journal.{admit_entries, admit_entry, admission, is_refused, job_now, past_after, queue_entries}
+use Rattle.asp_job.specs.Journal.{admit_entries, admit_entry, is_refused, job_now, past_after, queue_entries}
 use Rattle.asp_job.specs.Journal.{stop_entries, tick_entries, with_owed}
 use Rattle.asp_job.specs.Keys.{session_of}
 use Rattle.asp_job.specs.Rules.{Rules}
 use Rattle.asp_job.specs.Runs.{drawn, is_halted, is_stopping, moment_of}
 use Rattle.asp_job.specs.Turns.{key_asked_by, key_for, needs_key, owed}
-use Rattle.asp_core.specs.declared.stop.EventStop.{EventStop}
 use Rattle.asp_core.specs.Kernel.{CoreView, grown, past_of}
 use Rattle.asp_core.specs.Laws.{AreNoSteps, AreOfLane, is_step_of}
 use Rattle.asp_core.proofs.Bearing.{admit_of, none_of, one_of, stop_of, tick_of}

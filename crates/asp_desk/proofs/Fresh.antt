@@ -1,11 +1,13 @@
 -- The hands of a new host.
-use Rattle.std.proofs.Common.{◌≡◌, ℕ, zero, suc, ◌<◌, ◌≤◌, ◌^◌, List, [], ◌∷◌, map, refl, sym, subst, arith, All, None}
+use Rattle.std.proofs.Common.{ap, ◌∙◌}
+use Rattle.std.proofs.Common.{◌≡◌, ℕ, zero, suc, ◌<◌, ◌≤◌, List, [], ◌∷◌, map, refl, sym, subst, arith, All, None}
 use Rattle.std.proofs.Common.{get_or, length, reverse, true}
 use Rattle.std.proofs.lemmas.List.Elements.{All-cons, All-map, All-nil}
 use Rattle.turn_desk.specs.declared.view.Known.{Known}
 use Rattle.turn_desk.specs.Histories.{AreOfLanes, own_part}
 use Rattle.turn_desk.specs.Rule.{known}
-use Rattle.turn_desk.specs.Shown.{lane_view, new_lanes}
+use Rattle.turn_desk.specs.Shown.{DeskView, lane_view, new_lanes}
+use Rattle.turn_desk.proofs.Opening.{length-fresh_lanes}
 use Rattle.turn_desk.specs.Steps.{fresh_lanes}
 use Rattle.asp_job.specs.declared.entry.Entry.{Entry}
 use Rattle.asp_job.specs.declared.entry.What.TheVariants.{Queue}
@@ -15,8 +17,7 @@ use Rattle.asp_job.specs.Rules.{Rules}
 use Rattle.asp_job.specs.Runs.{is_unfinished}
 use Rattle.asp_job.specs.Told.{Meaning, Told}
 use Rattle.asp_job.specs.Turns.{IsRunning}
-use Rattle.asp_core.specs.Kernel.{RunView}
-use Rattle.asp_desk.specs.Hands.{Fixed, HandView, Holds, HostView, IsHandOf, core_at}
+use Rattle.asp_desk.specs.Hands.{Holds, HostView, IsHandOf, core_at}
 use Rattle.asp_desk.specs.Opening.{first_journal, free_hand, new_hands}
 use Rattle.asp_desk.proofs.Running.{before_event}
 
@@ -75,3 +76,13 @@ pub of_first : (lanes : ℕ) (journal : List Entry) → 1 ≤ lanes → journal 
 of_first lanes journal some is = subst (λ entries. AreOfLanes (λ (entry : Entry). entry.lane) lanes entries) (sym is)
     (All-cons (λ (entry : Entry). entry.lane < lanes) _ [] (omega arith) (All-nil (λ (entry : Entry). entry.lane <
     lanes)))
+
+-- there are as many lanes as the desk has
+pub new_lanes_many : {E F : Type 0} (lane_of : E → ℕ) (desk : DeskView F) (history : List E)
+    → length (new_lanes lane_of desk history) ≡ desk.lanes
+new_lanes_many lane_of desk history = mapped (lane_view desk) (fresh_lanes lane_of history 0 desk.lanes)
+    ∙ length-fresh_lanes lane_of history 0 desk.lanes
+  where
+    mapped : {A B : Type 0} (f : A → B) (xs : List A) → length (map f xs) ≡ length xs
+    mapped f [] = refl
+    mapped f (x ∷ xs) = ap suc (mapped f xs)

@@ -1,14 +1,14 @@
 -- What a lane holds stays what it is, while other lanes add entries and while its own adds none of a run's.
-use Rattle.std.proofs.Common.{◌≡◌, ℕ, ◌++◌, List, [], ◌∷◌, reverse, refl, ap, sym, ◌∙◌, subst, Option, Some, None}
+use Rattle.std.proofs.Common.{◌≡◌, ℕ, ◌++◌, List, reverse, ap, sym, ◌∙◌, subst, Option, Some, None}
 use Rattle.std.proofs.Common.{IfSome}
 use Rattle.turn_desk.specs.Histories.{own_part}
-use Rattle.turn_desk.specs.Shown.{IsLaneOf, LaneFits, LaneView}
+use Rattle.turn_desk.specs.Shown.{LaneFits, LaneView}
 use Rattle.asp_job.specs.declared.entry.Entry.{Entry}
 use Rattle.asp_job.specs.Journal.{AreRight, IsValidJournal, past_after}
 use Rattle.asp_job.specs.Told.{Meaning, Told}
 use Rattle.asp_job.specs.Turns.{IsRunning}
 use Rattle.asp_core.specs.declared.setting.Setting.{Setting}
-use Rattle.asp_core.specs.Kernel.{CoreView, IsRunOf, RunView, grown, past_of, rules_of}
+use Rattle.asp_core.specs.Kernel.{CoreView, IsRunOf, RunView}
 use Rattle.asp_core.specs.Laws.{AreOfOthers}
 use Rattle.asp_core.proofs.Kept.{past_of_more}
 use Rattle.asp_core.proofs.Moved as moved

@@ -1,5 +1,5 @@
 -- Slices and looks, one after another.
-use Rattle.std.proofs.Common.{◌≡◌, ℕ, zero, suc, Bool, true, refl, ap, sym, ◌∙◌, subst, inl, inr, reverse}
+use Rattle.std.proofs.Common.{◌≡◌, ℕ, zero, suc, true, refl, ap, sym, ◌∙◌, subst, inl, inr, reverse}
 use Rattle.asp_job.specs.Running.{Pace}
 use Rattle.asp_job.specs.Told.{Meaning, Told}
 use Rattle.asp_job.specs.declared.entry.Entry.{Entry}
@@ -9,7 +9,7 @@ use Rattle.asp_desk.specs.declared.slices.Slice.{Slice}
 use Rattle.asp_desk.specs.declared.slices.Slice.TheVariants as slice
 use Rattle.asp_desk.specs.Calls.{looked_of}
 use Rattle.asp_desk.specs.Hands.{Fixed, HandView, HostView, rules_at}
-use Rattle.asp_desk.specs.Loops.{AreRounds, HasLooped, IsLook, IsRound, is_last, is_over}
+use Rattle.asp_desk.specs.Loops.{AreRounds, HasLooped, IsLook, is_last, is_over}
 use Rattle.asp_desk.specs.Slices.{IsSlice}
 
 module _ {R Site State : Type 0} (pace : R → Pace) (meaning : R → Site → Meaning)

@@ -1,5 +1,5 @@
 -- Which runs of a lane are unfinished, while entries come.
-use Rattle.std.proofs.Common.{◌≡◌, ◌≢◌, ℕ, ◌==◌, ◌++◌, Bool, true, false, List, [], ◌∷◌, length, filter, refl, ap, sym}
+use Rattle.std.proofs.Common.{◌≡◌, ◌≢◌, ℕ, ◌==◌, ◌++◌, false, List, [], ◌∷◌, length, filter, refl, ap, sym}
 use Rattle.std.proofs.Common.{◌∙◌, arith, inl, inr, length-append, ◌⊎◌, Some}
 use Rattle.std.proofs.lemmas.Bool.{cases_Bool, eqb-true}
 use Rattle.std.proofs.lemmas.List.Elements.{filter-append}
@@ -8,7 +8,7 @@ use Rattle.vb_value.specs.declared.application.AppCall.{AppCall}
 use Rattle.vb_value.specs.declared.application.AppReply.{AppReply}
 use Rattle.asp_job.specs.declared.entry.EndKind.{EndKind}
 use Rattle.asp_job.specs.declared.entry.Entry.{Entry}
-use Rattle.asp_job.specs.declared.entry.Stage.TheVariants.{Ended, Unfinished, Waiting}
+use Rattle.asp_job.specs.declared.entry.Stage.TheVariants.{Ended, Waiting}
 use Rattle.asp_job.specs.declared.entry.What.{What}
 use Rattle.asp_job.specs.declared.entry.What.TheVariants.{Admit, App, Begin, End, Halt, Queue, Refuse, Stop, Take, Tick}
 use Rattle.asp_job.specs.History.{run_in, with_lane}

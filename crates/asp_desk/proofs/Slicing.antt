@@ -1,5 +1,5 @@
 -- The parts of a slice.
-use Rattle.std.proofs.Common.{◌≡◌, ◌≢◌, ℕ, Bool, true, false, List, refl, ap, sym, ◌∙◌, subst, inl, inr, reverse}
+use Rattle.std.proofs.Common.{◌≡◌, ◌≢◌, ℕ, Bool, true, false, List, refl, ap, sym, ◌∙◌, subst, inl, inr}
 use Rattle.std.proofs.Common.{Option, Some, None, IsSome, IfSome, IfOk, OnErr, Result, Ok, Err}
 use Rattle.vb_value.specs.declared.application.AppCall.{AppCall}
 use Rattle.vb_value.specs.declared.memory.Memory.{Memory}
@@ -13,7 +13,7 @@ use Rattle.asp_job.specs.Told.{Meaning, Told}
 use Rattle.asp_core.specs.declared.run.Progress.{Progress}
 use Rattle.asp_core.specs.declared.run.Progress.TheVariants as progress
 use Rattle.asp_core.specs.declared.stop.BeginStop.{BeginStop}
-use Rattle.asp_core.specs.Kernel.{CoreView, IsRunOf, RunView, StandsAsBefore, past_of, progress_of, rules_of, wanted_by}
+use Rattle.asp_core.specs.Kernel.{CoreView, RunView, StandsAsBefore, past_of, progress_of, rules_of, wanted_by}
 use Rattle.asp_desk.specs.declared.steps.Stepped.{Stepped}
 use Rattle.asp_desk.specs.declared.steps.Stepped.TheVariants as step
 use Rattle.asp_desk.specs.Hands.{Holds, IsUnderWay, held_number}

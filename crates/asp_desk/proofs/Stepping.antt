@@ -1,5 +1,5 @@
 -- What a begin and a step of a run are as turns, and what the lane then holds.
-use Rattle.std.proofs.Common.{◌≡◌, ◌↔◌, ◌≢◌, ℕ, ◌==◌, ◌++◌, false, List, [], ◌∷◌, reverse, refl, ap, sym, ◌∙◌, subst}
+use Rattle.std.proofs.Common.{◌≡◌, ◌↔◌, ℕ, ◌==◌, ◌++◌, false, [], ◌∷◌, reverse, refl, ap, sym, ◌∙◌, subst}
 use Rattle.std.proofs.Common.{inl, inr}
 use Rattle.std.proofs.Common.{append-nil, arith, Option, Some, None, IsSome, IfSome, Result, Ok, Err, IfOk, IfErr}
 use Rattle.std.proofs.Common.{OnOk, OnErr}
@@ -7,9 +7,8 @@ use Rattle.vb_value.specs.declared.application.AppCall.{AppCall}
 use Rattle.asp_job.specs.declared.entry.EndKind.{EndKind}
 use Rattle.asp_job.specs.declared.entry.EndKind.TheVariants as kind
 use Rattle.asp_job.specs.declared.entry.Entry.{Entry}
-use Rattle.asp_job.specs.declared.entry.What.{What}
 use Rattle.asp_job.specs.Application.{blocker_of}
-use Rattle.asp_job.specs.History.{call_entry, held_by, with_lane}
+use Rattle.asp_job.specs.History.{call_entry, held_by}
 use Rattle.asp_job.specs.Journal.{IsValidJournal, begin_entry, end_entry, past_after}
 use Rattle.asp_job.specs.Rules.{Rules}
 use Rattle.asp_job.specs.Told.{Meaning, Told}

@@ -1,5 +1,5 @@
 -- What contracts see of a host and of its hands. All of it is the product's own.
-use Rattle.std.specs.Prelude.{◌≡◌, ℕ, List, [], Option, Some, None, IfSome, reverse}
+use Rattle.std.specs.Prelude.{◌≡◌, ℕ, List, [], Option, Some, None, IfSome}
 use Rattle.atomic_table.specs.Seated.{TableId}
 use Rattle.turn_desk.specs.Shown.{DeskView, LaneView, IsLaneOf}
 use Rattle.asp_job.specs.declared.entry.Entry.{Entry}

@@ -1,6 +1,6 @@
 -- How a host begins, and what its hands then are. All of it is the product's own.
-use Rattle.std.specs.Prelude.{ℕ, List, [], ◌∷◌, map, Option, None}
-use Rattle.turn_desk.specs.Shown.{DeskView, LaneView, new_lanes}
+use Rattle.std.specs.Prelude.{List, [], ◌∷◌, map, None}
+use Rattle.turn_desk.specs.Shown.{LaneView, new_lanes}
 use Rattle.asp_job.specs.declared.entry.Entry.{Entry}
 use Rattle.asp_job.specs.declared.entry.What.TheVariants.{Queue}
 use Rattle.asp_job.specs.declared.job.Work.TheVariants as work

@@ -2,7 +2,7 @@ use Rattle.std.proofs.Common.{◌≡◌, ◌∙◌, All, None, ap, map, subst, s
 use Rattle.turn_desk.specs.Histories.{AreOfLanes}
 use Rattle.turn_desk.specs.Shown.{IsLaneOf, LaneFits}
 use Rattle.asp_job.specs.declared.entry.Entry.{Entry}
-use Rattle.asp_desk.specs.Hands.{HandView, HostView, IsHandOf}
+use Rattle.asp_desk.specs.Hands.{HandView, HostView}
 use Rattle.asp_desk.proofs.Turning.{each_hand, lanes_are}
 use Rattle.asp_desk.proofs.closing.HostOf+Placed+R+R+R+Site.close.Goals as goal
 

@@ -2,7 +2,7 @@ use Rattle.std.proofs.Common.{◌≡◌, ◌∙◌, ap, sym, subst, None, IfOk, 
 use Rattle.asp_core.specs.Kernel.{rules_of}
 use Rattle.asp_desk.specs.Hands.{core_at, run_in}
 use Rattle.asp_desk.specs.Slices.{HasBegun}
-use Rattle.asp_desk.specs.Steps.{Begins, begun_of, run_of}
+use Rattle.asp_desk.specs.Steps.{Begins, run_of}
 use Rattle.asp_desk.proofs.Slicing.{begun_rests, has_begun, none_begun}
 use Rattle.asp_desk.proofs.Turning.{core_next, grows_found, hand_is, holds_at, house_found, one_turn}
 use Rattle.asp_desk.proofs.slices.HostOf+Placed+R+R+R+Site.begin.Goals as goal

@@ -1,4 +1,4 @@
-use Rattle.std.proofs.Common.{◌≡◌, ◌∙◌, ap, sym, subst, Some}
+use Rattle.std.proofs.Common.{◌∙◌, ap, sym, subst, Some}
 use Rattle.asp_desk.specs.Hands.{HandView, Holds, core_at, run_in}
 use Rattle.asp_desk.proofs.Slicing.{goes_number, gone_holds}
 use Rattle.asp_desk.proofs.slices.HostOf+Placed+R+R+R+Site.go.Goals as goal

@@ -1,4 +1,4 @@
-use Rattle.std.proofs.Common.{◌≡◌, subst, sym}
+use Rattle.std.proofs.Common.{◌≡◌, subst}
 use Rattle.asp_desk.specs.Hands.{HostView, fixed_of}
 use Rattle.asp_desk.proofs.Turning.{fixed_is}
 use Rattle.asp_desk.proofs.turns.HostOf+Placed+R+R+R+Site.shut.Goals as goal
