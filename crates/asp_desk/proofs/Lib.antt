@@ -6,3 +6,6 @@ pub mod Stepping
 pub mod Turning
 pub mod Rounds
 pub mod Slicing
+pub mod Zipping
+pub mod Moved
+pub mod Shared

@@ -4,4 +4,5 @@ pub mod Opening
 pub mod Steps
 pub mod Slices
 pub mod Loops
+pub mod Crews
 pub mod Turns

@@ -3,8 +3,11 @@
 #![tactic(auto)]
 
 mod bell;
+mod beside;
 mod calls;
 mod closing;
+mod crew;
+mod crossing;
 mod events;
 mod gate;
 mod hand;
@@ -15,9 +18,14 @@ mod opening;
 mod slices;
 mod stands;
 mod steps;
+mod task;
 mod turns;
+mod worker;
 
 pub use bell::Bell;
+pub use beside::{Crew, Looping, Worker};
+pub use crew::CrewOf;
+pub use crossing::{hand_crosses, host_is_shared};
 pub use gate::{Gate, OpenGate, Verdict};
 pub use hand::{Hand, HandOf, Load};
 pub use host::{Host, HostOf};
@@ -25,3 +33,5 @@ pub use looking::Looked;
 pub use slices::{QUANTUM, Slice};
 pub use stands::Placed;
 pub use steps::Stepped;
+pub use task::{Lead, Task};
+pub use worker::WorkerOf;
