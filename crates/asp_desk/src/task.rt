@@ -3,6 +3,7 @@
 
 ghost use Rattle.std.specs.Prelude.{◌≡◌, All};
 ghost use Rattle.std.specs.List.{AllZip};
+ghost use Rattle.std.specs.Thread.{IsSend, IsSync};
 
 use std::sync::Wait;
 use std::thread::{Threads, for_each_mut, join_mut};
@@ -46,7 +47,7 @@ pub(crate) fn each<Rt: Threads + Wait + Sync, C: Sync, K: Task<Rt, C, W> + Sync,
     task: &K,
     workers: &mut [W],
 )
-    requires { All (λ worker. K.accepts task.now shared.now worker) workers.old }
+    requires workers { All (λ worker. K.accepts task.now shared.now worker) workers.old }
     ensures { AllZip (K.does task.now shared.now) workers.old workers.new }
 {
     let count = workers.len().max(1);
@@ -69,7 +70,11 @@ pub(crate) fn beside<
 {
     let (_, told) = join_mut(
         rt,
-        &mut || each(rt, shared, task, workers),
+        &mut ||
+            requires { IsSync Rt.row × IsSync C.row × IsSync K.row × IsSend W.row
+                × All (λ worker. K.accepts task.now shared.now worker) workers.now }
+            ensures { AllZip (K.does task.entry.now shared.entry.now) workers.entry.now workers.exit.now }
+        { each(rt, shared, task, workers) },
         &mut || lead.lead(hand),
     );
     told
