@@ -1,5 +1,5 @@
 -- Slices and looks, one after another.
-use Rattle.std.proofs.Common.{◌≡◌, ℕ, zero, suc, true, refl, ap, sym, ◌∙◌, subst, inl, inr, reverse}
+use Rattle.std.proofs.Common.{◌≡◌, ℕ, zero, suc, true, false, refl, ap, sym, ◌∙◌, subst, inl, inr, reverse}
 use Rattle.asp_job.specs.Running.{Pace}
 use Rattle.asp_job.specs.Told.{Meaning, Told}
 use Rattle.asp_job.specs.declared.entry.Entry.{Entry}
@@ -42,15 +42,15 @@ module _ {R Site State : Type 0} (pace : R → Pace) (meaning : R → Site → M
       let all = rounds_then first mid rest.mid rounds (rest.count, rest.rounds) in
       record { count = all.0; mid = rest.mid; rounds = all.1; last = rest.last }
 
-  pub one_slice : (old new : Hand) (came_to : Slice) → IsSlice pace meaning stands host may_hold old came_to new
-      → (count : ℕ) × Rounds count old new
-  one_slice old new came_to is = (suc zero, (old, refl, inl (came_to, is)))
+  pub one_slice : (old new : Hand) (came_to : Slice) → is_last came_to ≡ false
+      → IsSlice pace meaning stands host may_hold old came_to new → (count : ℕ) × Rounds count old new
+  one_slice old new came_to more is = (suc zero, (old, refl, inl (came_to, more, is)))
 
   pub slice_and_look : (old mid new : Hand) (came_to : Slice) (looked : Looked)
-      → IsSlice pace meaning stands host may_hold old came_to mid
+      → is_last came_to ≡ false → IsSlice pace meaning stands host may_hold old came_to mid
       → IsLook pace meaning stands host mid looked new → (count : ℕ) × Rounds count old new
-  slice_and_look old mid new came_to looked is look =
-      (suc (suc zero), (mid, (old, refl, inl (came_to, is)), inr (looked, look)))
+  slice_and_look old mid new came_to looked more is look =
+      (suc (suc zero), (mid, (old, refl, inl (came_to, more, is)), inr (looked, look)))
 
   pub ends_idle : (old mid new : Hand) (looked : Looked)
       → IsSlice pace meaning stands host may_hold old slice.Idle mid
@@ -58,7 +58,7 @@ module _ {R Site State : Type 0} (pace : R → Pace) (meaning : R → Site → M
   ends_idle old mid new looked is look over = record {
     count = suc zero;
     mid = mid;
-    rounds = (old, refl, inl (slice.Idle, is));
+    rounds = (old, refl, inl (slice.Idle, refl, is));
     last = inl (
       refl,
       (looked, look),

@@ -123,6 +123,7 @@ Halts lane before done after =
 abbrev pub looked_of : Rules → List Entry → Looked
 looked_of rules past = record {
   waiting = length (waiting past);
+  waiting_pages = length (waiting_pages past);
   unfinished = length (unfinished past);
   moment = moment_of past;
   admitted = admitted past;

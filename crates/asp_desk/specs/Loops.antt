@@ -31,9 +31,10 @@ module _ {R Site State : Type 0} (pace : R → Pace) (meaning : R → Site → M
     pub turn : IsTurn (Looks (rules_at meaning host)) old.lane looked new.lane
     pub run : new.run ≡ old.run
 
-  -- a slice or a look
+  -- a slice after which more help, or a look
   abbrev pub IsRound : (ℕ → Type 0) → Hand → Hand → Type 0
-  IsRound may_hold old new = ((came_to : Slice) × IsSlice pace meaning stands host may_hold old came_to new)
+  IsRound may_hold old new =
+      ((came_to : Slice) × (is_last came_to ≡ false) × IsSlice pace meaning stands host may_hold old came_to new)
       ⊎ ((looked : Looked) × IsLook old looked new)
 
   -- so many of them, one after another

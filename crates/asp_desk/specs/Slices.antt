@@ -1,6 +1,7 @@
 -- A slice of a hand's work: at most two turns, and between them what a run does by itself. All of it is the product's
 -- own.
-use Rattle.std.specs.Prelude.{◌≡◌, ◌≢◌, ◌⊎◌, ℕ, Bool, true, false, Option, Some, None, Result, Ok, Err, IfOk, IsSome}
+use Rattle.std.specs.Prelude.{◌≡◌, ◌≢◌, ◌⊎◌, ℕ, Bool, true, false, List, Option, Some, None, Result, Ok, Err, IfOk}
+use Rattle.std.specs.Prelude.{IsSome}
 use Rattle.vb_value.specs.declared.application.AppCall.{AppCall}
 use Rattle.vb_value.specs.declared.memory.Memory.{Memory}
 use Rattle.asp_job.specs.declared.entry.Entry.{Entry}
@@ -11,7 +12,7 @@ use Rattle.asp_job.specs.Told.{Meaning, Told}
 use Rattle.asp_core.specs.declared.run.Progress.TheVariants as progress
 use Rattle.asp_core.specs.declared.stop.BeginStop.{BeginStop}
 use Rattle.asp_core.specs.declared.stop.BeginStop.TheVariants as stop
-use Rattle.asp_core.specs.Kernel.{RunView, progress_of, turns_after}
+use Rattle.asp_core.specs.Kernel.{IsRunOf, RunView, progress_of, turns_after}
 use Rattle.asp_core.specs.Slice as ticks
 use Rattle.asp_desk.specs.declared.slices.Slice.{Slice}
 use Rattle.asp_desk.specs.declared.slices.Slice.TheVariants as slice
@@ -19,7 +20,7 @@ use Rattle.asp_desk.specs.declared.slices.TheConstants.{QUANTUM}
 use Rattle.asp_desk.specs.declared.steps.Stepped.{Stepped}
 use Rattle.asp_desk.specs.declared.steps.Stepped.TheVariants as step
 use Rattle.asp_desk.specs.Calls.{IsTurn}
-use Rattle.asp_desk.specs.Hands.{Fixed, HandView, HostView, held_number, rules_at}
+use Rattle.asp_desk.specs.Hands.{Fixed, HandView, HostView, core_at, held_number, rules_at}
 use Rattle.asp_desk.specs.Steps.{Begins, Leaves, Steps}
 
 -- ---- what a slice comes to
@@ -114,11 +115,16 @@ module _ {R Site State : Type 0} (pace : R → Pace) (meaning : R → Site → M
     pub is : new.run ≡ Some next
     pub lane : new.lane ≡ old.lane
 
+  -- a step of this run, where it is one of the runs of the journal that the turn finds
+  abbrev pub StepsHere : RunView State → ℕ → List Entry → Stepped → List Entry → Type 0
+  StepsHere run lane before stepped after = Steps (rules_at meaning host) lane run before stepped after
+      × IsRunOf meaning stands (core_at host before) lane run
+
   -- the run in hand, which has paused, has made its call or ended or was kept out, in a turn
   pub record HasStepped (old : Hand) (stepped : Stepped) (new : Hand) : Type 0 where
     pub run : RunView State
     pub was : old.run ≡ Some run
-    pub turn : IsTurn (Steps (rules_at meaning host) old.lane.number run) old.lane stepped new.lane
+    pub turn : IsTurn (StepsHere run old.lane.number) old.lane stepped new.lane
     pub leaves : Leaves run stepped new.run
 
   -- what the run in hand does where it passes the gate: it has more to do; or it pauses, and makes a step

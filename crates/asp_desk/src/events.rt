@@ -116,6 +116,7 @@ impl<R: Runner> Placed<R> {
         let core = &self.core;
         Looked {
             waiting: core.waiting(),
+            waiting_pages: core.waiting_pages(),
             unfinished: core.unfinished(),
             moment: core.moment(),
             admitted: core.admitted(),

@@ -39,3 +39,10 @@ impl<S: Stands<Fixed = (R, T, Setting)>, R, T> Model for HostOf<S, R, T> {
     ghost invariant = { λ host. (host.desk.fixed ≡ fixed_of host.runner host.site host.setting)
         × (host.lanes ≡ host.desk.lanes) × (host.room.items ≡ []) × (host.desk.lanes ≤ vec_capacity host.room) };
 }
+
+impl<S: Stands<Fixed = (R, T, Setting)>, R, T> HostOf<S, R, T> {
+    /// The bell that its calls ring.
+    pub fn bell(&self) -> &Bell {
+        &self.bell
+    }
+}

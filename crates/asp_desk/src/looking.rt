@@ -6,6 +6,8 @@ use asp_job::{EndKind, Fail};
 pub struct Looked {
     /// How many runs wait, those of pages and those that the host queued.
     pub waiting: u32,
+    /// How many runs of pages wait. From 1,024 on no job is admitted.
+    pub waiting_pages: u32,
     /// How many runs are unfinished.
     pub unfinished: u32,
     /// The moment of the last Tick, 0 before the first: seconds since 1970.
