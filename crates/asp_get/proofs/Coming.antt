@@ -1,6 +1,7 @@
 -- How the job comes to a host whose first run has ended, and what is handed back.
-use Rattle.std.proofs.Common.{◌≡◌, ℕ, List, [], refl, ap, sym, ◌∙◌, subst, Option, Some, Result, Ok, Err, IfErr, IfOk}
-use Rattle.std.proofs.Common.{OnOk, ◌++◌, ◌∷◌}
+use Rattle.std.proofs.Common.{◌≡◌, ◌==◌, ℕ, Bool, true, false, List, [], refl, ap, sym, ◌∙◌, subst, Option, Some, None}
+use Rattle.std.proofs.Common.{Result, Ok, Err, IfErr, IfOk, ◌++◌, ◌∷◌}
+use Rattle.std.proofs.lemmas.Bool.{cases_Bool, eqb-true}
 use Rattle.asp_core.proofs.Calm.{calm_unfinished}
 use Rattle.asp_core.proofs.Fits.{job_calm, job_fit}
 use Rattle.asp_core.proofs.Kept.{past_of_more, quiet_tick}
@@ -9,13 +10,12 @@ use Rattle.asp_core.specs.declared.stop.AdmitStop.{AdmitStop}
 use Rattle.asp_core.specs.declared.stop.AdmitStop.TheVariants as admit
 use Rattle.asp_core.specs.Drawing.{drawn_by, entries_by, entry_then, told_of}
 use Rattle.asp_core.specs.Kernel.{CoreView, IsTooMuch, IsWithin, grown, past_of, rules_of}
-use Rattle.asp_get.proofs.Growing.{grows_more, rules_grown}
-use Rattle.asp_get.specs.Answered.{HasAnswered, IsGetStop, IsReadyFor, OfJob, OfPage, with_job}
-use Rattle.asp_get.specs.Course.{GoesThrough}
+use Rattle.asp_get.specs.Answered.{HasAnswered, HasFailed, IsGetStop, IsReadyFor, OfFirst, OfJob, OfPage, with_job}
 use Rattle.asp_get.specs.declared.stop.GetStop.{GetStop}
 use Rattle.asp_get.specs.declared.stop.GetStop.TheVariants as stop
-use Rattle.asp_get.specs.Underway.{Grows, IsAsked, IsReady, IsRunStop, admit_stop, number_back}
+use Rattle.asp_get.specs.Underway.{IsAsked, IsReady, admit_stop, number_back, number_if, run_stop}
 use Rattle.asp_job.specs.declared.answer.Answer.{Answer}
+use Rattle.asp_job.specs.declared.answer.Fail.{Fail}
 use Rattle.asp_job.specs.declared.entry.Entry.{Entry}
 use Rattle.asp_job.specs.declared.job.Job.{Job}
 use Rattle.asp_job.specs.declared.session.SessionState.{SessionState}
@@ -25,6 +25,28 @@ use Rattle.asp_job.specs.Output.{answer_of_run}
 use Rattle.asp_job.specs.Rules.{Rules}
 use Rattle.asp_job.specs.Runs.{unfinished}
 use Rattle.asp_job.specs.Told.{Meaning}
+use Rattle.asp_lane.proofs.Growing.{grows_more, rules_grown}
+use Rattle.asp_lane.specs.Course.{GoesThrough}
+use Rattle.asp_lane.specs.declared.stop.RunStop.{RunStop}
+use Rattle.asp_lane.specs.declared.stop.RunStop.TheVariants as lane
+use Rattle.asp_lane.specs.First.{HasBegun, first_past}
+use Rattle.asp_lane.specs.Underway.{Grows, IsRunStop}
+
+-- ---- the first run
+
+pub first_stop : (m : Rules) (job : Job) (ended : RunStop) → IsRunStop m 0 (first_past 0) ended
+    → IsGetStop m job (run_stop ended)
+first_stop m job (lane.JournalFull entries weight) is = OfFirst is
+first_stop m job lane.Memory is = tt
+
+pub failed_so : (m : Rules) (past : List Entry) (came : Option Fail) (fail : Fail) → came ≡ Some fail
+    → HasBegun m 0 came past → HasFailed m fail
+failed_so m past came fail is begun = (past, subst (λ (some : Option Fail). HasBegun m 0 some past) is begun)
+
+pub ready_so : (m : Rules) (past : List Entry) (came : Option Fail) → came ≡ None → HasBegun m 0 came past
+    → unfinished past ≡ [] → IsReady m past
+ready_so m past came is begun free =
+    record { begun = subst (λ (some : Option Fail). HasBegun m 0 some past) is begun; free = free }
 
 -- ---- the runs that are unfinished
 
@@ -68,54 +90,56 @@ module _ {R Site : Type 0} (meaning : R → Site → Meaning) (old mid : CoreVie
   asked_so : (told : Admitted) (new : CoreView R Site)
       → told ≡ told_of (entry_then m (past_of old) 0 job).what → IsWithin (past_of mid) → Grows mid new
       → IsValidJournal (rules_of meaning new) (past_of new)
-      → GoesThrough (rules_of meaning mid) (past_of mid) told.run (past_of new)
+      → GoesThrough (rules_of meaning mid) 0 (past_of mid) told.run (past_of new)
       → IsAsked m job (past_of old) told.run (past_of new)
   asked_so told new is within grows valid through =
       let same = rules_grown meaning old new (grows_more old mid new grows_job grows) in
-      let held = subst (λ rules. GoesThrough rules (past_of mid) told.run (past_of new)) rules_same through in
+      let held = subst (λ rules. GoesThrough rules 0 (past_of mid) told.run (past_of new)) rules_same through in
       record {
         ready = ready_for within;
         run_is = ap (λ (some : Admitted). some.run) is;
-        through = subst (λ past. GoesThrough m past told.run (past_of new)) past_is held;
+        through = subst (λ past. GoesThrough m 0 past told.run (past_of new)) past_is held;
         valid = subst (λ rules. IsValidJournal rules (past_of new)) same valid;
       }
 
-  run_stop : (ended : GetStop) → IsReadyFor m job (past_of old) → IsRunStop m (with_job m (past_of old) job) ended
-      → IsGetStop m job ended
-  run_stop (stop.StartFailed fail) for is = absurd is
-  run_stop (stop.JournalFull entries weight) for is = OfPage (past_of old) for is
-  run_stop stop.Memory for is = tt
+  page_so : (ended : RunStop) → IsReadyFor m job (past_of old) → IsRunStop m 0 (with_job m (past_of old) job) ended
+      → IsGetStop m job (run_stop ended)
+  page_so (lane.JournalFull entries weight) for is = OfPage (past_of old) for is
+  page_so lane.Memory for is = tt
 
-  page_stop : (ended : GetStop) → IsWithin (past_of mid) → IsRunStop (rules_of meaning mid) (past_of mid) ended
-      → IsGetStop m job ended
+  page_stop : (ended : RunStop) → IsWithin (past_of mid) → IsRunStop (rules_of meaning mid) 0 (past_of mid) ended
+      → IsGetStop m job (run_stop ended)
   page_stop ended within is =
-      let held = subst (λ rules. IsRunStop rules (past_of mid) ended) rules_same is in
-      run_stop ended (ready_for within) (subst (λ past. IsRunStop m past ended) past_is held)
+      let held = subst (λ rules. IsRunStop rules 0 (past_of mid) ended) rules_same is in
+      page_so ended (ready_for within) (subst (λ past. IsRunStop m 0 past ended) past_is held)
 
-  pub asked_back : {T : Type 0} → (told : Admitted) (new : CoreView R Site) (gone : Result T GetStop)
+  number_so : (same : Bool) (run : ℕ) (P : ℕ → Type 0) → (same ≡ true → P run) → IfOk (number_if same run) P
+  number_so true run P holds = holds refl
+  number_so false run P holds = tt
+
+  number_not : (same : Bool) (run : ℕ) → IfErr (number_if same run) (IsGetStop m job)
+  number_not true run = tt
+  number_not false run = tt
+
+  pub asked_back : {T : Type 0} → (told : Admitted) (new : CoreView R Site) (gone : Result (ℕ × T) RunStop)
       → told ≡ told_of (entry_then m (past_of old) 0 job).what → IsWithin (past_of mid) → Grows mid new
       → IsValidJournal (rules_of meaning new) (past_of new)
-      → OnOk gone (GoesThrough (rules_of meaning mid) (past_of mid) told.run (past_of new))
-      → OnOk gone (IsAsked m job (past_of old) told.run (past_of new))
-  asked_back told new (Ok given) is within grows valid through = asked_so told new is within grows valid through
+      → IfOk gone (λ through. GoesThrough (rules_of meaning mid) 0 (past_of mid) through.0 (past_of new))
+      → IfOk (number_back told.run gone) (λ run. IsAsked m job (past_of old) run (past_of new))
+  asked_back told new (Ok given) is within grows valid through =
+      number_so (given.0 == told.run) told.run (λ run. IsAsked m job (past_of old) run (past_of new))
+      (λ same. asked_so told new is within grows valid
+      (subst (λ run. GoesThrough (rules_of meaning mid) 0 (past_of mid) run (past_of new))
+      (eqb-true given.0 told.run same) through))
   asked_back told new (Err ended) is within grows valid through = tt
 
-  pub stop_back : {T : Type 0} → (gone : Result T GetStop) → IsWithin (past_of mid)
-      → IfErr gone (IsRunStop (rules_of meaning mid) (past_of mid)) → IfErr gone (IsGetStop m job)
-  stop_back (Ok given) within is = tt
-  stop_back (Err ended) within is = page_stop ended within is
+  pub stop_back : {T : Type 0} → (run : ℕ) (gone : Result (ℕ × T) RunStop) → IsWithin (past_of mid)
+      → IfErr gone (IsRunStop (rules_of meaning mid) 0 (past_of mid))
+      → IfErr (number_back run gone) (IsGetStop m job)
+  stop_back run (Ok given) within is = number_not (given.0 == run) run
+  stop_back run (Err ended) within is = page_stop ended within is
 
 -- ---- what is handed back
-
-pub number_so : {T : Type 0} → (run : ℕ) (gone : Result T GetStop) (back : Result ℕ GetStop) (P : ℕ → Type 0)
-    → back ≡ number_back run gone → OnOk gone (P run) → IfOk back P
-number_so run (Ok given) back P e holds = rw e holds
-number_so run (Err ended) back P e holds = rw e tt
-
-pub number_not : {T : Type 0} → (run : ℕ) (gone : Result T GetStop) (back : Result ℕ GetStop) (P : GetStop → Type 0)
-    → back ≡ number_back run gone → IfErr gone P → IfErr back P
-number_not run (Ok given) back P e is = rw e tt
-number_not run (Err ended) back P e is = rw e is
 
 pub admit_get : (m : Rules) (past : List Entry) (job : Job) (ended : AdmitStop) → IsReady m past
     → ((entries weight : ℕ) → ended ≡ admit.JournalFull entries weight
@@ -143,7 +167,7 @@ answered_back m n job run past last (Ok answer) same asked answered =
       past = past;
       came = asked.ready;
       last = last;
-      through = subst (λ number. GoesThrough m (with_job m past job) number last) asked.run_is asked.through;
+      through = subst (λ number. GoesThrough m 0 (with_job m past job) number last) asked.run_is asked.through;
       valid = asked.valid;
       answer_is = ap (λ number. answer_of_run m last number) (sym asked.run_is)
           ∙ ap (λ rules. answer_of_run rules last run) (sym same) ∙ answered;

@@ -1,6 +1,1 @@
-pub mod Growing
-pub mod Called
-pub mod Looping
-pub mod Through
-pub mod FirstRun
 pub mod Coming

@@ -1,33 +1,18 @@
 -- What it means that one request was answered, and why one was not. All of it is the product's own.
-use Rattle.std.specs.Prelude.{◌≡◌, ⊤, ℕ, List, [], ◌∷◌, Option, Some, None}
+use Rattle.std.specs.Prelude.{◌≡◌, ⊤, ℕ, List, Some, None}
 use Rattle.asp_core.specs.Drawing.{entry_then, told_of}
 use Rattle.asp_core.specs.Kernel.{IsTooMuch, IsWithin}
-use Rattle.asp_core.specs.Start.{start_fail}
 use Rattle.asp_job.specs.declared.answer.Answer.{Answer}
 use Rattle.asp_job.specs.declared.answer.Fail.{Fail}
 use Rattle.asp_job.specs.declared.entry.Entry.{Entry}
-use Rattle.asp_job.specs.declared.entry.What.TheVariants.{Queue}
 use Rattle.asp_job.specs.declared.job.Job.{Job}
-use Rattle.asp_job.specs.declared.job.Work.TheVariants as work
-use Rattle.asp_job.specs.History.{with_lane}
 use Rattle.asp_job.specs.Journal.{IsValidJournal, admit_entries, past_after}
 use Rattle.asp_job.specs.Output.{answer_of_run}
 use Rattle.asp_job.specs.Rules.{Rules}
+use Rattle.asp_lane.specs.Course.{GoesThrough, IsRunTooMuch}
+use Rattle.asp_lane.specs.First.{HasBegun, first_past}
 use Rattle.asp_get.specs.declared.stop.GetStop.{GetStop}
 use Rattle.asp_get.specs.declared.stop.GetStop.TheVariants as stop
-use Rattle.asp_get.specs.Course.{GoesThrough, IsRunTooMuch}
-
--- ---- the first run
-
--- the journal of a host that was just made: its first run waits
-abbrev pub first_past : List Entry
-first_past = with_lane 0 (Queue 1 work.Start 0) ∷ []
-
--- The first run goes through, and leaves this journal. It failed so, or not.
-pub record HasBegun (rules : Rules) (fail : Option Fail) (past : List Entry) : Type 0 where
-  pub through : GoesThrough rules first_past 1 past
-  pub valid : IsValidJournal rules past
-  pub fail_is : start_fail rules past ≡ fail
 
 -- ---- the job
 
@@ -41,7 +26,7 @@ run_for rules past job = (told_of (entry_then rules past 0 job).what).run
 
 -- The first run has gone through and did not fail, and then the job came, for which there is room.
 pub record IsReadyFor (rules : Rules) (job : Job) (past : List Entry) : Type 0 where
-  pub begun : HasBegun rules None past
+  pub begun : HasBegun rules 0 None past
   pub within : IsWithin (with_job rules past job)
 
 -- ---- answered
@@ -52,7 +37,7 @@ pub record HasAnswered (rules : Rules) (job : Job) (answer : Answer) : Type 0 wh
   pub past : List Entry
   pub came : IsReadyFor rules job past
   pub last : List Entry
-  pub through : GoesThrough rules (with_job rules past job) (run_for rules past job) last
+  pub through : GoesThrough rules 0 (with_job rules past job) (run_for rules past job) last
   pub valid : IsValidJournal rules last
   pub answer_is : answer_of_run rules last (run_for rules past job) ≡ Some answer
 
@@ -60,16 +45,16 @@ pub record HasAnswered (rules : Rules) (job : Job) (answer : Answer) : Type 0 wh
 
 -- the first run goes through and fails so; the job does not come
 abbrev pub HasFailed : Rules → Fail → Type 0
-HasFailed rules fail = (past : List Entry) × HasBegun rules (Some fail) past
+HasFailed rules fail = (past : List Entry) × HasBegun rules 0 (Some fail) past
 
 -- At some point of that history there would be so many entries of that weight with what comes next: an entry of the
 -- first run, the job, or an entry of its run.
 pub data WasTooMuch (rules : Rules) (job : Job) (entries weight : ℕ) : Type 0 where
-  OfFirst : IsRunTooMuch rules first_past entries weight → WasTooMuch rules job entries weight
-  OfJob : (past : List Entry) → HasBegun rules None past → IsTooMuch (with_job rules past job) entries weight
+  OfFirst : IsRunTooMuch rules 0 (first_past 0) entries weight → WasTooMuch rules job entries weight
+  OfJob : (past : List Entry) → HasBegun rules 0 None past → IsTooMuch (with_job rules past job) entries weight
       → WasTooMuch rules job entries weight
   OfPage : (past : List Entry) → IsReadyFor rules job past
-      → IsRunTooMuch rules (with_job rules past job) entries weight → WasTooMuch rules job entries weight
+      → IsRunTooMuch rules 0 (with_job rules past job) entries weight → WasTooMuch rules job entries weight
 
 -- Why the job was not answered. Nothing is said where memory ran out.
 abbrev pub IsGetStop : Rules → Job → GetStop → Type 0

@@ -3,16 +3,16 @@
 
 ghost use Rattle.std.specs.Prelude.{◌≡◌, true, false, IfErr, IfOk};
 ghost use Rattle.asp_core.specs.Kernel.{IsHostOf, rules_by, rules_of, setting_of};
-ghost use Rattle.asp_get.specs.Answered.{HasAnswered, IsGetStop, first_past};
+ghost use Rattle.asp_get.specs.Answered.{HasAnswered, IsGetStop};
 ghost use Rattle.asp_job.specs.Running.{is_page};
 ghost use Rattle.asp_job.specs.Size.{IsSmall};
+ghost use Rattle.asp_lane.specs.First.{first_past};
 
 use crate::asking::answer_job;
-use crate::starting::start;
 use crate::stop::GetStop;
 use asp_core::Core;
 use asp_job::{Answer, Job, Runner};
-use asp_lane::{Hand, let_go};
+use asp_lane::{Load, begin_host, let_go};
 use std::alloc::Global;
 
 /// Answers the job on a host that was just made.
@@ -28,14 +28,22 @@ where
     R::State: Drop,
     R::Store: Drop,
     requires host { IsHostOf core.old runner.now site.now }
-    requires first { core.old.journal ≡ first_past }
+    requires first { core.old.journal ≡ first_past 0 }
     requires page { is_page job.now.work ≡ true }
     requires small { IsSmall job.now }
     ensures ok { IfOk result (HasAnswered (rules_of R.meaning core.old) job.now) }
     ensures err { IfErr result (IsGetStop (rules_of R.meaning core.old) job.now) }
 {
-    let store = start(core, runner, site, store)?;
-    answer_job(core, runner, site, store, job)
+    match begin_host(core, runner, site, 0, store) {
+        Ok((fail, store)) => match fail {
+            None => answer_job(core, runner, site, store, job),
+            Some(fail) => {
+                let_go::<R>(Load::Free(store));
+                Err(GetStop::StartFailed(fail))
+            }
+        },
+        Err(stop) => Err(GetStop::from(stop)),
+    }
 }
 
 /// Lets a core go.
@@ -64,7 +72,7 @@ where
     let mut core = match Core::new(alloc, 0, runner, site, seed, false) {
         Ok(core) => core,
         Err(memory) => {
-            let_go::<R>(Hand::Free(store));
+            let_go::<R>(Load::Free(store));
             return Err(GetStop::from(memory));
         }
     };

@@ -8,12 +8,12 @@ ghost use Rattle.asp_get.specs.Underway as spec;
 ghost use Rattle.asp_job.specs.Output.{answer_of_run};
 ghost use Rattle.asp_job.specs.Running.{is_page};
 ghost use Rattle.asp_job.specs.Size.{IsSmall};
+ghost use Rattle.asp_lane.specs.Underway.{Grows};
 
-use crate::running::go_through;
 use crate::stop::GetStop;
 use asp_core::Core;
 use asp_job::{Answer, Job, Runner};
-use asp_lane::{Hand, let_go};
+use asp_lane::{Load, RunStop, go_through, let_go};
 
 /// Hands the answer of a run out.
 fn hand_out<R: Runner>(core: &mut Core<R>, run: u32) -> Result<Answer, GetStop>
@@ -26,8 +26,8 @@ fn hand_out<R: Runner>(core: &mut Core<R>, run: u32) -> Result<Answer, GetStop>
     }
 }
 
-/// The number of the run, where it went through.
-fn number_back<R>(run: u32, gone: Result<R::Store, GetStop>) -> Result<u32, GetStop>
+/// The number of the run, where it is the one that went through.
+fn number_back<R>(run: u32, gone: Result<(u32, R::Store), RunStop>) -> Result<u32, GetStop>
 where
     R: Runner,
     R::State: Drop,
@@ -35,11 +35,15 @@ where
     ensures { result ≡ spec.number_back run gone }
 {
     match gone {
-        Ok(store) => {
-            let_go::<R>(Hand::Free(store));
-            Ok(run)
+        Ok((number, store)) => {
+            let_go::<R>(Load::Free(store));
+            if number == run {
+                Ok(run)
+            } else {
+                Err(GetStop::Memory)
+            }
         }
-        Err(stop) => Err(stop),
+        Err(stop) => Err(GetStop::from(stop)),
     }
 }
 
@@ -59,7 +63,7 @@ where
     requires page { is_page job.now.work ≡ true }
     requires small { IsSmall job.now }
     requires ready { spec.IsReady (rules_of R.meaning core.old) (past_of core.old) }
-    ensures grows { spec.Grows core.old core.new }
+    ensures grows { Grows core.old core.new }
     ensures ok { IfOk result (λ run. spec.IsAsked (rules_of R.meaning core.old) job.now (past_of core.old) run
         (past_of core.new)) }
     ensures err { IfErr result (answered.IsGetStop (rules_of R.meaning core.old) job.now) }
@@ -68,13 +72,13 @@ where
         Ok(told) => {
             // The journal is within its bounds.
             let _ = core.journal();
-            let gone = go_through(core, runner, site, store, told.run);
+            let gone = go_through(core, runner, site, 0, store);
             // And still valid.
             let _ = core.journal();
             number_back::<R>(told.run, gone)
         }
         Err(stop) => {
-            let_go::<R>(Hand::Free(store));
+            let_go::<R>(Load::Free(store));
             Err(GetStop::from(stop))
         }
     }

@@ -3,8 +3,6 @@
 
 mod answer;
 mod asking;
-mod running;
-mod starting;
 mod stop;
 
 pub use answer::answer_one;

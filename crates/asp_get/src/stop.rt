@@ -2,11 +2,10 @@
 #![tactic(auto)]
 
 ghost use Rattle.std.specs.Prelude.{◌≡◌};
-ghost use Rattle.asp_get.specs.Underway as spec;
 
 use asp_core::AdmitStop;
 use asp_job::Fail;
-use asp_lane::Turn;
+use asp_lane::RunStop;
 use std::error::Error;
 use std::fmt;
 use vb_value::Memory;
@@ -55,6 +54,19 @@ impl From<AdmitStop> for GetStop {
     }
 }
 
+impl From<RunStop> for GetStop {
+    ghost use Rattle.asp_get.specs.Underway.{run_stop};
+
+    ghost from_gives = { λ stop given. given ≡ run_stop stop };
+
+    fn from(stop: RunStop) -> GetStop {
+        match stop {
+            RunStop::JournalFull { entries, weight } => GetStop::JournalFull { entries, weight },
+            RunStop::Memory => GetStop::Memory,
+        }
+    }
+}
+
 impl From<Memory> for GetStop {
     ghost use Rattle.asp_get.specs.declared.stop.GetStop.TheVariants.{Memory as OutOfMemory};
 
@@ -62,16 +74,5 @@ impl From<Memory> for GetStop {
 
     fn from(_: Memory) -> GetStop {
         GetStop::Memory
-    }
-}
-
-/// Why a run does not go on after a turn that came to this. A run that waits alone is not idle.
-pub(crate) fn turn_stop(turn: Turn) -> Option<GetStop>
-    ensures { result ≡ spec.turn_stop turn }
-{
-    match turn {
-        Turn::Done | Turn::More => None,
-        Turn::JournalFull { entries, weight } => Some(GetStop::JournalFull { entries, weight }),
-        Turn::Idle | Turn::Memory => Some(GetStop::Memory),
     }
 }

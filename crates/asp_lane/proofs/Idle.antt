@@ -11,8 +11,8 @@ use Rattle.asp_core.specs.declared.ready.TheConstants.{MOST_BODIES}
 use Rattle.asp_core.specs.Kernel.{CoreView, RunView, IsIdle, grown, past_of, rules_of}
 use Rattle.asp_core.specs.Ready.{bodies_with_one, ready}
 use Rattle.asp_core.proofs.Idling.{none_waits}
-use Rattle.asp_lane.specs.declared.turn.Turn.{Turn}
-use Rattle.asp_lane.specs.declared.turn.Turn.TheVariants as turn
+use Rattle.asp_lane.specs.declared.turn.TurnEnd.{TurnEnd}
+use Rattle.asp_lane.specs.declared.turn.TurnEnd.TheVariants as turn
 use Rattle.asp_lane.specs.Turns.{AddsBegin, Fits, IsTurn}
 use Rattle.asp_lane.proofs.Turns.{grown_none}
 
@@ -35,7 +35,7 @@ nothing_waits m past right none (inr heavy) answers going =
 -- an idle turn had no run in hand, and changed nothing
 pub idle_turn : {R Site State : Type 0} → (meaning : R → Site → Meaning)
     (stands : R → Site → State → Told → ℕ → Type 0) (lane : ℕ) (old new : CoreView R Site)
-    (in_hand then_in_hand : Option (RunView State)) (t : Turn) → AreRight (rules_of meaning old) (past_of old)
+    (in_hand then_in_hand : Option (RunView State)) (t : TurnEnd) → AreRight (rules_of meaning old) (past_of old)
     → Fits meaning stands old lane in_hand → IsTurn meaning stands lane old in_hand new then_in_hand t
     → t ≡ turn.Idle → ready (rules_of meaning new) (past_of new) ≡ [] → is_halted (past_of new) ≡ false
     → waiting (past_of new) ≡ []
@@ -43,7 +43,7 @@ idle_turn meaning stands lane old new None then_in_hand t right fits is e answer
     let rules = rules_of meaning old in
     let past = past_of old in
     let adds : IsIdle rules past × (is.entries ≡ []) =
-    subst (λ (some : Turn). AddsBegin rules past lane is.entries some) e is.adds in
+    subst (λ (some : TurnEnd). AddsBegin rules past lane is.entries some) e is.adds in
     let same : new ≡ old = is.new_is ∙ ap (λ entries. grown old entries) adds.1 ∙ grown_none old in
     let none_wait : ready rules past ≡ [] = rw same at answers in
     let still : is_halted past ≡ false = rw same at going in

@@ -4,3 +4,8 @@ pub mod Idle
 pub mod Many
 pub mod Started
 pub mod Slices
+pub mod Growing
+pub mod Called
+pub mod Looping
+pub mod Through
+pub mod Firsts

@@ -12,8 +12,8 @@ use Rattle.asp_job.specs.Told.{Meaning, Told}
 use Rattle.asp_core.specs.Kernel.{CoreView, RunView, grown, past_of, rules_of}
 use Rattle.asp_core.specs.Slice.{IsSlice}
 use Rattle.asp_lane.specs.declared.turn.TheConstants.{QUANTUM}
-use Rattle.asp_lane.specs.declared.turn.Turn.{Turn}
-use Rattle.asp_lane.specs.declared.turn.Turn.TheVariants as turn
+use Rattle.asp_lane.specs.declared.turn.TurnEnd.{TurnEnd}
+use Rattle.asp_lane.specs.declared.turn.TurnEnd.TheVariants as turn
 use Rattle.asp_lane.specs.Slice.{EndsInTurn, SpendsTicks}
 
 -- it came to a call or an end
@@ -23,7 +23,7 @@ is_some_step (Ok (step.Wants call)) = true
 is_some_step (Ok step.Ended) = true
 is_some_step (Err memory) = false
 
-within_turn : (pace : Pace) (spent needed : ℕ) (came_to : Turn) → (came_to ≡ turn.More → ⊥)
+within_turn : (pace : Pace) (spent needed : ℕ) (came_to : TurnEnd) → (came_to ≡ turn.More → ⊥)
     → IsWithinSlice pace (spent + QUANTUM) needed → EndsInTurn pace spent needed came_to
 within_turn pace spent needed turn.Done other within = within
 within_turn pace spent needed turn.More other within = absurd (other refl)
@@ -49,7 +49,7 @@ module _ {R Site State : Type 0} (pace : R → Pace) (meaning : R → Site → M
 
   -- it wants a call, or has ended
   pub other_ticks : (then_state : State) (result : Result Step Memory) (new : CoreView R Site)
-      (then_in_hand : Option (RunView State)) (came_to : Turn) → is_some_step result ≡ true
+      (then_in_hand : Option (RunView State)) (came_to : TurnEnd) → is_some_step result ≡ true
       → WentOn then_state result → (came_to ≡ turn.More → ⊥)
       → SpendsTicks pace meaning stands lane old (Some run) new then_in_hand came_to
   other_ticks then_state (Ok step.More) new then_in_hand came_to comes slice other spent stood = absurd cc

@@ -21,8 +21,8 @@ use Rattle.asp_core.specs.declared.stop.BeginStop.TheVariants as begin
 use Rattle.asp_core.specs.Kernel.{CoreView, RunView, IsBeginTooMuch, IsIdle, IsRunOf, IsTooMuch, StandsAsBefore}
 use Rattle.asp_core.specs.Kernel.{StandsAt, blocker, called, grown, past_of, rules_of, wanted_by}
 use Rattle.asp_journal.proofs.Past.{past_push}
-use Rattle.asp_lane.specs.declared.turn.Turn.{Turn}
-use Rattle.asp_lane.specs.declared.turn.Turn.TheVariants as turn
+use Rattle.asp_lane.specs.declared.turn.TurnEnd.{TurnEnd}
+use Rattle.asp_lane.specs.declared.turn.TurnEnd.TheVariants as turn
 use Rattle.asp_lane.specs.Turns.{AddsTurn, IsAlone, IsTurn, turn_of}
 use Rattle.asp_lane.proofs.Unfinished.{begun_alone, ended_none, never_blocked}
 
@@ -108,7 +108,7 @@ module _ {R Site State : Type 0} (meaning : R → Site → Meaning) (stands : R 
       }
 
   -- nothing was added
-  pub none_turn : (lane : ℕ) (old new : CoreView R Site) (turn : Turn) → unfinished (past_of old) ≡ []
+  pub none_turn : (lane : ℕ) (old new : CoreView R Site) (turn : TurnEnd) → unfinished (past_of old) ≡ []
       → new ≡ old → AddsTurn {State = State} (rules_of meaning old) (past_of old) lane None [] turn
       → IsTurn meaning stands lane old None new None turn
   none_turn lane old new turn none same adds = record {
@@ -183,7 +183,7 @@ module _ {R Site State : Type 0} (meaning : R → Site → Meaning) (stands : R 
       }
 
   -- it has ended
-  ended_turn : (lane : ℕ) (old new : CoreView R Site) (run : RunView State) (kind : EndKind) (turn : Turn)
+  ended_turn : (lane : ℕ) (old new : CoreView R Site) (run : RunView State) (kind : EndKind) (turn : TurnEnd)
       → AreRight (rules_of meaning old) (past_of old) → IsAlone meaning stands old lane run
       → new ≡ grown old (end_entry (rules_of meaning old) (past_of old) lane run.number kind ∷ [])
       → AddsTurn (rules_of meaning old) (past_of old) lane (Some run)
@@ -254,7 +254,7 @@ module _ {R Site State : Type 0} (meaning : R → Site → Meaning) (stands : R 
 
   -- what a run's turn adds depends on its number alone
   pub same_turn : (lane : ℕ) (old new : CoreView R Site) (run then_run : RunView State)
-      (in_hand : Option (RunView State)) (turn : Turn) → then_run.number ≡ run.number
+      (in_hand : Option (RunView State)) (turn : TurnEnd) → then_run.number ≡ run.number
       → IsTurn meaning stands lane old (Some then_run) new in_hand turn
       → IsTurn meaning stands lane old (Some run) new in_hand turn
   same_turn lane old new run then_run in_hand turn number is = record {

@@ -16,17 +16,17 @@ use Rattle.asp_core.specs.declared.stop.BeginStop.{BeginStop}
 use Rattle.asp_core.specs.declared.stop.BeginStop.TheVariants as stop
 use Rattle.asp_core.specs.Kernel.{CoreView, RunView, IsRunOf, IsIdle, IsTooMuch, IsBeginTooMuch, past_of, rules_of}
 use Rattle.asp_core.specs.Kernel.{grown}
-use Rattle.asp_lane.specs.declared.turn.Hand.{Hand}
-use Rattle.asp_lane.specs.declared.turn.Hand.TheVariants as hand
-use Rattle.asp_lane.specs.declared.turn.Turn.{Turn}
-use Rattle.asp_lane.specs.declared.turn.Turn.TheVariants as turn
+use Rattle.asp_lane.specs.declared.turn.Load.{Load}
+use Rattle.asp_lane.specs.declared.turn.Load.TheVariants as load
+use Rattle.asp_lane.specs.declared.turn.TurnEnd.{TurnEnd}
+use Rattle.asp_lane.specs.declared.turn.TurnEnd.TheVariants as turn
 
 -- ---- what is in hand
 
 -- the run in hand, if there is one
-abbrev pub run_in : {R Site Store State : Type 0} → Hand R Site Store State → Option (RunView State)
-run_in (hand.Free store) = None
-run_in (hand.Runs run) = Some run
+abbrev pub run_in : {R Site Store State : Type 0} → Load R Site Store State → Option (RunView State)
+run_in (load.Free store) = None
+run_in (load.Runs run) = Some run
 
 -- the run is one of the core's, of that lane, and no other is unfinished
 pub record IsAlone {R Site State : Type 0} (meaning : R → Site → Meaning)
@@ -44,7 +44,7 @@ Fits meaning stands core lane (Some run) = IsAlone meaning stands core lane run 
 -- ---- what a turn adds
 
 -- what a turn comes to where no run begins
-abbrev pub turn_of : BeginStop → Turn
+abbrev pub turn_of : BeginStop → TurnEnd
 turn_of stop.Idle = turn.Idle
 turn_of (stop.JournalFull entries weight) = turn.JournalFull entries weight
 turn_of stop.Memory = turn.Memory
@@ -60,7 +60,7 @@ pub record IsCallTooMuch (rules : Rules) (past : List Entry) (lane run entries w
 
 -- Where no run is in hand: the Begin of the next run; or nothing, where none is next, where that Begin does not fit, or
 -- for want of memory.
-abbrev pub AddsBegin : Rules → List Entry → ℕ → List Entry → Turn → Type 0
+abbrev pub AddsBegin : Rules → List Entry → ℕ → List Entry → TurnEnd → Type 0
 AddsBegin rules past lane entries turn.Done =
     (run : ℕ) × IsBegin rules past run (serial_of rules past run) × (entries ≡ begin_entry rules past lane run ∷ [])
 AddsBegin rules past lane entries turn.More = ⊥
@@ -79,7 +79,7 @@ IsStep rules past lane run entry =
 
 -- Where a run is in hand: its next call or its End; nothing, where it has more to do; or its End because its next call
 -- does not fit.
-abbrev pub AddsStep : Rules → List Entry → ℕ → ℕ → List Entry → Turn → Type 0
+abbrev pub AddsStep : Rules → List Entry → ℕ → ℕ → List Entry → TurnEnd → Type 0
 AddsStep rules past lane run entries turn.Done =
     (entry : Entry) × IsStep rules past lane run entry × (entries ≡ entry ∷ [])
 AddsStep rules past lane run entries turn.More = entries ≡ []
@@ -89,14 +89,14 @@ AddsStep rules past lane run entries (turn.JournalFull count weight) =
 AddsStep rules past lane run entries turn.Memory = ⊥
 
 -- the entries of a turn, oldest first, where this run is in hand
-abbrev pub AddsTurn : {State : Type 0} → Rules → List Entry → ℕ → Option (RunView State) → List Entry → Turn → Type 0
+abbrev pub AddsTurn : {State : Type 0} → Rules → List Entry → ℕ → Option (RunView State) → List Entry → TurnEnd → Type 0
 AddsTurn rules past lane None entries turn = AddsBegin rules past lane entries turn
 AddsTurn rules past lane (Some run) entries turn = AddsStep rules past lane run.number entries turn
 
 -- The new core is the old one with the entries of the turn, and what is in hand then fits it.
 pub record IsTurn {R Site State : Type 0} (meaning : R → Site → Meaning)
     (stands : R → Site → State → Told → ℕ → Type 0) (lane : ℕ) (old : CoreView R Site)
-    (in_hand : Option (RunView State)) (new : CoreView R Site) (then_in_hand : Option (RunView State)) (turn : Turn) :
+    (in_hand : Option (RunView State)) (new : CoreView R Site) (then_in_hand : Option (RunView State)) (turn : TurnEnd) :
     Type 0 where
   pub entries : List Entry
   pub new_is : new ≡ grown old entries

@@ -15,17 +15,17 @@ use asp_job::{EndKind, Runner, Step};
 /// How many ticks a run spends in a turn, at most.
 pub const QUANTUM: u32 = 10_000;
 
-/// What a lane has in hand. A run that is let go stays unfinished for ever.
+/// What a lane carries. A run that is let go stays unfinished for ever.
 #[derive(Drop)]
-pub enum Hand<R: Runner> {
+pub enum Load<R: Runner> {
     /// Room for a run.
     Free(R::Store),
     /// A run that may go on.
     Runs(Run<R>),
 }
 
-/// Lets go of what is in hand. A run stays unfinished.
-pub fn let_go<R>(_hand: Hand<R>)
+/// Lets go of a load. A run stays unfinished.
+pub fn let_go<R>(_load: Load<R>)
 where
     R: Runner,
     R::State: Drop,
@@ -34,7 +34,7 @@ where
 
 /// What a turn came to.
 #[derive(Clone, Copy, Debug, PartialEq, Eq)]
-pub enum Turn {
+pub enum TurnEnd {
     /// The journal has one entry more: a run began, made a call, or ended.
     Done,
     /// The run in hand has spent its ticks, and has more to do.
@@ -53,13 +53,13 @@ pub enum Turn {
 }
 
 /// What a turn comes to where no run begins.
-fn turn_of(stop: BeginStop) -> Turn
+fn turn_of(stop: BeginStop) -> TurnEnd
     ensures { result ≡ spec.turn_of stop }
 {
     match stop {
-        BeginStop::Idle => Turn::Idle,
-        BeginStop::JournalFull { entries, weight } => Turn::JournalFull { entries, weight },
-        BeginStop::Memory => Turn::Memory,
+        BeginStop::Idle => TurnEnd::Idle,
+        BeginStop::JournalFull { entries, weight } => TurnEnd::JournalFull { entries, weight },
+        BeginStop::Memory => TurnEnd::Memory,
     }
 }
 
@@ -70,37 +70,37 @@ fn begin<R: Runner>(
     site: &R::Site,
     lane: u32,
     store: R::Store,
-) -> (Hand<R>, Turn)
+) -> (Load<R>, TurnEnd)
     requires host { kernel.IsHostOf core.old runner.now site.now }
     requires valid { journals.AreRight (kernel.rules_of R.meaning core.old) (kernel.past_of core.old) }
     requires free { runs.unfinished (kernel.past_of core.old) ≡ [] }
     ensures { spec.IsTurn R.meaning R.stands lane core.old None core.new (spec.run_in result.0) result.1 }
 {
     match core.begin(lane, runner, site, store) {
-        Ok(run) => (Hand::Runs(run), Turn::Done),
-        Err((store, stop)) => (Hand::Free(store), turn_of(stop)),
+        Ok(run) => (Load::Runs(run), TurnEnd::Done),
+        Err((store, stop)) => (Load::Free(store), turn_of(stop)),
     }
 }
 
 /// Makes the call that a run wants, or ends the run where there is no room or memory for it.
-fn call<R: Runner>(core: &mut Core<R>, runner: &R, lane: u32, mut run: Run<R>) -> (Hand<R>, Turn)
+fn call<R: Runner>(core: &mut Core<R>, runner: &R, lane: u32, mut run: Run<R>) -> (Load<R>, TurnEnd)
     requires host { runner.now ≡ core.old.runner }
     requires valid { journals.AreRight (kernel.rules_of R.meaning core.old) (kernel.past_of core.old) }
-    requires hand { spec.IsAlone R.meaning R.stands core.old lane run }
+    requires load { spec.IsAlone R.meaning R.stands core.old lane run }
     requires wants { IsSome (kernel.wanted_by run.progress) }
     ensures turn { spec.IsTurn R.meaning R.stands lane core.old (Some run) core.new (spec.run_in result.0) result.1 }
-    ensures made { result.1 ≡ Turn.More → ⊥ }
+    ensures made { result.1 ≡ TurnEnd.More → ⊥ }
 {
     match core.app_step(lane, runner, &mut run) {
-        Ok(()) => (Hand::Runs(run), Turn::Done),
+        Ok(()) => (Load::Runs(run), TurnEnd::Done),
         Err(AppStepStop::Blocked { holder: _ }) => unreachable!(),
         Err(AppStepStop::JournalFull { entries, weight }) => {
             let store = core.end(lane, runner, run, EndKind::JournalFull);
-            (Hand::Free(store), Turn::JournalFull { entries, weight })
+            (Load::Free(store), TurnEnd::JournalFull { entries, weight })
         }
         Err(AppStepStop::Memory) => {
             let store = core.end(lane, runner, run, EndKind::Memory);
-            (Hand::Free(store), Turn::Done)
+            (Load::Free(store), TurnEnd::Done)
         }
     }
 }
@@ -112,24 +112,24 @@ fn go<R: Runner>(
     site: &R::Site,
     lane: u32,
     mut run: Run<R>,
-) -> (Hand<R>, Turn)
+) -> (Load<R>, TurnEnd)
     requires host { kernel.IsHostOf core.old runner.now site.now }
     requires valid { journals.AreRight (kernel.rules_of R.meaning core.old) (kernel.past_of core.old) }
-    requires hand { spec.Fits R.meaning R.stands core.old lane (Some run) }
+    requires load { spec.Fits R.meaning R.stands core.old lane (Some run) }
     ensures turn { spec.IsTurn R.meaning R.stands lane core.old (Some run) core.new (spec.run_in result.0) result.1 }
     ensures ticks { SpendsTicks R.pace R.meaning R.stands lane
         core.old (Some run) core.new (spec.run_in result.0) result.1 }
 {
     match run.go(runner, site, QUANTUM) {
-        Ok(Step::More) => (Hand::Runs(run), Turn::More),
+        Ok(Step::More) => (Load::Runs(run), TurnEnd::More),
         Ok(Step::Wants(_)) => call(core, runner, lane, run),
         Ok(Step::Ended) => {
             let store = core.end(lane, runner, run, EndKind::Done);
-            (Hand::Free(store), Turn::Done)
+            (Load::Free(store), TurnEnd::Done)
         }
         Err(_) => {
             let store = core.end(lane, runner, run, EndKind::Memory);
-            (Hand::Free(store), Turn::Done)
+            (Load::Free(store), TurnEnd::Done)
         }
     }
 }
@@ -141,26 +141,26 @@ pub fn take_turn<R: Runner>(
     runner: &R,
     site: &R::Site,
     lane: u32,
-    hand: Hand<R>,
-) -> (Hand<R>, Turn)
+    load: Load<R>,
+) -> (Load<R>, TurnEnd)
     requires host { kernel.IsHostOf core.old runner.now site.now }
-    requires hand { spec.Fits R.meaning R.stands core.old lane (spec.run_in hand) }
+    requires load { spec.Fits R.meaning R.stands core.old lane (spec.run_in load) }
     ensures turn { spec.IsTurn R.meaning R.stands lane
-        core.old (spec.run_in hand) core.new (spec.run_in result.0) result.1 }
+        core.old (spec.run_in load) core.new (spec.run_in result.0) result.1 }
 
     // A run in hand is taken no further than so many ticks, and stops before only where it wants a call or has ended.
     ensures ticks { SpendsTicks R.pace R.meaning R.stands lane
-        core.old (spec.run_in hand) core.new (spec.run_in result.0) result.1 }
+        core.old (spec.run_in load) core.new (spec.run_in result.0) result.1 }
 
     // Where it comes to idle with no answer left to hand out and no Halt, no run waits.
-    ensures idle { result.1 ≡ Turn.Idle →
+    ensures idle { result.1 ≡ TurnEnd.Idle →
         waits.ready (kernel.rules_of R.meaning core.new) (kernel.past_of core.new) ≡ [] →
         runs.is_halted (kernel.past_of core.new) ≡ false → runs.waiting (kernel.past_of core.new) ≡ [] }
 {
     // The journal is valid.
     let _ = core.journal();
-    match hand {
-        Hand::Free(store) => begin(core, runner, site, lane, store),
-        Hand::Runs(run) => go(core, runner, site, lane, run),
+    match load {
+        Load::Free(store) => begin(core, runner, site, lane, store),
+        Load::Runs(run) => go(core, runner, site, lane, run),
     }
 }

@@ -10,8 +10,8 @@ use Rattle.asp_job.specs.declared.entry.Entry.{Entry}
 use Rattle.asp_job.specs.Journal.{end_entry, past_after}
 use Rattle.asp_job.specs.Rules.{Rules}
 use Rattle.asp_job.specs.Told.{Meaning}
-use Rattle.asp_lane.specs.declared.turn.Turn.{Turn}
-use Rattle.asp_lane.specs.declared.turn.Turn.TheVariants as turn
+use Rattle.asp_lane.specs.declared.turn.TurnEnd.{TurnEnd}
+use Rattle.asp_lane.specs.declared.turn.TurnEnd.TheVariants as turn
 use Rattle.asp_record.specs.declared.recording.Item.{Item}
 use Rattle.asp_replay.specs.declared.stop.FeedStop.{FeedStop}
 use Rattle.asp_replay.specs.declared.stop.FeedStop.TheVariants as stop
@@ -31,7 +31,7 @@ stop_is : (one other : FeedStop) → Some one ≡ Some other → one ≡ other
 stop_is one other e = cc
 
 -- work that comes to a stop adds nothing that comes from an item
-stop_quiet : (m : Rules) (past entries : List Entry) (t : Turn) (ended : FeedStop) → turn_stop t ≡ Some ended
+stop_quiet : (m : Rules) (past entries : List Entry) (t : TurnEnd) (ended : FeedStop) → turn_stop t ≡ Some ended
     → Works m past entries t → IsAsBefore past (past_after past entries)
 stop_quiet m past entries turn.Done ended e works = absurd cc
 stop_quiet m past entries turn.More ended e works = absurd works
@@ -47,7 +47,7 @@ stop_quiet m past entries turn.Memory ended e (inr begun) =
 
 -- and has a cause
 stop_cause : (m : Rules) (items : List Item) (past entries : List Entry) (clients : Clients) (left : List Item)
-    (t : Turn) (ended : FeedStop) → turn_stop t ≡ Some ended → StandsAt items past clients left
+    (t : TurnEnd) (ended : FeedStop) → turn_stop t ≡ Some ended → StandsAt items past clients left
     → Works m past entries t → HasCause m items (past_after past entries) ended
 stop_cause m items past entries clients left turn.Done ended e stands works = absurd cc
 stop_cause m items past entries clients left turn.More ended e stands works = absurd works
@@ -68,7 +68,7 @@ stop_cause m items past entries clients left turn.Memory ended e stands works =
 
 -- a feed ends so where work came to a stop
 pub work_ends : {R Site : Type 0} → (meaning : R → Site → Meaning) (old new : CoreView R Site) (entries : List Entry)
-    (t : Turn) (items left : List Item) (clients : Clients) (before held : Option (List ℕ)) (ended : FeedStop)
+    (t : TurnEnd) (items left : List Item) (clients : Clients) (before held : Option (List ℕ)) (ended : FeedStop)
     → new ≡ grown old entries → turn_stop t ≡ Some ended → Works (rules_of meaning old) (past_of old) entries t
     → IsUnderWay (rules_of meaning old) items (past_of old) clients left before held
     → EndsSo (rules_of meaning old) items (past_of new) ended before held
@@ -89,7 +89,7 @@ work_ends meaning old new entries t items left clients before held ended new_is 
 
 -- where work came to a stop
 pub stop_events : {R Site : Type 0} → (meaning : R → Site → Meaning) (old new : CoreView R Site) (entries : List Entry)
-    (t : Turn) (ended : FeedStop) → new ≡ grown old entries → turn_stop t ≡ Some ended
+    (t : TurnEnd) (ended : FeedStop) → new ≡ grown old entries → turn_stop t ≡ Some ended
     → Works (rules_of meaning old) (past_of old) entries t → events_of (past_of new) ≡ events_of (past_of old)
 stop_events meaning old new entries t ended new_is e works =
     ap (λ core. events_of (past_of core)) new_is ∙ ap events_of (past_of_more old.journal entries)
@@ -126,7 +126,7 @@ work_events meaning result old mid new entries held after mid_is adds out =
 
 -- ---- no fault of the sink
 
-pub stop_no_fault : (t : Turn) (ended : FeedStop) → turn_stop t ≡ Some ended → ended ≡ stop.WriteFault → ⊥
+pub stop_no_fault : (t : TurnEnd) (ended : FeedStop) → turn_stop t ≡ Some ended → ended ≡ stop.WriteFault → ⊥
 stop_no_fault turn.Done ended e fault = absurd cc
 stop_no_fault turn.More ended e fault = absurd cc
 stop_no_fault turn.Idle ended e fault = absurd cc

@@ -9,8 +9,8 @@ use Rattle.asp_job.specs.declared.entry.Entry.{Entry}
 use Rattle.asp_job.specs.Journal.{AreRight, past_after, stop_entries}
 use Rattle.asp_job.specs.Runs.{is_stopping}
 use Rattle.asp_job.specs.Told.{Meaning, Told}
-use Rattle.asp_lane.specs.declared.turn.Turn.{Turn}
-use Rattle.asp_lane.specs.declared.turn.Turn.TheVariants as turn
+use Rattle.asp_lane.specs.declared.turn.TurnEnd.{TurnEnd}
+use Rattle.asp_lane.specs.declared.turn.TurnEnd.TheVariants as turn
 use Rattle.asp_lane.specs.Started.{HasStarted}
 use Rattle.asp_lane.specs.Turns.{Fits}
 use Rattle.asp_record.specs.declared.recording.Item.{Item}
@@ -242,7 +242,7 @@ module _ {R Site : Type 0} (meaning : R → Site → Meaning) where
   -- ---- work
 
   -- work that came to no stop
-  pub work_adds : (m : Rules) (past entries : List Entry) (t : Turn)
+  pub work_adds : (m : Rules) (past entries : List Entry) (t : TurnEnd)
       → ((ended : FeedStop) → turn_stop t ≡ Some ended → ⊥) → Works m past entries t → WorkAdds m past entries
   work_adds m past entries turn.Done none works = works
   work_adds m past entries turn.More none works = absurd works

@@ -16,8 +16,8 @@ use Rattle.asp_job.specs.Runs.{is_halt, is_halted}
 use Rattle.asp_job.specs.Told.{Meaning, Told}
 use Rattle.asp_lane.proofs.Started.{started_grown}
 use Rattle.asp_lane.specs.Started.{HasStarted}
-use Rattle.asp_lane.specs.declared.turn.Turn.{Turn}
-use Rattle.asp_lane.specs.declared.turn.Turn.TheVariants as turn
+use Rattle.asp_lane.specs.declared.turn.TurnEnd.{TurnEnd}
+use Rattle.asp_lane.specs.declared.turn.TurnEnd.TheVariants as turn
 use Rattle.asp_lane.specs.Rest.{HasTurned, Turned}
 use Rattle.asp_lane.specs.Turns.{AddsTurn, Fits, IsStep, IsTurn}
 use Rattle.asp_record.specs.declared.recording.Item.{Item}
@@ -63,7 +63,7 @@ step_quiet m past lane run entry (inr (inl ended)) = rw ended.1 (refl, tt)
 step_quiet m past lane run entry (inr (inr died)) = rw died (refl, tt)
 
 adds_quiet : {State : Type 0} → (m : Rules) (past : List Entry) (lane : ℕ) (in_hand : Option (RunView State))
-    (entries : List Entry) (t : Turn) → AddsTurn m past lane in_hand entries t → NoneIs comes entries
+    (entries : List Entry) (t : TurnEnd) → AddsTurn m past lane in_hand entries t → NoneIs comes entries
 adds_quiet m past lane None entries turn.Done adds = rw adds.2 (refl, tt)
 adds_quiet m past lane None entries turn.More adds = absurd adds
 adds_quiet m past lane None entries turn.Idle adds = rw adds.1 tt
@@ -132,7 +132,7 @@ module _ {R Site State : Type 0} (meaning : R → Site → Meaning) (stands : R 
         (fits_still meaning stands old entries in_hand (right_grown meaning old new entries is right) (refl, tt) fits))
   ]
 
-  turn_quiet : (old new : CoreView R Site) (in_hand then_in_hand : Option (RunView State)) (t : Turn)
+  turn_quiet : (old new : CoreView R Site) (in_hand then_in_hand : Option (RunView State)) (t : TurnEnd)
       → IsTurn meaning stands 0 old in_hand new then_in_hand t → GrowsQuietly old new
   turn_quiet old new in_hand then_in_hand t is = record {
     entries = is.entries;
@@ -148,14 +148,14 @@ module _ {R Site State : Type 0} (meaning : R → Site → Meaning) (stands : R 
       quiet_then old turned.0 new (turned_quiet old turned.0 in_hand turned.1 n turned.3)
       (turn_quiet turned.0 new turned.1 then_in_hand turned.2 turned.4)
 
-  pub turns_quiet : (old new : CoreView R Site) (in_hand then_in_hand : Option (RunView State)) (last : Turn)
+  pub turns_quiet : (old new : CoreView R Site) (in_hand then_in_hand : Option (RunView State)) (last : TurnEnd)
       → HasTurned meaning stands 0 old in_hand new then_in_hand last → GrowsQuietly old new
   turns_quiet old new in_hand then_in_hand last is =
       quiet_then old is.mid new (turned_quiet old is.mid in_hand is.held is.count is.before)
       (turn_quiet is.mid new is.held then_in_hand last is.last_turn)
 
   -- where no run is in hand after turns on a host that was halted, its feed was wound up
-  pub wound_free : (old new : CoreView R Site) (in_hand then_in_hand : Option (RunView State)) (last : Turn)
+  pub wound_free : (old new : CoreView R Site) (in_hand then_in_hand : Option (RunView State)) (last : TurnEnd)
       (ended : FeedStop) → HasTurned meaning stands 0 old in_hand new then_in_hand last → then_in_hand ≡ None
       → is_halted (past_of old) ≡ true → IsWoundUp (past_of new) ended
   wound_free old new in_hand then_in_hand last ended is none halted =

@@ -9,8 +9,8 @@ use Rattle.asp_job.specs.Turns.{serial_of}
 use Rattle.asp_core.specs.Kernel.{CoreView, RunView, grown, past_of, rules_of}
 use Rattle.asp_core.specs.Ready.{ready}
 use Rattle.asp_journal.proofs.Past.{past_push}
-use Rattle.asp_lane.specs.declared.turn.Turn.{Turn}
-use Rattle.asp_lane.specs.declared.turn.Turn.TheVariants as turn
+use Rattle.asp_lane.specs.declared.turn.TurnEnd.{TurnEnd}
+use Rattle.asp_lane.specs.declared.turn.TurnEnd.TheVariants as turn
 use Rattle.asp_lane.specs.Turns.{AddsBegin, AddsStep, Fits, IsTurn}
 use Rattle.asp_lane.proofs.Turns.{grown_none}
 use Rattle.asp_lane.proofs.Unfinished.{begun_alone}
@@ -31,7 +31,7 @@ grown_twice core entry more =
 module _ {R Site State : Type 0} (meaning : R → Site → Meaning) (stands : R → Site → State → Told → ℕ → Type 0) where
   -- ---- steps
 
-  step_adds : (old : CoreView R Site) (run : ℕ) (entries : List Entry) (t : Turn)
+  step_adds : (old : CoreView R Site) (run : ℕ) (entries : List Entry) (t : TurnEnd)
       → is_more t ≡ false → AddsStep (rules_of meaning old) (past_of old) 0 run entries t
       → Steps (rules_of meaning old) (past_of old) run entries t
   step_adds old run entries turn.Done e adds = adds
@@ -41,7 +41,7 @@ module _ {R Site State : Type 0} (meaning : R → Site → Meaning) (stands : R 
   step_adds old run entries turn.Memory e adds = absurd adds
 
   -- a turn of the run in hand that came to an end is a step
-  pub one_step : (old new : CoreView R Site) (in_hand then_in_hand : Option (RunView State)) (t : Turn) (run : ℕ)
+  pub one_step : (old new : CoreView R Site) (in_hand then_in_hand : Option (RunView State)) (t : TurnEnd) (run : ℕ)
       → Fits meaning stands old 0 in_hand → unfinished (past_of old) ≡ run ∷ []
       → IsTurn meaning stands 0 old in_hand new then_in_hand t → is_more t ≡ false
       → HasStepped meaning stands old run new then_in_hand t
@@ -56,7 +56,7 @@ module _ {R Site State : Type 0} (meaning : R → Site → Meaning) (stands : R 
       }
 
   -- a turn after which there is more to do leaves the core
-  pub more_stays : (old new : CoreView R Site) (in_hand then_in_hand : Option (RunView State)) (t : Turn)
+  pub more_stays : (old new : CoreView R Site) (in_hand then_in_hand : Option (RunView State)) (t : TurnEnd)
       → IsTurn meaning stands 0 old in_hand new then_in_hand t → is_more t ≡ true → new ≡ old
   more_stays old new None then_in_hand turn.More is e = absurd is.adds
   more_stays old new (Some held) then_in_hand turn.More is e =
@@ -74,7 +74,7 @@ module _ {R Site State : Type 0} (meaning : R → Site → Meaning) (stands : R 
 
   -- ---- work
 
-  in_hand_works : (old : CoreView R Site) (run : ℕ) (entries : List Entry) (t : Turn)
+  in_hand_works : (old : CoreView R Site) (run : ℕ) (entries : List Entry) (t : TurnEnd)
       → unfinished (past_of old) ≡ run ∷ [] → Steps (rules_of meaning old) (past_of old) run entries t
       → Works (rules_of meaning old) (past_of old) entries t
   in_hand_works old run entries turn.Done one steps = record {
@@ -97,7 +97,7 @@ module _ {R Site State : Type 0} (meaning : R → Site → Meaning) (stands : R 
   in_hand_works old run entries turn.Memory one steps = inl steps
 
   -- the run in hand went on
-  pub worked_in_hand : (old new : CoreView R Site) (then_in_hand : Option (RunView State)) (t : Turn) (run : ℕ)
+  pub worked_in_hand : (old new : CoreView R Site) (then_in_hand : Option (RunView State)) (t : TurnEnd) (run : ℕ)
       → unfinished (past_of old) ≡ run ∷ [] → HasStepped meaning stands old run new then_in_hand t
       → HasWorked meaning stands old new then_in_hand t
   worked_in_hand old new then_in_hand t run one is = record {
@@ -107,7 +107,7 @@ module _ {R Site State : Type 0} (meaning : R → Site → Meaning) (stands : R 
     fits = is.fits;
   }
 
-  begun_works : (old : CoreView R Site) (run : ℕ) (entry : Entry) (entries : List Entry) (t : Turn)
+  begun_works : (old : CoreView R Site) (run : ℕ) (entry : Entry) (entries : List Entry) (t : TurnEnd)
       → HasInHand (rules_of meaning old) (past_of old) (entry ∷ past_of old) run
       → Steps (rules_of meaning old) (entry ∷ past_of old) run entries t
       → Works (rules_of meaning old) (past_of old) (entry ∷ entries) t
@@ -132,7 +132,7 @@ module _ {R Site State : Type 0} (meaning : R → Site → Meaning) (stands : R 
       inr (entry ∷ past_of old, run, in_hand, ap (λ more. past_after (entry ∷ past_of old) more) steps)
 
   -- a run began, and went on
-  pub worked_begun : (old mid new : CoreView R Site) (in_hand then_in_hand : Option (RunView State)) (begun t : Turn)
+  pub worked_begun : (old mid new : CoreView R Site) (in_hand then_in_hand : Option (RunView State)) (begun t : TurnEnd)
       → AreRight (rules_of meaning old) (past_of old) → unfinished (past_of old) ≡ []
       → IsTurn meaning stands 0 old None mid in_hand begun → is_done begun ≡ true
       → ((run : ℕ) → unfinished (past_of mid) ≡ run ∷ [] → HasStepped meaning stands mid run new then_in_hand t)
@@ -167,7 +167,7 @@ module _ {R Site State : Type 0} (meaning : R → Site → Meaning) (stands : R 
   both_none : (xs ys : List ℕ) → xs ≡ [] → ys ≡ [] → (length xs == 0) && (length ys == 0) ≡ true
   both_none xs ys first second = rw first (rw second refl)
 
-  begin_works : (old : CoreView R Site) (entries : List Entry) (t : Turn) → is_done t ≡ false → ¬ (t ≡ turn.Idle)
+  begin_works : (old : CoreView R Site) (entries : List Entry) (t : TurnEnd) → is_done t ≡ false → ¬ (t ≡ turn.Idle)
       → AddsBegin (rules_of meaning old) (past_of old) 0 entries t
       → Works (rules_of meaning old) (past_of old) entries t
   begin_works old entries turn.Done e some adds = absurd cc
@@ -177,13 +177,13 @@ module _ {R Site State : Type 0} (meaning : R → Site → Meaning) (stands : R 
   begin_works old entries turn.Memory e some adds = inl adds
 
   -- a turn without a run in hand that came to idle added nothing
-  idle_stays : (old new : CoreView R Site) (then_in_hand : Option (RunView State)) (t : Turn) → t ≡ turn.Idle
+  idle_stays : (old new : CoreView R Site) (then_in_hand : Option (RunView State)) (t : TurnEnd) → t ≡ turn.Idle
       → IsTurn meaning stands 0 old None new then_in_hand t → new ≡ old
   idle_stays old new then_in_hand t e is =
       let adds = rw e at is.adds in is.new_is ∙ ap (λ entries. grown old entries) adds.1 ∙ grown_none old
 
   -- no run began, and not because there was none
-  pub worked_not : (old new : CoreView R Site) (then_in_hand : Option (RunView State)) (t : Turn)
+  pub worked_not : (old new : CoreView R Site) (then_in_hand : Option (RunView State)) (t : TurnEnd)
       → unfinished (past_of old) ≡ [] → is_calm (past_of old) ≡ false
       → ready (rules_of meaning old) (past_of old) ≡ [] → is_halted (past_of old) ≡ false
       → IsTurn meaning stands 0 old None new then_in_hand t → is_done t ≡ false

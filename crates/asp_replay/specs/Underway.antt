@@ -21,8 +21,8 @@ use Rattle.asp_job.specs.Rules.{Rules}
 use Rattle.asp_job.specs.Running.{is_page}
 use Rattle.asp_job.specs.Runs.{is_halted, is_open, is_stopping, job_of, moment_of}
 use Rattle.asp_job.specs.Told.{Meaning, Told}
-use Rattle.asp_lane.specs.declared.turn.Turn.{Turn}
-use Rattle.asp_lane.specs.declared.turn.Turn.TheVariants as turn
+use Rattle.asp_lane.specs.declared.turn.TurnEnd.{TurnEnd}
+use Rattle.asp_lane.specs.declared.turn.TurnEnd.TheVariants as turn
 use Rattle.asp_lane.specs.Turns.{Fits, IsCallTooMuch, IsStep}
 use Rattle.asp_record.specs.declared.recording.Item.{Item}
 use Rattle.asp_record.specs.Recorded.{AreItems}
@@ -53,7 +53,7 @@ IsStartStop rules past stop.WriteFault = ⊥
 IsStartStop rules past stop.Memory = ⊤
 
 -- why nothing goes on after work that came to this
-abbrev pub turn_stop : Turn → Option FeedStop
+abbrev pub turn_stop : TurnEnd → Option FeedStop
 turn_stop (turn.JournalFull entries weight) = Some (stop.JournalFull entries weight)
 turn_stop turn.Memory = Some stop.Memory
 turn_stop _ = None
@@ -74,17 +74,17 @@ IsItemTooMuch rules past clients item entries weight = (added : List Entry) × (
 -- ---- what a step adds
 
 -- whether a turn came to this
-abbrev pub is_more : Turn → Bool
+abbrev pub is_more : TurnEnd → Bool
 is_more turn.More = true
 is_more _ = false
 
-abbrev pub is_done : Turn → Bool
+abbrev pub is_done : TurnEnd → Bool
 is_done turn.Done = true
 is_done _ = false
 
 -- the entries of a step of the run in hand that came to this: its next call or its End, its End because its call does
 -- not fit, or nothing
-abbrev pub Steps : Rules → List Entry → ℕ → List Entry → Turn → Type 0
+abbrev pub Steps : Rules → List Entry → ℕ → List Entry → TurnEnd → Type 0
 Steps rules past run entries turn.Done =
     (entry : Entry) × IsStep rules past 0 run entry × (entries ≡ entry ∷ [])
 Steps rules past run entries (turn.JournalFull count weight) =
@@ -96,7 +96,7 @@ Steps rules past run entries turn.Idle = ⊥
 -- the core has the entries of the step, and what is in hand then fits it
 pub record HasStepped {R Site State : Type 0} (meaning : R → Site → Meaning)
     (stands : R → Site → State → Told → ℕ → Type 0) (old : CoreView R Site) (run : ℕ) (new : CoreView R Site)
-    (in_hand : Option (RunView State)) (came_to : Turn) : Type 0 where
+    (in_hand : Option (RunView State)) (came_to : TurnEnd) : Type 0 where
   pub entries : List Entry
   pub new_is : new ≡ grown old entries
   pub steps : Steps (rules_of meaning old) (past_of old) run entries came_to
@@ -131,7 +131,7 @@ OnlyBegins rules past entries =
     (entries ≡ []) ⊎ ((mid : List Entry) × (run : ℕ) × HasInHand rules past mid run × (past_after past entries ≡ mid))
 
 -- the entries of work that came to this
-abbrev pub Works : Rules → List Entry → List Entry → Turn → Type 0
+abbrev pub Works : Rules → List Entry → List Entry → TurnEnd → Type 0
 Works rules past entries turn.Done = WorkAdds rules past entries
 Works rules past entries (turn.JournalFull count weight) = WorkIsTooMuch rules past entries count weight
 Works rules past entries turn.Memory = OnlyBegins rules past entries
@@ -141,7 +141,7 @@ Works rules past entries turn.Idle = ⊥
 -- the core has the entries of the work, and what is in hand then fits it
 pub record HasWorked {R Site State : Type 0} (meaning : R → Site → Meaning)
     (stands : R → Site → State → Told → ℕ → Type 0) (old new : CoreView R Site) (in_hand : Option (RunView State))
-    (came_to : Turn) : Type 0 where
+    (came_to : TurnEnd) : Type 0 where
   pub entries : List Entry
   pub new_is : new ≡ grown old entries
   pub works : Works (rules_of meaning old) (past_of old) entries came_to

@@ -24,7 +24,7 @@ use asp_core::Core;
 use asp_feed::Clients;
 use asp_io::Sink;
 use asp_job::{EndKind, Runner};
-use asp_lane::{Hand, let_go};
+use asp_lane::{Load, let_go};
 use asp_record::{Item, Recording};
 use std::alloc::Global;
 
@@ -55,9 +55,9 @@ fn start<R, K>(
     core: &mut Core<R>,
     runner: &R,
     site: &R::Site,
-    mut hand: Hand<R>,
+    mut hand: Load<R>,
     sink: &mut K,
-) -> (Hand<R>, Result<(), FeedStop>)
+) -> (Load<R>, Result<(), FeedStop>)
 where
     R: Runner,
     R::State: Drop,
@@ -110,10 +110,10 @@ fn turn<'a, R, K>(
     runner: &R,
     site: &R::Site,
     clients: &mut Clients,
-    hand: Hand<R>,
+    hand: Load<R>,
     items: &'a [Item],
     sink: &mut K,
-) -> (Hand<R>, Result<&'a [Item], FeedStop>)
+) -> (Load<R>, Result<&'a [Item], FeedStop>)
 where
     R: Runner,
     R::State: Drop,
@@ -165,10 +165,10 @@ fn feed_items<R, K>(
     runner: &R,
     site: &R::Site,
     clients: &mut Clients,
-    mut hand: Hand<R>,
+    mut hand: Load<R>,
     recording: &Recording,
     sink: &mut K,
-) -> (Hand<R>, Result<(), FeedStop>)
+) -> (Load<R>, Result<(), FeedStop>)
 where
     R: Runner,
     R::State: Drop,
@@ -215,7 +215,7 @@ fn feed_host<R, K>(
     store: R::Store,
     recording: &Recording,
     sink: &mut K,
-) -> (Hand<R>, Result<(), FeedStop>)
+) -> (Load<R>, Result<(), FeedStop>)
 where
     R: Runner,
     R::State: Drop,
@@ -232,7 +232,7 @@ where
     ensures passed { IfErr result.1 (spec.IsPassed (rules_of R.meaning core.old) (past_of core.new)) }
     ensures cause { HasCause FeedStop.WriteFault (K.faults sink.old) (K.faults sink.new) result.1 }
 {
-    let (hand, begun) = start(alloc, core, runner, site, Hand::Free(store), sink);
+    let (hand, begun) = start(alloc, core, runner, site, Load::Free(store), sink);
     match begun {
         Ok(()) => {
             let fed = feed_items(alloc, core, runner, site, clients, hand, recording, sink);
@@ -330,7 +330,7 @@ where
     let mut core = match Core::new(alloc, 0, runner, site, recording.seed, false) {
         Ok(core) => core,
         Err(memory) => {
-            let_go::<R>(Hand::Free(store));
+            let_go::<R>(Load::Free(store));
             return Err(FeedStop::from(memory));
         }
     };

@@ -22,17 +22,17 @@ use asp_core::Core;
 use asp_feed::Clients;
 use asp_io::Sink;
 use asp_job::Runner;
-use asp_lane::{Hand, Turn};
+use asp_lane::{Load, TurnEnd};
 use asp_record::Item;
 use std::alloc::Global;
 
 /// Why nothing goes on after work that came to this.
-fn turn_stop(turn: Turn) -> Option<FeedStop>
+fn turn_stop(turn: TurnEnd) -> Option<FeedStop>
     ensures { result ≡ spec.turn_stop turn }
 {
     match turn {
-        Turn::JournalFull { entries, weight } => Some(FeedStop::JournalFull { entries, weight }),
-        Turn::Memory => Some(FeedStop::Memory),
+        TurnEnd::JournalFull { entries, weight } => Some(FeedStop::JournalFull { entries, weight }),
+        TurnEnd::Memory => Some(FeedStop::Memory),
         _ => None,
     }
 }
@@ -104,9 +104,9 @@ pub fn work_turn<R, K>(
     core: &mut Core<R>,
     runner: &R,
     site: &R::Site,
-    hand: Hand<R>,
+    hand: Load<R>,
     sink: &mut K,
-) -> (Hand<R>, Result<(), FeedStop>)
+) -> (Load<R>, Result<(), FeedStop>)
 where
     R: Runner,
     R::State: Drop,

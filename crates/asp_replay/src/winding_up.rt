@@ -12,7 +12,7 @@ ghost use Rattle.asp_replay.specs.Underway as way;
 use crate::stop::FeedStop;
 use asp_core::Core;
 use asp_job::Runner;
-use asp_lane::{Hand, let_go, take_turns};
+use asp_lane::{Load, let_go, take_turns};
 
 /// No run begins from now on. The run in hand may go on.
 fn halt<R: Runner>(core: &mut Core<R>)
@@ -32,7 +32,7 @@ pub fn wind_up<R>(
     core: &mut Core<R>,
     runner: &R,
     site: &R::Site,
-    hand: Hand<R>,
+    hand: Load<R>,
     stop: FeedStop,
 ) -> FeedStop
 where
@@ -53,12 +53,12 @@ where
     halt(core);
     let (hand, _) = take_turns(core, runner, site, 0, hand);
     match hand {
-        Hand::Free(store) => {
-            let_go::<R>(Hand::Free(store));
+        Load::Free(store) => {
+            let_go::<R>(Load::Free(store));
             stop
         }
-        Hand::Runs(run) => {
-            let_go(Hand::Runs(run));
+        Load::Runs(run) => {
+            let_go(Load::Runs(run));
             FeedStop::Memory
         }
     }

@@ -12,18 +12,18 @@ ghost use Rattle.asp_replay.specs.Underway as spec;
 
 use asp_core::Core;
 use asp_job::Runner;
-use asp_lane::{Hand, Turn, take_turn};
+use asp_lane::{Load, TurnEnd, take_turn};
 
-fn is_more(turn: Turn) -> bool
+fn is_more(turn: TurnEnd) -> bool
     ensures { result ≡ spec.is_more turn }
 {
-    matches!(turn, Turn::More)
+    matches!(turn, TurnEnd::More)
 }
 
-fn is_done(turn: Turn) -> bool
+fn is_done(turn: TurnEnd) -> bool
     ensures { result ≡ spec.is_done turn }
 {
-    matches!(turn, Turn::Done)
+    matches!(turn, TurnEnd::Done)
 }
 
 /// Takes the run in hand to its next call or its end.
@@ -31,8 +31,8 @@ fn step<R: Runner>(
     core: &mut Core<R>,
     runner: &R,
     site: &R::Site,
-    mut hand: Hand<R>,
-) -> (Hand<R>, Turn)
+    mut hand: Load<R>,
+) -> (Load<R>, TurnEnd)
     requires host { IsHostOf core.old runner.now site.now }
     requires hand { Fits R.meaning R.stands core.old 0 (run_in hand) }
     ensures { (run : ℕ) → unfinished (past_of core.old) ≡ run ∷ [] →
@@ -45,7 +45,7 @@ fn step<R: Runner>(
         }
         hand = next;
     }
-    (hand, Turn::Memory)
+    (hand, TurnEnd::Memory)
 }
 
 /// Begins the next run, and takes it to its first call or its end.
@@ -54,7 +54,7 @@ fn begin_and_step<R: Runner>(
     runner: &R,
     site: &R::Site,
     store: R::Store,
-) -> (Hand<R>, Turn)
+) -> (Load<R>, TurnEnd)
     requires host { IsHostOf core.old runner.now site.now }
     requires valid { AreRight (rules_of R.meaning core.old) (past_of core.old) }
     requires free { unfinished (past_of core.old) ≡ [] }
@@ -63,7 +63,7 @@ fn begin_and_step<R: Runner>(
     requires going { is_halted (past_of core.old) ≡ false }
     ensures { spec.HasWorked R.meaning R.stands core.old core.new (run_in result.0) result.1 }
 {
-    let (hand, turn) = take_turn(core, runner, site, 0, Hand::Free(store));
+    let (hand, turn) = take_turn(core, runner, site, 0, Load::Free(store));
     if !is_done(turn) {
         return (hand, turn);
     }
@@ -75,8 +75,8 @@ pub fn work<R: Runner>(
     core: &mut Core<R>,
     runner: &R,
     site: &R::Site,
-    hand: Hand<R>,
-) -> (Hand<R>, Turn)
+    hand: Load<R>,
+) -> (Load<R>, TurnEnd)
     requires host { IsHostOf core.old runner.now site.now }
     requires hand { Fits R.meaning R.stands core.old 0 (run_in hand) }
     requires busy { is_calm (past_of core.old) ≡ false }
@@ -87,7 +87,7 @@ pub fn work<R: Runner>(
     // The journal is valid.
     let _ = core.journal();
     match hand {
-        Hand::Runs(run) => step(core, runner, site, Hand::Runs(run)),
-        Hand::Free(store) => begin_and_step(core, runner, site, store),
+        Load::Runs(run) => step(core, runner, site, Load::Runs(run)),
+        Load::Free(store) => begin_and_step(core, runner, site, store),
     }
 }

@@ -3,7 +3,6 @@ use Rattle.std.proofs.Common.{◌≡◌, ◌⊎◌, ℕ, zero, suc, List, ◌∷
 use Rattle.std.proofs.Common.{sym, subst, ◌∙◌, inl, inr, arith}
 use Rattle.vb_value.specs.declared.application.AppCall.{AppCall}
 use Rattle.asp_core.specs.Kernel.{IsBeginTooMuch, IsTooMuch, IsWithin}
-use Rattle.asp_get.specs.Course.{Begins, Calls, GoesThrough, IsRunTooMuch, IsUnderWay, OfBegin, OfCall}
 use Rattle.asp_job.specs.declared.answer.Finished.{Finished}
 use Rattle.asp_job.specs.declared.entry.EndKind.TheVariants as kind
 use Rattle.asp_job.specs.declared.entry.Entry.{Entry}
@@ -12,6 +11,7 @@ use Rattle.asp_job.specs.Journal.{begin_entry, end_entry}
 use Rattle.asp_job.specs.Keys.{told}
 use Rattle.asp_job.specs.Rules.{Rules}
 use Rattle.asp_job.specs.Told.{Ends, Wants}
+use Rattle.asp_lane.specs.Course.{Begins, Calls, GoesThrough, IsRunTooMuch, IsUnderWay, OfBegin, OfCall}
 use Rattle.asp_lane.specs.Turns.{IsCallTooMuch}
 use Rattle.replay_laws.proofs.OneWork.{one_next_run}
 
@@ -34,23 +34,23 @@ one_call call other e = cc
 
 -- ---- the course of a run
 
-module _ (rules : Rules) where
+module _ (rules : Rules) (lane : ℕ) where
   -- the run ends, or its next call would be too much
   abbrev IsStuck : ℕ → List Entry → Type 0
   IsStuck run past = ((finished : Finished) × (rules.meaning.does (told rules past run) ≡ Ends finished))
-      ⊎ ((entries : ℕ) × (weight : ℕ) × IsCallTooMuch rules past 0 run entries weight)
+      ⊎ ((entries : ℕ) × (weight : ℕ) × IsCallTooMuch rules past lane run entries weight)
 
   not_stuck : (run : ℕ) (past : List Entry) (call : AppCall) → rules.meaning.does (told rules past run) ≡ Wants call
-      → IsWithin (call_entry past 0 run call ∷ past) → IsStuck run past → ⊥
+      → IsWithin (call_entry past lane run call ∷ past) → IsStuck run past → ⊥
   not_stuck run past call wants within (inl ends) = let both : Wants call ≡ Ends ends.0 = sym wants ∙ ends.1 in cc
   not_stuck run past call wants within (inr (entries, weight, much)) =
       let same : much.call ≡ call = one_call much.call call (sym much.wants ∙ wants) in
-      no_room (call_entry past 0 run call ∷ past) entries weight within
-      (subst (λ some. IsTooMuch (call_entry past 0 run some ∷ past) entries weight) same much.much)
+      no_room (call_entry past lane run call ∷ past) entries weight within
+      (subst (λ some. IsTooMuch (call_entry past lane run some ∷ past) entries weight) same much.much)
 
   -- the calls of a run lead to one place where it is stuck
-  one_place : (run n k : ℕ) (from mid other : List Entry) → Calls rules run n from mid → Calls rules run k from other
-      → IsStuck run mid → IsStuck run other → mid ≡ other
+  one_place : (run n k : ℕ) (from mid other : List Entry) → Calls rules lane run n from mid
+      → Calls rules lane run k from other → IsStuck run mid → IsStuck run other → mid ≡ other
   one_place run zero zero from mid other calls also stuck ends = calls ∙ sym also
   one_place run zero (suc k) from mid other calls also stuck ends =
       absurd (not_stuck run from also.0 also.1 also.2 (subst (IsStuck run) calls stuck))
@@ -58,37 +58,40 @@ module _ (rules : Rules) where
       absurd (not_stuck run from calls.0 calls.1 calls.2 (subst (IsStuck run) also ends))
   one_place run (suc n) (suc k) from mid other calls also stuck ends =
       let same : also.0 ≡ calls.0 = one_call also.0 calls.0 (sym also.1 ∙ calls.1) in
-      one_place run n k (call_entry from 0 run calls.0 ∷ from) mid other calls.3
-      (subst (λ call. Calls rules run k (call_entry from 0 run call ∷ from) other) same also.3) stuck ends
+      one_place run n k (call_entry from lane run calls.0 ∷ from) mid other calls.3
+      (subst (λ call. Calls rules lane run k (call_entry from lane run call ∷ from) other) same also.3) stuck ends
 
-  one_way : (from mid other : List Entry) (run number : ℕ) → IsUnderWay rules from run mid
-      → IsUnderWay rules from number other → IsStuck run mid → IsStuck number other → (run ≡ number) × (mid ≡ other)
+  one_way : (from mid other : List Entry) (run number : ℕ) → IsUnderWay rules lane from run mid
+      → IsUnderWay rules lane from number other → IsStuck run mid → IsStuck number other
+      → (run ≡ number) × (mid ≡ other)
   one_way from mid other run number is also stuck ends =
       let same : number ≡ run = one_next_run from number run also.begins.next.next is.begins.next.next in (
         sym same,
-        one_place run is.count also.count (begin_entry rules from 0 run ∷ from) mid other is.calls
-            (subst (λ some. Calls rules some also.count (begin_entry rules from 0 some ∷ from) other) same also.calls) stuck
+        one_place run is.count also.count (begin_entry rules from lane run ∷ from) mid other is.calls
+            (subst (λ some. Calls rules lane some also.count (begin_entry rules from lane some ∷ from) other) same
+            also.calls) stuck
             (subst (λ some. IsStuck some other) same ends),
       )
 
-  pub one_through : (from to last : List Entry) (run number : ℕ) → GoesThrough rules from run to
-      → GoesThrough rules from number last → to ≡ last
+  pub one_through : (from to last : List Entry) (run number : ℕ) → GoesThrough rules lane from run to
+      → GoesThrough rules lane from number last → to ≡ last
   one_through from to last run number is also =
       let same = one_way from is.mid also.mid run number is.under_way also.under_way (inl is.ends) (inl also.ends) in
-      let ended : end_entry rules is.mid 0 run kind.Done ∷ is.mid ≡ end_entry rules also.mid 0 number kind.Done ∷ also.mid
-      = λ i. end_entry rules (same.1 i) 0 (same.0 i) kind.Done ∷ same.1 i in
+      let ended : end_entry rules is.mid lane run kind.Done ∷ is.mid
+      ≡ end_entry rules also.mid lane number kind.Done ∷ also.mid
+      = λ i. end_entry rules (same.1 i) lane (same.0 i) kind.Done ∷ same.1 i in
       is.to_is ∙ ended ∙ sym also.to_is
 
-  begins_so : (from : List Entry) (run entries weight : ℕ) → Begins rules from run
-      → IsBeginTooMuch rules from 0 entries weight → ⊥
+  begins_so : (from : List Entry) (run entries weight : ℕ) → Begins rules lane from run
+      → IsBeginTooMuch rules from lane entries weight → ⊥
   begins_so from run entries weight begins much =
       let same : much.0 ≡ run = one_next_run from much.0 run much.1.next begins.next.next in
-      no_room (begin_entry rules from 0 run ∷ from) entries weight begins.within
-      (subst (λ some. IsTooMuch (begin_entry rules from 0 some ∷ from) entries weight) same much.2)
+      no_room (begin_entry rules from lane run ∷ from) entries weight begins.within
+      (subst (λ some. IsTooMuch (begin_entry rules from lane some ∷ from) entries weight) same much.2)
 
   -- a run that goes through is not too much
-  pub not_too_much : (from to : List Entry) (run entries weight : ℕ) → GoesThrough rules from run to
-      → IsRunTooMuch rules from entries weight → ⊥
+  pub not_too_much : (from to : List Entry) (run entries weight : ℕ) → GoesThrough rules lane from run to
+      → IsRunTooMuch rules lane from entries weight → ⊥
   not_too_much from to run entries weight is (OfBegin valid much) =
       begins_so from run entries weight is.under_way.begins much
   not_too_much from to run entries weight is (OfCall number other way valid much) =
@@ -99,12 +102,12 @@ module _ (rules : Rules) where
       let both : Wants much.call ≡ Ends is.ends.0 = sym much.wants ∙ ends in
       cc
 
-  pub one_much : (from : List Entry) (entries weight count total : ℕ) → IsRunTooMuch rules from entries weight
-      → IsRunTooMuch rules from count total → (entries ≡ count) × (weight ≡ total)
+  pub one_much : (from : List Entry) (entries weight count total : ℕ) → IsRunTooMuch rules lane from entries weight
+      → IsRunTooMuch rules lane from count total → (entries ≡ count) × (weight ≡ total)
   one_much from entries weight count total (OfBegin valid much) (OfBegin sound also) =
       let same : also.0 ≡ much.0 = one_next_run from also.0 much.0 also.1.next much.1.next in
-      one_load (begin_entry rules from 0 much.0 ∷ from) entries weight count total much.2
-      (subst (λ some. IsTooMuch (begin_entry rules from 0 some ∷ from) count total) same also.2)
+      one_load (begin_entry rules from lane much.0 ∷ from) entries weight count total much.2
+      (subst (λ some. IsTooMuch (begin_entry rules from lane some ∷ from) count total) same also.2)
   one_much from entries weight count total (OfBegin valid much) (OfCall number other way sound also) =
       absurd (begins_so from number entries weight way.begins much)
   one_much from entries weight count total (OfCall run mid way valid much) (OfBegin sound also) =
@@ -112,9 +115,9 @@ module _ (rules : Rules) where
   one_much from entries weight count total (OfCall run mid way valid much) (OfCall number other course sound also) =
       let same = one_way from mid other run number way course (inr (entries, weight, much))
       (inr (count, total, also)) in
-      let here : IsCallTooMuch rules mid 0 run count total =
-      subst (λ some. IsCallTooMuch rules some 0 run count total) (sym same.1)
-      (subst (λ some. IsCallTooMuch rules other 0 some count total) (sym same.0) also) in
+      let here : IsCallTooMuch rules mid lane run count total =
+      subst (λ some. IsCallTooMuch rules some lane run count total) (sym same.1)
+      (subst (λ some. IsCallTooMuch rules other lane some count total) (sym same.0) also) in
       let call : here.call ≡ much.call = one_call here.call much.call (sym here.wants ∙ much.wants) in
-      one_load (call_entry mid 0 run much.call ∷ mid) entries weight count total much.much
-      (subst (λ some. IsTooMuch (call_entry mid 0 run some ∷ mid) count total) call here.much)
+      one_load (call_entry mid lane run much.call ∷ mid) entries weight count total much.much
+      (subst (λ some. IsTooMuch (call_entry mid lane run some ∷ mid) count total) call here.much)

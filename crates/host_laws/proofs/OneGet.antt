@@ -2,9 +2,7 @@
 use Rattle.std.proofs.Common.{◌≡◌, ℕ, List, Option, Some, None, Result, Ok, Err, ap, sym, subst, ◌∙◌}
 use Rattle.asp_core.specs.Kernel.{IsTooMuch}
 use Rattle.asp_core.specs.Start.{start_fail}
-use Rattle.asp_get.specs.Answered.{HasAnswered, HasBegun, IsReadyFor, OfFirst, OfJob, OfPage, WasTooMuch, first_past}
-use Rattle.asp_get.specs.Answered.{run_for, with_job}
-use Rattle.asp_get.specs.Course.{GoesThrough, IsRunTooMuch}
+use Rattle.asp_get.specs.Answered.{HasAnswered, IsReadyFor, OfFirst, OfJob, OfPage, WasTooMuch, run_for, with_job}
 use Rattle.asp_get.specs.declared.stop.GetStop.{GetStop}
 use Rattle.asp_get.specs.declared.stop.GetStop.TheVariants as stop
 use Rattle.asp_job.specs.declared.answer.Answer.{Answer}
@@ -13,6 +11,8 @@ use Rattle.asp_job.specs.declared.entry.Entry.{Entry}
 use Rattle.asp_job.specs.declared.job.Job.{Job}
 use Rattle.asp_job.specs.Output.{answer_of_run}
 use Rattle.asp_job.specs.Rules.{Rules}
+use Rattle.asp_lane.specs.Course.{GoesThrough, IsRunTooMuch}
+use Rattle.asp_lane.specs.First.{HasBegun, first_past}
 use Rattle.host_laws.proofs.OneCourse.{no_room, not_too_much, one_load, one_much, one_through}
 use Rattle.host_laws.specs.Laws.{IsOutcome}
 
@@ -22,13 +22,14 @@ some_one one other e = cc
 module _ (rules : Rules) where
   -- ---- the first run
 
-  one_begun : (one other : Option Fail) (past last : List Entry) → HasBegun rules one past → HasBegun rules other last
+  one_begun : (one other : Option Fail) (past last : List Entry) → HasBegun rules 0 one past
+      → HasBegun rules 0 other last
       → (past ≡ last) × (one ≡ other)
   one_begun one other past last is also =
-      let same = one_through rules first_past past last 1 1 is.through also.through in
+      let same = one_through rules 0 (first_past 0) past last 1 1 is.through also.through in
       (same, sym is.fail_is ∙ ap (start_fail rules) same ∙ also.fail_is)
 
-  not_both : (fail : Fail) (past last : List Entry) → HasBegun rules (Some fail) past → HasBegun rules None last → ⊥
+  not_both : (fail : Fail) (past last : List Entry) → HasBegun rules 0 (Some fail) past → HasBegun rules 0 None last → ⊥
   not_both fail past last is also =
       let both : Some fail ≡ None = (one_begun (Some fail) None past last is also).1 in cc
 
@@ -36,10 +37,10 @@ module _ (rules : Rules) where
     one_answer : (one other : Answer) → HasAnswered rules job one → HasAnswered rules job other → one ≡ other
     one_answer one other is also =
         let past = (one_begun None None is.past also.past is.came.begun also.came.begun).0 in
-        let turned : GoesThrough rules (with_job rules is.past job) (run_for rules is.past job) also.last =
-        subst (λ some. GoesThrough rules (with_job rules some job) (run_for rules some job) also.last) (sym past)
+        let turned : GoesThrough rules 0 (with_job rules is.past job) (run_for rules is.past job) also.last =
+        subst (λ some. GoesThrough rules 0 (with_job rules some job) (run_for rules some job) also.last) (sym past)
         also.through in
-        let last = one_through rules (with_job rules is.past job) is.last also.last (run_for rules is.past job)
+        let last = one_through rules 0 (with_job rules is.past job) is.last also.last (run_for rules is.past job)
         (run_for rules is.past job) is.through turned in
         let same : answer_of_run rules is.last (run_for rules is.past job)
         ≡ answer_of_run rules also.last (run_for rules also.past job) =
@@ -48,32 +49,32 @@ module _ (rules : Rules) where
 
     -- what is answered does not fail, and is not too much
     answer_not_failed : (answer : Answer) (fail : Fail) (past : List Entry) → HasAnswered rules job answer
-        → HasBegun rules (Some fail) past → ⊥
+        → HasBegun rules 0 (Some fail) past → ⊥
     answer_not_failed answer fail past is failed = not_both fail past is.past failed is.came.begun
 
     answer_not_much : (answer : Answer) (entries weight : ℕ) → HasAnswered rules job answer
         → WasTooMuch rules job entries weight → ⊥
     answer_not_much answer entries weight is (OfFirst much) =
-        not_too_much rules first_past is.past 1 entries weight is.came.begun.through much
+        not_too_much rules 0 (first_past 0) is.past 1 entries weight is.came.begun.through much
     answer_not_much answer entries weight is (OfJob past begun much) =
         let same = (one_begun None None past is.past begun is.came.begun).0 in
         no_room (with_job rules is.past job) entries weight is.came.within
         (subst (λ some. IsTooMuch (with_job rules some job) entries weight) same much)
     answer_not_much answer entries weight is (OfPage past ready much) =
         let same = (one_begun None None past is.past ready.begun is.came.begun).0 in
-        not_too_much rules (with_job rules is.past job) is.last (run_for rules is.past job) entries weight is.through
-        (subst (λ some. IsRunTooMuch rules (with_job rules some job) entries weight) same much)
+        not_too_much rules 0 (with_job rules is.past job) is.last (run_for rules is.past job) entries weight is.through
+        (subst (λ some. IsRunTooMuch rules 0 (with_job rules some job) entries weight) same much)
 
-    failed_not_much : (fail : Fail) (past : List Entry) (entries weight : ℕ) → HasBegun rules (Some fail) past
+    failed_not_much : (fail : Fail) (past : List Entry) (entries weight : ℕ) → HasBegun rules 0 (Some fail) past
         → WasTooMuch rules job entries weight → ⊥
     failed_not_much fail past entries weight is (OfFirst much) =
-        not_too_much rules first_past past 1 entries weight is.through much
+        not_too_much rules 0 (first_past 0) past 1 entries weight is.through much
     failed_not_much fail past entries weight is (OfJob last begun much) = not_both fail past last is begun
     failed_not_much fail past entries weight is (OfPage last ready much) = not_both fail past last is ready.begun
 
     -- ---- too much
 
-    job_not_page : (past last : List Entry) (entries weight : ℕ) → HasBegun rules None past
+    job_not_page : (past last : List Entry) (entries weight : ℕ) → HasBegun rules 0 None past
         → IsTooMuch (with_job rules past job) entries weight → IsReadyFor rules job last → ⊥
     job_not_page past last entries weight begun much ready =
         let same = (one_begun None None past last begun ready.begun).0 in
@@ -83,13 +84,13 @@ module _ (rules : Rules) where
     one_full : (entries weight count total : ℕ) → WasTooMuch rules job entries weight → WasTooMuch rules job count total
         → (entries ≡ count) × (weight ≡ total)
     one_full entries weight count total (OfFirst much) (OfFirst also) =
-        one_much rules first_past entries weight count total much also
+        one_much rules 0 (first_past 0) entries weight count total much also
     one_full entries weight count total (OfFirst much) (OfJob past begun also) =
-        absurd (not_too_much rules first_past past 1 entries weight begun.through much)
+        absurd (not_too_much rules 0 (first_past 0) past 1 entries weight begun.through much)
     one_full entries weight count total (OfFirst much) (OfPage past ready also) =
-        absurd (not_too_much rules first_past past 1 entries weight ready.begun.through much)
+        absurd (not_too_much rules 0 (first_past 0) past 1 entries weight ready.begun.through much)
     one_full entries weight count total (OfJob past begun much) (OfFirst also) =
-        absurd (not_too_much rules first_past past 1 count total begun.through also)
+        absurd (not_too_much rules 0 (first_past 0) past 1 count total begun.through also)
     one_full entries weight count total (OfJob past begun much) (OfJob last has also) =
         let same = (one_begun None None last past has begun).0 in
         one_load (with_job rules past job) entries weight count total much
@@ -97,13 +98,13 @@ module _ (rules : Rules) where
     one_full entries weight count total (OfJob past begun much) (OfPage last ready also) =
         absurd (job_not_page past last entries weight begun much ready)
     one_full entries weight count total (OfPage past ready much) (OfFirst also) =
-        absurd (not_too_much rules first_past past 1 count total ready.begun.through also)
+        absurd (not_too_much rules 0 (first_past 0) past 1 count total ready.begun.through also)
     one_full entries weight count total (OfPage past ready much) (OfJob last begun also) =
         absurd (job_not_page last past count total begun also ready)
     one_full entries weight count total (OfPage past ready much) (OfPage last has also) =
         let same = (one_begun None None last past has.begun ready.begun).0 in
-        one_much rules (with_job rules past job) entries weight count total much
-        (subst (λ some. IsRunTooMuch rules (with_job rules some job) count total) same also)
+        one_much rules 0 (with_job rules past job) entries weight count total much
+        (subst (λ some. IsRunTooMuch rules 0 (with_job rules some job) count total) same also)
 
     -- ---- outcomes
 

@@ -1,6 +1,6 @@
 use Rattle.std.specs.Prelude.{false}
 use Rattle.std.proofs.Common.{IfErr, IfOk, subst}
-use Rattle.asp_get.proofs.Growing.{rules_here}
+use Rattle.asp_lane.proofs.Growing.{rules_here}
 use Rattle.asp_get.proofs.answer.answer_one.Goals as goal
 use Rattle.asp_get.specs.Answered.{HasAnswered, IsGetStop}
 use Rattle.asp_core.specs.Kernel.{setting_of}

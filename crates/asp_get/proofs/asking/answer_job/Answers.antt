@@ -2,7 +2,7 @@ use Rattle.std.proofs.Common.{subst, sym}
 use Rattle.std.proofs.lemmas.Result.{err_from_is_err_and}
 use Rattle.asp_core.specs.Kernel.{past_of, rules_of}
 use Rattle.asp_get.proofs.Coming.{answered_back, memory_back}
-use Rattle.asp_get.proofs.Growing.{rules_grown}
+use Rattle.asp_lane.proofs.Growing.{rules_grown}
 use Rattle.asp_get.proofs.asking.answer_job.Goals as goal
 use Rattle.asp_get.specs.Answered.{IsGetStop}
 

@@ -1,7 +1,7 @@
 use Rattle.std.proofs.Common.{◌∙◌, Err, [], ap, subst, sym}
 use Rattle.asp_core.specs.Kernel.{past_of, rules_of}
-use Rattle.asp_get.proofs.Coming.{admit_get, asked_back, free_still, grows_job, number_not, number_so, stop_back}
-use Rattle.asp_get.proofs.Growing.{grows_more, host_grown}
+use Rattle.asp_get.proofs.Coming.{admit_get, asked_back, free_still, grows_job, stop_back}
+use Rattle.asp_lane.proofs.Growing.{grows_more, host_grown}
 use Rattle.asp_get.specs.Answered.{IsGetStop}
 use Rattle.asp_get.specs.Underway.{IsAsked}
 use Rattle.asp_lane.proofs.Turns.{grown_none}
@@ -32,19 +32,15 @@ returns-in-Ok-clause-ok g c =
     let mid = c.admit.new.self in
     let new = c.go_through-gone.new.core in
     let job = c.args.job.now in
-    number_so c.in-Ok.told.run c.go_through-gone.result c.number_back.result
-    (λ run. IsAsked (rules_of meaning old) job (past_of old) run (past_of new)) c.number_back.ensures
-    (asked_back meaning old mid job c.requires.ready c.in-Ok.ensures.ok c.in-Ok.told new c.go_through-gone.result
+    rw c.number_back.ensures (asked_back meaning old mid job c.requires.ready c.in-Ok.ensures.ok c.in-Ok.told new c.go_through-gone.result
     c.in-Ok.ensures.told c.journal.ensures.within c.go_through-gone.ensures.grows
     c.journal-in-Ok.ensures.valid c.go_through-gone.ensures.ok)
 
 pub returns-in-Ok-clause-err : goal.returns-in-Ok-clause-err
 returns-in-Ok-clause-err g c =
     let m = rules_of g.R.Runner.meaning c.args.core.now in
-    number_not c.in-Ok.told.run c.go_through-gone.result c.number_back.result (IsGetStop m c.args.job.now)
-    c.number_back.ensures
-    (stop_back g.R.Runner.meaning c.args.core.now c.admit.new.self c.args.job.now c.requires.ready c.in-Ok.ensures.ok
-    c.go_through-gone.result c.journal.ensures.within c.go_through-gone.ensures.err)
+    rw c.number_back.ensures (stop_back g.R.Runner.meaning c.args.core.now c.admit.new.self c.args.job.now
+    c.requires.ready c.in-Ok.ensures.ok c.in-Ok.told.run c.go_through-gone.result c.journal.ensures.within c.go_through-gone.ensures.err)
 
 pub returns-in-Err-clause-grows : goal.returns-in-Err-clause-grows
 returns-in-Err-clause-grows g c = ([], c.in-Err.ensures.err ∙ sym (grown_none c.args.core.now))

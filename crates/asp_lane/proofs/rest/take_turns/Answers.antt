@@ -7,7 +7,7 @@ pub returns-then-not-goes_on-clause-turns : goal.returns-then-not-goes_on-clause
 returns-then-not-goes_on-clause-turns g c = record {
   count = c.loop.counter;
   mid = c.loop.core;
-  held = run_in c.loop.hand;
+  held = run_in c.loop.load;
   before = c.loop.invariant.turned;
   last_turn = c.take_turn-next.ensures.turn;
   many = λ more. absurd (let told = c.goes_on.ensures in
@@ -18,11 +18,11 @@ pub loop-preserved : goal.loop-preserved
 loop-preserved g c =
     let is = c.take_turn-next.ensures.turn in record {
       host = host_stays g.R.Runner.meaning g.R.Runner.stands c.args.lane c.loop.core c.take_turn-next.new.core
-          (run_in c.loop.hand) (run_in c.take_turn-next.result.0) c.take_turn-next.result.1 c.args.runner.now
+          (run_in c.loop.load) (run_in c.take_turn-next.result.0) c.take_turn-next.result.1 c.args.runner.now
           c.args.site.now c.loop.invariant.host is;
       fits = is.fits;
       turned = one_more g.R.Runner.meaning g.R.Runner.stands c.args.lane c.args.core.now c.loop.core
-          c.take_turn-next.new.core (run_in c.args.hand) (run_in c.loop.hand) (run_in c.take_turn-next.result.0)
+          c.take_turn-next.new.core (run_in c.args.load) (run_in c.loop.load) (run_in c.take_turn-next.result.0)
           c.loop.counter c.take_turn-next.result.1 c.loop.invariant.turned is;
     }
 
@@ -30,7 +30,7 @@ pub returns-clause-turns : goal.returns-clause-turns
 returns-clause-turns g c = record {
   count = c.loop.counter;
   mid = c.loop.core;
-  held = run_in c.loop.hand;
+  held = run_in c.loop.load;
   before = c.loop.invariant.turned;
   last_turn = c.take_turn.ensures.turn;
   many = λ more. (let end = c.loop-test.false in omega arith);

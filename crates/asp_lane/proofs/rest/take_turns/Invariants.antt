@@ -6,7 +6,7 @@ use Rattle.asp_lane.proofs.rest.take_turns.Given as goal
 abbrev pub invariant-loop : goal.invariant-loop
 invariant-loop g l = record {
   host : IsHostOf l.core l.runner l.site;
-  fits : Fits g.R.Runner.meaning g.R.Runner.stands l.core l.lane (run_in l.hand);
+  fits : Fits g.R.Runner.meaning g.R.Runner.stands l.core l.lane (run_in l.load);
   turned :
-      Turned g.R.Runner.meaning g.R.Runner.stands l.lane l.fn.core (run_in l.fn.hand) l.counter l.core (run_in l.hand);
+      Turned g.R.Runner.meaning g.R.Runner.stands l.lane l.fn.core (run_in l.fn.load) l.counter l.core (run_in l.load);
 }

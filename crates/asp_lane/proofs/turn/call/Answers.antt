@@ -7,7 +7,7 @@ pub unreachable-requires : goal.unreachable-requires
 unreachable-requires g c =
     let holder = c.in-Err-Blocked.field-0-0 in
     not_kept_out (rules_of g.R.Runner.meaning c.args.core.now) c.args.core.now c.args.run holder c.requires.valid
-    c.requires.hand.alone
+    c.requires.load.alone
     ((c.app_step.ensures.blocked holder).0 (c.in-Err-Blocked.is ∙ ap Err c.in-Err-Blocked.field-0-is))
 
 pub returns-in-Ok : goal.returns-in-Ok
@@ -15,7 +15,7 @@ returns-in-Ok g c =
     let wants = some_is (wanted_by c.args.run.progress) c.requires.wants in
     record {
       turn = called_turn g.R.Runner.meaning g.R.Runner.stands c.args.lane c.args.core.now c.app_step.new.self
-          c.args.run c.app_step.new.run wants.0 c.requires.hand wants.1 c.in-Ok.ensures.ok c.in-Ok.ensures.run
+          c.args.run c.app_step.new.run wants.0 c.requires.load wants.1 c.in-Ok.ensures.ok c.in-Ok.ensures.run
           c.in-Ok.ensures.going.0 c.in-Ok.ensures.going.1;
       made = λ e. absurd cc;
     }
@@ -29,7 +29,7 @@ returns-in-Err-JournalFull g c =
     let ended = rw (same.0, same.1) at c.end-store.ensures in
     record {
       turn = full_turn g.R.Runner.meaning g.R.Runner.stands c.args.lane c.args.core.now c.end-store.new.self c.args.run
-          wants.0 entries weight c.requires.valid c.requires.hand wants.1 (c.app_step.ensures.full entries weight
+          wants.0 entries weight c.requires.valid c.requires.load wants.1 (c.app_step.ensures.full entries weight
           (c.in-Err-JournalFull.is ∙ ap Err c.in-Err-JournalFull.field-0-is)) ended;
       made = λ e. absurd cc;
     }
@@ -40,6 +40,6 @@ returns-in-Err-Memory g c =
     let ended = rw (same.0, same.1) at c.end-store-in-Err-Memory.ensures in
     record {
       turn = dead_turn g.R.Runner.meaning g.R.Runner.stands c.args.lane c.args.core.now
-          c.end-store-in-Err-Memory.new.self c.args.run c.requires.valid c.requires.hand ended;
+          c.end-store-in-Err-Memory.new.self c.args.run c.requires.valid c.requires.load ended;
       made = λ e. absurd cc;
     }

@@ -1,7 +1,7 @@
 use Rattle.std.proofs.Common.{◌≡◌, ◌∙◌, true, None, Ok, ap, refl, subst, sym}
 use Rattle.asp_core.specs.declared.run.Progress.TheVariants as progress
 use Rattle.asp_core.specs.Kernel.{progress_of}
-use Rattle.asp_lane.specs.declared.turn.Turn.TheVariants as turn
+use Rattle.asp_lane.specs.declared.turn.TurnEnd.TheVariants as turn
 use Rattle.asp_lane.specs.Turns.{run_in}
 use Rattle.asp_lane.proofs.Slices.{dead_ticks, is_some_step, more_ticks, other_ticks}
 use Rattle.asp_lane.proofs.Turns.{dead_turn, done_turn, more_turn, same_turn, still_alone}
@@ -16,7 +16,7 @@ returns-in-Ok-More g c =
     let came = c.in-Ok-More.is ∙ ap Ok c.in-Ok-More.field-0-is in
     let stands_still = rw (host.runner_is, host.site_is) at c.go.ensures.stands in
     let went = rw (host.runner_is, host.site_is) at c.go.ensures.slice in
-    let alone = still_alone g.R.Runner.meaning g.R.Runner.stands core lane c.args.run run c.requires.hand.0
+    let alone = still_alone g.R.Runner.meaning g.R.Runner.stands core lane c.args.run run c.requires.load.0
     c.go.ensures.number c.go.ensures.stand_ins stands_still in
     let going : run.progress ≡ progress.Going = c.go.ensures.progress ∙ ap progress_of came in
     record {
@@ -47,7 +47,7 @@ returns-in-Ok-Ended g c =
     let came = c.in-Ok-Ended.is ∙ ap Ok c.in-Ok-Ended.field-0-is in
     let stands_still = rw (host.runner_is, host.site_is) at c.go.ensures.stands in
     let went = rw (host.runner_is, host.site_is) at c.go.ensures.slice in
-    let alone = still_alone g.R.Runner.meaning g.R.Runner.stands core lane c.args.run run c.requires.hand.0
+    let alone = still_alone g.R.Runner.meaning g.R.Runner.stands core lane c.args.run run c.requires.load.0
     c.go.ensures.number c.go.ensures.stand_ins stands_still in
     let ended : run.progress ≡ progress.Ended = c.go.ensures.progress ∙ ap progress_of came in
     record {
@@ -65,7 +65,7 @@ returns g c =
     let lane = c.args.lane in
     let run = c.go.new.self in
     let stands_still = rw (c.requires.host.runner_is, c.requires.host.site_is) at c.go.ensures.stands in
-    let alone = still_alone g.R.Runner.meaning g.R.Runner.stands core lane c.args.run run c.requires.hand.0
+    let alone = still_alone g.R.Runner.meaning g.R.Runner.stands core lane c.args.run run c.requires.load.0
     c.go.ensures.number c.go.ensures.stand_ins stands_still in
     record {
       turn = same_turn g.R.Runner.meaning g.R.Runner.stands lane core c.end-store-in-Err.new.self c.args.run run None

@@ -1,7 +1,7 @@
 -- Cores that grow.
 use Rattle.std.proofs.Common.{◌≡◌, ℕ, List, [], ◌∷◌, ◌++◌, append_assoc, ap, sym, ◌∙◌}
 use Rattle.asp_core.specs.Kernel.{CoreView, IsHostOf, grown, past_of, rules_by, rules_of}
-use Rattle.asp_get.specs.Underway.{Grows}
+use Rattle.asp_lane.specs.Underway.{Grows}
 use Rattle.asp_job.specs.declared.entry.Entry.{Entry}
 use Rattle.asp_job.specs.Told.{Meaning}
 use Rattle.asp_journal.proofs.Past.{past_push}

@@ -16,37 +16,37 @@ use Rattle.asp_lane.specs.Turns.{IsCallTooMuch}
 -- ---- to the end
 
 -- so many calls of the run, each the one that its meaning wants, and each with room for it
-abbrev pub Calls : Rules → ℕ → ℕ → List Entry → List Entry → Type 0
-Calls rules run zero from to = to ≡ from
-Calls rules run (suc n) from to =
+abbrev pub Calls : Rules → ℕ → ℕ → ℕ → List Entry → List Entry → Type 0
+Calls rules lane run zero from to = to ≡ from
+Calls rules lane run (suc n) from to =
     (call : AppCall) × (rules.meaning.does (told rules from run) ≡ Wants call)
-    × IsWithin (call_entry from 0 run call ∷ from) × Calls rules run n (call_entry from 0 run call ∷ from) to
+    × IsWithin (call_entry from lane run call ∷ from) × Calls rules lane run n (call_entry from lane run call ∷ from) to
 
 -- no run is unfinished, the run is the next to begin, and there is room for its Begin
-pub record Begins (rules : Rules) (from : List Entry) (run : ℕ) : Type 0 where
+pub record Begins (rules : Rules) (lane : ℕ) (from : List Entry) (run : ℕ) : Type 0 where
   pub free : unfinished from ≡ []
   pub next : IsBegin rules from run (serial_of rules from run)
-  pub within : IsWithin (begin_entry rules from 0 run ∷ from)
+  pub within : IsWithin (begin_entry rules from lane run ∷ from)
 
 -- the run has begun, and made some calls
-pub record IsUnderWay (rules : Rules) (from : List Entry) (run : ℕ) (to : List Entry) : Type 0 where
-  pub begins : Begins rules from run
+pub record IsUnderWay (rules : Rules) (lane : ℕ) (from : List Entry) (run : ℕ) (to : List Entry) : Type 0 where
+  pub begins : Begins rules lane from run
   pub count : ℕ
-  pub calls : Calls rules run count (begin_entry rules from 0 run ∷ from) to
+  pub calls : Calls rules lane run count (begin_entry rules from lane run ∷ from) to
 
 -- so it has, and then it has ended by itself
-pub record GoesThrough (rules : Rules) (from : List Entry) (run : ℕ) (to : List Entry) : Type 0 where
+pub record GoesThrough (rules : Rules) (lane : ℕ) (from : List Entry) (run : ℕ) (to : List Entry) : Type 0 where
   pub mid : List Entry
-  pub under_way : IsUnderWay rules from run mid
-  pub ends : MayEnd rules mid 0 run kind.Done
-  pub to_is : to ≡ end_entry rules mid 0 run kind.Done ∷ mid
+  pub under_way : IsUnderWay rules lane from run mid
+  pub ends : MayEnd rules mid lane run kind.Done
+  pub to_is : to ≡ end_entry rules mid lane run kind.Done ∷ mid
 
 -- ---- too much
 
 -- with the Begin of the next run, or with the next call of a run that is under way, there would be so many entries of
 -- that weight, too many or too heavy
-pub data IsRunTooMuch (rules : Rules) (from : List Entry) (entries weight : ℕ) : Type 0 where
-  OfBegin : IsValidJournal rules from → IsBeginTooMuch rules from 0 entries weight
-      → IsRunTooMuch rules from entries weight
-  OfCall : (run : ℕ) (mid : List Entry) → IsUnderWay rules from run mid → IsValidJournal rules mid
-      → IsCallTooMuch rules mid 0 run entries weight → IsRunTooMuch rules from entries weight
+pub data IsRunTooMuch (rules : Rules) (lane : ℕ) (from : List Entry) (entries weight : ℕ) : Type 0 where
+  OfBegin : IsValidJournal rules from → IsBeginTooMuch rules from lane entries weight
+      → IsRunTooMuch rules lane from entries weight
+  OfCall : (run : ℕ) (mid : List Entry) → IsUnderWay rules lane from run mid → IsValidJournal rules mid
+      → IsCallTooMuch rules mid lane run entries weight → IsRunTooMuch rules lane from entries weight
