@@ -1,7 +1,7 @@
 -- How the job comes to a host whose first run has ended, and what is handed back.
 use Rattle.std.proofs.Common.{◌≡◌, ◌==◌, ℕ, Bool, true, false, List, [], refl, ap, sym, ◌∙◌, subst, Option, Some, None}
 use Rattle.std.proofs.Common.{Result, Ok, Err, IfErr, IfOk, ◌++◌, ◌∷◌}
-use Rattle.std.proofs.lemmas.Bool.{cases_Bool, eqb-true}
+use Rattle.std.proofs.lemmas.Bool.{eqb-true}
 use Rattle.asp_core.proofs.Calm.{calm_unfinished}
 use Rattle.asp_core.proofs.Fits.{job_calm, job_fit}
 use Rattle.asp_core.proofs.Kept.{past_of_more, quiet_tick}

@@ -28,7 +28,8 @@ use Rattle.asp_lane.specs.Turns.{Fits, IsCallTooMuch, IsStep, IsTurn}
 -- one call more
 calls_more : (rules : Rules) (lane run n : ℕ) (from mid : List Entry) (call : AppCall)
     → Calls rules lane run n from mid → rules.meaning.does (told rules mid run) ≡ Wants call
-    → IsWithin (call_entry mid lane run call ∷ mid) → Calls rules lane run (suc n) from (call_entry mid lane run call ∷ mid)
+    → IsWithin (call_entry mid lane run call ∷ mid)
+    → Calls rules lane run (suc n) from (call_entry mid lane run call ∷ mid)
 calls_more rules lane run zero from mid call calls wants within =
     subst (λ (some : List Entry). Calls rules lane run 1 some (call_entry mid lane run call ∷ mid)) calls
     (call, wants, within, refl)
@@ -67,8 +68,9 @@ not_both past run free alone = let both : [] ≡ run ∷ [] = sym free ∙ alone
 
 -- ---- one entry of the run in hand
 
-module _ (rules : Rules) (lane : ℕ) (from past new : List Entry) (begun : ℕ) (entry : Entry) (right : AreRight rules past)
-    (busy : is_unfinished past begun ≡ true) (called : HasCalled rules lane from begun past) (new_is : new ≡ entry ∷ past)
+module _ (rules : Rules) (lane : ℕ) (from past new : List Entry) (begun : ℕ) (entry : Entry)
+    (right : AreRight rules past) (busy : is_unfinished past begun ≡ true)
+    (called : HasCalled rules lane from begun past) (new_is : new ≡ entry ∷ past)
   where
     after : (made : Entry) → entry ≡ made → new ≡ made ∷ past
     after made is = new_is ∙ ap (λ some. some ∷ past) is
@@ -96,7 +98,8 @@ module _ (rules : Rules) (lane : ℕ) (from past new : List Entry) (begun : ℕ)
     just_ended : (how : EndKind) → entry ≡ end_entry rules past lane begun how → has_just_ended begun new ≡ true
         → has_just_ended begun (end_entry rules past lane begun how ∷ past) ≡ true
     just_ended how is e =
-        subst (λ (some : List Entry). has_just_ended begun some ≡ true) (after (end_entry rules past lane begun how) is) e
+        subst (λ (some : List Entry). has_just_ended begun some ≡ true)
+        (after (end_entry rules past lane begun how) is) e
 
     -- it was the End of the run, where none is left and it has just ended
     step_ends : IsStep rules past lane begun entry → unfinished new ≡ [] → has_just_ended begun new ≡ true
@@ -138,7 +141,8 @@ module _ {R Site State : Type 0} (meaning : R → Site → Meaning) (stands : R 
       (past_one old new is.entries is.adds.0 is.new_is is.adds.2) then_held.number
       (subst (λ n. IsStep m (past_of old) lane n is.adds.0) (number_is held fits) is.adds.1) within is.fits.0.alone
   turn_calls (Some held) then_held turn.More fits is e within =
-      subst (λ core. HasCalled m lane from begun (past_of core)) (sym (same_core old new is.entries is.new_is is.adds)) called
+      subst (λ core. HasCalled m lane from begun (past_of core)) (sym (same_core old new is.entries is.new_is is.adds))
+      called
   turn_calls (Some held) then_held turn.Idle fits is e within = absurd is.adds
   turn_calls (Some held) then_held (turn.JournalFull count weight) fits is e within = absurd cc
   turn_calls (Some held) then_held turn.Memory fits is e within = absurd is.adds
@@ -158,7 +162,8 @@ module _ {R Site State : Type 0} (meaning : R → Site → Meaning) (stands : R 
   turn_ends (Some held) (turn.JournalFull count weight) fits is e ended = absurd cc
   turn_ends (Some held) turn.Memory fits is e ended = absurd is.adds
 
-  turn_full : (in_hand then_in_hand : Option (RunView State)) (entries weight : ℕ) → Fits meaning stands old lane in_hand
+  turn_full : (in_hand then_in_hand : Option (RunView State)) (entries weight : ℕ)
+      → Fits meaning stands old lane in_hand
       → IsTurn meaning stands lane old in_hand new then_in_hand (turn.JournalFull entries weight)
       → IsValidJournal m (past_of old) → IsNextTooMuch m lane from begun entries weight
   turn_full None then_in_hand entries weight fits is valid = absurd (not_both (past_of old) begun fits called.alone)

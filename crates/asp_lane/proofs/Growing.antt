@@ -1,5 +1,5 @@
 -- Cores that grow.
-use Rattle.std.proofs.Common.{◌≡◌, ℕ, List, [], ◌∷◌, ◌++◌, append_assoc, ap, sym, ◌∙◌}
+use Rattle.std.proofs.Common.{◌≡◌, List, [], ◌∷◌, ◌++◌, append_assoc, ap, sym, ◌∙◌}
 use Rattle.asp_core.specs.Kernel.{CoreView, IsHostOf, grown, past_of, rules_by, rules_of}
 use Rattle.asp_lane.specs.Underway.{Grows}
 use Rattle.asp_job.specs.declared.entry.Entry.{Entry}

@@ -1,11 +1,10 @@
 -- One turn of the run in hand, in a loop that began with another core.
 use Rattle.std.proofs.Common.{◌≡◌, ℕ, true, List, refl, sym, subst, Option, Some, None, Result, Ok, Err}
-use Rattle.std.proofs.Common.{IfErr, OnOk}
+use Rattle.std.proofs.Common.{OnOk}
 use Rattle.asp_core.specs.Kernel.{CoreView, IsWithin, RunView, past_of, rules_of}
 use Rattle.asp_lane.proofs.Called.{HasCalled, turn_calls, turn_ends, turn_stops}
 use Rattle.asp_lane.proofs.Growing.{grows_more, rules_grown}
 use Rattle.asp_lane.specs.declared.stop.RunStop.{RunStop}
-use Rattle.asp_lane.specs.declared.stop.RunStop.TheVariants as stop
 use Rattle.asp_lane.specs.Underway.{GoesOn, Grows, IsGoingStop, has_just_ended, turn_stop}
 use Rattle.asp_job.specs.declared.entry.Entry.{Entry}
 use Rattle.asp_job.specs.Journal.{IsValidJournal}
@@ -33,7 +32,8 @@ module _ {R Site State : Type 0} (meaning : R → Site → Meaning) (stands : R 
   abbrev HasCome : List Entry → ℕ → Type 0
   HasCome past begun = HasCalled m lane (past_of first) begun past
 
-  here : (begun : ℕ) → HasCome (past_of old) begun → HasCalled (rules_of meaning old) lane (past_of first) begun (past_of old)
+  here : (begun : ℕ) → HasCome (past_of old) begun
+      → HasCalled (rules_of meaning old) lane (past_of first) begun (past_of old)
   here begun called = subst (λ rules. HasCalled rules lane (past_of first) begun (past_of old)) (sym same) called
 
   pub grows_on : Grows first new
@@ -43,8 +43,8 @@ module _ {R Site State : Type 0} (meaning : R → Site → Meaning) (stands : R 
       → IsWithin (past_of new) → HasCome (past_of old) begun → HasCome (past_of new) begun
   loop_calls begun held e none within called =
       subst (λ rules. HasCalled rules lane (past_of first) begun (past_of new)) same
-      (turn_calls meaning stands lane old new (past_of first) begun valid.entries (here begun called) in_hand held t fits
-      (subst (λ some. IsTurn meaning stands lane old in_hand new some t) e is) none within)
+      (turn_calls meaning stands lane old new (past_of first) begun valid.entries (here begun called) in_hand held t
+      fits (subst (λ some. IsTurn meaning stands lane old in_hand new some t) e is) none within)
 
   ends_so : (begun : ℕ) → then_in_hand ≡ None → turn_stop t ≡ None → HasCome (past_of old) begun
       → has_just_ended begun (past_of new) ≡ true → GoesOn m lane (past_of first) begun (past_of new)
@@ -63,11 +63,5 @@ module _ {R Site State : Type 0} (meaning : R → Site → Meaning) (stands : R 
       → IsGoingStop m lane (past_of first) begun ended
   loop_stops begun ended e called =
       subst (λ rules. IsGoingStop rules lane (past_of first) begun ended) same
-      (turn_stops meaning stands lane old new (past_of first) begun valid.entries (here begun called) in_hand then_in_hand t
-      ended fits is valid e)
-
--- want of memory is a stop of a run that is under way
-pub memory_stop : {T : Type 0} → (m : Rules) (lane : ℕ) (from : List Entry) (begun : ℕ) (result : Result T RunStop)
-    → IfErr result (λ ended. ended ≡ stop.Memory) → IfErr result (IsGoingStop m lane from begun)
-memory_stop m lane from begun (Ok given) is = tt
-memory_stop m lane from begun (Err ended) is = subst (IsGoingStop m lane from begun) (sym is) tt
+      (turn_stops meaning stands lane old new (past_of first) begun valid.entries (here begun called) in_hand
+      then_in_hand t ended fits is valid e)
