@@ -1,5 +1,4 @@
 mod Lists
 mod Numbers
 mod OptionWords
-mod Behind
 pub mod OneCommand
