@@ -12,6 +12,7 @@ mod host;
 mod looking;
 mod loops;
 mod opening;
+mod resting;
 mod slices;
 mod stands;
 mod steps;

@@ -1,3 +1,1 @@
 mod OneRequest
-mod Paths
-mod Small

@@ -2,4 +2,4 @@ mod Reading
 mod SitePaths
 mod Sorting
 mod Streams
-mod Writing
+pub mod Writing

@@ -16,6 +16,7 @@ use Rattle.http_front.specs.Front.{Hopeless, IsFront, IsOpening, More, Opening, 
 use Rattle.http_front.specs.Front.{answered, front_of}
 use Rattle.http_front.specs.Status.{body_size, headers_of, is_in_order, lacks_length, status_by, status_of, verb_of}
 use Rattle.http_front.specs.Target.{path_of}
+use Rattle.http_front.proofs.Bounds.{no_request, opening_is_bounded}
 use Rattle.http_front.proofs.Shortest.{longer_prefix}
 use Rattle.asp_text.proofs.Places.{by_cases}
 use Rattle.asp_record.specs.declared.recording.Item.{Item}
@@ -28,60 +29,6 @@ use Rattle.asp_record.specs.Recording.{item_text, opening_text, recording_text, 
 use Rattle.asp_record.proofs.OneRecording.{item_within, text_size}
 
 -- ---- a request
-
-body_is_bounded : (h : RequestHead) → status_of h ≡ None → body_size h ≤ 1048576
-unfolding status_by
-body_is_bounded h is =
-    let fields = fields_of (headers_of h) in
-    let ordered = past (nat_lt 64 (length h.fields)) 431 _ is in
-    let uncoded = past (not (is_some (path_of h.target) && is_in_order h.minor fields)) 400 _ ordered.1 in
-    let measured = past fields.coded 501 _ uncoded.1 in
-    let bounded = past (lacks_length (verb_of h.method) fields.length) 411 _ measured.1 in
-    let small : nat_lt 1048576 (body_size h) ≡ false = (past (nat_lt 1048576 (body_size h)) 413 None bounded.1).0 in
-    grind (arith, nat_tests)
-  where
-    past : (t : Bool) (status : ℕ) (later : Option ℕ) → cond t (Some status) later ≡ None → (t ≡ false) × (later ≡ None)
-    past true status later e = absurd cc
-    past false status later e = (refl, e)
-
--- a head that is printed in few enough bytes, and a body of few enough
-pub record AreBounded (h : RequestHead) (body : List ℕ) : Type 0 where
-  pub head_fits : length (print_request h) ≤ 16384
-  pub body_fits : length body ≤ 1048576
-
-no_request : (t : Bool) (h : RequestHead) (body rest : List ℕ) → Request h body rest ≡ cond t (Refused 431) More → ⊥
-no_request true h body rest e = cc
-no_request false h body rest e = cc
-
-answer_is_bounded : (status : Option ℕ) (k h : RequestHead) (after body rest : List ℕ)
-    → status_of k ≡ status → Request h body rest ≡ answered status k after → length (print_request k) ≤ 16384
-    → AreBounded h body
-answer_is_bounded (Some status) k h after body rest is e short = absurd cc
-answer_is_bounded None k h after body rest is e short =
-    let size = body_size k in
-    by_cases (λ t. nat_le size (length after) ≡ t
-    → Request h body rest ≡ cond t (Request k (take size after) (drop size after)) More → AreBounded h body)
-    (nat_le size (length after))
-    (λ _ _ f.
-    let head : h ≡ k = cc in
-    let same : body ≡ take size after = cc in
-    record {
-      head_fits = subst (λ l. length (print_request l) ≤ 16384) (sym head) short;
-      body_fits = omega (
-        arith,
-        ap length same,
-        length-take size after,
-        body_is_bounded k is,
-      );
-    })
-    (λ _ _ f. absurd cc) refl e
-
-pub opening_is_bounded : (count : ℕ) (bytes : List ℕ) (opening : Opening) (h : RequestHead) (body rest : List ℕ)
-    → IsOpening bytes opening → Request h body rest ≡ front_of count opening → AreBounded h body
-opening_is_bounded count bytes Unfinished h body rest opens e = absurd (no_request (nat_lt 16384 count) h body rest e)
-opening_is_bounded count bytes Hopeless h body rest opens e = absurd cc
-opening_is_bounded count bytes (Whole k after) h body rest opens e =
-    answer_is_bounded (status_of k) k h after body rest refl e opens.1
 
 -- behind a head stand its body and what is left
 after_is : (status : Option ℕ) (k h : RequestHead) (after body rest : List ℕ)

@@ -1,10 +1,13 @@
+pub mod Bounds
 mod Cuts
 mod Finding
-mod Fronts
+pub mod Fronts
 mod HeaderFields
 mod Marks
 mod OpenTargets
+mod Paths
 pub mod Shortest
-mod Streams
+pub mod Small
+pub mod Streams
 mod Targets
 mod Utf8

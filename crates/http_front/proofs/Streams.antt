@@ -121,7 +121,7 @@ short_length verb named minor count f none =
     (λ _ few _. grind (arith, nat_tests)) refl none
 
 -- a head that no status refuses has a short body
-short_body : (h : RequestHead) → status_of h ≡ None → body_size h ≤ 1048576
+pub short_body : (h : RequestHead) → status_of h ≡ None → body_size h ≤ 1048576
 short_body h none = short_length (verb_of h.method) (is_some (path_of h.target)) h.minor (length h.fields)
     (fields_of (headers_of h)) none
 

@@ -1,5 +1,5 @@
 use Rattle.std.proofs.Common.{[]}
-use Rattle.asp_feed.proofs.Small.{small_request}
+use Rattle.http_front.proofs.Small.{small_request}
 use Rattle.asp_feed.proofs.job.job_of.Goals as goal
 
 pub returns-clause-small : goal.returns-clause-small

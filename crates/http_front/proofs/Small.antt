@@ -25,8 +25,8 @@ use Rattle.http_front.specs.Request.{IsRequestFor, header_parts}
 use Rattle.http_front.specs.Status.{body_size, headers_of, verb_of, is_in_order, lacks_length, status_by, status_of}
 use Rattle.http_front.specs.Target.{after_host, from_path_on, is_number_sign, is_question, is_slash}
 use Rattle.http_front.specs.Target.{normal_front, path_of, query_of}
-use Rattle.asp_record.proofs.Lengths.{opening_is_bounded}
-use Rattle.asp_feed.proofs.Paths.{normal_path_is_short}
+use Rattle.http_front.proofs.Bounds.{opening_is_bounded}
+use Rattle.http_front.proofs.Paths.{normal_path_is_short}
 
 -- ---- the parts of a head
 
