@@ -1,6 +1,7 @@
 -- A look, and a hand-out, in a turn.
 use Rattle.std.proofs.Common.{◌≡◌, ◌==◌, ℕ, ◌++◌, Bool, true, false, List, [], ◌∷◌, refl, ap, sym, ◌∙◌, subst, reverse}
 use Rattle.std.proofs.Common.{Option, Some, None, Result, Ok, Err, cond, inr}
+use Rattle.std.specs.Option.{is_some}
 use Rattle.turn_desk.specs.Shown.{LaneView}
 use Rattle.asp_text.proofs.Places.{by_cases}
 use Rattle.asp_job.specs.declared.answer.Answer.{Answer}
@@ -14,13 +15,15 @@ use Rattle.asp_job.specs.Runs.{asking_lane_of, has_ended, is_halted, is_stopping
 use Rattle.asp_job.specs.Running.{is_page}
 use Rattle.asp_core.specs.declared.stop.CollectStop.{CollectStop}
 use Rattle.asp_core.specs.declared.stop.CollectStop.TheVariants.{Foreign, NotEnded}
+use Rattle.asp_core.specs.Kernel.{RunView}
 use Rattle.asp_core.specs.Ready.{collect_stop, ended_stop, lane_stop, page_stop}
 use Rattle.asp_core.proofs.Kept.{past_of_more}
 use Rattle.asp_desk.specs.declared.looking.Looked.{Looked}
 use Rattle.asp_desk.specs.Calls.{Collects, IsTurn, Looks, looked_of}
+use Rattle.asp_desk.specs.Hands.{held_number}
 use Rattle.asp_serve.specs.declared.ending.LinkEnd.TheVariants as end
 use Rattle.asp_serve.specs.Steps.{HasCome, IsHindered, Works}
-use Rattle.asp_serve.proofs.Lanes.{turn_rests, turn_works}
+use Rattle.asp_serve.proofs.Lanes.{turn_rests, turn_works, works_then}
 
 ended_if : (ended page taken : Bool) → ended_stop ended page taken ≡ None → ended ≡ true
 ended_if true page taken none = refl
@@ -73,3 +76,18 @@ module _ {F : Type 0} (m : Rules) where
       → IsHindered m (λ request. ⊥) false a b end.Drained
   halted_hinders looked a b turn is =
       record { works = looks_work looked a b turn; why = inr (looks_halted looked a b turn is) }
+
+  -- the answer comes after some work
+  pub come_then : (run : ℕ) (answer : Answer) (a b c : LaneView Entry F) → Works a b → HasCome m run answer b c
+      → HasCome m run answer a c
+  come_then run answer a b c before x = record {
+    works = works_then a b c before x.works;
+    ended = x.ended;
+    answer_is = x.answer_is;
+  }
+
+-- a hand that tells no run holds none
+pub free_held : {State : Type 0} (held : Option (RunView State)) (told : Option ℕ) → told ≡ held_number held
+    → is_some told ≡ false → held ≡ None
+free_held None told is none = refl
+free_held (Some run) told is none = absurd (let some : is_some told ≡ true = ap is_some is in cc)

@@ -99,3 +99,6 @@ piece_failed a b bytes rest wants left same later within risen = record {
   moves = reads_move a b [] (sym left ∙ (moves_none b).came_is) same later within;
   hears = (subst Wants (sym (append-nil bytes)) wants, risen);
 }
+
+pub fed_same : (a b : LinkView) (first mid rest : List ℕ) → rest ≡ mid → HasFed a b first mid → HasFed a b first rest
+fed_same a b first mid rest same x = record { came = x.came; moves = x.moves; fed = same ∙ x.fed }
