@@ -1,9 +1,9 @@
 -- A look, and a hand-out, in a turn.
 use Rattle.std.proofs.Common.{◌≡◌, ◌==◌, ℕ, ◌++◌, Bool, true, false, List, [], ◌∷◌, refl, ap, sym, ◌∙◌, subst, reverse}
-use Rattle.std.proofs.Common.{Option, Some, None, Result, Ok, Err, cond, inr}
+use Rattle.std.proofs.Common.{Option, Some, None, Result, Ok, Err, inl, inr}
 use Rattle.std.specs.Option.{is_some}
+use Rattle.std.proofs.lemmas.Bool.{cases_Bool}
 use Rattle.turn_desk.specs.Shown.{LaneView}
-use Rattle.asp_text.proofs.Places.{by_cases}
 use Rattle.asp_job.specs.declared.answer.Answer.{Answer}
 use Rattle.asp_job.specs.declared.entry.Entry.{Entry}
 use Rattle.asp_job.specs.declared.entry.What.TheVariants.{Take}
@@ -32,9 +32,10 @@ ended_if false page taken none = absurd cc
 stop_none : (lane : ℕ) (asking : Option ℕ) (ended page taken : Bool) → lane_stop lane asking ended page taken ≡ None
     → ended ≡ true
 stop_none lane None ended page taken none = ended_if ended page taken none
-stop_none lane (Some asking) ended page taken none =
-    by_cases (λ t. cond t (ended_stop ended page taken) (Some (Foreign asking)) ≡ None → ended ≡ true) (asking == lane)
-    (λ _ e. ended_if ended page taken e) (λ _ e. absurd cc) none
+stop_none lane (Some asking) ended page taken none = elim (cases_Bool (asking == lane)) [
+  | inl own ↦ ended_if ended page taken (rw own at none)
+  | inr other ↦ absurd (let no = rw other at none in cc)
+]
 
 module _ {F : Type 0} (m : Rules) where
   -- the answer was handed out

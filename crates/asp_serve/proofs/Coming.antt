@@ -1,6 +1,6 @@
 -- What comes of one request, with all that was seen and heard before it.
 use Rattle.std.proofs.Common.{◌≡◌, ◌⊎◌, ℕ, ◌+◌, ◌<◌, ◌++◌, Bool, true, false, List, length, refl, ap, sym, ◌∙◌, subst}
-use Rattle.std.proofs.Common.{arith, inl, inr, reverse, Option, Some, None, IfNone}
+use Rattle.std.proofs.Common.{arith, inl, inr, reverse, Option, Some, None, IfNone, IfSome, Result, Ok, Err}
 use Rattle.std.specs.Prelude.{◌||◌}
 use Rattle.std.proofs.lemmas.Bool.Decides.{nat_tests}
 use Rattle.turn_desk.specs.Shown.{LaneView}
@@ -24,9 +24,12 @@ use Rattle.asp_serve.specs.declared.writing.Sent.{Sent}
 use Rattle.asp_serve.specs.declared.writing.Sent.TheVariants as sent
 use Rattle.asp_serve.specs.Jobs.{closing, is_last}
 use Rattle.asp_serve.specs.Served.{LinkView}
-use Rattle.asp_serve.specs.Steps.{Comes, HasCome, HasHeard, Hinders, IsFree, IsFreeAfter, IsTold, Sends, Works, closed_if}
+use Rattle.asp_serve.specs.Steps.{Asks, Comes, HasCome, HasHeard, Hinders, IsFree, IsFreeAfter, IsHindered, IsTold, Sends}
+use Rattle.asp_serve.specs.Steps.{Waits, Works, closed_if}
 use Rattle.asp_serve.specs.Steps.{end_after}
-use Rattle.asp_serve.proofs.Collecting.{looks_halted, looks_stopping, looks_work}
+use Rattle.asp_serve.proofs.Asking.{asks_then, hindered_due, hindered_then}
+use Rattle.asp_serve.proofs.Lanes.{works_then}
+use Rattle.asp_serve.proofs.Collecting.{come_then, looks_halted, looks_stopping, looks_work}
 use Rattle.asp_serve.proofs.Stepping.{comes_answered, comes_behind, comes_drained, comes_refused}
 
 -- ---- the hand
@@ -135,3 +138,30 @@ module _ {F : Type 0} (m : Rules) (may_give : ℕ → Type 0) where
       (end_after went (Some (end.Refused status))) works x.moves
       (comes_refused m may_give went count status second (first ++ x.came) rest b heard_at after x.hears may sends)
       right)
+
+-- ---- rounds of waiting and asking
+
+module _ {F : Type 0} (m : Rules) where
+  -- some work comes before a round of waiting
+  pub waits_then : (run : ℕ) (a b c : LaneView Entry F) (came : Option (Result Answer LinkEnd)) → Works a b
+      → Waits m run b came c → Waits m run a came c
+  waits_then run a b c None before x = works_then a b c before x
+  waits_then run a b c (Some (Ok answer)) before x = come_then m run answer a b c before x
+  waits_then run a b c (Some (Err ended)) before x = hindered_then m (λ request. ⊥) false a b c ended before x
+
+  -- what hinders where a request is due
+  pub asks_hindered : (may_give : ℕ → Type 0) (request : Request) (a b : LaneView Entry F) (ended : LinkEnd)
+      → IsHindered m (λ asked. ⊥) false a b ended → Asks m may_give request a (Err ended) b
+  asks_hindered may_give request a b ended x = hindered_due m (λ asked. asked ≡ request) a b ended x
+
+  -- some work comes before a round of asking
+  pub asked_then : (P : ℕ → Type 0) (request : Request) (a b c : LaneView Entry F)
+      (asked : Option (Result Admitted LinkEnd)) → Works a b
+      → IfSome asked (λ told. Asks m P request b told c) → IfSome asked (λ told. Asks m P request a told c)
+  asked_then P request a b c None before x = x
+  asked_then P request a b c (Some told) before x = asks_then m P request a b c told before x
+
+  pub again_then : (a b c : LaneView Entry F) (asked : Option (Result Admitted LinkEnd)) → Works a b
+      → IfNone asked (Works b c) → IfNone asked (Works a c)
+  again_then a b c None before x = works_then a b c before x
+  again_then a b c (Some told) before x = x

@@ -117,6 +117,12 @@ module _ {F : Type 0} where
     pub ended : has_ended (reverse new.seen) run ≡ true
     pub answer_is : answer_of_run rules (reverse new.seen) run ≡ Some answer
 
+  -- a round of waiting for the answer of a run: it has not come, it has, or why it never does
+  abbrev pub Waits : Rules → ℕ → LaneView Entry F → Option (Result Answer LinkEnd) → LaneView Entry F → Type 0
+  Waits rules run old None new = Works old new
+  Waits rules run old (Some (Ok answer)) new = HasCome rules run answer old new
+  Waits rules run old (Some (Err ended)) new = IsHindered rules (λ request. ⊥) false old new ended
+
   -- So many requests more were answered, the connection goes on, and the reader has the bytes behind them.
   pub record GoesOn (rules : Rules) (may_give : ℕ → Type 0) (count : ℕ) (first rest : List ℕ) (old new : LaneView Entry F)
       (link after : LinkView) (more : ℕ) : Type 0 where
@@ -161,3 +167,8 @@ IsFree _ run = run ≡ None
 abbrev pub IsFreeAfter : {Run : Type 0} → Option LinkEnd → Option Run → Type 0
 IsFreeAfter None run = run ≡ None
 IsFreeAfter (Some ended) run = IsFree ended run
+
+-- the hand holds no run where an answer has come
+abbrev pub IsFreed : {Run : Type 0} → Option (Result Answer LinkEnd) → Option Run → Type 0
+IsFreed (Some (Ok answer)) run = run ≡ None
+IsFreed _ run = Unit {0}

@@ -1,7 +1,7 @@
 //! Requests as jobs of the host.
 #![tactic(auto)]
 
-ghost use Rattle.std.specs.Prelude.{◌≡◌, ◌<◌, ◌^◌, true, IfErr, IfNone, IfOk, IfSome};
+ghost use Rattle.std.specs.Prelude.{◌≡◌, ℕ, ◌<◌, ◌^◌, true, IfNone, IfSome};
 ghost use Rattle.asp_job.specs.declared.request.Request as request;
 ghost use Rattle.asp_job.specs.Running.{is_page};
 ghost use Rattle.asp_job.specs.Size.{IsSmall, request_size};
@@ -66,6 +66,53 @@ fn ask<Rt: Wait, R: Runner>(
     }
 }
 
+/// A slice of work, or sleep where there is nothing to do. Why no more is to be done, if that is so.
+fn work_on<Rt: Wait, R: Runner, G: Gate>(
+    rt: &Rt,
+    host: &Host<R>,
+    hand: &mut Hand<R>,
+    gate: &G,
+    rung: u64,
+) -> Option<Result<Admitted, LinkEnd>>
+    requires { IsHandOf R.meaning R.stands host.now hand.old }
+    ensures hand { IsHandOf R.meaning R.stands host.now hand.new }
+    ensures again { IfNone result (spec.Works hand.old.lane hand.new.lane) }
+    ensures comes { (request : request.Request) (moment : ℕ) → IfSome result (λ asked.
+        spec.Asks (rules_at R.meaning host.now) (λ second. second ≡ moment) request hand.old.lane asked hand.new.lane) }
+{
+    match work(rt, host, hand, gate) {
+        Ok(idle) => match rest(rt, host, hand, idle, rung) {
+            Ok(()) => None,
+            Err(ended) => Some(Err(ended)),
+        },
+        Err(ended) => Some(Err(ended)),
+    }
+}
+
+/// Asks the host to take the job, and works where too many runs wait. What comes of it, unless it is to be asked again.
+fn ask_round<Rt: Wait, R: Runner, G: Gate>(
+    rt: &Rt,
+    host: &Host<R>,
+    hand: &mut Hand<R>,
+    gate: &G,
+    job: &Job,
+) -> Option<Result<Admitted, LinkEnd>>
+    requires hand { IsHandOf R.meaning R.stands host.now hand.old }
+    requires page { is_page job.now.work ≡ true }
+    requires small { IsSmall job.now }
+    ensures hand { IsHandOf R.meaning R.stands host.now hand.new }
+    ensures again { IfNone result (spec.Works hand.old.lane hand.new.lane) }
+    ensures comes { (request : request.Request) → job.now ≡ jobs.job_for request job.now.moment
+        → IfSome result (λ asked. spec.Asks (rules_at R.meaning host.now) (λ second. second ≡ job.now.moment) request
+        hand.old.lane asked hand.new.lane) }
+{
+    let rung = host.rung();
+    match ask(rt, host, hand, job) {
+        Some(asked) => Some(asked),
+        None => work_on(rt, host, hand, gate, rung),
+    }
+}
+
 /// Brings the request to the host as a job, at a second of the clock. While too many runs wait it works.
 pub fn admit<Rt: Wait, R: Runner, C: Clock, G: Gate>(
     rt: &Rt,
@@ -83,16 +130,8 @@ pub fn admit<Rt: Wait, R: Runner, C: Clock, G: Gate>(
 {
     let job = job_for(request, clock.seconds());
     for _ in rt.forever() {
-        let rung = host.rung();
-        if let Some(asked) = ask(rt, host, hand, &job) {
+        if let Some(asked) = ask_round(rt, host, hand, gate, &job) {
             return asked;
-        }
-        let idle = match work(rt, host, hand, gate) {
-            Ok(idle) => idle,
-            Err(ended) => return Err(ended),
-        };
-        if let Err(ended) = rest(rt, host, hand, idle, rung) {
-            return Err(ended);
         }
     }
     unreachable!()

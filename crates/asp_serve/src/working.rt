@@ -1,7 +1,7 @@
 //! Work at the host, until the answer of a run has come.
 #![tactic(auto)]
 
-ghost use Rattle.std.specs.Prelude.{◌≡◌, ◌==◌, ◌&&◌, None, IfErr, IfNone, IfOk, IfSome, OnOk, false};
+ghost use Rattle.std.specs.Prelude.{◌≡◌, ◌==◌, ◌&&◌, None, Some, IfErr, IfNone, IfSome, OnOk, false};
 ghost use Rattle.asp_desk.specs.Hands.{IsHandOf, rules_at};
 ghost use Rattle.asp_serve.specs.Steps as spec;
 
@@ -123,6 +123,49 @@ fn collect<Rt: Wait, R: Runner>(
     }
 }
 
+/// The answer of the run if it has come, or why it never does. Else it has slept, where there was nothing to do.
+fn look_for<Rt: Wait, R: Runner>(
+    rt: &Rt,
+    host: &Host<R>,
+    hand: &mut Hand<R>,
+    run: u32,
+    idle: Idle,
+    rung: u64,
+) -> Option<Result<Answer, LinkEnd>>
+    requires { IsHandOf R.meaning R.stands host.now hand.old }
+    ensures hand { IsHandOf R.meaning R.stands host.now hand.new }
+    ensures free { spec.IsFreed result hand.new.run }
+    ensures waits { spec.Waits (rules_at R.meaning host.now) run hand.old.lane result hand.new.lane }
+{
+    match collect(rt, host, hand, run) {
+        Some(answer) => Some(Ok(answer)),
+        None => match rest(rt, host, hand, idle, rung) {
+            Ok(()) => None,
+            Err(ended) => Some(Err(ended)),
+        },
+    }
+}
+
+/// A slice of work, and then the same.
+fn wait_round<Rt: Wait, R: Runner, G: Gate>(
+    rt: &Rt,
+    host: &Host<R>,
+    hand: &mut Hand<R>,
+    gate: &G,
+    run: u32,
+) -> Option<Result<Answer, LinkEnd>>
+    requires { IsHandOf R.meaning R.stands host.now hand.old }
+    ensures hand { IsHandOf R.meaning R.stands host.now hand.new }
+    ensures free { spec.IsFreed result hand.new.run }
+    ensures waits { spec.Waits (rules_at R.meaning host.now) run hand.old.lane result hand.new.lane }
+{
+    let rung = host.rung();
+    match work(rt, host, hand, gate) {
+        Ok(idle) => look_for(rt, host, hand, run, idle, rung),
+        Err(ended) => Some(Err(ended)),
+    }
+}
+
 /// Works until the answer of the run has come and the hand holds no run.
 pub fn wait_for<Rt: Wait, R: Runner, G: Gate>(
     rt: &Rt,
@@ -134,22 +177,11 @@ pub fn wait_for<Rt: Wait, R: Runner, G: Gate>(
     requires { IsHandOf R.meaning R.stands host.now hand.old }
     ensures hand { IsHandOf R.meaning R.stands host.now hand.new }
     ensures free { OnOk result (hand.new.run ≡ None) }
-    ensures ok { IfOk result (λ answer. spec.HasCome (rules_at R.meaning host.now) run answer
-        hand.old.lane hand.new.lane) }
-    ensures err { IfErr result (λ ended. spec.IsHindered (rules_at R.meaning host.now) (λ request. ⊥) false
-        hand.old.lane hand.new.lane ended) }
+    ensures waits { spec.Waits (rules_at R.meaning host.now) run hand.old.lane (Some result) hand.new.lane }
 {
     for _ in rt.forever() {
-        let rung = host.rung();
-        let idle = match work(rt, host, hand, gate) {
-            Ok(idle) => idle,
-            Err(ended) => return Err(ended),
-        };
-        if let Some(answer) = collect(rt, host, hand, run) {
-            return Ok(answer);
-        }
-        if let Err(ended) = rest(rt, host, hand, idle, rung) {
-            return Err(ended);
+        if let Some(came) = wait_round(rt, host, hand, gate, run) {
+            return came;
         }
     }
     unreachable!()
