@@ -4,7 +4,6 @@ use Rattle.std.proofs.Common.{◌∙◌, subst, append-nil, append_assoc, inl, i
 use Rattle.std.specs.Prelude.{max}
 use Rattle.std.proofs.lemmas.Bool.{cases_Bool, cases_lt}
 use Rattle.turn_desk.specs.Histories.{BeginsWith}
-use Rattle.turn_desk.specs.Shown.{LaneView}
 use Rattle.asp_job.specs.declared.answer.Answer.{Answer}
 use Rattle.asp_job.specs.declared.entry.Entry.{Entry}
 use Rattle.asp_job.specs.declared.entry.What.{What}
@@ -29,7 +28,7 @@ use Rattle.asp_desk.specs.Calls.{Admits, IsTurn}
 use Rattle.asp_serve.specs.declared.ending.LinkEnd.{LinkEnd}
 use Rattle.asp_serve.specs.declared.ending.LinkEnd.TheVariants as end
 use Rattle.asp_serve.specs.Jobs.{AreOfLink, Asking, IsAdmitted, IsOfLink, brought_by, job_for, jobs_in}
-use Rattle.asp_serve.specs.Served.{CallIsTooMuch, Grows, IsFull, JobIsTooMuch}
+use Rattle.asp_serve.specs.Served.{CallIsTooMuch, Grows, IsFull, JobIsTooMuch, Lane}
 use Rattle.asp_serve.specs.Steps.{Asks, Hinders, IsHindered, IsTold, Works}
 use Rattle.asp_serve.proofs.Lanes.{begins_then, grows_behind, jobs_both, links_both, turn_grows, turn_rests, works_then}
 
@@ -167,7 +166,7 @@ module _ {F : Type 0} where
   -- ---- a job that came
 
   -- a turn in which the job of a request came
-  pub told_is : (m : Rules) (may_give : ℕ → Type 0) (request : Request) (second : ℕ) (a b : LaneView Entry F) (told : Admitted)
+  pub told_is : (m : Rules) (may_give : ℕ → Type 0) (request : Request) (second : ℕ) (a b : Lane F) (told : Admitted)
       → may_give second → IsTurn (Admits m a.number (job_for request second)) a (Ok told) b
       → IsTold m may_give request told a b
   told_is m may_give request second a b told may turn =
@@ -194,7 +193,7 @@ module _ {F : Type 0} where
         moment_is = ap (λ (t : Admitted). t.moment) turn.done.1 ∙ its.moment_is;
       }
 
-  told_may : (P Q : ℕ → Type 0) → ((s : ℕ) → P s → Q s) → (m : Rules) (request : Request) (told : Admitted) (a b : LaneView Entry F)
+  told_may : (P Q : ℕ → Type 0) → ((s : ℕ) → P s → Q s) → (m : Rules) (request : Request) (told : Admitted) (a b : Lane F)
       → IsTold m P request told a b → IsTold m Q request told a b
   told_may P Q more m request told a b x = record {
     asking = x.asking;
@@ -219,7 +218,7 @@ module _ {F : Type 0} where
     moment_is = x.moment_is;
   }
 
-  told_then : (m : Rules) (may_give : ℕ → Type 0) (request : Request) (told : Admitted) (a b c : LaneView Entry F) → Works a b
+  told_then : (m : Rules) (may_give : ℕ → Type 0) (request : Request) (told : Admitted) (a b c : Lane F) → Works a b
       → IsTold m may_give request told b c → IsTold m may_give request told a c
   told_then m may_give request told a b c before x = record {
     asking = x.asking;
@@ -231,7 +230,7 @@ module _ {F : Type 0} where
 
   -- ---- what hinders
 
-  pub full_then : (m : Rules) (asked : Request → Type 0) (a b c : LaneView Entry F) (entries weight : ℕ) → BeginsWith b.seen a.seen
+  pub full_then : (m : Rules) (asked : Request → Type 0) (a b c : Lane F) (entries weight : ℕ) → BeginsWith b.seen a.seen
       → b.number ≡ a.number → IsFull m asked b c entries weight → IsFull m asked a c entries weight
   full_then m asked a b c entries weight seen number x = record {
     before = x.before;
@@ -242,7 +241,7 @@ module _ {F : Type 0} where
         number x.full;
   }
 
-  pub full_more : (m : Rules) (P Q : Request → Type 0) → ((r : Request) → P r → Q r) → (a b : LaneView Entry F) (entries weight : ℕ)
+  pub full_more : (m : Rules) (P Q : Request → Type 0) → ((r : Request) → P r → Q r) → (a b : Lane F) (entries weight : ℕ)
       → IsFull m P a b entries weight → IsFull m Q a b entries weight
   full_more m P Q more a b entries weight x =
       record { before = x.before; later = x.later; earlier = x.earlier; full = at x.full }
@@ -256,7 +255,7 @@ module _ {F : Type 0} where
       at (inl job) = inl (job.0, job.1, more job.0 job.2, job.3)
       at (inr rest) = inr rest
 
-  pub hindered_then : (m : Rules) (asked : Request → Type 0) (due : Bool) (a b c : LaneView Entry F) (ended : LinkEnd) → Works a b
+  pub hindered_then : (m : Rules) (asked : Request → Type 0) (due : Bool) (a b c : Lane F) (ended : LinkEnd) → Works a b
       → IsHindered m asked due b c ended → IsHindered m asked due a c ended
   hindered_then m asked due a b c ended before x =
       record { works = works_then a b c before x.works; why = at ended x.why }
@@ -271,7 +270,7 @@ module _ {F : Type 0} where
       at end.Memory y = y
 
   -- what hinders at all hinders where a request is due
-  pub hindered_due : (m : Rules) (asked : Request → Type 0) (a b : LaneView Entry F) (ended : LinkEnd)
+  pub hindered_due : (m : Rules) (asked : Request → Type 0) (a b : Lane F) (ended : LinkEnd)
       → IsHindered m (λ request. ⊥) false a b ended → IsHindered m asked true a b ended
   hindered_due m asked a b ended x = record { works = x.works; why = at ended x.why }
     where
@@ -286,25 +285,25 @@ module _ {F : Type 0} where
       at end.Memory y = y
 
   -- turns in which the job of a request did not come
-  pub too_many : (m : Rules) (job : Job) (a b : LaneView Entry F) → IsTurn (Admits m a.number job) a (Err admit.WaitingFull) b
+  pub too_many : (m : Rules) (job : Job) (a b : Lane F) → IsTurn (Admits m a.number job) a (Err admit.WaitingFull) b
       → Works a b
   too_many m job a b turn = turn_rests (Admits m a.number job) a b (Err admit.WaitingFull) turn turn.done.0
 
-  pub stops_it : (m : Rules) (asked : Request → Type 0) (job : Job) (a b : LaneView Entry F)
+  pub stops_it : (m : Rules) (asked : Request → Type 0) (job : Job) (a b : Lane F)
       → IsTurn (Admits m a.number job) a (Err admit.Stopping) b → IsHindered m asked true a b end.Drained
   stops_it m asked job a b turn = record {
     works = turn_rests (Admits m a.number job) a b (Err admit.Stopping) turn turn.done.0;
     why = inl (refl, ap (λ l. is_stopping (reverse l)) turn.done.0 ∙ turn.done.1);
   }
 
-  pub lacks_memory : (m : Rules) (asked : Request → Type 0) (job : Job) (a b : LaneView Entry F)
+  pub lacks_memory : (m : Rules) (asked : Request → Type 0) (job : Job) (a b : Lane F)
       → IsTurn (Admits m a.number job) a (Err admit.Memory) b → IsHindered m asked true a b end.Memory
   lacks_memory m asked job a b turn = record {
     works = turn_rests (Admits m a.number job) a b (Err admit.Memory) turn turn.done.0;
     why = tt;
   }
 
-  pub fills_it : (m : Rules) (request : Request) (second : ℕ) (a b : LaneView Entry F) (entries weight : ℕ)
+  pub fills_it : (m : Rules) (request : Request) (second : ℕ) (a b : Lane F) (entries weight : ℕ)
       → IsTurn (Admits m a.number (job_for request second)) a (Err (admit.JournalFull entries weight)) b
       → IsHindered m (λ asked. asked ≡ request) true a b (end.JournalFull entries weight)
   fills_it m request second a b entries weight turn = record {
@@ -320,12 +319,12 @@ module _ {F : Type 0} where
 
   -- ---- asking
 
-  pub asks_may : (P Q : ℕ → Type 0) → ((s : ℕ) → P s → Q s) → (m : Rules) (request : Request) (a b : LaneView Entry F)
+  pub asks_may : (P Q : ℕ → Type 0) → ((s : ℕ) → P s → Q s) → (m : Rules) (request : Request) (a b : Lane F)
       (asked : Result Admitted LinkEnd) → Asks m P request a asked b → Asks m Q request a asked b
   asks_may P Q more m request a b (Ok told) x = told_may P Q more m request told a b x
   asks_may P Q more m request a b (Err ended) x = x
 
-  pub asks_then : (m : Rules) (may_give : ℕ → Type 0) (request : Request) (a b c : LaneView Entry F)
+  pub asks_then : (m : Rules) (may_give : ℕ → Type 0) (request : Request) (a b c : Lane F)
       (asked : Result Admitted LinkEnd) → Works a b → Asks m may_give request b asked c
       → Asks m may_give request a asked c
   asks_then m may_give request a b c (Ok told) before x = told_then m may_give request told a b c before x

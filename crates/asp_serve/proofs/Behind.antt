@@ -1,9 +1,9 @@
 -- One request of a connection after another.
 use Rattle.std.proofs.Common.{◌≡◌, ◌⊎◌, ℕ, ◌+◌, ◌<◌, ◌≤◌, ◌++◌, Bool, true, false, List, [], ◌∷◌, length, refl, ap, sym}
-use Rattle.std.proofs.Common.{◌∙◌, subst, append-nil, append_assoc, inl, inr, reverse, arith, Option, Some, None, IfSome, length-append}
+use Rattle.std.proofs.Common.{◌∙◌, subst, append-nil, append_assoc, inl, inr, reverse, arith, Option, Some, None}
+use Rattle.std.proofs.Common.{IfSome, length-append}
 use Rattle.std.specs.Prelude.{option_to_list}
 use Rattle.turn_desk.specs.Histories.{BeginsWith}
-use Rattle.turn_desk.specs.Shown.{LaneView}
 use Rattle.asp_job.specs.declared.entry.Entry.{Entry}
 use Rattle.asp_job.specs.declared.request.Request.{Request}
 use Rattle.asp_job.specs.Journal.{AreRight, admit_entries}
@@ -19,7 +19,7 @@ use Rattle.asp_serve.specs.declared.ending.LinkEnd.{LinkEnd}
 use Rattle.asp_serve.specs.declared.ending.LinkEnd.TheVariants as end
 use Rattle.asp_serve.specs.Jobs.{AreAdmitted, AreAnswered, Asking, IsAdmitted, IsAnswered, NoneBehindClose, closes}
 use Rattle.asp_serve.specs.Jobs.{closing, has_closed, is_last, job_for}
-use Rattle.asp_serve.specs.Served.{Ends, Grows, HasServed, IsNextOf, IsServedFrom, LinkView, Served}
+use Rattle.asp_serve.specs.Served.{Ends, Grows, HasServed, IsNextOf, IsServedFrom, Lane, LinkView, Served}
 use Rattle.asp_serve.specs.Served.{all_of}
 use Rattle.asp_serve.specs.Steps.{GoesOn}
 use Rattle.asp_serve.proofs.Asking.{full_then}
@@ -133,7 +133,7 @@ abbrev pub done : List Asking → List ℕ → Served
 done xs rest = record { answered = xs; unanswered = None; rest = rest; tail = [] }
 
 module _ {F : Type 0} (m : Rules) (may_give : ℕ → Type 0) where
-  pub served_then : (count : ℕ) (a b c : LaneView Entry F) (bytes came written also mid : List ℕ) (xs : List Asking)
+  pub served_then : (count : ℕ) (a b c : Lane F) (bytes came written also mid : List ℕ) (xs : List Asking)
       (served : Served) → HasServed m may_give count a b bytes written (done xs mid) → has_closed false xs ≡ false
       → HasServed m may_give (count + length xs) b c (mid ++ came) also served → AreRight m (reverse c.seen)
       → HasServed m may_give count a c (bytes ++ came) (written ++ also) (behind xs served)
@@ -142,6 +142,7 @@ module _ {F : Type 0} (m : Rules) (may_give : ℕ → Type 0) where
       let left : all_of (done xs mid) ≡ xs = append-nil xs in
       let jobs : all_of (done xs mid) ++ ys ≡ all_of (behind xs served) =
       ap (λ l. l ++ ys) left ∙ sym (append_assoc xs served.answered (option_to_list served.unanswered)) in
+      let whole : xs ++ ys ≡ all_of (behind xs served) = ap (λ l. l ++ ys) (sym left) ∙ jobs in
       record {
         grows = subst (Grows may_give a c) jobs (grows_then may_give a b c (all_of (done xs mid)) ys x.grows y.grows);
         taken = x.taken ++ y.taken;
@@ -149,12 +150,12 @@ module _ {F : Type 0} (m : Rules) (may_give : ℕ → Type 0) where
             (takes-append bytes came x.taken mid x.takes) y.takes;
         requests = x.requests ++ y.requests;
         requests_are = are_requests-append x.taken y.taken x.requests y.requests x.requests_are y.requests_are;
-        admitted = subst (AreAdmitted m a.number may_give count c.seen (x.requests ++ y.requests)) (ap (λ l. l ++ ys) (sym left) ∙ jobs)
+        admitted = subst (AreAdmitted m a.number may_give count c.seen (x.requests ++ y.requests)) whole
             (admitted_both m a.number may_give count c.seen x.requests y.requests xs ys
             (all_admitted_later m a.number may_give count b.seen c.seen x.requests xs y.grows.seen
             (subst (AreAdmitted m a.number may_give count b.seen x.requests) left x.admitted))
             (subst (λ n. AreAdmitted m n may_give (count + length xs) c.seen y.requests ys) x.grows.number y.admitted));
-        ends_it = subst (NoneBehindClose false) (ap (λ l. l ++ ys) (sym left) ∙ jobs)
+        ends_it = subst (NoneBehindClose false) whole
             (none_both false xs ys (subst (NoneBehindClose false) left x.ends_it)
             (subst (λ closed. NoneBehindClose closed ys) (sym goes) y.ends_it));
         texts = x.texts ++ y.texts;
@@ -164,7 +165,7 @@ module _ {F : Type 0} (m : Rules) (may_give : ℕ → Type 0) where
             ∙ sym (append_assoc x.texts y.texts served.tail);
       }
 
-  pub ends_then : (a b c : LaneView Entry F) (la lb lc : LinkView) (xs : List Asking) (served : Served) (ended : LinkEnd)
+  pub ends_then : (a b c : Lane F) (la lb lc : LinkView) (xs : List Asking) (served : Served) (ended : LinkEnd)
       → BeginsWith b.seen a.seen → b.number ≡ a.number → la.faults ≤ lb.faults → has_closed false xs ≡ false
       → Ends m may_give b c lb lc served ended → Ends m may_give a c la lc (behind xs served) ended
   ends_then a b c la lb lc xs served (end.Closed rest) seen number later goes x = (x.0, x.1, at x.2)
@@ -190,7 +191,7 @@ module _ {F : Type 0} (m : Rules) (may_give : ℕ → Type 0) where
   ends_then a b c la lb lc xs served end.Memory seen number later goes x = x
 
   -- more requests behind those that were answered
-  pub goes_then : (count more also : ℕ) (a b c : LaneView Entry F) (la lb lc : LinkView) (first mid rest : List ℕ)
+  pub goes_then : (count more also : ℕ) (a b c : Lane F) (la lb lc : LinkView) (first mid rest : List ℕ)
       → GoesOn m may_give count first mid a b la lb more → GoesOn m may_give (count + more) mid rest b c lb lc also
       → AreRight m (reverse c.seen) → GoesOn m may_give count first rest a c la lc (more + also)
   goes_then count more also a b c la lb lc first mid rest x y right = record {
@@ -209,7 +210,7 @@ module _ {F : Type 0} (m : Rules) (may_give : ℕ → Type 0) where
   }
 
   -- an end behind them
-  pub from_then : (count more : ℕ) (a b c : LaneView Entry F) (la lb lc : LinkView) (first mid : List ℕ) (ended : LinkEnd)
+  pub from_then : (count more : ℕ) (a b c : Lane F) (la lb lc : LinkView) (first mid : List ℕ) (ended : LinkEnd)
       → GoesOn m may_give count first mid a b la lb more
       → IsServedFrom m may_give (count + more) mid b c lb lc ended → AreRight m (reverse c.seen)
       → IsServedFrom m may_give count first a c la lc ended

@@ -3,7 +3,6 @@ use Rattle.std.proofs.Common.{◌≡◌, ◌==◌, ℕ, ◌++◌, Bool, true, fa
 use Rattle.std.proofs.Common.{Option, Some, None, Result, Ok, Err, inl, inr}
 use Rattle.std.specs.Option.{is_some}
 use Rattle.std.proofs.lemmas.Bool.{cases_Bool}
-use Rattle.turn_desk.specs.Shown.{LaneView}
 use Rattle.asp_job.specs.declared.answer.Answer.{Answer}
 use Rattle.asp_job.specs.declared.entry.Entry.{Entry}
 use Rattle.asp_job.specs.declared.entry.What.TheVariants.{Take}
@@ -21,6 +20,7 @@ use Rattle.asp_core.proofs.Kept.{past_of_more}
 use Rattle.asp_desk.specs.declared.looking.Looked.{Looked}
 use Rattle.asp_desk.specs.Calls.{Collects, IsTurn, Looks, looked_of}
 use Rattle.asp_desk.specs.Hands.{held_number}
+use Rattle.asp_serve.specs.Served.{Lane}
 use Rattle.asp_serve.specs.declared.ending.LinkEnd.TheVariants as end
 use Rattle.asp_serve.specs.Steps.{HasCome, IsHindered, Works}
 use Rattle.asp_serve.proofs.Lanes.{turn_rests, turn_works, works_then}
@@ -39,7 +39,7 @@ stop_none lane (Some asking) ended page taken none = elim (cases_Bool (asking ==
 
 module _ {F : Type 0} (m : Rules) where
   -- the answer was handed out
-  pub collected : (run : ℕ) (answer : Answer) (a b : LaneView Entry F) → IsTurn (Collects m a.number run) a (Ok answer) b
+  pub collected : (run : ℕ) (answer : Answer) (a b : Lane F) → IsTurn (Collects m a.number run) a (Ok answer) b
       → HasCome m run answer a b
   collected run answer a b turn =
       let past = reverse turn.before in
@@ -53,33 +53,33 @@ module _ {F : Type 0} (m : Rules) where
       }
 
   -- it was not
-  pub kept_back : (run : ℕ) (stop : CollectStop) (a b : LaneView Entry F) → IsTurn (Collects m a.number run) a (Err stop) b
+  pub kept_back : (run : ℕ) (stop : CollectStop) (a b : Lane F) → IsTurn (Collects m a.number run) a (Err stop) b
       → Works a b
   kept_back run stop a b turn = turn_rests (Collects m a.number run) a b (Err stop) turn turn.done.0
 
   -- a look
-  pub looks_work : (looked : Looked) (a b : LaneView Entry F) → IsTurn (Looks m) a looked b → Works a b
+  pub looks_work : (looked : Looked) (a b : Lane F) → IsTurn (Looks m) a looked b → Works a b
   looks_work looked a b turn = turn_rests (Looks m) a b looked turn turn.done.0
 
-  looks_at : (looked : Looked) (a b : LaneView Entry F) → IsTurn (Looks m) a looked b → looked ≡ looked_of m (reverse b.seen)
+  looks_at : (looked : Looked) (a b : Lane F) → IsTurn (Looks m) a looked b → looked ≡ looked_of m (reverse b.seen)
   looks_at looked a b turn = turn.done.1 ∙ ap (λ l. looked_of m (reverse l)) (sym turn.done.0)
 
-  pub looks_halted : (looked : Looked) (a b : LaneView Entry F) → IsTurn (Looks m) a looked b → looked.halted ≡ true
+  pub looks_halted : (looked : Looked) (a b : Lane F) → IsTurn (Looks m) a looked b → looked.halted ≡ true
       → is_halted (reverse b.seen) ≡ true
   looks_halted looked a b turn is = sym (ap (λ (l : Looked). l.halted) (looks_at looked a b turn)) ∙ is
 
-  pub looks_stopping : (looked : Looked) (a b : LaneView Entry F) → IsTurn (Looks m) a looked b → looked.stopping ≡ true
+  pub looks_stopping : (looked : Looked) (a b : Lane F) → IsTurn (Looks m) a looked b → looked.stopping ≡ true
       → is_stopping (reverse b.seen) ≡ true
   looks_stopping looked a b turn is = sym (ap (λ (l : Looked). l.stopping) (looks_at looked a b turn)) ∙ is
 
   -- a host that is halted
-  pub halted_hinders : (looked : Looked) (a b : LaneView Entry F) → IsTurn (Looks m) a looked b → looked.halted ≡ true
+  pub halted_hinders : (looked : Looked) (a b : Lane F) → IsTurn (Looks m) a looked b → looked.halted ≡ true
       → IsHindered m (λ request. ⊥) false a b end.Drained
   halted_hinders looked a b turn is =
       record { works = looks_work looked a b turn; why = inr (looks_halted looked a b turn is) }
 
   -- the answer comes after some work
-  pub come_then : (run : ℕ) (answer : Answer) (a b c : LaneView Entry F) → Works a b → HasCome m run answer b c
+  pub come_then : (run : ℕ) (answer : Answer) (a b c : Lane F) → Works a b → HasCome m run answer b c
       → HasCome m run answer a c
   come_then run answer a b c before x = record {
     works = works_then a b c before x.works;

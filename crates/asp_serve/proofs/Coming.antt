@@ -3,7 +3,6 @@ use Rattle.std.proofs.Common.{◌≡◌, ◌⊎◌, ℕ, ◌+◌, ◌<◌, ◌++
 use Rattle.std.proofs.Common.{arith, inl, inr, reverse, Option, Some, None, IfNone, IfSome, Result, Ok, Err}
 use Rattle.std.specs.Prelude.{◌||◌}
 use Rattle.std.proofs.lemmas.Bool.Decides.{nat_tests}
-use Rattle.turn_desk.specs.Shown.{LaneView}
 use Rattle.asp_job.specs.declared.answer.Answer.{Answer}
 use Rattle.asp_job.specs.declared.entry.Entry.{Entry}
 use Rattle.asp_job.specs.declared.request.Request.{Request}
@@ -23,7 +22,7 @@ use Rattle.asp_serve.specs.declared.reading.Heard.TheVariants as heard
 use Rattle.asp_serve.specs.declared.writing.Sent.{Sent}
 use Rattle.asp_serve.specs.declared.writing.Sent.TheVariants as sent
 use Rattle.asp_serve.specs.Jobs.{closing, is_last}
-use Rattle.asp_serve.specs.Served.{LinkView}
+use Rattle.asp_serve.specs.Served.{Lane, LinkView}
 use Rattle.asp_serve.specs.Steps.{Asks, Comes, HasCome, HasHeard, Hinders, IsFree, IsFreeAfter, IsHindered, IsTold, Sends}
 use Rattle.asp_serve.specs.Steps.{Waits, Works, closed_if}
 use Rattle.asp_serve.specs.Steps.{end_after}
@@ -44,7 +43,7 @@ free_after (Some end.WriteFault) run free = free
 free_after (Some (end.JournalFull entries weight)) run free = tt
 free_after (Some end.Memory) run free = tt
 
-pub hinders_free : {F Run : Type 0} (m : Rules) (asked : Request → Type 0) (due : Bool) (a b : LaneView Entry F)
+pub hinders_free : {F Run : Type 0} (m : Rules) (asked : Request → Type 0) (due : Bool) (a b : Lane F)
     (ended : LinkEnd) (run : Option Run) → Hinders m asked due a b ended → IsFree ended run
 hinders_free m asked due a b (end.Closed rest) run why = absurd why
 hinders_free m asked due a b end.Drained run why = tt
@@ -86,7 +85,7 @@ either true b is = inl refl
 either false b is = inr is
 
 module _ {F : Type 0} (m : Rules) (may_give : ℕ → Type 0) where
-  pub comes_leaving : (count : ℕ) (first rest : List ℕ) (looked : Looked) (a b : LaneView Entry F) (link : LinkView)
+  pub comes_leaving : (count : ℕ) (first rest : List ℕ) (looked : Looked) (a b : Lane F) (link : LinkView)
       → IsTurn (Looks m) a looked b → looked.stopping || looked.halted ≡ true
       → Comes m may_give count first rest a b link link (Some end.Drained)
   comes_leaving count first rest looked a b link turn is = comes_drained m may_give count first rest a b link
@@ -101,7 +100,7 @@ module _ {F : Type 0} (m : Rules) (may_give : ℕ → Type 0) where
 
   -- the request was answered, and the connection has ended so, if it has
   pub comes_ended : (count size : ℕ) (bytes rest : List ℕ) (read : Request) (told : Admitted) (answer : Answer)
-      (went : Sent) (close : Bool) (ended whole : Option LinkEnd) (a b c : LaneView Entry F) (link after : LinkView)
+      (went : Sent) (close : Bool) (ended whole : Option LinkEnd) (a b c : Lane F) (link after : LinkView)
       → ComesNext bytes (next.Request read) rest → IsTold m may_give (closing (is_last count) read) told a b
       → HasCome m told.run answer b c → Sends link after (IsAnswerText answer told.moment) went
       → ended ≡ end_after went whole → whole ≡ closed_if close size → close ≡ (closing (is_last count) read).close
@@ -115,7 +114,7 @@ module _ {F : Type 0} (m : Rules) (may_give : ℕ → Type 0) where
       (comes_answered m may_give count bytes rest read told answer went a b c link after gives x come sends)
 
   -- a request was heard after a look
-  pub comes_requested : (count : ℕ) (first rest : List ℕ) (read : Request) (a b c : LaneView Entry F)
+  pub comes_requested : (count : ℕ) (first rest : List ℕ) (read : Request) (a b c : Lane F)
       (link heard_at after : LinkView) (ended : Option LinkEnd) → Works a b
       → HasHeard link heard_at first (heard.Request read) rest
       → ((bytes : List ℕ) → ComesNext bytes (next.Request read) rest
@@ -126,7 +125,7 @@ module _ {F : Type 0} (m : Rules) (may_give : ℕ → Type 0) where
       (comes (first ++ x.came) x.hears) right
 
   -- what was heard is refused
-  pub comes_refusing : (count status second : ℕ) (went : Sent) (first rest : List ℕ) (a b : LaneView Entry F)
+  pub comes_refusing : (count status second : ℕ) (went : Sent) (first rest : List ℕ) (a b : Lane F)
       (link heard_at after : LinkView) (ended : Option LinkEnd) → Works a b
       → HasHeard link heard_at first (heard.Refused status) rest → may_give second
       → Sends heard_at after (IsAnswerText (status_answer_of status false true) second) went
@@ -143,25 +142,25 @@ module _ {F : Type 0} (m : Rules) (may_give : ℕ → Type 0) where
 
 module _ {F : Type 0} (m : Rules) where
   -- some work comes before a round of waiting
-  pub waits_then : (run : ℕ) (a b c : LaneView Entry F) (came : Option (Result Answer LinkEnd)) → Works a b
+  pub waits_then : (run : ℕ) (a b c : Lane F) (came : Option (Result Answer LinkEnd)) → Works a b
       → Waits m run b came c → Waits m run a came c
   waits_then run a b c None before x = works_then a b c before x
   waits_then run a b c (Some (Ok answer)) before x = come_then m run answer a b c before x
   waits_then run a b c (Some (Err ended)) before x = hindered_then m (λ request. ⊥) false a b c ended before x
 
   -- what hinders where a request is due
-  pub asks_hindered : (may_give : ℕ → Type 0) (request : Request) (a b : LaneView Entry F) (ended : LinkEnd)
+  pub asks_hindered : (may_give : ℕ → Type 0) (request : Request) (a b : Lane F) (ended : LinkEnd)
       → IsHindered m (λ asked. ⊥) false a b ended → Asks m may_give request a (Err ended) b
   asks_hindered may_give request a b ended x = hindered_due m (λ asked. asked ≡ request) a b ended x
 
   -- some work comes before a round of asking
-  pub asked_then : (P : ℕ → Type 0) (request : Request) (a b c : LaneView Entry F)
+  pub asked_then : (P : ℕ → Type 0) (request : Request) (a b c : Lane F)
       (asked : Option (Result Admitted LinkEnd)) → Works a b
       → IfSome asked (λ told. Asks m P request b told c) → IfSome asked (λ told. Asks m P request a told c)
   asked_then P request a b c None before x = x
   asked_then P request a b c (Some told) before x = asks_then m P request a b c told before x
 
-  pub again_then : (a b c : LaneView Entry F) (asked : Option (Result Admitted LinkEnd)) → Works a b
+  pub again_then : (a b c : Lane F) (asked : Option (Result Admitted LinkEnd)) → Works a b
       → IfNone asked (Works b c) → IfNone asked (Works a c)
   again_then a b c None before x = works_then a b c before x
   again_then a b c (Some told) before x = x

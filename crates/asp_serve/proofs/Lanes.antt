@@ -3,14 +3,14 @@ use Rattle.std.proofs.Common.{◌≡◌, ◌==◌, ℕ, ◌++◌, All, List, [],
 use Rattle.std.proofs.lemmas.List.{append_cancel_left}
 use Rattle.std.proofs.lemmas.List.Elements.{filter-append}
 use Rattle.turn_desk.specs.Histories.{BeginsWith, GrowsBy, own_part}
-use Rattle.turn_desk.specs.Shown.{IsSameLane, LaneFits, LaneView}
+use Rattle.turn_desk.specs.Shown.{IsSameLane, LaneFits}
 use Rattle.turn_desk.proofs.Parts.{own_part-own}
 use Rattle.asp_job.specs.declared.entry.Entry.{Entry}
 use Rattle.asp_job.specs.declared.entry.What.{What}
 use Rattle.asp_job.specs.declared.entry.What.TheVariants.{Admit, App, Begin, End, Halt, Queue, Refuse, Stop, Take, Tick}
 use Rattle.asp_desk.specs.Calls.{IsTurn}
 use Rattle.asp_serve.specs.Jobs.{AreOfLink, Asking, IsOfLink, brought_by, jobs_in}
-use Rattle.asp_serve.specs.Served.{Grows}
+use Rattle.asp_serve.specs.Served.{Grows, Lane}
 use Rattle.asp_serve.specs.Steps.{AreOfWork, IsOfWork, Works}
 
 -- ---- histories
@@ -72,16 +72,16 @@ works_bring (x ∷ xs) p = ap (λ l. l ++ jobs_in xs) (work_brings x.what p.0) �
 module _ {F : Type 0} where
   -- ---- moments of a lane, one after another
 
-  pub works_none : (a b : LaneView Entry F) → b ≡ a → Works a b
+  pub works_none : (a b : Lane F) → b ≡ a → Works a b
   works_none a b same = record {
-    seen = begins_itself a.seen b.seen (ap (λ (l : LaneView Entry F). l.seen) same);
-    number = ap (λ (l : LaneView Entry F). l.number) same;
+    seen = begins_itself a.seen b.seen (ap (λ (l : Lane F). l.seen) same);
+    number = ap (λ (l : Lane F). l.number) same;
     more = [];
-    own = ap (λ (l : LaneView Entry F). l.own) same ∙ sym (append-nil a.own);
+    own = ap (λ (l : Lane F). l.own) same ∙ sym (append-nil a.own);
     entries = tt;
   }
 
-  pub works_then : (a b c : LaneView Entry F) → Works a b → Works b c → Works a c
+  pub works_then : (a b c : Lane F) → Works a b → Works b c → Works a c
   works_then a b c x y = record {
     seen = begins_then a.seen b.seen c.seen x.seen y.seen;
     number = y.number ∙ x.number;
@@ -90,7 +90,7 @@ module _ {F : Type 0} where
     entries = works_both x.more y.more x.entries y.entries;
   }
 
-  pub grows_then : (may_give : ℕ → Type 0) (a b c : LaneView Entry F) (js ks : List Asking) → Grows may_give a b js
+  pub grows_then : (may_give : ℕ → Type 0) (a b c : Lane F) (js ks : List Asking) → Grows may_give a b js
       → Grows may_give b c ks → Grows may_give a c (js ++ ks)
   grows_then may_give a b c js ks x y = record {
     seen = begins_then a.seen b.seen c.seen x.seen y.seen;
@@ -101,7 +101,7 @@ module _ {F : Type 0} where
     entries = links_both may_give x.more y.more x.entries y.entries;
   }
 
-  pub works_grow : (may_give : ℕ → Type 0) (a b : LaneView Entry F) → Works a b → Grows may_give a b []
+  pub works_grow : (may_give : ℕ → Type 0) (a b : Lane F) → Works a b → Grows may_give a b []
   works_grow may_give a b x = record {
     seen = x.seen;
     number = x.number;
@@ -111,18 +111,18 @@ module _ {F : Type 0} where
     entries = works_link may_give x.more x.entries;
   }
 
-  pub grows_behind : (may_give : ℕ → Type 0) (a b c : LaneView Entry F) (js : List Asking) → Works a b → Grows may_give b c js
+  pub grows_behind : (may_give : ℕ → Type 0) (a b c : Lane F) (js : List Asking) → Works a b → Grows may_give b c js
       → Grows may_give a c js
   grows_behind may_give a b c js x y = grows_then may_give a b c [] js (works_grow may_give a b x) y
 
-  pub grows_before : (may_give : ℕ → Type 0) (a b c : LaneView Entry F) (js : List Asking) → Grows may_give a b js → Works b c
+  pub grows_before : (may_give : ℕ → Type 0) (a b c : Lane F) (js : List Asking) → Grows may_give a b js → Works b c
       → Grows may_give a c js
   grows_before may_give a b c js x y = subst (Grows may_give a c) (append-nil js)
       (grows_then may_give a b c js [] x (works_grow may_give b c y))
 
   -- ---- turns
 
-  turn_own : (a b : LaneView Entry F) (before entries : List Entry) → LaneFits (λ (entry : Entry). entry.lane) before a
+  turn_own : (a b : Lane F) (before entries : List Entry) → LaneFits (λ (entry : Entry). entry.lane) before a
       → GrowsBy (λ (entry : Entry). entry.lane) a.number before b.seen
       → b.own ≡ own_part (λ (entry : Entry). entry.lane) a.number b.seen → b.seen ≡ before ++ entries
       → b.own ≡ a.own ++ entries
@@ -135,7 +135,7 @@ module _ {F : Type 0} where
       ∙ ap (λ l. a.own ++ l) (own_part-own test a.number entries bear)
 
   -- a turn of work
-  pub turn_works : {A : Type 0} (does : List Entry → A → List Entry → Type 0) (a b : LaneView Entry F) (answer : A)
+  pub turn_works : {A : Type 0} (does : List Entry → A → List Entry → Type 0) (a b : Lane F) (answer : A)
       (turn : IsTurn does a answer b) (entries : List Entry) → b.seen ≡ turn.before ++ entries → AreOfWork entries
       → Works a b
   turn_works does a b answer turn entries is work = record {
@@ -147,13 +147,13 @@ module _ {F : Type 0} where
   }
 
   -- a turn that adds nothing
-  pub turn_rests : {A : Type 0} (does : List Entry → A → List Entry → Type 0) (a b : LaneView Entry F) (answer : A)
+  pub turn_rests : {A : Type 0} (does : List Entry → A → List Entry → Type 0) (a b : Lane F) (answer : A)
       (turn : IsTurn does a answer b) → b.seen ≡ turn.before → Works a b
   turn_rests does a b answer turn same =
       turn_works does a b answer turn [] (same ∙ sym (append-nil turn.before)) tt
 
   -- a turn in which jobs come
-  pub turn_grows : {A : Type 0} (may_give : ℕ → Type 0) (does : List Entry → A → List Entry → Type 0) (a b : LaneView Entry F)
+  pub turn_grows : {A : Type 0} (may_give : ℕ → Type 0) (does : List Entry → A → List Entry → Type 0) (a b : Lane F)
       (answer : A) (turn : IsTurn does a answer b) (entries : List Entry) (jobs : List Asking)
       → b.seen ≡ turn.before ++ entries → jobs_in entries ≡ jobs → AreOfLink may_give entries → Grows may_give a b jobs
   turn_grows may_give does a b answer turn entries jobs is bring link = record {

@@ -5,7 +5,6 @@ use Rattle.std.proofs.Common.{Result, Ok, Err, IfSome, nat_lt, nat_le}
 use Rattle.std.specs.Prelude.{max, take, drop, not, ◌&&◌}
 use Rattle.httparse.specs.Grammar.{RequestHead}
 use Rattle.turn_desk.specs.Histories.{BeginsWith}
-use Rattle.turn_desk.specs.Shown.{LaneView}
 use Rattle.asp_io.specs.Faults.{HasRisen}
 use Rattle.asp_job.specs.declared.answer.Answer.{Answer}
 use Rattle.asp_job.specs.declared.entry.Entry.{Entry}
@@ -29,7 +28,8 @@ use Rattle.asp_serve.specs.declared.reading.Heard.TheVariants as heard
 use Rattle.asp_serve.specs.declared.writing.Sent.{Sent}
 use Rattle.asp_serve.specs.declared.writing.Sent.TheVariants as sent
 use Rattle.asp_serve.specs.Jobs.{Asking, IsAdmitted, IsAnswered, closes, closing, is_last, job_for, work_closes}
-use Rattle.asp_serve.specs.Served.{Ends, Grows, HasServed, IsFixed, IsFull, IsNextOf, IsServedFrom, LinkView, Moves, Served}
+use Rattle.asp_serve.specs.Served.{Ends, Grows, HasServed, IsFixed, IsFull, IsNextOf, IsServedFrom, Lane, LinkView}
+use Rattle.asp_serve.specs.Served.{Moves, Served}
 use Rattle.asp_serve.specs.Steps.{Comes, GoesOn, HasCome, HasHeard, Hears, Hinders, IsHindered, IsTold, Sends, Works}
 use Rattle.asp_serve.specs.Steps.{closed_if, end_after}
 use Rattle.asp_serve.proofs.Asking.{full_more, full_then}
@@ -50,7 +50,7 @@ closes_is : (count second : ℕ) (read : Request) (asking : Asking)
 closes_is count second read asking is = ap (λ (j : Job). work_closes j.work) is
 
 module _ {F : Type 0} (m : Rules) (may_give : ℕ → Type 0) where
-  none_left : (count : ℕ) (a b : LaneView Entry F) (bytes tail : List ℕ) → Works a b
+  none_left : (count : ℕ) (a b : Lane F) (bytes tail : List ℕ) → Works a b
       → HasServed m may_give count a b bytes tail (none bytes tail)
   none_left count a b bytes tail works = record {
     grows = works_grow may_give a b works;
@@ -66,7 +66,7 @@ module _ {F : Type 0} (m : Rules) (may_give : ℕ → Type 0) where
   }
 
   -- the request that the bytes give first has come as this job
-  pub record HasAsked (count : ℕ) (bytes rest : List ℕ) (read : Request) (a b : LaneView Entry F) (asking : Asking) : Type 0 where
+  pub record HasAsked (count : ℕ) (bytes rest : List ℕ) (read : Request) (a b : Lane F) (asking : Asking) : Type 0 where
     pub h : RequestHead
     pub body : List ℕ
     pub is_for : IsRequestFor h body read
@@ -74,7 +74,7 @@ module _ {F : Type 0} (m : Rules) (may_give : ℕ → Type 0) where
     pub grows : Grows may_give a b (asking ∷ [])
     pub admitted : IsAdmitted m a.number may_give b.seen (closing (is_last count) read) asking
 
-  one_left : (count : ℕ) (bytes rest tail : List ℕ) (read : Request) (a b : LaneView Entry F) (asking : Asking)
+  one_left : (count : ℕ) (bytes rest tail : List ℕ) (read : Request) (a b : Lane F) (asking : Asking)
       → HasAsked count bytes rest read a b asking
       → HasServed m may_give count a b bytes tail (left asking rest tail)
   one_left count bytes rest tail read a b asking x = record {
@@ -90,7 +90,7 @@ module _ {F : Type 0} (m : Rules) (may_give : ℕ → Type 0) where
     written_is = refl;
   }
 
-  one_done : (count : ℕ) (bytes rest text : List ℕ) (read : Request) (a b : LaneView Entry F) (asking : Asking)
+  one_done : (count : ℕ) (bytes rest text : List ℕ) (read : Request) (a b : Lane F) (asking : Asking)
       → HasAsked count bytes rest read a b asking → IsAnswered m (reverse b.seen) asking text
       → HasServed m may_give count a b bytes text (done (asking ∷ []) rest)
   one_done count bytes rest text read a b asking x answer = record {
@@ -107,7 +107,7 @@ module _ {F : Type 0} (m : Rules) (may_give : ℕ → Type 0) where
   }
 
   -- an end after which no byte came
-  from_here : (count : ℕ) (bytes written : List ℕ) (a b : LaneView Entry F) (link after : LinkView) (served : Served)
+  from_here : (count : ℕ) (bytes written : List ℕ) (a b : Lane F) (link after : LinkView) (served : Served)
       (ended : LinkEnd) → Moves link after [] written → HasServed m may_give count a b bytes written served
       → Ends m may_give a b link after served ended → IsServedFrom m may_give count bytes a b link after ended
   from_here count bytes written a b link after served ended moves has ends = record {
@@ -121,7 +121,7 @@ module _ {F : Type 0} (m : Rules) (may_give : ℕ → Type 0) where
 
   -- ---- an answer
 
-  comes_whole : (close : Bool) (count : ℕ) (bytes rest text : List ℕ) (read : Request) (a b : LaneView Entry F) (asking : Asking)
+  comes_whole : (close : Bool) (count : ℕ) (bytes rest text : List ℕ) (read : Request) (a b : Lane F) (asking : Asking)
       (link after : LinkView) → HasAsked count bytes rest read a b asking → IsAnswered m (reverse b.seen) asking text
       → Moves link after [] text → closes asking ≡ close
       → Comes m may_give count bytes rest a b link after (closed_if close (length rest))
@@ -139,7 +139,7 @@ module _ {F : Type 0} (m : Rules) (may_give : ℕ → Type 0) where
     count_is = refl;
   }
 
-  comes_sent : (told : Sent) (close : Bool) (count : ℕ) (bytes rest : List ℕ) (read : Request) (a b : LaneView Entry F)
+  comes_sent : (told : Sent) (close : Bool) (count : ℕ) (bytes rest : List ℕ) (read : Request) (a b : Lane F)
       (asking : Asking) (link after : LinkView) (IsText : List ℕ → Type 0)
       → HasAsked count bytes rest read a b asking
       → ((text : List ℕ) → IsText text → IsAnswered m (reverse b.seen) asking text) → Sends link after IsText told
@@ -156,7 +156,7 @@ module _ {F : Type 0} (m : Rules) (may_give : ℕ → Type 0) where
       (subst (λ l. Moves link l [] []) (sym sends) (moves_none link))
       (one_left count bytes rest [] read a b asking x) refl
 
-  asked_is : (count : ℕ) (bytes rest : List ℕ) (read : Request) (told : Admitted) (a b c : LaneView Entry F) (h : RequestHead)
+  asked_is : (count : ℕ) (bytes rest : List ℕ) (read : Request) (told : Admitted) (a b c : Lane F) (h : RequestHead)
       (body : List ℕ) → IsRequestFor h body read → IsFront bytes (front.Request h body rest)
       → (x : IsTold m may_give (closing (is_last count) read) told a b) → Works b c
       → HasAsked count bytes rest read a c x.asking
@@ -170,7 +170,7 @@ module _ {F : Type 0} (m : Rules) (may_give : ℕ → Type 0) where
         x.admitted;
   }
 
-  its_answer : (run : ℕ) (answer : Answer) (moment : ℕ) (b c : LaneView Entry F) (asking : Asking) (text : List ℕ)
+  its_answer : (run : ℕ) (answer : Answer) (moment : ℕ) (b c : Lane F) (asking : Asking) (text : List ℕ)
       → HasCome m run answer b c → run ≡ asking.0 → moment ≡ asking.1.moment → IsAnswerText answer moment text
       → IsAnswered m (reverse c.seen) asking text
   its_answer run answer moment b c asking text x run_is moment_is text_is = record {
@@ -182,7 +182,7 @@ module _ {F : Type 0} (m : Rules) (may_give : ℕ → Type 0) where
 
   -- the request was answered, as far as its bytes went
   pub comes_answered : (count : ℕ) (bytes rest : List ℕ) (read : Request) (told : Admitted) (answer : Answer)
-      (went : Sent) (a b c : LaneView Entry F) (link after : LinkView) → ComesNext bytes (next.Request read) rest
+      (went : Sent) (a b c : Lane F) (link after : LinkView) → ComesNext bytes (next.Request read) rest
       → IsTold m may_give (closing (is_last count) read) told a b → HasCome m told.run answer b c
       → Sends link after (IsAnswerText answer told.moment) went
       → Comes m may_give count bytes rest a c link after
@@ -196,7 +196,7 @@ module _ {F : Type 0} (m : Rules) (may_give : ℕ → Type 0) where
 
   -- ---- what hinders
 
-  hinders_none : (count : ℕ) (bytes : List ℕ) (read : Request) (a b : LaneView Entry F) (link : LinkView) (ended : LinkEnd)
+  hinders_none : (count : ℕ) (bytes : List ℕ) (read : Request) (a b : Lane F) (link : LinkView) (ended : LinkEnd)
       (asked : Request → Type 0) → ((r : Request) → asked r → IsNextOf bytes r) → Works a b
       → Hinders m asked true a b ended → IsServedFrom m may_give count bytes a b link link ended
   hinders_none count bytes read a b link (end.Closed rest) asked gives works why = absurd why
@@ -219,7 +219,7 @@ module _ {F : Type 0} (m : Rules) (may_give : ℕ → Type 0) where
       (none_left count a b bytes [] works) refl
 
   -- before the request came as a job
-  pub comes_hindered : (count : ℕ) (bytes rest : List ℕ) (read : Request) (a b : LaneView Entry F) (link : LinkView)
+  pub comes_hindered : (count : ℕ) (bytes rest : List ℕ) (read : Request) (a b : Lane F) (link : LinkView)
       (ended : LinkEnd) → ComesNext bytes (next.Request read) rest
       → IsHindered m (λ asked. asked ≡ closing (is_last count) read) true a b ended
       → Comes m may_give count bytes rest a b link link (Some ended)
@@ -227,7 +227,7 @@ module _ {F : Type 0} (m : Rules) (may_give : ℕ → Type 0) where
       (λ asked. asked ≡ closing (is_last count) read)
       (λ r is. (gives.0, gives.1, rest, read, is_last count, gives.3, gives.2, is)) x.works x.why
 
-  hinders_one : (count : ℕ) (bytes rest : List ℕ) (read : Request) (a b c : LaneView Entry F) (asking : Asking) (link : LinkView)
+  hinders_one : (count : ℕ) (bytes rest : List ℕ) (read : Request) (a b c : Lane F) (asking : Asking) (link : LinkView)
       (ended : LinkEnd) → HasAsked count bytes rest read a c asking → BeginsWith b.seen a.seen → b.number ≡ a.number
       → Hinders m (λ request. ⊥) false b c ended → IsServedFrom m may_give count bytes a c link link ended
   hinders_one count bytes rest read a b c asking link (end.Closed n) x seen number why = absurd why
@@ -254,7 +254,7 @@ module _ {F : Type 0} (m : Rules) (may_give : ℕ → Type 0) where
       (one_left count bytes rest [] read a c asking x) refl
 
   -- before its answer came
-  pub comes_left : (count : ℕ) (bytes rest : List ℕ) (read : Request) (told : Admitted) (a b c : LaneView Entry F)
+  pub comes_left : (count : ℕ) (bytes rest : List ℕ) (read : Request) (told : Admitted) (a b c : Lane F)
       (link : LinkView) (ended : LinkEnd) → ComesNext bytes (next.Request read) rest
       → IsTold m may_give (closing (is_last count) read) told a b
       → IsHindered m (λ request. ⊥) false b c ended
@@ -266,7 +266,7 @@ module _ {F : Type 0} (m : Rules) (may_give : ℕ → Type 0) where
   -- ---- where no request came
 
   -- a refusal, as far as the fixed answer went
-  pub comes_refused : (told : Sent) (count status second : ℕ) (bytes rest : List ℕ) (a : LaneView Entry F) (link after : LinkView)
+  pub comes_refused : (told : Sent) (count status second : ℕ) (bytes rest : List ℕ) (a : Lane F) (link after : LinkView)
       → IsFront bytes (front.Refused status) → may_give second
       → Sends link after (IsAnswerText (status_answer_of status false true) second) told
       → Comes m may_give count bytes rest a a link after (end_after told (Some (end.Refused status)))
@@ -293,7 +293,7 @@ module _ {F : Type 0} (m : Rules) (may_give : ℕ → Type 0) where
       (none_left count a a bytes [] (works_none a a refl)) refl
 
   -- what was heard, and nothing was done with it
-  heard_end : (count : ℕ) (first rest : List ℕ) (a b : LaneView Entry F) (link after : LinkView) (came : List ℕ) (ended : LinkEnd)
+  heard_end : (count : ℕ) (first rest : List ℕ) (a b : Lane F) (link after : LinkView) (came : List ℕ) (ended : LinkEnd)
       → Works a b → Moves link after came [] → Ends m may_give a b link after (none (first ++ came) []) ended
       → Comes m may_give count first rest a b link after (Some ended)
   heard_end count first rest a b link after came ended works moves ends = record {
@@ -305,28 +305,28 @@ module _ {F : Type 0} (m : Rules) (may_give : ℕ → Type 0) where
     ends = ends;
   }
 
-  pub comes_over : (count size : ℕ) (first rest : List ℕ) (a b : LaneView Entry F) (link after : LinkView) → Works a b
+  pub comes_over : (count size : ℕ) (first rest : List ℕ) (a b : Lane F) (link after : LinkView) → Works a b
       → HasHeard link after first heard.End rest → size ≡ length rest
       → Comes m may_give count first rest a b link after (Some (end.Closed size))
   comes_over count size first rest a b link after works x is =
       heard_end count first rest a b link after x.came (end.Closed size) works x.moves
       ((refl, refl), is ∙ ap length x.hears.1, inr (x.hears.0, x.hears.2))
 
-  pub comes_faulty : (count : ℕ) (first rest : List ℕ) (a b : LaneView Entry F) (link after : LinkView) → Works a b
+  pub comes_faulty : (count : ℕ) (first rest : List ℕ) (a b : Lane F) (link after : LinkView) → Works a b
       → HasHeard link after first heard.Fault rest
       → Comes m may_give count first rest a b link after (Some end.ReadFault)
   comes_faulty count first rest a b link after works x =
       heard_end count first rest a b link after x.came end.ReadFault works x.moves
       ((refl, refl), x.hears.0, x.hears.1)
 
-  pub comes_unread : (count : ℕ) (first rest : List ℕ) (a b : LaneView Entry F) (link after : LinkView) → Works a b
+  pub comes_unread : (count : ℕ) (first rest : List ℕ) (a b : Lane F) (link after : LinkView) → Works a b
       → HasHeard link after first heard.Memory rest
       → Comes m may_give count first rest a b link after (Some end.Memory)
   comes_unread count first rest a b link after works x =
       heard_end count first rest a b link after x.came end.Memory works x.moves refl
 
   -- the host stops or is halted
-  pub comes_drained : (count : ℕ) (first rest : List ℕ) (a b : LaneView Entry F) (link : LinkView) → Works a b
+  pub comes_drained : (count : ℕ) (first rest : List ℕ) (a b : Lane F) (link : LinkView) → Works a b
       → (is_stopping (reverse b.seen) ≡ true) ⊎ (is_halted (reverse b.seen) ≡ true)
       → Comes m may_give count first rest a b link link (Some end.Drained)
   comes_drained count first rest a b link works why =
@@ -340,7 +340,7 @@ module _ {F : Type 0} (m : Rules) (may_give : ℕ → Type 0) where
 
   -- ---- behind what was read
 
-  heard_goes : (count : ℕ) (first came : List ℕ) (a b : LaneView Entry F) (la lb : LinkView) → Works a b → Moves la lb came []
+  heard_goes : (count : ℕ) (first came : List ℕ) (a b : Lane F) (la lb : LinkView) → Works a b → Moves la lb came []
       → GoesOn m may_give count first (first ++ came) a b la lb 0
   heard_goes count first came a b la lb works moves = record {
     came = came;
@@ -353,7 +353,7 @@ module _ {F : Type 0} (m : Rules) (may_give : ℕ → Type 0) where
   }
 
   -- a look and what was read come before
-  pub comes_behind : (count : ℕ) (first came rest : List ℕ) (a b c : LaneView Entry F) (la lb lc : LinkView)
+  pub comes_behind : (count : ℕ) (first came rest : List ℕ) (a b c : Lane F) (la lb lc : LinkView)
       (ended : Option LinkEnd) → Works a b → Moves la lb came []
       → Comes m may_give count (first ++ came) rest b c lb lc ended → AreRight m (reverse c.seen)
       → Comes m may_give count first rest a c la lc ended
@@ -370,10 +370,10 @@ module _ {F : Type 0} (m : Rules) (may_give : ℕ → Type 0) where
 
   -- ---- the whole connection
 
-  pub begins_so : (a : LaneView Entry F) (link : LinkView) → GoesOn m may_give 0 [] [] a a link link 0
+  pub begins_so : (a : Lane F) (link : LinkView) → GoesOn m may_give 0 [] [] a a link link 0
   begins_so a link = heard_goes 0 [] [] a a link link (works_none a a refl) (moves_none link)
 
-  pub goes_more : (count : ℕ) (a b c : LaneView Entry F) (la lb lc : LinkView) (mid rest : List ℕ)
+  pub goes_more : (count : ℕ) (a b c : Lane F) (la lb lc : LinkView) (mid rest : List ℕ)
       → GoesOn m may_give 0 [] mid a b la lb count → GoesOn m may_give count mid rest b c lb lc 1
       → AreRight m (reverse c.seen) → GoesOn m may_give 0 [] rest a c la lc (count + 1)
   goes_more count a b c la lb lc mid rest x y right =
@@ -381,7 +381,7 @@ module _ {F : Type 0} (m : Rules) (may_give : ℕ → Type 0) where
       goes_then m may_give 0 count 1 a b c la lb lc [] mid rest x
       (subst (λ n. GoesOn m may_give n mid rest b c lb lc 1) same y) right
 
-  pub ends_so : (count : ℕ) (a b c : LaneView Entry F) (la lb lc : LinkView) (mid : List ℕ) (ended : LinkEnd)
+  pub ends_so : (count : ℕ) (a b c : Lane F) (la lb lc : LinkView) (mid : List ℕ) (ended : LinkEnd)
       → GoesOn m may_give 0 [] mid a b la lb count → IsServedFrom m may_give count mid b c lb lc ended
       → AreRight m (reverse c.seen) → IsServedFrom m may_give 0 [] a c la lc ended
   ends_so count a b c la lb lc mid ended x y right =

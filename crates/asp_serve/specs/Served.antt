@@ -26,7 +26,7 @@ use Rattle.asp_serve.specs.declared.ending.LinkEnd.TheVariants as end
 use Rattle.asp_serve.specs.Jobs.{AreAdmitted, AreAnswered, AreOfLink, Asking, IsAnswered, NoneBehindClose}
 use Rattle.asp_serve.specs.Jobs.{closing, has_closed, job_for, jobs_in}
 
--- ---- the connection
+-- ---- the connection and the lane
 
 -- what contracts see of a connection: the bytes that were not read and those that were written, where it tells them, and
 -- its count of faults
@@ -42,11 +42,13 @@ pub record Moves (old new : LinkView) (came written : List ℕ) : Type 0 where
   pub later : old.faults ≤ new.faults
   pub within : old.faults < 2 ^ 64 → new.faults < 2 ^ 64
 
--- ---- the lane
+-- a lane of journals
+abbrev pub Lane : Type 0 → Type 0
+Lane F = LaneView Entry F
 
 -- From one moment of a lane to a later one: it has seen more, and its new own entries brought these jobs. None of them is
 -- a Stop or a Halt.
-pub record Grows {F : Type 0} (may_give : ℕ → Type 0) (old new : LaneView Entry F) (jobs : List Asking) : Type 0 where
+pub record Grows {F : Type 0} (may_give : ℕ → Type 0) (old new : Lane F) (jobs : List Asking) : Type 0 where
   pub seen : BeginsWith new.seen old.seen
   pub number : new.number ≡ old.number
   pub more : List Entry
@@ -68,7 +70,7 @@ CallIsTooMuch lane past entries weight =
 
 -- At a turn between these two moments of a lane, which found the journal `before`, so many entries of that weight would
 -- have been too much: with the job of such a request, with a Begin, or with a call.
-pub record IsFull {F : Type 0} (rules : Rules) (asked : Request → Type 0) (old new : LaneView Entry F)
+pub record IsFull {F : Type 0} (rules : Rules) (asked : Request → Type 0) (old new : Lane F)
     (entries weight : ℕ) : Type 0 where
   pub before : List Entry
   pub later : BeginsWith before old.seen
@@ -121,7 +123,7 @@ module _ {F : Type 0} (rules : Rules) (may_give : ℕ → Type 0) where
   -- The lane's new own entries brought the jobs of the first requests of the bytes, in their order, behind so many others
   -- on this connection, and none behind one that ends it. What was written are the answers of these runs, by the history
   -- that the lane has seen, and then the tail.
-  pub record HasServed (count : ℕ) (old new : LaneView Entry F) (bytes written : List ℕ) (served : Served) : Type 0 where
+  pub record HasServed (count : ℕ) (old new : Lane F) (bytes written : List ℕ) (served : Served) : Type 0 where
     pub grows : Grows may_give old new (all_of served)
     pub taken : List Taken
     pub takes : Takes bytes taken served.rest
@@ -134,7 +136,7 @@ module _ {F : Type 0} (rules : Rules) (may_give : ℕ → Type 0) where
     pub written_is : written ≡ texts ++ served.tail
 
   -- the answer of the one job that is left was cut
-  abbrev pub CutsAnswer : LaneView Entry F → Served → Type 0
+  abbrev pub CutsAnswer : Lane F → Served → Type 0
   CutsAnswer new served =
       (asking : Asking) × (text : List ℕ) × (served.unanswered ≡ Some asking)
       × IsAnswered rules (reverse new.seen) asking text × IsCut text served.tail
@@ -144,7 +146,7 @@ module _ {F : Type 0} (rules : Rules) (may_give : ℕ → Type 0) where
   -- ended the connection. Refused: all are answered, the bytes that are left are refused so, and the fixed answer was
   -- written. A failed read: all are answered. A failed write: the last answer, or the fixed one, was cut. A full journal:
   -- something did not fit. Memory ran out.
-  abbrev pub Ends : LaneView Entry F → LaneView Entry F → LinkView → LinkView → Served → LinkEnd → Type 0
+  abbrev pub Ends : Lane F → Lane F → LinkView → LinkView → Served → LinkEnd → Type 0
   Ends old new link after served (end.Closed rest) =
       IsWhole served × (rest ≡ length served.rest)
       × ((has_closed false served.answered ≡ true) ⊎ (Wants served.rest × IfSome after.left (λ bytes. bytes ≡ [])))
@@ -164,7 +166,7 @@ module _ {F : Type 0} (rules : Rules) (may_give : ℕ → Type 0) where
 
   -- What was served until this end, of bytes that begin with `first`, which came before, on a connection that has taken so
   -- many requests before.
-  pub record IsServedFrom (count : ℕ) (first : List ℕ) (old new : LaneView Entry F) (link after : LinkView) (ended : LinkEnd) : Type 0
+  pub record IsServedFrom (count : ℕ) (first : List ℕ) (old new : Lane F) (link after : LinkView) (ended : LinkEnd) : Type 0
     where
       pub came : List ℕ
       pub written : List ℕ
@@ -174,5 +176,5 @@ module _ {F : Type 0} (rules : Rules) (may_give : ℕ → Type 0) where
       pub ends : Ends old new link after served ended
 
   -- what was served on a whole connection
-  abbrev pub IsServed : LaneView Entry F → LaneView Entry F → LinkView → LinkView → LinkEnd → Type 0
+  abbrev pub IsServed : Lane F → Lane F → LinkView → LinkView → LinkEnd → Type 0
   IsServed = IsServedFrom 0 []

@@ -2,7 +2,6 @@
 use Rattle.std.specs.Prelude.{◌≡◌, ◌⊎◌, ℕ, Bool, true, false, List, [], ◌∷◌, ◌++◌, length, reverse, take, Some, None}
 use Rattle.std.specs.Prelude.{IfSome, Option, Result, Ok, Err}
 use Rattle.turn_desk.specs.Histories.{BeginsWith}
-use Rattle.turn_desk.specs.Shown.{LaneView}
 use Rattle.asp_io.specs.Faults.{HasRisen}
 use Rattle.asp_job.specs.declared.answer.Answer.{Answer}
 use Rattle.asp_job.specs.declared.entry.Entry.{Entry}
@@ -25,7 +24,7 @@ use Rattle.asp_serve.specs.declared.reading.Heard.TheVariants as heard
 use Rattle.asp_serve.specs.declared.writing.Sent.{Sent}
 use Rattle.asp_serve.specs.declared.writing.Sent.TheVariants as sent
 use Rattle.asp_serve.specs.Jobs.{Asking, IsAdmitted, has_closed}
-use Rattle.asp_serve.specs.Served.{Grows, HasServed, IsCut, IsFull, IsServedFrom, LinkView, Moves}
+use Rattle.asp_serve.specs.Served.{Grows, HasServed, IsCut, IsFull, IsServedFrom, Lane, LinkView, Moves}
 
 -- ---- reading
 
@@ -76,7 +75,7 @@ AreOfWork (entry ∷ entries) = IsOfWork entry.what × AreOfWork entries
 
 module _ {F : Type 0} where
   -- from one moment of the lane to a later one, it has only worked
-  pub record Works (old new : LaneView Entry F) : Type 0 where
+  pub record Works (old new : Lane F) : Type 0 where
     pub seen : BeginsWith new.seen old.seen
     pub number : new.number ≡ old.number
     pub more : List Entry
@@ -85,20 +84,20 @@ module _ {F : Type 0} where
 
   -- Why nothing more is done on the connection: such a request, a Begin or a call did not fit; memory ran out; or a Halt
   -- stands, or a Stop where a request was due.
-  abbrev pub Hinders : Rules → (Request → Type 0) → Bool → LaneView Entry F → LaneView Entry F → LinkEnd → Type 0
+  abbrev pub Hinders : Rules → (Request → Type 0) → Bool → Lane F → Lane F → LinkEnd → Type 0
   Hinders rules asked due old new end.Drained =
       ((due ≡ true) × (is_stopping (reverse new.seen) ≡ true)) ⊎ (is_halted (reverse new.seen) ≡ true)
   Hinders rules asked due old new (end.JournalFull entries weight) = IsFull rules asked old new entries weight
   Hinders rules asked due old new end.Memory = Unit {0}
   Hinders rules asked due old new _ = ⊥
 
-  pub record IsHindered (rules : Rules) (asked : Request → Type 0) (due : Bool) (old new : LaneView Entry F) (ended : LinkEnd) : Type 0
+  pub record IsHindered (rules : Rules) (asked : Request → Type 0) (due : Bool) (old new : Lane F) (ended : LinkEnd) : Type 0
     where
       pub works : Works old new
       pub why : Hinders rules asked due old new ended
 
   -- the request has come as a job, of which this is told
-  pub record IsTold (rules : Rules) (may_give : ℕ → Type 0) (request : Request) (told : Admitted) (old new : LaneView Entry F) : Type 0
+  pub record IsTold (rules : Rules) (may_give : ℕ → Type 0) (request : Request) (told : Admitted) (old new : Lane F) : Type 0
     where
       pub asking : Asking
       pub grows : Grows may_give old new (asking ∷ [])
@@ -107,24 +106,24 @@ module _ {F : Type 0} where
       pub moment_is : told.moment ≡ asking.1.moment
 
   -- what came of a request that was due
-  abbrev pub Asks : Rules → (ℕ → Type 0) → Request → LaneView Entry F → Result Admitted LinkEnd → LaneView Entry F → Type 0
+  abbrev pub Asks : Rules → (ℕ → Type 0) → Request → Lane F → Result Admitted LinkEnd → Lane F → Type 0
   Asks rules may_give request old (Ok told) new = IsTold rules may_give request told old new
   Asks rules may_give request old (Err ended) new = IsHindered rules (λ asked. asked ≡ request) true old new ended
 
   -- the answer of the run has come
-  pub record HasCome (rules : Rules) (run : ℕ) (answer : Answer) (old new : LaneView Entry F) : Type 0 where
+  pub record HasCome (rules : Rules) (run : ℕ) (answer : Answer) (old new : Lane F) : Type 0 where
     pub works : Works old new
     pub ended : has_ended (reverse new.seen) run ≡ true
     pub answer_is : answer_of_run rules (reverse new.seen) run ≡ Some answer
 
   -- a round of waiting for the answer of a run: it has not come, it has, or why it never does
-  abbrev pub Waits : Rules → ℕ → LaneView Entry F → Option (Result Answer LinkEnd) → LaneView Entry F → Type 0
+  abbrev pub Waits : Rules → ℕ → Lane F → Option (Result Answer LinkEnd) → Lane F → Type 0
   Waits rules run old None new = Works old new
   Waits rules run old (Some (Ok answer)) new = HasCome rules run answer old new
   Waits rules run old (Some (Err ended)) new = IsHindered rules (λ request. ⊥) false old new ended
 
   -- So many requests more were answered, the connection goes on, and the reader has the bytes behind them.
-  pub record GoesOn (rules : Rules) (may_give : ℕ → Type 0) (count : ℕ) (first rest : List ℕ) (old new : LaneView Entry F)
+  pub record GoesOn (rules : Rules) (may_give : ℕ → Type 0) (count : ℕ) (first rest : List ℕ) (old new : Lane F)
       (link after : LinkView) (more : ℕ) : Type 0 where
     pub came : List ℕ
     pub written : List ℕ
@@ -136,7 +135,7 @@ module _ {F : Type 0} where
     pub count_is : length answered ≡ more
 
   -- what comes of one more request: it was answered and the connection goes on, or it has ended
-  abbrev pub Comes : Rules → (ℕ → Type 0) → ℕ → List ℕ → List ℕ → LaneView Entry F → LaneView Entry F → LinkView → LinkView → Option LinkEnd →
+  abbrev pub Comes : Rules → (ℕ → Type 0) → ℕ → List ℕ → List ℕ → Lane F → Lane F → LinkView → LinkView → Option LinkEnd →
       Type 0
   Comes rules may_give count first rest old new link after None =
       GoesOn rules may_give count first rest old new link after 1

@@ -15,37 +15,42 @@ returns-then-is_leaving-clause-comes g c =
 
 pub returns-in-Request-clause-comes : goal.returns-in-Request-clause-comes
 returns-in-Request-clause-comes g c =
-    comes_requested (rules_at g.R.Runner.meaning c.args.host.now) (g.C.Clock.may_give c.args.clock.now) c.args.count
+    let m = rules_at g.R.Runner.meaning c.args.host.now in
+    comes_requested m (g.C.Clock.may_give c.args.clock.now) c.args.count
     c.args.reader.now c.read_request.new.reader c.in-Request.request c.args.hand.now.lane c.look-looked.new.hand.lane
     c.answer_request.new.hand.lane _ _ _ c.answer_request.result
-    (looks_work (rules_at g.R.Runner.meaning c.args.host.now) _ _ _ c.look-looked.ensures.turn) c.in-Request.ensures c.answer_request.ensures.comes
+    (looks_work m _ _ _ c.look-looked.ensures.turn) c.in-Request.ensures c.answer_request.ensures.comes
     c.answer_request.ensures.hand.1.valid.entries
 
 pub returns-in-Refused-clause-comes : goal.returns-in-Refused-clause-comes
 returns-in-Refused-clause-comes g c =
+    let m = rules_at g.R.Runner.meaning c.args.host.now in
     let z = c.refuse.ensures.comes in
-    comes_refusing (rules_at g.R.Runner.meaning c.args.host.now) (g.C.Clock.may_give c.args.clock.now) c.args.count
+    comes_refusing m (g.C.Clock.may_give c.args.clock.now) c.args.count
     c.in-Refused.status z.0 z.1 c.args.reader.now c.read_request.new.reader c.args.hand.now.lane
-    c.look-looked.new.hand.lane _ _ _ c.refuse.result (looks_work (rules_at g.R.Runner.meaning c.args.host.now) _ _ _ c.look-looked.ensures.turn)
+    c.look-looked.new.hand.lane _ _ _ c.refuse.result (looks_work m _ _ _ c.look-looked.ensures.turn)
     c.in-Refused.ensures z.2 z.3 z.4 c.look-looked.ensures.hand.1.valid.entries
 
 pub returns-in-End-clause-comes : goal.returns-in-End-clause-comes
 returns-in-End-clause-comes g c =
-    comes_over (rules_at g.R.Runner.meaning c.args.host.now) (g.C.Clock.may_give c.args.clock.now) c.args.count
+    let m = rules_at g.R.Runner.meaning c.args.host.now in
+    comes_over m (g.C.Clock.may_give c.args.clock.now) c.args.count
     c.rest.result c.args.reader.now c.read_request.new.reader c.args.hand.now.lane c.look-looked.new.hand.lane _ _
-    (looks_work (rules_at g.R.Runner.meaning c.args.host.now) _ _ _ c.look-looked.ensures.turn) c.in-End.ensures c.rest.ensures
+    (looks_work m _ _ _ c.look-looked.ensures.turn) c.in-End.ensures c.rest.ensures
 
 pub returns-in-Fault-clause-comes : goal.returns-in-Fault-clause-comes
 returns-in-Fault-clause-comes g c =
-    comes_faulty (rules_at g.R.Runner.meaning c.args.host.now) (g.C.Clock.may_give c.args.clock.now) c.args.count
+    let m = rules_at g.R.Runner.meaning c.args.host.now in
+    comes_faulty m (g.C.Clock.may_give c.args.clock.now) c.args.count
     c.args.reader.now c.read_request.new.reader c.args.hand.now.lane c.look-looked.new.hand.lane _ _
-    (looks_work (rules_at g.R.Runner.meaning c.args.host.now) _ _ _ c.look-looked.ensures.turn) c.in-Fault.ensures
+    (looks_work m _ _ _ c.look-looked.ensures.turn) c.in-Fault.ensures
 
 pub returns-in-Memory-clause-comes : goal.returns-in-Memory-clause-comes
 returns-in-Memory-clause-comes g c =
-    comes_unread (rules_at g.R.Runner.meaning c.args.host.now) (g.C.Clock.may_give c.args.clock.now) c.args.count
+    let m = rules_at g.R.Runner.meaning c.args.host.now in
+    comes_unread m (g.C.Clock.may_give c.args.clock.now) c.args.count
     c.args.reader.now c.read_request.new.reader c.args.hand.now.lane c.look-looked.new.hand.lane _ _
-    (looks_work (rules_at g.R.Runner.meaning c.args.host.now) _ _ _ c.look-looked.ensures.turn) c.in-Memory.ensures
+    (looks_work m _ _ _ c.look-looked.ensures.turn) c.in-Memory.ensures
 
 pub answer_request-requires-clause-small : goal.answer_request-requires-clause-small
 answer_request-requires-clause-small g c =
