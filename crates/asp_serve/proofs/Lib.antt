@@ -1,0 +1,9 @@
+pub mod Lanes
+pub mod Slicing
+pub mod Asking
+pub mod Links
+pub mod Behind
+pub mod Stepping
+pub mod Hearing
+pub mod Collecting
+pub mod Coming
