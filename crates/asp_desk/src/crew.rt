@@ -31,7 +31,11 @@ impl<H, T> Model for CrewOf<H, T> {
 }
 
 /// Gives each hand a place, with the same in it.
-fn placed<H: Drop, T: Copy>(hands: Vec<H>, start: T, mut workers: Vec<WorkerOf<H, T>>) -> Vec<WorkerOf<H, T>>
+fn placed<H: Drop, T: Copy>(
+    hands: Vec<H>,
+    start: T,
+    mut workers: Vec<WorkerOf<H, T>>,
+) -> Vec<WorkerOf<H, T>>
     requires { (workers.items ≡ []) × (length hands.items ≤ vec_capacity workers) }
     ensures { result.items ≡ map (spec.with_place start) hands.items }
 {
@@ -73,14 +77,22 @@ impl<H: Drop, T: Drop> CrewOf<H, T> {
     pub fn part(self) -> (List<H>, List<T>)
         ensures { (result.0 ≡ map (λ worker. worker.hand) self) × (result.1 ≡ map (λ worker. worker.made) self) }
     {
-        let CrewOf { workers, hands, made } = self;
+        let CrewOf {
+            workers,
+            hands,
+            made,
+        } = self;
         let (hands, made) = parted(workers, hands, made);
         (List::from_vec(hands), List::from_vec(made))
     }
 }
 
 /// The parts of workers.
-fn parted<H: Drop, T: Drop>(workers: Vec<WorkerOf<H, T>>, mut hands: Vec<H>, mut made: Vec<T>) -> (Vec<H>, Vec<T>)
+fn parted<H: Drop, T: Drop>(
+    workers: Vec<WorkerOf<H, T>>,
+    mut hands: Vec<H>,
+    mut made: Vec<T>,
+) -> (Vec<H>, Vec<T>)
     requires hands { (hands.items ≡ []) × (length workers.items ≤ vec_capacity hands) }
     requires made { (made.items ≡ []) × (length workers.items ≤ vec_capacity made) }
     ensures { (result.0.items ≡ map (λ worker. worker.hand) workers.items)

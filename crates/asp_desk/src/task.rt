@@ -51,7 +51,12 @@ pub(crate) fn each<Rt: Threads + Wait + Sync, C: Sync, K: Task<Rt, C, W> + Sync,
     ensures { AllZip (K.does task.now shared.now) workers.old workers.new }
 {
     let count = workers.len().max(1);
-    for_each_mut(rt, workers, count, &|_, worker| task.work(rt, shared, worker));
+    for_each_mut(
+        rt,
+        workers,
+        count,
+        &|_, worker| task.work(rt, shared, worker),
+    );
 }
 
 /// The same, while the calling thread leads.
