@@ -19,7 +19,7 @@ use Rattle.asp_desk.specs.declared.slices.Slice.TheVariants as slice
 use Rattle.asp_desk.specs.declared.steps.Stepped.{Stepped}
 use Rattle.asp_desk.specs.declared.steps.Stepped.TheVariants as step
 use Rattle.asp_desk.specs.Hands.{Fixed, HandView, HostView, rules_at}
-use Rattle.asp_desk.specs.Slices.{HasGoneOn, HasStepped, IsBegun, IsReady, IsRefused, IsSlice, Passes, Works, slice_of}
+use Rattle.asp_desk.specs.Slices.{HasGoneOn, HasStepped, IsBegun, IsReady, IsRefused, IsSlice, Passes, StepsHere, Works, slice_of}
 use Rattle.asp_desk.specs.Slices.{stopped}
 use Rattle.asp_desk.specs.Steps.{Begins, Steps, end_at}
 use Rattle.asp_serve.specs.Served.{CallIsTooMuch, IsFull}
@@ -88,8 +88,8 @@ module _ {R Site State : Type 0} (pace : R → Pace) (meaning : R → Site → M
       → serve.Works a.lane b.lane
   stepped_works a b stepped has =
       let adds = step_adds (rules_at meaning host) a.lane.number has.run has.turn.before b.lane.seen stepped
-      has.turn.done in
-      turn_works (Steps (rules_at meaning host) a.lane.number has.run) a.lane b.lane stepped has.turn adds.0 adds.1
+      has.turn.done.0 in
+      turn_works (StepsHere pace meaning stands host has.run a.lane.number) a.lane b.lane stepped has.turn adds.0 adds.1
       adds.2
 
   rest_works : (a b : Hand) (came_to : Slice) → Works pace meaning stands host may_hold a came_to b
@@ -118,7 +118,7 @@ module _ {R Site State : Type 0} (pace : R → Pace) (meaning : R → Site → M
         earlier = (has.turn.grows.0, has.turn.grows.1);
         full = inr (inr (subst (λ n. CallIsTooMuch n (reverse has.turn.before) entries weight) way.number
             (step_full (rules_at meaning host) paused.lane.number has.run has.turn.before b.lane.seen stepped entries
-            weight is has.turn.done)));
+            weight is has.turn.done.0)));
       }
 
   rest_full : (asked : Request → Type 0) (a ready b : Hand) (entries weight : ℕ) → serve.Works a.lane ready.lane
