@@ -7,3 +7,4 @@ pub mod Stepping
 pub mod Hearing
 pub mod Collecting
 pub mod Coming
+pub mod Visiting

@@ -7,8 +7,10 @@ mod answering;
 mod ending;
 mod reading;
 mod serving;
+mod visits;
 mod working;
 mod writing;
 
 pub use ending::LinkEnd;
 pub use serving::{MOST_REQUESTS, serve_link};
+pub use visits::{Early, Visits};

@@ -1,0 +1,8 @@
+use Rattle.std.proofs.Common.{refl}
+use Rattle.asp_desk.specs.Hands.{rules_at}
+use Rattle.asp_serve.specs.Visits.{MayFail}
+use Rattle.asp_serve.proofs.Visiting.{ends_later, later_same, later_then}
+use Rattle.asp_serve.proofs.visits.Visits.visits.Goals as goal
+
+pub loop-init : goal.loop-init
+loop-init g c = (c.requires.hand, c.requires.free, later_same c.args.hand.now.lane c.args.hand.now.lane refl)
