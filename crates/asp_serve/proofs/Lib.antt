@@ -8,4 +8,4 @@ pub mod Hearing
 pub mod Collecting
 pub mod Coming
 pub mod Visiting
-pub mod Hosting
+pub mod HostEnds

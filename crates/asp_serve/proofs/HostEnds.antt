@@ -1,9 +1,10 @@
 -- How a host ends that serves.
-use Rattle.std.proofs.Common.{◌≡◌, ◌⊎◌, ℕ, ◌==◌, Bool, true, false, if◌then◌else◌, List, [], ◌∷◌, Option, None, Some, IfSome, All, length}
+use Rattle.std.proofs.Common.{◌≡◌, ◌⊎◌, ℕ, ◌==◌, Bool, true, false, if◌then◌else◌, List, [], ◌∷◌, ◌++◌, Option, None, Some, IfSome, All, length}
 use Rattle.std.proofs.Common.{ap, arith, inl, inr, map, refl, reverse, sym, subst}
 use Rattle.std.specs.List.{AllByRecursion, AllZip}
 use Rattle.std.specs.Option.{option_or}
-use Rattle.std.proofs.lemmas.List.Elements.{All-from_recursion, All-head, All-map, All-nil, All-push, All-tail, recursion_from_All}
+use Rattle.std.proofs.lemmas.List.Elements.{All-from_recursion, All-head, All-map, All-nil, All-push, All-same, All-tail, recursion_from_All}
+use Rattle.std.proofs.lemmas.List.{reverse-append}
 use Rattle.turn_desk.specs.Shown.{LaneFits, LaneView, new_lanes}
 use Rattle.asp_core.specs.Kernel.{RunView}
 use Rattle.asp_core.specs.Start.{start_fail}
@@ -37,7 +38,8 @@ NotFull entry = is_full_end entry.what ≡ false
 all_reverse : {X : Type 0} (P : X → Type 0) (xs : List X) → All P xs → All P (reverse xs)
 all_reverse P [] all = All-nil P
 all_reverse P (x ∷ xs) all =
-    All-push P (reverse xs) x (all_reverse P xs (All-tail P x xs all)) (All-head P x xs all)
+    All-same P (reverse (x ∷ xs)) (reverse xs ++ x ∷ []) (reverse-append (x ∷ []) xs)
+    (All-push P (reverse xs) x (all_reverse P xs (All-tail P x xs all)) (All-head P x xs all))
 
 no_length : {X : Type 0} (xs : List X) → length xs ≡ 0 → xs ≡ []
 no_length [] none = refl
@@ -53,15 +55,15 @@ kind_full r (what.End run k status size made finished) is not =
     let full : is_full_end (what.End run k status size made finished) ≡ true =
         ap (λ (k : EndKind). is_full_end (what.End run k status size made finished)) same in
     cc
-kind_full r (what.Queue run work key) is not = let no : None {A = EndKind} ≡ Some kind.JournalFull = is in cc
-kind_full r (what.Admit run key fresh job) is not = let no : None {A = EndKind} ≡ Some kind.JournalFull = is in cc
-kind_full r (what.Refuse run job) is not = let no : None {A = EndKind} ≡ Some kind.JournalFull = is in cc
-kind_full r (what.Tick moment) is not = let no : None {A = EndKind} ≡ Some kind.JournalFull = is in cc
-kind_full r (what.Begin run serial) is not = let no : None {A = EndKind} ≡ Some kind.JournalFull = is in cc
-kind_full r (what.App run call reply) is not = let no : None {A = EndKind} ≡ Some kind.JournalFull = is in cc
-kind_full r (what.Take run) is not = let no : None {A = EndKind} ≡ Some kind.JournalFull = is in cc
-kind_full r what.Stop is not = let no : None {A = EndKind} ≡ Some kind.JournalFull = is in cc
-kind_full r what.Halt is not = let no : None {A = EndKind} ≡ Some kind.JournalFull = is in cc
+kind_full r (what.Queue run work key) is not = let no : None ≡ Some kind.JournalFull = is in cc
+kind_full r (what.Admit run key fresh job) is not = let no : None ≡ Some kind.JournalFull = is in cc
+kind_full r (what.Refuse run job) is not = let no : None ≡ Some kind.JournalFull = is in cc
+kind_full r (what.Tick moment) is not = let no : None ≡ Some kind.JournalFull = is in cc
+kind_full r (what.Begin run serial) is not = let no : None ≡ Some kind.JournalFull = is in cc
+kind_full r (what.App run call reply) is not = let no : None ≡ Some kind.JournalFull = is in cc
+kind_full r (what.Take run) is not = let no : None ≡ Some kind.JournalFull = is in cc
+kind_full r what.Stop is not = let no : None ≡ Some kind.JournalFull = is in cc
+kind_full r what.Halt is not = let no : None ≡ Some kind.JournalFull = is in cc
 
 either_is : (found rest : Option EndKind) (k : EndKind) → option_or found rest ≡ Some k
     → (found ≡ Some k) ⊎ (rest ≡ Some k)
@@ -69,7 +71,7 @@ either_is None rest k is = inr is
 either_is (Some other) rest k is = inl is
 
 none_ends : (run : ℕ) (past : List Entry) → AllByRecursion NotFull past → end_kind past run ≡ Some kind.JournalFull → ⊥
-none_ends run [] all is = let no : None {A = EndKind} ≡ Some kind.JournalFull = is in cc
+none_ends run [] all is = let no : None ≡ Some kind.JournalFull = is in cc
 none_ends run (entry ∷ past) all is = elim (either_is (kind_in run entry.what) (end_kind past run) kind.JournalFull is) [
   | inl this ↦ kind_full run entry.what this all.0
   | inr rest ↦ none_ends run past all.1 rest
