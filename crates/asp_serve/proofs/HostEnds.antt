@@ -1,6 +1,6 @@
 -- How a host ends that serves.
 use Rattle.std.proofs.Common.{◌≡◌, ◌⊎◌, ℕ, ◌==◌, Bool, true, false, if◌then◌else◌, List, [], ◌∷◌, ◌++◌, Option, None, Some, IfSome, All, length}
-use Rattle.std.proofs.Common.{ap, arith, inl, inr, map, refl, reverse, sym, subst}
+use Rattle.std.proofs.Common.{ap, arith, inl, inr, map, refl, reverse}
 use Rattle.std.specs.List.{AllByRecursion, AllZip}
 use Rattle.std.specs.Option.{option_or}
 use Rattle.std.proofs.lemmas.List.Elements.{All-from_recursion, All-head, All-map, All-nil, All-push, All-same, All-tail, recursion_from_All}
@@ -53,7 +53,7 @@ kind_full : (r : ℕ) (w : What) → kind_in r w ≡ Some kind.JournalFull → i
 kind_full r (what.End run k status size made finished) is not =
     let same : k ≡ kind.JournalFull = picked (run == r) k is in
     let full : is_full_end (what.End run k status size made finished) ≡ true =
-        ap (λ (k : EndKind). is_full_end (what.End run k status size made finished)) same in
+    ap (λ (k : EndKind). is_full_end (what.End run k status size made finished)) same in
     cc
 kind_full r (what.Queue run work key) is not = let no : None ≡ Some kind.JournalFull = is in cc
 kind_full r (what.Admit run key fresh job) is not = let no : None ≡ Some kind.JournalFull = is in cc
