@@ -1,4 +1,5 @@
 mod Lists
 mod Numbers
 mod OptionWords
+mod Behind
 pub mod OneCommand
