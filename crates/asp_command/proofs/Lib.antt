@@ -3,3 +3,4 @@ mod Numbers
 mod OptionWords
 mod Behind
 pub mod OneCommand
+pub mod Ranges
