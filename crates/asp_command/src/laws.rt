@@ -11,7 +11,6 @@ pub fn one_command()
 {}
 
 /// The numbers that the words of `serve` say, or leave unsaid, are such as they may be.
-#[tactic(auto, using(crate::proofs::Ranges::serve_within))]
 pub fn serve_within()
     ensures { (words : List (List ℕ)) (site : List ℕ) (requests workers port : ℕ)
         → SaysServe words site requests workers port → (1 ≤ requests) × (requests ≤ 100000) × (1 ≤ workers)
