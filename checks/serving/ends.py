@@ -79,7 +79,12 @@ def order_of_options(check):
 def one_more(check):
     """A worker that waits for a connection as the host stops goes on waiting for one, which it closes unanswered."""
     with check.host(SITE, 1, workers=2) as host:
-        check.same("an answer", masked(asked(host.port, request("/p.asp"))), A3B)
+        with Client(host.port) as client:
+            # by now the other worker waits for a connection
+            time.sleep(0.5)
+            client.send(request("/p.asp"))
+            client.end()
+            check.same("an answer", masked(client.rest()), A3B)
         time.sleep(1)
         check.holds("the host ended without a further connection", host.runs())
         check.same("what comes on that", asked(host.port, request("/p.asp")), b"")

@@ -5,13 +5,15 @@ import re
 import signal
 import subprocess
 import threading
+import time
 
-from .clients import asked, request
 from .hosts import EXAMPLES, TOP, free_port, listens, wait_until
-from .tools import Nginx
+from .tools import Nginx, visited
 
-# After how many requests a host of the loop ends, and how many visits there are.
-REQUESTS, VISITS = 40, 150
+# After how many requests a host of the loop ends, once a connection has ended: nginx keeps its connections while many visit.
+REQUESTS = 40
+# How often many visit and then few, and how many visits each time.
+ROUNDS, AT_ONCE, LATER = 3, 45, 20
 
 
 def lines(host):
@@ -44,25 +46,28 @@ class Loop:
 
 
 def weeks(check):
-    """Each visit is answered, though a host ends after every forty."""
+    """Each visit is answered, though hosts end again and again."""
     counts = []
-    port = free_port()
 
-    def visit(times):
+    def visit(times, pause):
         for _ in range(times):
-            came = asked(proxy.port, request("/", "Connection: close"))
+            came = visited(proxy.port, "/")
             told = re.search(rb"visitor (\d+), page 1 of", came)
             check.holds(f"a visit got {came!r:.300}", told)
             counts.append(int(told[1]) if told else 0)
+            time.sleep(pause)
 
+    port = free_port()
     with Loop(check, port), Nginx(check, lines(port)) as proxy:
-        threads = [threading.Thread(target=visit, args=(VISITS // 3,)) for _ in range(3)]
-        for thread in threads:
-            thread.start()
-        for thread in threads:
-            thread.join()
-        check.same("statuses", proxy.statuses(), {"200": VISITS // 3 * 3})
-    check.holds("fewer than three hosts began", counts.count(1) >= 3)
+        for _ in range(ROUNDS):
+            threads = [threading.Thread(target=visit, args=(AT_ONCE // 3, 0)) for _ in range(3)]
+            for thread in threads:
+                thread.start()
+            for thread in threads:
+                thread.join()
+            visit(LATER, 0.1)
+        check.same("statuses", proxy.statuses(), {"200": ROUNDS * (AT_ONCE + LATER)})
+    check.holds(f"{counts.count(1)} hosts had a first visitor", counts.count(1) >= ROUNDS)
 
 
 CHECKS = {"the loop of examples/serving behind nginx": (weeks, "nginx")}

@@ -5,7 +5,7 @@ import re
 import subprocess
 import time
 
-from .clients import asked, cookie, masked, page, request
+from .clients import Client, asked, cookie, masked, page, request
 from .hosts import COUNT, EXAMPLES, SITE, free_port, listens, wait_until
 from .relay import Relay, replayed, requests_of, without_moments
 
@@ -96,7 +96,7 @@ def curl_follows(check):
 def curl_uploads(check):
     """Bodies: a form, and a file of 1 MiB for which curl asks whether it may send it."""
     folder = pathlib.Path(check.folder)
-    (folder / "large").write_bytes(b"a=" + b"b" * 1048574)
+    (folder / "large").write_bytes(b"a=" + b"b" * (check.many(1048576) - 2))
     site = check.site(SITE)
     for words in (
         ["--data", "a=1 2&b=%C3%A9"],
@@ -161,6 +161,13 @@ class Nginx:
         return (self.folder / "errors").read_text(encoding="utf-8", errors="replace")
 
 
+def visited(port, path):
+    """Returns the answer to a visitor of nginx, who stays until it has come."""
+    with Client(port) as client:
+        client.send(request(path, "Connection: close"))
+        return client.rest()
+
+
 def through_nginx(check, way):
     """Requests by wrk through nginx: each is answered by the host."""
     count = check.many(10000)
@@ -172,8 +179,7 @@ def through_nginx(check, way):
             told = proxy.statuses()
             check.same("other statuses than 200", {it: told[it] for it in told if it not in ("200", "499")}, {})
             check.holds(f"in a minute only {told.get('200', 0)} requests", told.get("200", 0) >= count)
-            wanted = request("/p.asp", "Connection: close")
-            check.same("an answer", masked(asked(proxy.port, wanted)).partition(b"\r\n\r\n")[2], b"A3B")
+            check.same("an answer", visited(proxy.port, "/p.asp").partition(b"\r\n\r\n")[2], b"A3B")
             check.same("what nginx says of it", proxy.errors(), "")
 
 
