@@ -183,6 +183,15 @@ def greatest(check):
         check.same("a body of 1,048,576 bytes", masked(asked(host.port, posted)), wanted)
 
 
+def little_room(check):
+    """A client with room for little at a time gets the same bytes."""
+    text = bytes(range(256)) * 1000
+    with check.host({**SITE, "/large.bin": text}, 100) as host, Client(host.port, segment=536, room=4096) as client:
+        client.send(request("/large.bin"))
+        wanted = answer("200 OK", "Content-Type: application/octet-stream", body=text)
+        check.same("the answer", masked(client.answer()), wanted)
+
+
 def cookies(check):
     """Whose cookie goes on with a session, and who gets a new key."""
     with check.host(SITE, 100) as host:
@@ -278,6 +287,7 @@ CHECKS = {
     "unfinished requests": unfinished,
     "refusals": refusals,
     "the longest head and the largest body": greatest,
+    "a client with little room": little_room,
     "cookies": cookies,
     "4,097 clients without a cookie": too_many_sessions,
     "no content, and then some": no_content,
