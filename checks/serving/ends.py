@@ -99,14 +99,15 @@ def to_the_end_of_a_connection(check):
 
 
 def stopped_between(check):
-    """A connection that waits between two requests as the host stops is closed, and nothing more is written."""
-    with check.host(SITE, 2, workers=2) as host, Client(host.port) as client:
-        client.send(request("/p.asp"))
-        check.same("the first answer", masked(client.answer()), A3B)
+    """A connection that waits for its first byte as the host stops, or between two requests, gets nothing more."""
+    with check.host(SITE, 2, workers=3) as host, Client(host.port) as new, Client(host.port) as kept:
+        kept.send(request("/p.asp"))
+        check.same("the first answer", masked(kept.answer()), A3B)
         check.same("another's answer", masked(asked(host.port, request("/p.asp"))), A3B)
         time.sleep(0.3)
-        client.send(request("/p.asp"))
-        check.same("behind the stop", client.rest(), b"")
+        for what, client in (("before the first byte", new), ("between two requests", kept)):
+            client.send(request("/p.asp"))
+            check.same(what, client.rest(), b"")
 
 
 def broken_off(check):
