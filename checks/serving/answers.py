@@ -1,7 +1,7 @@
 """What comes on a connection: answers in their order, whole or none, and refusals.
 
-What a socket can't show is tried over connections in memory: that a reader gives back the bytes behind the last request that
-it took, that a read or a write fails at a given place, and that another hand halts the host.
+What a socket can't show is tried over connections in memory: that a reader gives back the bytes behind the last request
+that it took, that a read or a write fails at a given place, and that another hand halts the host.
 """
 
 import http.client
@@ -245,7 +245,8 @@ def no_content(check):
 def expected(check):
     """`Expect: 100-continue` gets nothing before the answer, which comes behind a body that comes a second later."""
     with check.host(SITE, 100) as host, Client(host.port) as client:
-        head, empty, body = request("/form.asp", FORM, "Expect: 100-continue", method="POST", body=b"a=1").partition(b"\r\n\r\n")
+        sent = request("/form.asp", FORM, "Expect: 100-continue", method="POST", body=b"a=1")
+        head, empty, body = sent.partition(b"\r\n\r\n")
         client.send(head, empty)
         check.same("before the body", client.heard(1), b"")
         client.send(body)

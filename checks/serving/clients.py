@@ -1,7 +1,7 @@
-"""A client over a socket, and the answers that it is to get, by RFC 9112 and the order of the fields of this host's answers.
+"""A client over a socket, and the answers that it is to get, by RFC 9112 and the order of fields in answers of this host.
 
-Of an answer that comes, a date of this minute is put down as `*`, and so are the sixteen random letters of a session cookie:
-the eight before them tell the number of its key.
+Of an answer that comes, a date of this minute is put down as `*`, and so are the sixteen random letters of a session
+cookie: the eight before them tell the number of its key.
 """
 
 import email.utils

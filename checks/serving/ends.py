@@ -41,7 +41,7 @@ def words(check):
 
 
 def never_begins(check):
-    """A site that isn't one, a folder that isn't there, an application that fails as it begins: the port is never opened."""
+    """No site, no folder, an application that fails as it begins: the port is never opened."""
     for what, site, wanted in (
         ("a refused page", check.site({"/b.asp": '<% s = "%>"'}), (3, "", "/b.asp:1: OpenString\n")),
         ("no folder", check.site({}) / "none", (4, "", "read fault\n")),

@@ -10,7 +10,7 @@ import time
 from .hosts import EXAMPLES, TOP, free_port, listens, wait_until
 from .tools import Nginx, visited
 
-# After how many requests a host of the loop ends, once a connection has ended: nginx keeps its connections while many visit.
+# After how many requests a host of the loop ends, once a connection has ended: nginx keeps some while many visit.
 REQUESTS = 40
 # How often many visit and then few, and how many visits each time.
 ROUNDS, AT_ONCE, LATER = 3, 45, 20
@@ -19,7 +19,8 @@ ROUNDS, AT_ONCE, LATER = 3, 45, 20
 def lines(host):
     """Returns the lines of the example for nginx, with other ports."""
     text = (EXAMPLES / "serving" / "nginx.conf").read_text(encoding="utf-8")
-    return lambda port: text.replace("listen 80;", f"listen 127.0.0.1:{port};").replace("127.0.0.1:8080;", f"127.0.0.1:{host};")
+    text = text.replace("127.0.0.1:8080;", f"127.0.0.1:{host};")
+    return lambda port: text.replace("listen 80;", f"listen 127.0.0.1:{port};")
 
 
 class Loop:

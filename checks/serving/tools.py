@@ -51,8 +51,8 @@ def ran(*words, **how):
 
 
 def curled(check, site, words, paths, client=0, one_connection=True):
-    """Runs curl over a host of a site. What comes is what `replay` writes for the requests that it sent, as those of a client:
-    0 is any that shows its cookie, and 1 one that keeps it. Returns what curl wrote, and those answers."""
+    """Runs curl over a host of a site. What comes is what `replay` writes for the requests that it sent, as those of a
+    client: 0 is any that shows its cookie, and 1 one that keeps it. Returns what curl wrote, and those answers."""
     with check.host(site, 100) as host, Relay(host.port) as relay:
         urls = [f"http://127.0.0.1:{relay.port}{path}" for path in paths]
         status, output = ran("curl", "--silent", "--path-as-is", "--max-time", "60", *words, *urls, cwd=check.folder)
