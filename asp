@@ -113,17 +113,27 @@ own_errors() {
     END { for (at = 1; at <= last; at++) print line[at] }' "$errors" >&2
 }
 
+# Says where the site is found that is served, and how to end that: the program itself says nothing while it serves.
+tell_address() {
+  local port=8080 before= word
+  for word in "$@"; do
+    [ "$before" != --port ] || port=$word
+    before=$word
+  done
+  echo "asp: the site is at http://127.0.0.1:$port/ for a browser, once its application has begun; Ctrl-C ends it" >&2
+}
+
 # Runs the words by the build that proves nothing. It runs in a folder of its own, so it is given the whole path of the
-# site, and reads its input to the end first, so it is given none where the command reads none. The last of its lines
-# says how the program ended.
+# site, and reads its input to the end first, so it is given none where the command reads none. It ends after ten
+# minutes, or after a day where it serves. The last of its lines says how the program ended.
 run_unproved() {
-  local words=("$@") code input=/dev/null
+  local words=("$@") code input=/dev/null seconds=600
   echo "asp: not proved yet, so this runs an unproved build, in a minute or two: ./asp build proves it" >&2
   case "${2-}" in '' | /*) ;; *) [ "$1" = gen ] || words[1]=$PWD/$2 ;; esac
-  case "${1-}" in replay) input=/dev/stdin ;; esac
+  case "${1-}" in replay) input=/dev/stdin ;; serve) seconds=86400 ;; esac
   errors=$(mktemp)
   trap 'rm -f "$errors"' EXIT
-  (cd "$crate" && rt try --seconds 600 --steps 1000000000 -- "${words[@]}") 2>"$errors" <"$input"
+  (cd "$crate" && rt try --seconds "$seconds" --steps 1000000000 -- "${words[@]}") 2>"$errors" <"$input"
   code=$?
   case $(tail -n 1 "$errors") in
     "run=ended status=$code "*) own_errors; return "$code" ;;
@@ -220,8 +230,8 @@ if [ $# = 1 ] && [ "$1" = build ]; then
   is_built || build
 elif [ $# = 1 ] && [ "$1" = test ]; then
   try_all
-elif is_built; then
-  exec "$program" "$@"
 else
+  case "$* " in serve\ *\ --requests\ *) tell_address "$@" ;; esac
+  if is_built; then exec "$program" "$@"; fi
   run_unproved "$@"
 fi

@@ -1,4 +1,6 @@
 mod Lists
 mod Numbers
 mod OptionWords
+mod Behind
 pub mod OneCommand
+pub mod Ranges

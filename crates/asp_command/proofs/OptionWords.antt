@@ -1,223 +1,142 @@
--- Options: words are such in at most one way, that in which they are found from the front.
-use Rattle.std.proofs.Common.{◌≡◌, ◌≢◌, ℕ, ◌≤◌, Bool, true, false, ◌&&◌, ◌||◌, List, [], ◌∷◌, ◌++◌}
-use Rattle.std.proofs.Common.{Option, None, Some, get_or, codes, unwrap_or, arith, refl, sym, ap, subst, inl, inr, ◌∙◌}
+-- Options: words are such in at most one way.
+use Rattle.std.proofs.Common.{◌≡◌, ◌≢◌, ℕ, ◌≤◌, true, false, List, [], ◌∷◌, ◌++◌}
+use Rattle.std.proofs.Common.{Option, None, Some, MatchOption, length, map, get_or, arith, refl, sym, ap, subst, ◌∙◌}
 use Rattle.std.specs.Fmt.{decimal}
 use Rattle.std.proofs.lemmas.Fmt.{decimal_injective}
-use Rattle.asp_command.specs.Saying.{AreNoOptions, IsJournalAt, IsNotFirst, IsWorkersAt}
-use Rattle.asp_command.specs.Words.{AreInEitherOrder, AreOptions, journal_words, workers_words}
+use Rattle.asp_command.specs.declared.options.Options.{Options}
+use Rattle.asp_command.specs.declared.options.Said.{Said}
+use Rattle.asp_command.specs.declared.options.Said.TheVariants as said
+use Rattle.asp_command.specs.Saying.{IsFirst, IsNoneFirst, SayNone, SaySome}
+use Rattle.asp_command.specs.Words.{AreOptions, SayFurther, is_among, no_options, option_words, with_option}
 
--- the names of the options differ
-names_differ : codes "--journal" ≢ codes "--workers"
-names_differ same = omega (arith, ap (λ (w : List ℕ). get_or w 2 0) same)
+-- ---- what stands first is one option
 
--- a word stands first alone
-not_first : (words : List (List ℕ)) (word other : List ℕ) (rest : List (List ℕ)) → words ≡ word ∷ rest → word ≢ other
-    → IsNotFirst other words
-not_first words word other rest are differ more also = differ cc
+-- the third letter of the first word, by which options are told apart
+abbrev letter : List (List ℕ) → ℕ
+letter words = get_or (get_or words 0 []) 2 0
 
--- none does in no words
-none_first : (words : List (List ℕ)) (word : List ℕ) → words ≡ [] → IsNotFirst word words
-none_first words word are rest also = cc
+abbrev letter_of : Said → ℕ
+letter_of said.Journal = 106
+letter_of (said.Workers number) = 119
+letter_of (said.Requests number) = 114
+letter_of (said.Port number) = 112
 
--- ---- what stands first is one
+letter_is : (words rest : List (List ℕ)) (option : Said) → words ≡ option_words option ++ rest
+    → letter words ≡ letter_of option
+letter_is words rest said.Journal are = ap letter are
+letter_is words rest (said.Workers number) are = ap letter are
+letter_is words rest (said.Requests number) are = ap letter are
+letter_is words rest (said.Port number) are = ap letter are
 
--- the option for the journal, and what is behind it
-one_journal : (words : List (List ℕ)) (given other : Bool) (rest more : List (List ℕ)) → IsJournalAt words given rest
-    → IsJournalAt words other more → (given ≡ other) × (rest ≡ more)
-one_journal words true true rest more is also = (refl, cc)
-one_journal words true false rest more is also = absurd (also.1 rest is)
-one_journal words false true rest more is also = absurd (is.1 more also)
-one_journal words false false rest more is also = (refl, sym is.0 ∙ also.0)
+-- a number is that of one text
+one_number : (first second : ℕ) (words rest : List (List ℕ)) → decimal first ∷ words ≡ decimal second ∷ rest
+    → first ≤ 100000 → second ≤ 100000 → (first ≡ second) × (words ≡ rest)
+one_number first second words rest same few small =
+    let texts : decimal first ≡ decimal second = cc in
+    (decimal_injective first second (omega arith) (omega arith) texts, cc)
 
--- the option for the workers, and what is behind it
-one_said : (words : List (List ℕ)) (said other : Option ℕ) (rest more : List (List ℕ))
-    → words ≡ workers_words said ++ rest → words ≡ workers_words other ++ more
-    → (said ≡ None → IsNotFirst (codes "--workers") words) → (other ≡ None → IsNotFirst (codes "--workers") words)
-    → unwrap_or said 4 ≤ 16 → unwrap_or other 4 ≤ 16 → (said ≡ other) × (rest ≡ more)
-one_said words None None rest more are also unsaid silent few small = (refl, cc)
-one_said words None (Some number) rest more are also unsaid silent few small =
-    absurd (unsaid refl (decimal number ∷ more) also)
-one_said words (Some number) None rest more are also unsaid silent few small =
-    absurd (silent refl (decimal number ∷ rest) are)
-one_said words (Some number) (Some second) rest more are also unsaid silent few small =
-    let texts : decimal number ≡ decimal second = cc in
-    let same : number ≡ second = decimal_injective number second (omega arith) (omega arith) texts in
-    (ap Some same, cc)
-
-one_workers : (words : List (List ℕ)) (workers other : ℕ) (rest more : List (List ℕ)) → IsWorkersAt words workers rest
-    → IsWorkersAt words other more → (workers ≡ other) × (rest ≡ more)
-one_workers words workers other rest more is also =
-    let one = one_said words is.said also.said rest more is.words_are also.words_are is.unsaid also.unsaid
-    (omega (arith, is.workers_are, is.few)) (omega (arith, also.workers_are, also.few)) in
-    (is.workers_are ∙ (ap (λ (said : Option ℕ). unwrap_or said 4) one.0 ∙ sym also.workers_are), one.1)
+pub one_first : (words rest more : List (List ℕ)) (option other : Said) → IsFirst words option rest
+    → IsFirst words other more → (option ≡ other) × (rest ≡ more)
+one_first words rest more said.Journal said.Journal is also = (refl, cc (is.words_are, also.words_are))
+one_first words rest more (said.Workers first) (said.Workers second) is also =
+    let one = one_number first second rest more (cc (is.words_are, also.words_are)) (omega (arith, is.range.1))
+    (omega (arith, also.range.1)) in
+    (ap said.Workers one.0, one.1)
+one_first words rest more (said.Requests first) (said.Requests second) is also =
+    let one = one_number first second rest more (cc (is.words_are, also.words_are)) (omega (arith, is.range.1))
+    (omega (arith, also.range.1)) in
+    (ap said.Requests one.0, one.1)
+one_first words rest more (said.Port first) (said.Port second) is also =
+    let one = one_number first second rest more (cc (is.words_are, also.words_are)) (omega (arith, is.range.1))
+    (omega (arith, also.range.1)) in
+    (ap said.Port one.0, one.1)
+one_first words rest more option other is also =
+    absurd (omega (arith, letter_is words rest option is.words_are, letter_is words more other also.words_are))
 
 -- ---- options, one after another
 
--- the words are options as they are found from the front
-record Walk (words : List (List ℕ)) (workers : ℕ) (journal : Bool) : Type 0 where
-  before : Bool
-  after : Bool
-  middle : List (List ℕ)
-  last : List (List ℕ)
-  journal_first : IsJournalAt words before middle
-  workers_next : IsWorkersAt middle workers last
-  journal_last : IsJournalAt last after []
-  either : journal ≡ before || after
-  once : before && after ≡ false
+-- what stands first, of words that say further options
+pub first_of : (before : Options) (option : Said) (more : List Said) (words rest : List (List ℕ)) (all : Options)
+    (found : Said) → SayFurther before (option ∷ more) words all → IsFirst words found rest
+    → (is_among before found ≡ false) × SayFurther (with_option before found) more rest all
+first_of before option more words rest all found say is =
+    let also : IsFirst words option say.2.0 = record { range = say.1; words_are = say.2.1 } in
+    let one = one_first words rest say.2.0 found option is also in
+    let among = subst (λ (o : Said). is_among before o ≡ false) (sym one.0) say.0 in
+    let tail = subst (λ (o : Said). SayFurther (with_option before o) more say.2.0 all) (sym one.0) say.2.2 in
+    (among, subst (λ (w : List (List ℕ)). SayFurther (with_option before found) more w all) (sym one.1) tail)
 
--- without an option
-no_options : (words : List (List ℕ)) → words ≡ [] → Walk words 4 false
-no_options words are = record {
-  before = false;
-  after = false;
-  middle = words;
-  last = words;
-  journal_first = (refl, none_first words (codes "--journal") are);
-  workers_next = record {
-    said = None;
-    words_are = refl;
-    unsaid = λ _. none_first words (codes "--workers") are;
-    workers_are = refl;
-    some = omega arith;
-    few = omega arith;
-  };
-  journal_last = (are, none_first words (codes "--journal") are);
-  either = refl;
-  once = refl;
-}
+-- some letter stands in the words of each option
+has_letter : (option : Said) → 1 ≤ letter_of option
+has_letter said.Journal = omega arith
+has_letter (said.Workers number) = omega arith
+has_letter (said.Requests number) = omega arith
+has_letter (said.Port number) = omega arith
 
--- with that for the journal alone
-journal_alone : (words : List (List ℕ)) → words ≡ codes "--journal" ∷ [] → Walk words 4 true
-journal_alone words are = record {
-  before = true;
-  after = false;
-  middle = [];
-  last = [];
-  journal_first = are;
-  workers_next = record {
-    said = None;
-    words_are = refl;
-    unsaid = λ _. none_first [] (codes "--workers") refl;
-    workers_are = refl;
-    some = omega arith;
-    few = omega arith;
-  };
-  journal_last = (refl, none_first [] (codes "--journal") refl);
-  either = refl;
-  once = refl;
-}
+-- no words are no option's
+no_words : (words rest : List (List ℕ)) (option : Said) → words ≡ [] → words ≡ option_words option ++ rest → ⊥
+no_words words rest option none are =
+    omega (arith, ap letter none, letter_is words rest option are, has_letter option)
 
--- the option for so many workers, found first
-workers_said : (words : List (List ℕ)) (workers : ℕ) (rest : List (List ℕ))
-    → words ≡ codes "--workers" ∷ decimal workers ∷ rest → 1 ≤ workers → workers ≤ 16 → IsWorkersAt words workers rest
-workers_said words workers rest are some few = record {
-  said = Some workers;
-  words_are = are;
-  unsaid = λ none. absurd (let none : Some workers ≡ None = none in cc);
-  workers_are = refl;
-  some = some;
-  few = few;
-}
+-- words say further options in one way
+same_further : (before : Options) (said other : List Said) (words : List (List ℕ)) (all again : Options)
+    → SayFurther before said words all → SayFurther before other words again → all ≡ again
+same_further before [] [] words all again say also = say.1 ∙ sym also.1
+same_further before [] (option ∷ more) words all again say also =
+    absurd (no_words words also.2.0 option say.0 also.2.1)
+same_further before (option ∷ more) [] words all again say also =
+    absurd (no_words words say.2.0 option also.0 say.2.1)
+same_further before (option ∷ more) (second ∷ rest) words all again say also =
+    let is : IsFirst words option say.2.0 = record { range = say.1; words_are = say.2.1 } in
+    let next = first_of before second rest words say.2.0 again option also is in
+    same_further (with_option before option) more rest say.2.0 all again say.2.2 next.1
 
--- with that for the workers alone
-workers_alone : (words : List (List ℕ)) (workers : ℕ) → words ≡ codes "--workers" ∷ decimal workers ∷ []
-    → 1 ≤ workers → workers ≤ 16 → Walk words workers false
-workers_alone words workers are some few = record {
-  before = false;
-  after = false;
-  middle = words;
-  last = [];
-  journal_first = (refl, not_first words _ (codes "--journal") _ are (λ same. names_differ (sym same)));
-  workers_next = workers_said words workers [] are some few;
-  journal_last = (refl, none_first [] (codes "--journal") refl);
-  either = refl;
-  once = refl;
-}
+pub one_options : (words : List (List ℕ)) (options other : Options) → AreOptions words options → AreOptions words other
+    → options ≡ other
+one_options words options other are also = same_further no_options are.0 also.0 words options other are.1 also.1
 
--- with both
-workers_before : (words : List (List ℕ)) (workers : ℕ)
-    → words ≡ codes "--workers" ∷ decimal workers ∷ codes "--journal" ∷ [] → 1 ≤ workers → workers ≤ 16
-    → Walk words workers true
-workers_before words workers are some few = record {
-  before = false;
-  after = true;
-  middle = words;
-  last = codes "--journal" ∷ [];
-  journal_first = (refl, not_first words _ (codes "--journal") _ are (λ same. names_differ (sym same)));
-  workers_next = workers_said words workers (codes "--journal" ∷ []) are some few;
-  journal_last = refl;
-  either = refl;
-  once = refl;
-}
+-- no words say nothing further
+pub none_further : (before : Options) (words : List (List ℕ)) → words ≡ [] → SaySome before words before
+none_further before words none = ([], (none, refl))
 
-journal_before : (words : List (List ℕ)) (workers : ℕ)
-    → words ≡ codes "--journal" ∷ codes "--workers" ∷ decimal workers ∷ [] → 1 ≤ workers → workers ≤ 16
-    → Walk words workers true
-journal_before words workers are some few = record {
-  before = true;
-  after = false;
-  middle = codes "--workers" ∷ decimal workers ∷ [];
-  last = [];
-  journal_first = are;
-  workers_next = workers_said (codes "--workers" ∷ decimal workers ∷ []) workers [] refl some few;
-  journal_last = (refl, none_first [] (codes "--journal") refl);
-  either = refl;
-  once = refl;
-}
+-- some say an option and then further ones
+pub some_further : (before : Options) (words rest : List (List ℕ)) (found : Said) (all : Options)
+    → IsFirst words found rest → is_among before found ≡ false → SaySome (with_option before found) rest all
+    → SaySome before words all
+some_further before words rest found all is new say =
+    (found ∷ say.0, (new, is.range, (rest, is.words_are, say.1)))
 
--- options are so found
-walk_said : (words : List (List ℕ)) (said : Option ℕ) (journal : Bool)
-    → AreInEitherOrder words (workers_words said) (journal_words journal)
-    → 1 ≤ unwrap_or said 4 → unwrap_or said 4 ≤ 16 → Walk words (unwrap_or said 4) journal
-walk_said words None true (inl are) some few = journal_alone words are
-walk_said words None true (inr are) some few = journal_alone words are
-walk_said words None false (inl are) some few = no_options words are
-walk_said words None false (inr are) some few = no_options words are
-walk_said words (Some workers) true (inl are) some few = workers_before words workers are some few
-walk_said words (Some workers) true (inr are) some few = journal_before words workers are some few
-walk_said words (Some workers) false (inl are) some few = workers_alone words workers are some few
-walk_said words (Some workers) false (inr are) some few = workers_alone words workers are some few
+-- words at whose front no option stands say none
+pub no_option : (before : Options) (words : List (List ℕ)) → words ≢ [] → IsNoneFirst words → SayNone before words
+no_option before words some none [] all say = some say.0
+no_option before words some none (option ∷ more) all say =
+    none option say.2.0 (record { range = say.1; words_are = say.2.1 })
 
-walk : (words : List (List ℕ)) (workers : ℕ) (journal : Bool) → AreOptions words workers journal
-    → Walk words workers journal
-walk words workers journal are =
-    subst (λ (n : ℕ). Walk words n journal) (sym are.workers_are) (walk_said words are.said journal are.words_are
-    (omega (arith, are.workers_are, are.some)) (omega (arith, are.workers_are, are.few)))
+-- nor do those at whose front one stands that was said before
+pub said_again : (before : Options) (words rest : List (List ℕ)) (found : Said) → IsFirst words found rest
+    → is_among before found ≡ true → SayNone before words
+said_again before words rest found is again [] all say = no_words words rest found say.0 is.words_are
+said_again before words rest found is again (option ∷ more) all say =
+    let next = first_of before option more words rest all found say is in
+    let no : true ≡ false = sym again ∙ next.0 in
+    cc
 
--- what is found is what is found again
-record Same (before after : Bool) (workers : ℕ) (rest : List (List ℕ)) {words : List (List ℕ)} {other : ℕ}
-    {journal : Bool} (also : Walk words other journal) : Type 0 where
-  first_is : before ≡ also.before
-  workers_are : workers ≡ other
-  last_is : after ≡ also.after
-  nothing_left : rest ≡ []
+-- nor those behind whose front nothing is said
+pub none_behind : (before : Options) (words rest : List (List ℕ)) (found : Said) → IsFirst words found rest
+    → SayNone (with_option before found) rest → SayNone before words
+none_behind before words rest found is none [] all say = no_words words rest found say.0 is.words_are
+none_behind before words rest found is none (option ∷ more) all say =
+    none more all (first_of before option more words rest all found say is).1
 
-same_walk : (words middle last rest : List (List ℕ)) (before after : Bool) (workers other : ℕ) (journal : Bool)
-    → IsJournalAt words before middle → IsWorkersAt middle workers last → IsJournalAt last after rest
-    → (also : Walk words other journal) → Same before after workers rest also
-same_walk words middle last rest before after workers other journal first next end also =
-    let one = one_journal words before also.before middle also.middle first also.journal_first in
-    let two = one_workers middle workers other last also.last next
-    (subst (λ (w : List (List ℕ)). IsWorkersAt w other also.last) (sym one.1) also.workers_next) in
-    let three = one_journal last after also.after rest [] end
-    (subst (λ (w : List (List ℕ)). IsJournalAt w also.after []) (sym two.1) also.journal_last) in
-    record { first_is = one.0; workers_are = two.0; last_is = three.0; nothing_left = three.1 }
+-- what is found of what is said behind the front
+pub behind_first : (before : Options) (words rest : List (List ℕ)) (found : Said) (result : Option Options)
+    → IsFirst words found rest → is_among before found ≡ false
+    → MatchOption result (SayNone (with_option before found) rest) (λ all. SaySome (with_option before found) rest all)
+    → MatchOption result (SayNone before words) (λ all. SaySome before words all)
+behind_first before words rest found None is new say = none_behind before words rest found is say
+behind_first before words rest found (Some all) is new say = some_further before words rest found all is new say
 
--- words are options in one way
-pub one_options : (words : List (List ℕ)) (workers other : ℕ) (journal second : Bool) → AreOptions words workers journal
-    → AreOptions words other second → (workers ≡ other) × (journal ≡ second)
-one_options words workers other journal second are also =
-    let first = walk words workers journal are in
-    let again = walk words other second also in
-    let same = same_walk words first.middle first.last [] first.before first.after workers other second
-    first.journal_first first.workers_next first.journal_last again in
-    (same.workers_are, cc (first.either, again.either, same.first_is, same.last_is))
-
--- with no number of workers there are none
-pub bad_workers : (words middle : List (List ℕ)) (before : Bool) → IsJournalAt words before middle
-    → ((workers : ℕ) (last : List (List ℕ)) → ¬ (IsWorkersAt middle workers last)) → AreNoOptions words
-bad_workers words middle before first none workers journal are =
-    let also = walk words workers journal are in
-    let one = one_journal words before also.before middle also.middle first also.journal_first in
-    none workers also.last
-    (subst (λ (w : List (List ℕ)). IsWorkersAt w workers also.last) (sym one.1) also.workers_next)
+-- a list with items stays one where each is mapped
+pub some_mapped : {X Y : Type 0} (f : X → Y) (items : List X) → length items ≢ 0 → map f items ≢ []
+some_mapped f [] some none = some refl
+some_mapped f (x ∷ items) some none = cc

@@ -1,11 +1,13 @@
 -- This crate's own: what is found in the words of a command.
-use Rattle.std.specs.Prelude.{◌≡◌, ℕ, ◌≤◌, ◌++◌, Bool, true, false, List, [], ◌∷◌, Option, None, MatchOption}
-use Rattle.std.specs.Prelude.{chars, codes, unwrap_or}
+use Rattle.std.specs.Prelude.{◌≡◌, ℕ, ◌≤◌, ◌++◌, Bool, List, [], ◌∷◌, Option, MatchOption, chars, codes}
 use Rattle.std.specs.Fmt.{decimal}
 use Rattle.http_front.specs.Target.{query_of}
 use Rattle.asp_command.specs.declared.words.Command.{Command}
 use Rattle.asp_command.specs.declared.words.Command.TheVariants.{Get}
-use Rattle.asp_command.specs.Words.{AreOptions, IsNoTarget, IsTarget, SaysGen, SaysReplay, workers_words}
+use Rattle.asp_command.specs.declared.options.Options.{Options}
+use Rattle.asp_command.specs.declared.options.Said.{Said}
+use Rattle.asp_command.specs.Words.{AreOptions, HasRange, IsNoTarget, IsTarget, SayFurther, SaysGen, SaysReplay, SaysServe}
+use Rattle.asp_command.specs.Words.{option_words}
 
 -- ---- targets and numbers
 
@@ -29,29 +31,28 @@ IsNoNumber most word = (number : ℕ) → ¬ (IsNumber most word number)
 abbrev pub IsNotFirst : List ℕ → List (List ℕ) → Type 0
 IsNotFirst word words = (rest : List (List ℕ)) → ¬ (words ≡ word ∷ rest)
 
--- the option for the journal, or it does not
-abbrev pub IsJournalAt : List (List ℕ) → Bool → List (List ℕ) → Type 0
-IsJournalAt words true rest = words ≡ codes "--journal" ∷ rest
-IsJournalAt words false rest = (words ≡ rest) × IsNotFirst (codes "--journal") words
+-- this option, with a number that it may have
+pub record IsFirst (words : List (List ℕ)) (said : Said) (rest : List (List ℕ)) : Type 0 where
+  pub range : HasRange said
+  pub words_are : words ≡ option_words said ++ rest
 
--- the option for so many workers, or no such option
-pub record IsWorkersAt (words : List (List ℕ)) (workers : ℕ) (rest : List (List ℕ)) : Type 0 where
-  pub said : Option ℕ
-  pub words_are : words ≡ workers_words said ++ rest
-  pub unsaid : said ≡ None → IsNotFirst (codes "--workers") words
-  pub workers_are : workers ≡ unwrap_or said 4
-  pub some : 1 ≤ workers
-  pub few : workers ≤ 16
-
--- the option's name, and no number behind it
-abbrev pub IsNoWorkersAt : List (List ℕ) → Type 0
-IsNoWorkersAt words = (workers : ℕ) (rest : List (List ℕ)) → ¬ (IsWorkersAt words workers rest)
+-- no option does
+abbrev pub IsNoneFirst : List (List ℕ) → Type 0
+IsNoneFirst words = (said : Said) (rest : List (List ℕ)) → ¬ (IsFirst words said rest)
 
 -- ---- words of commands
 
+-- behind the options that were said before, the words say no options
+abbrev pub SayNone : Options → List (List ℕ) → Type 0
+SayNone before words = (said : List Said) (all : Options) → ¬ (SayFurther before said words all)
+
+-- they say some, and all together are these
+abbrev pub SaySome : Options → List (List ℕ) → Options → Type 0
+SaySome before words all = (said : List Said) × SayFurther before said words all
+
 -- the words are no options
 abbrev pub AreNoOptions : List (List ℕ) → Type 0
-AreNoOptions words = (workers : ℕ) (journal : Bool) → ¬ (AreOptions words workers journal)
+AreNoOptions words = (options : Options) → ¬ (AreOptions words options)
 
 -- the command is `get` for the folder of this word and the target that is this word
 pub record IsGetOf (site word : List ℕ) (command : Command) : Type 0 where
@@ -67,7 +68,7 @@ AreGetWords words site target = words ≡ codes "get" ∷ site ∷ target ∷ []
 abbrev pub AreCheckWords : List (List ℕ) → List ℕ → Type 0
 AreCheckWords words site = words ≡ codes "check" ∷ site ∷ []
 
--- they are not; they are not those of `replay`, nor of `gen`
+-- they are not; they are not those of `replay`, of `serve`, nor of `gen`
 abbrev pub AreNoGet : List (List ℕ) → Type 0
 AreNoGet words = (site target : List ℕ) → ¬ (AreGetWords words site target)
 
@@ -76,6 +77,9 @@ AreNoCheck words = (site : List ℕ) → ¬ (AreCheckWords words site)
 
 abbrev pub AreNoReplay : List (List ℕ) → Type 0
 AreNoReplay words = (site : List ℕ) (workers : ℕ) (journal : Bool) → ¬ (SaysReplay words site workers journal)
+
+abbrev pub AreNoServe : List (List ℕ) → Type 0
+AreNoServe words = (site : List ℕ) (requests workers port : ℕ) → ¬ (SaysServe words site requests workers port)
 
 abbrev pub AreNoGen : List (List ℕ) → Type 0
 AreNoGen words = (count : ℕ) (journal : Bool) → ¬ (SaysGen words count journal)

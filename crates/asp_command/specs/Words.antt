@@ -1,11 +1,15 @@
 -- The words of a command line, each as its bytes, and the command that they say.
-use Rattle.std.specs.Prelude.{◌≡◌, ℕ, ◌+◌, ◌^◌, ◌<◌, ◌≤◌, ◌⊎◌, Bool, true, false, IsTrue, Option, None, Some, unwrap_or}
+use Rattle.std.specs.Prelude.{◌≡◌, ℕ, ◌+◌, ◌^◌, ◌<◌, ◌≤◌, Bool, true, false, IsTrue, None, Some, is_some}
+use Rattle.std.specs.Prelude.{unwrap_or}
 use Rattle.std.specs.Prelude.{List, [], ◌∷◌, ◌++◌, length, chars, codes}
 use Rattle.std.specs.Fmt.{decimal}
 use Rattle.asp_text.specs.Path.{begins_with_slash}
 use Rattle.http_front.specs.Target.{path_of, query_of}
 use Rattle.asp_command.specs.declared.words.Command.{Command}
-use Rattle.asp_command.specs.declared.words.Command.TheVariants.{Get, Check, Replay, Gen}
+use Rattle.asp_command.specs.declared.words.Command.TheVariants.{Get, Check, Replay, Serve, Gen}
+use Rattle.asp_command.specs.declared.options.Options.{Options}
+use Rattle.asp_command.specs.declared.options.Said.{Said}
+use Rattle.asp_command.specs.declared.options.Said.TheVariants as said
 
 -- ---- paths of requests
 
@@ -23,28 +27,68 @@ IsNoTarget word = (path query : List ℕ) → ¬ (IsTarget word path query)
 
 -- ---- options
 
--- the option that asks for a journal, and how it is left out
-abbrev pub journal_words : Bool → List (List ℕ)
-journal_words true = codes "--journal" ∷ []
-journal_words false = []
+-- the words of an option: its name, and the number of one that has a number
+abbrev pub option_words : Said → List (List ℕ)
+option_words said.Journal = codes "--journal" ∷ []
+option_words (said.Workers number) = codes "--workers" ∷ decimal number ∷ []
+option_words (said.Requests number) = codes "--requests" ∷ decimal number ∷ []
+option_words (said.Port number) = codes "--port" ∷ decimal number ∷ []
 
--- the option that says a number of workers, and how it is left out
-abbrev pub workers_words : Option ℕ → List (List ℕ)
-workers_words (Some workers) = codes "--workers" ∷ decimal workers ∷ []
-workers_words None = []
+-- the option may have the number that it has
+abbrev pub HasRange : Said → Type 0
+HasRange said.Journal = Unit {0}
+HasRange (said.Workers number) = (1 ≤ number) × (number ≤ 16)
+HasRange (said.Requests number) = (1 ≤ number) × (number ≤ 100000)
+HasRange (said.Port number) = (1 ≤ number) × (number ≤ 65535)
 
--- the words are these and those, in either order
-abbrev pub AreInEitherOrder : List (List ℕ) → List (List ℕ) → List (List ℕ) → Type 0
-AreInEitherOrder words these those = (words ≡ these ++ those) ⊎ (words ≡ those ++ these)
+-- it is among the options that were said
+abbrev pub is_among : Options → Said → Bool
+is_among options said.Journal = options.journal
+is_among options (said.Workers number) = is_some options.workers
+is_among options (said.Requests number) = is_some options.requests
+is_among options (said.Port number) = is_some options.port
 
--- The words are options: in either order, each at most once, that for the journal and that for the number of workers,
--- of whom there are 4 if no number is said.
-pub record AreOptions (words : List (List ℕ)) (workers : ℕ) (journal : Bool) : Type 0 where
-  pub said : Option ℕ
-  pub words_are : AreInEitherOrder words (workers_words said) (journal_words journal)
-  pub workers_are : workers ≡ unwrap_or said 4
-  pub some : 1 ≤ workers
-  pub few : workers ≤ 16
+-- these options, and this one
+abbrev pub with_option : Options → Said → Options
+with_option options said.Journal = record {
+  journal = true;
+  workers = options.workers;
+  requests = options.requests;
+  port = options.port;
+}
+with_option options (said.Workers number) = record {
+  journal = options.journal;
+  workers = Some number;
+  requests = options.requests;
+  port = options.port;
+}
+with_option options (said.Requests number) = record {
+  journal = options.journal;
+  workers = options.workers;
+  requests = Some number;
+  port = options.port;
+}
+with_option options (said.Port number) = record {
+  journal = options.journal;
+  workers = options.workers;
+  requests = options.requests;
+  port = Some number;
+}
+
+-- none
+abbrev pub no_options : Options
+no_options = record { journal = false; workers = None; requests = None; port = None }
+
+-- Behind the options that were said before, the words say these, one after another, none of which was said before it;
+-- and then all together are those.
+abbrev pub SayFurther : Options → List Said → List (List ℕ) → Options → Type 0
+SayFurther before [] words all = (words ≡ []) × (all ≡ before)
+SayFurther before (said ∷ more) words all = (is_among before said ≡ false) × HasRange said
+    × ((rest : List (List ℕ)) × (words ≡ option_words said ++ rest) × SayFurther (with_option before said) more rest all)
+
+-- the words are these options, in any order, each at most once
+abbrev pub AreOptions : List (List ℕ) → Options → Type 0
+AreOptions words options = (said : List Said) × SayFurther no_options said words options
 
 -- ---- commands
 
@@ -62,25 +106,52 @@ pub record SaysCheck (words : List (List ℕ)) (site : List ℕ) : Type 0 where
   pub words_are : words ≡ codes "check" ∷ site_word ∷ []
   pub site_is : site ≡ chars site_word
 
--- the words are `replay`, a word for the folder of the site, and options
+-- the words are `replay`, a word for the folder of the site, and options: how many workers, and the journal
 pub record SaysReplay (words : List (List ℕ)) (site : List ℕ) (workers : ℕ) (journal : Bool) : Type 0 where
   pub site_word : List ℕ
-  pub options : List (List ℕ)
-  pub words_are : words ≡ codes "replay" ∷ site_word ∷ options
+  pub behind : List (List ℕ)
+  pub options : Options
+  pub words_are : words ≡ codes "replay" ∷ site_word ∷ behind
   pub site_is : site ≡ chars site_word
-  pub are_options : AreOptions options workers journal
+  pub are_options : AreOptions behind options
+  pub no_requests : options.requests ≡ None
+  pub no_port : options.port ≡ None
+  pub workers_are : workers ≡ unwrap_or options.workers 4
+  pub journal_is : journal ≡ options.journal
+
+-- the words are `serve`, a word for the folder of the site, and options: how many requests, which must be said, how
+-- many workers, and the port
+pub record SaysServe (words : List (List ℕ)) (site : List ℕ) (requests workers port : ℕ) : Type 0 where
+  pub site_word : List ℕ
+  pub behind : List (List ℕ)
+  pub options : Options
+  pub words_are : words ≡ codes "serve" ∷ site_word ∷ behind
+  pub site_is : site ≡ chars site_word
+  pub are_options : AreOptions behind options
+  pub no_journal : options.journal ≡ false
+  pub requests_are : options.requests ≡ Some requests
+  pub workers_are : workers ≡ unwrap_or options.workers 4
+  pub port_is : port ≡ unwrap_or options.port 8080
 
 -- the words are `gen`, the number of requests, and perhaps the option for the journal
 pub record SaysGen (words : List (List ℕ)) (count : ℕ) (journal : Bool) : Type 0 where
-  pub words_are : words ≡ codes "gen" ∷ decimal count ∷ journal_words journal
+  pub behind : List (List ℕ)
+  pub options : Options
+  pub words_are : words ≡ codes "gen" ∷ decimal count ∷ behind
   pub some : 1 ≤ count
   pub few : count ≤ 10000
+  pub are_options : AreOptions behind options
+  pub no_workers : options.workers ≡ None
+  pub no_requests : options.requests ≡ None
+  pub no_port : options.port ≡ None
+  pub journal_is : journal ≡ options.journal
 
 -- the words say this command
 abbrev pub IsCommand : List (List ℕ) → Command → Type 0
 IsCommand words (Get site path query) = SaysGet words site path query
 IsCommand words (Check site) = SaysCheck words site
 IsCommand words (Replay site workers journal) = SaysReplay words site workers journal
+IsCommand words (Serve site requests workers port) = SaysServe words site requests workers port
 IsCommand words (Gen count journal) = SaysGen words count journal
 
 -- the words say no command

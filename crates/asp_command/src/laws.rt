@@ -1,11 +1,19 @@
 //! Laws on commands.
-ghost use Rattle.std.specs.Prelude.{◌≡◌, ℕ, List};
+ghost use Rattle.std.specs.Prelude.{◌≡◌, ◌≤◌, ℕ, List};
 ghost use Rattle.asp_command.specs.declared.words.Command.{Command};
-ghost use Rattle.asp_command.specs.Words.{IsCommand};
+ghost use Rattle.asp_command.specs.Words.{IsCommand, SaysServe};
 
 /// Words say at most one command.
 #[tactic(auto, using(crate::proofs::OneCommand::one_command))]
 pub fn one_command()
     ensures { (words : List (List ℕ)) (command other : Command) → IsCommand words command → IsCommand words other
         → command ≡ other }
+{}
+
+/// The numbers that the words of `serve` say, or leave unsaid, are such as they may be.
+#[tactic(auto, using(crate::proofs::Ranges::serve_within))]
+pub fn serve_within()
+    ensures { (words : List (List ℕ)) (site : List ℕ) (requests workers port : ℕ)
+        → SaysServe words site requests workers port → (1 ≤ requests) × (requests ≤ 100000) × (1 ≤ workers)
+        × (workers ≤ 16) × (1 ≤ port) × (port ≤ 65535) }
 {}

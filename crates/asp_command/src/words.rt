@@ -4,11 +4,11 @@ ghost use Rattle.std.specs.String.{string_bytes};
 ghost use Rattle.asp_command.specs.declared.words.WordStop.TheVariants.{Usage};
 ghost use Rattle.asp_command.specs.Words as spec;
 ghost use Rattle.asp_command.specs.Saying.{AreCheckWords, AreGetWords, IsGetOf};
-ghost use Rattle.asp_command.specs.Saying.{AreNoCheck, AreNoGen, AreNoGet, AreNoReplay};
+ghost use Rattle.asp_command.specs.Saying.{AreNoCheck, AreNoGen, AreNoGet, AreNoReplay, AreNoServe};
 ghost use Rattle.vb_value.specs.Outcome.{Gives};
 
 use crate::number::number_to;
-use crate::options::{behind, journal_at, replay_options};
+use crate::options::{behind, said_options};
 use crate::target::target_path;
 use http_front::query_of;
 use std::alloc::Global;
@@ -17,6 +17,12 @@ use vb_value::{Bytes, List, Memory, Text};
 
 /// How many requests a recording that is made may have.
 const MOST_REQUESTS: u32 = 10_000;
+
+/// How many workers there are if no option says so.
+const DEFAULT_WORKERS: u32 = 4;
+
+/// The port if no option says one.
+const DEFAULT_PORT: u16 = 8080;
 
 /// A command.
 #[derive(Debug, Drop)]
@@ -43,6 +49,17 @@ pub enum Command {
         workers: u32,
         /// Whether the journal is asked for.
         journal: bool,
+    },
+    /// Answers those who come to a port, until it has admitted so many requests.
+    Serve {
+        /// The folder of the site. It may be any word.
+        site: Text,
+        /// After how many requests it stops, from 1 to 100,000.
+        requests: u32,
+        /// How many workers there are, from 1 to 16; 4 if no option says so.
+        workers: u32,
+        /// The port, from 1 to 65,535; 8080 if no option says so.
+        port: u16,
     },
     /// Replays a recording that is made, and not read.
     Gen {
@@ -89,6 +106,9 @@ pub fn read_words(alloc: Global, words: &[String]) -> Result<Command, WordStop>
     if let Some((site, workers, journal)) = replay_words(words) {
         return Ok(replay_command(alloc, site, workers, journal)?);
     }
+    if let Some((site, requests, workers, port)) = serve_words(words) {
+        return Ok(serve_command(alloc, site, requests, workers, port)?);
+    }
     match gen_words(words) {
         Some((count, journal)) => Ok(Command::Gen { count, journal }),
         None => Err(WordStop::Usage),
@@ -123,9 +143,38 @@ fn replay_words(words: &[String]) -> Option<(&str, u32, bool)>
         (λ said. spec.SaysReplay (map string_bytes words.now) (chars said.0.now) said.1 said.2) }
 {
     let rest = behind("replay", words)?;
-    let (site, options) = rest.split_first()?;
-    let (workers, journal) = replay_options(options)?;
-    Some((site.as_str(), workers, journal))
+    let (site, rest) = rest.split_first()?;
+    let said = said_options(rest)?;
+    if said.are_of_replay() {
+        Some((
+            site.as_str(),
+            said.workers.unwrap_or(DEFAULT_WORKERS),
+            said.journal,
+        ))
+    } else {
+        None
+    }
+}
+
+/// The word for the site, how many requests, how many workers, and the port, where the words are those of `serve`.
+fn serve_words(words: &[String]) -> Option<(&str, u32, u32, u16)>
+    ensures { MatchOption result (AreNoServe (map string_bytes words.now))
+        (λ said. spec.SaysServe (map string_bytes words.now) (chars said.0.now) said.1 said.2 said.3) }
+{
+    let rest = behind("serve", words)?;
+    let (site, rest) = rest.split_first()?;
+    let said = said_options(rest)?;
+    let requests = said.requests?;
+    if said.journal {
+        return None;
+    }
+    let workers = said.workers.unwrap_or(DEFAULT_WORKERS);
+    Some((
+        site.as_str(),
+        requests,
+        workers,
+        said.port.unwrap_or(DEFAULT_PORT),
+    ))
 }
 
 /// How many requests, and whether a journal, where the words are those of `gen`.
@@ -134,11 +183,11 @@ fn gen_words(words: &[String]) -> Option<(u32, bool)>
         (λ said. spec.SaysGen (map string_bytes words.now) said.0 said.1) }
 {
     let rest = behind("gen", words)?;
-    let (number, options) = rest.split_first()?;
+    let (number, rest) = rest.split_first()?;
     let count = number_to(MOST_REQUESTS, number.as_str())?;
-    let (journal, rest) = journal_at(options);
-    if rest.is_empty() {
-        Some((count, journal))
+    let said = said_options(rest)?;
+    if said.are_of_gen() {
+        Some((count, said.journal))
     } else {
         None
     }
@@ -161,6 +210,24 @@ fn replay_command(alloc: Global, site: &str, workers: u32, journal: bool) -> Res
         site: Text::from_str(alloc, site)?,
         workers,
         journal,
+    })
+}
+
+/// The command `serve` for this word.
+fn serve_command(
+    alloc: Global,
+    site: &str,
+    requests: u32,
+    workers: u32,
+    port: u16,
+) -> Result<Command, Memory>
+    ensures { Gives result (Command.Serve (chars site.now) requests workers port) }
+{
+    Ok(Command::Serve {
+        site: Text::from_str(alloc, site)?,
+        requests,
+        workers,
+        port,
     })
 }
 

@@ -7,4 +7,5 @@ mod Marks
 mod Outputs
 mod ReplayEnds
 pub mod Replaying
+mod ServeEnds
 mod Summed

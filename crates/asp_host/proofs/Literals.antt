@@ -32,6 +32,10 @@ pub write_characters : chars (codes "write fault") ≡ codes "write fault"
 unfolding chars
 write_characters = refl
 
+pub accept_characters : chars (codes "accept fault") ≡ codes "accept fault"
+unfolding chars
+accept_characters = refl
+
 abbrev is_ascii : List ℕ → Bool
 is_ascii text = list_all (λ c. nat_lt c 128) text
 

@@ -8,7 +8,7 @@ use Rattle.asp_site.specs.declared.site.Site.{Site}
 use Rattle.site_load.specs.Accepted.{IsAccepted, IsFolderFault}
 use Rattle.asp_host.specs.declared.status.Status.{Status}
 use Rattle.asp_host.specs.declared.status.Status.TheVariants.{Ok, Memory, Usage, SiteRefused, StartFailed}
-use Rattle.asp_host.specs.declared.status.Status.TheVariants.{ReadFault, WriteFault, RecordRefused, JournalFull}
+use Rattle.asp_host.specs.declared.status.Status.TheVariants.{ReadFault, WriteFault, RecordRefused, JournalFull, AcceptFault}
 use Rattle.asp_host.specs.Around.{Around, Change, IsLeft}
 
 -- how many pages and how many static files a site has, as one line
@@ -33,6 +33,7 @@ CheckWrites files sink Usage = ⊥
 CheckWrites files sink (RecordRefused offset) = ⊥
 CheckWrites files sink (JournalFull entries weight) = ⊥
 CheckWrites files sink (StartFailed fail) = ⊥
+CheckWrites files sink AcceptFault = ⊥
 
 -- how `check` ends: its source is left as it was
 abbrev pub CheckEnds : Around → Status → Type 0

@@ -20,7 +20,7 @@ use Rattle.asp_summary.specs.Lines.{summary_lines}
 use Rattle.site_load.specs.Accepted.{IsAccepted}
 use Rattle.asp_host.specs.declared.status.Status.{Status}
 use Rattle.asp_host.specs.declared.status.Status.TheVariants.{Ok, Memory, Usage, SiteRefused, StartFailed}
-use Rattle.asp_host.specs.declared.status.Status.TheVariants.{ReadFault, WriteFault, RecordRefused, JournalFull}
+use Rattle.asp_host.specs.declared.status.Status.TheVariants.{ReadFault, WriteFault, RecordRefused, JournalFull, AcceptFault}
 use Rattle.asp_host.specs.Around.{Around, Change, IsLeft}
 use Rattle.asp_host.specs.Replay.{rules_for}
 use Rattle.asp_host.specs.Replayed.{HasFilled, HasNotStarted}
@@ -97,6 +97,7 @@ GenWrites count journal sink (SiteRefused fault) = ⊥
 GenWrites count journal sink ReadFault = ⊥
 GenWrites count journal sink (RecordRefused offset) = ⊥
 GenWrites count journal sink Usage = ⊥
+GenWrites count journal sink AcceptFault = ⊥
 
 -- how `gen` ends: its source is left as it was
 abbrev pub GenEnds : ℕ → Bool → Around → Status → Type 0

@@ -13,7 +13,7 @@ use Rattle.asp_site.specs.declared.site.Site.{Site}
 use Rattle.site_load.specs.Accepted.{IsAccepted, IsFolderFault}
 use Rattle.asp_host.specs.declared.status.Status.{Status}
 use Rattle.asp_host.specs.declared.status.Status.TheVariants.{Ok, Memory, Usage, SiteRefused, StartFailed}
-use Rattle.asp_host.specs.declared.status.Status.TheVariants.{ReadFault, WriteFault, RecordRefused, JournalFull}
+use Rattle.asp_host.specs.declared.status.Status.TheVariants.{ReadFault, WriteFault, RecordRefused, JournalFull, AcceptFault}
 use Rattle.asp_host.specs.Around.{Around, Change, IsLeft}
 use Rattle.asp_host.specs.Request.{job_of}
 
@@ -57,6 +57,7 @@ GetWrites path query files sink ReadFault = IsLeft sink
 GetWrites path query files sink Memory = IsLeft sink
 GetWrites path query files sink Usage = ⊥
 GetWrites path query files sink (RecordRefused offset) = ⊥
+GetWrites path query files sink AcceptFault = ⊥
 
 -- how `get` ends: its source is left as it was, and the sink has what was run
 abbrev pub GetEnds : List ℕ → List ℕ → Around → Status → Type 0

@@ -8,5 +8,6 @@ pub mod Get
 pub mod Check
 pub mod Replay
 pub mod Gen
+pub mod Serve
 pub mod Loaded
 pub mod Host

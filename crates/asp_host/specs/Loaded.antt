@@ -9,6 +9,7 @@ use Rattle.asp_host.specs.Around.{Change}
 use Rattle.asp_host.specs.Check.{CheckWrites}
 use Rattle.asp_host.specs.Get.{GetWrites}
 use Rattle.asp_host.specs.Replay.{IsFor, ReplayWrites}
+use Rattle.asp_host.specs.Serve.{ServeMeets}
 
 -- what `check` wrote, by its status
 abbrev pub CheckWritesOf : Site → Change → Status → Type 0
@@ -29,3 +30,8 @@ ReplayWritesOf journal site source sink status = (files : Option (List SiteFile)
 abbrev pub RecordingWritesOf : Bool → Site → Recording → Change → Status → Type 0
 RecordingWritesOf journal site recording sink status = (files : Option (List SiteFile)) (source : Change)
     → IsFor files source site recording → ReplayWrites journal files source sink status
+
+-- what `serve` came to
+abbrev pub ServeMeetsOf : ℕ → Site → List ℕ → Bool → Status → Type 0
+ServeMeetsOf requests site seed ends status = (files : Option (List SiteFile))
+    → IfSome files (λ all. IsAccepted all site) → ServeMeets requests files seed ends status

@@ -12,7 +12,7 @@ use Rattle.asp_site.specs.declared.site.Site.{Site}
 use Rattle.site_load.specs.Accepted.{IsAccepted, IsFolderFault}
 use Rattle.asp_host.specs.declared.status.Status.{Status}
 use Rattle.asp_host.specs.declared.status.Status.TheVariants.{Ok, Memory, Usage, SiteRefused, StartFailed}
-use Rattle.asp_host.specs.declared.status.Status.TheVariants.{ReadFault, WriteFault, RecordRefused, JournalFull}
+use Rattle.asp_host.specs.declared.status.Status.TheVariants.{ReadFault, WriteFault, RecordRefused, JournalFull, AcceptFault}
 use Rattle.asp_host.specs.Around.{Around, Change, IsLeft}
 use Rattle.asp_host.specs.Input.{IsAllRecording, IsSourceRefusedAt}
 use Rattle.asp_host.specs.Replayed.{HasFilled, HasNotStarted, HasReplayed, HasReplayedPart}
@@ -71,6 +71,7 @@ ReplayWrites journal files source sink (SiteRefused fault) =
 ReplayWrites journal files source sink (StartFailed fail) = FailsToBegin files source sink fail
 ReplayWrites journal files source sink ReadFault = IsLeft sink
 ReplayWrites journal files source sink Usage = ⊥
+ReplayWrites journal files source sink AcceptFault = ⊥
 
 -- how `replay` ends
 abbrev pub ReplayEnds : Bool → Around → Status → Type 0

@@ -11,11 +11,13 @@ use Rattle.asp_job.specs.declared.answer.Fail.TheVariants as fail
 use Rattle.asp_replay.specs.declared.stop.FeedStop.{FeedStop}
 use Rattle.asp_replay.specs.declared.stop.FeedStop.TheVariants as feed
 use Rattle.asp_acts.specs.Failures.{limit_name}
+use Rattle.asp_serve.specs.declared.hosting.ServeStop.{ServeStop}
+use Rattle.asp_serve.specs.declared.hosting.ServeStop.TheVariants as serve
 use Rattle.site_load.specs.declared.stop.LoadStop.{LoadStop}
 use Rattle.site_load.specs.declared.stop.LoadStop.TheVariants.{Refused, ReadFault as FolderFault, Memory as NoMemory}
 use Rattle.asp_host.specs.declared.status.Status.{Status}
 use Rattle.asp_host.specs.declared.status.Status.TheVariants.{Ok, Memory, Usage, SiteRefused, StartFailed}
-use Rattle.asp_host.specs.declared.status.Status.TheVariants.{ReadFault, WriteFault, RecordRefused, JournalFull}
+use Rattle.asp_host.specs.declared.status.Status.TheVariants.{ReadFault, WriteFault, RecordRefused, JournalFull, AcceptFault}
 use Rattle.asp_host.specs.declared.recording.RecordingStop.{RecordingStop}
 use Rattle.asp_host.specs.declared.recording.RecordingStop.TheVariants as recording
 
@@ -44,6 +46,13 @@ feed_status_of (feed.JournalFull entries weight) = JournalFull entries weight
 feed_status_of feed.WriteFault = WriteFault
 feed_status_of feed.Memory = Memory
 
+-- how a command ends where a host did not serve to its end
+abbrev pub serve_status_of : ServeStop → Status
+serve_status_of (serve.StartFailed fail) = StartFailed fail
+serve_status_of (serve.JournalFull entries weight) = JournalFull entries weight
+serve_status_of serve.AcceptFault = AcceptFault
+serve_status_of serve.Memory = Memory
+
 -- how words end that say no command: they are told so, unless memory ran out
 abbrev pub IsUnsaid : Status → Type 0
 IsUnsaid Usage = Unit {0}
@@ -61,6 +70,7 @@ code_of WriteFault = 5
 code_of (RecordRefused offset) = 6
 code_of (JournalFull entries weight) = 7
 code_of (StartFailed fail) = 8
+code_of AcceptFault = 9
 
 -- the name of what is wrong with a file
 abbrev pub kind_text_of : FaultKind → List ℕ
@@ -130,3 +140,4 @@ text_of (RecordRefused offset) = refused_text_of offset
 text_of (JournalFull entries weight) = full_text_of entries weight
 text_of ReadFault = codes "read fault"
 text_of WriteFault = codes "write fault"
+text_of AcceptFault = codes "accept fault"

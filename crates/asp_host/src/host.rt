@@ -6,22 +6,26 @@ ghost use Rattle.asp_command.specs.Words.{IsCommand, SaysNoCommand};
 ghost use Rattle.asp_io.specs.Faults.{HasRisen};
 ghost use Rattle.asp_host.specs.Host.{Ends, ReadsNothing};
 ghost use Rattle.asp_host.specs.Status.{IsUnsaid};
+ghost use Rattle.asp_serve.specs.Visits.{MayFail};
 
 use crate::check::check;
 use crate::generated::replay_generated;
 use crate::get::get;
 use crate::replay::replay;
+use crate::serve::serve;
 use crate::status::Status;
 use asp_command::{Command, WordStop, read_words};
 use asp_io::{Clock, Folder, Sink, Source, Wire};
+use asp_serve::Terms;
 use std::alloc::Global;
 use std::sync::Wait;
 use std::thread::Threads;
 
 /// Runs the command that the words say, without the program's own name.
 ///
-/// The site is what `folder` holds, a recording is what `source` has, and the output goes to `sink`. The other things
-/// of the outside are for commands to come.
+/// The site is what `folder` holds, a recording is what `source` has, and the output goes to `sink`. A host that serves
+/// takes its connections from `wire`, the time of each request from `clock` and the letters of session keys from `seed`;
+/// which port the words say is for the caller, who made the wire.
 pub fn run_host<Rt, F, S, K, W, C>(
     rt: &Rt,
     alloc: Global,
@@ -38,14 +42,17 @@ where
     F: Folder,
     S: Source,
     K: Sink,
-    W: Wire + Drop,
-    C: Clock,
+    W: Wire + Send + Drop,
+    W::L: Send + Drop,
+    C: Clock + Sync,
     // The command that the words say ends as its own statement has it: see `specs/Host.antt`.
     ensures ends { (command : Said) → IsCommand (map string_bytes words.now) command
         → Ends command (record {
           files = F.files folder.old;
           source = record { before = S.left source.old; after = S.left source.new };
           sink = record { before = K.held sink.old; after = K.held sink.new };
+          seed = seed;
+          wire_ends = W.ENDS;
         }) result }
 
     // Words that say no command are told so, unless memory ran out, and nothing is written.
@@ -57,6 +64,7 @@ where
     ensures read_fault { result ≡ Status.ReadFault → HasRisen (F.faults folder.old) (F.faults folder.new)
         ⊎ HasRisen (S.faults source.old) (S.faults source.new) }
     ensures write_fault { result ≡ Status.WriteFault → HasRisen (K.faults sink.old) (K.faults sink.new) }
+    ensures accept_fault { result ≡ Status.AcceptFault → MayFail W.faults }
 
     // `replay` alone reads the source.
     ensures source { (command : Said) → IsCommand (map string_bytes words.now) command → ReadsNothing command
@@ -78,6 +86,21 @@ where
                 journal,
             },
         ) => replay(alloc, journal, folder, source, sink),
+        Ok(
+            Command::Serve {
+                site: _,
+                requests,
+                workers,
+                port: _,
+            },
+        ) => {
+            let terms = Terms {
+                seed,
+                requests,
+                workers,
+            };
+            serve(rt, alloc, &terms, folder, wire, clock)
+        }
         Ok(Command::Gen { count, journal }) => replay_generated(alloc, count, journal, sink),
         Err(WordStop::Usage) => Status::Usage,
         Err(WordStop::Memory) => Status::Memory,

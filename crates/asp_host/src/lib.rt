@@ -12,10 +12,12 @@ mod recording;
 mod replay;
 mod replay_text;
 mod request;
+mod serve;
 mod source;
 mod status;
 mod summing;
 
 pub use asp_command::{Command, WordStop, one_command, read_words};
+pub use asp_serve::{LinkEnd, serve_link};
 pub use host::run_host;
 pub use status::{Status, status_code, status_text};

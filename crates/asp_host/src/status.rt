@@ -10,11 +10,12 @@ use crate::replay_text::{full_text, refused_text};
 use asp_get::GetStop;
 use asp_job::Fail;
 use asp_replay::FeedStop;
+use asp_serve::ServeStop;
 use site_load::LoadStop;
 use std::alloc::Global;
 use vb_value::{Copied, FaultKind, Memory, SiteFault, Text};
 
-/// The commands. `serve` is not run yet.
+/// The commands.
 const USAGE: &str = "usage: get SITE PATH, check SITE, replay SITE, serve SITE --requests N, gen N";
 
 /// How a command ended.
@@ -46,6 +47,8 @@ pub enum Status {
         /// What they would weigh; 2^64 - 1 stands for a greater weight.
         weight: u64,
     },
+    /// The wire failed.
+    AcceptFault,
 }
 
 impl From<LoadStop> for Status {
@@ -105,6 +108,21 @@ impl From<FeedStop> for Status {
     }
 }
 
+impl From<ServeStop> for Status {
+    ghost use Rattle.asp_host.specs.Status.{serve_status_of};
+
+    ghost from_gives = { λ stop status. status ≡ serve_status_of stop };
+
+    fn from(stop: ServeStop) -> Status {
+        match stop {
+            ServeStop::StartFailed(fail) => Status::StartFailed(fail),
+            ServeStop::JournalFull { entries, weight } => Status::JournalFull { entries, weight },
+            ServeStop::AcceptFault => Status::AcceptFault,
+            ServeStop::Memory => Status::Memory,
+        }
+    }
+}
+
 /// The exit status of the program, 0 where the command did all of its work.
 pub fn status_code(status: &Status) -> u8
     ensures { result ≡ code_of status.now }
@@ -119,6 +137,7 @@ pub fn status_code(status: &Status) -> u8
         Status::RecordRefused { .. } => 6,
         Status::JournalFull { .. } => 7,
         Status::StartFailed(_) => 8,
+        Status::AcceptFault => 9,
     }
 }
 
@@ -136,6 +155,7 @@ pub fn status_text(alloc: Global, status: &Status) -> Result<Text, Memory>
         Status::Usage => Text::from_str(alloc, USAGE),
         Status::ReadFault => Text::from_str(alloc, "read fault"),
         Status::WriteFault => Text::from_str(alloc, "write fault"),
+        Status::AcceptFault => Text::from_str(alloc, "accept fault"),
     }
 }
 

@@ -17,7 +17,7 @@ use Rattle.asp_site.specs.declared.site.Site.{Site}
 use Rattle.site_load.specs.Accepted.{IsAccepted, IsFolderFault}
 use Rattle.asp_host.specs.declared.status.Status.{Status}
 use Rattle.asp_host.specs.declared.status.Status.TheVariants.{Ok, Memory, Usage, SiteRefused, StartFailed}
-use Rattle.asp_host.specs.declared.status.Status.TheVariants.{ReadFault, WriteFault, RecordRefused, JournalFull}
+use Rattle.asp_host.specs.declared.status.Status.TheVariants.{ReadFault, WriteFault, RecordRefused, JournalFull, AcceptFault}
 use Rattle.asp_host.specs.Around.{Around}
 use Rattle.asp_host.specs.Check.{CheckEnds}
 use Rattle.asp_host.specs.Gen.{GenEnds}
@@ -28,10 +28,13 @@ use Rattle.asp_host.specs.Replay.{Fills, HasRefused, IsFor, ReplayEnds, rules_fo
 use Rattle.asp_host.specs.Replay as replay
 use Rattle.asp_host.specs.Replayed.{HasFilled, HasNotStarted}
 use Rattle.asp_host.specs.Request.{job_of}
+use Rattle.asp_host.specs.Serve.{ServeEnds, rules_from}
+use Rattle.asp_host.specs.Serve as serve
+use Rattle.asp_serve.specs.Hosts.{HasFailedToStart}
 use Rattle.asp_core.specs.Laws.{NoneIs}
 use Rattle.asp_replay.specs.Sequential.{is_memory_end}
-use Rattle.host_laws.specs.Laws.{GeneratesUnrefused, IsNoRefusal, NeverFails, NeverFills, OneOutcome, OneSite}
-use Rattle.host_laws.specs.Laws.{ReplaysUnrefused, TellsFiles}
+use Rattle.host_laws.specs.Laws.{GeneratesUnrefused, IsNoRefusal, NeverFails, NeverFailsToStart, NeverFills}
+use Rattle.host_laws.specs.Laws.{OneOutcome, OneSite, ReplaysUnrefused, ServesUnrefused, TellsFiles}
 use Rattle.host_laws.specs.Laws.{TellsRecording, TellsSite}
 
 -- ---- the laws that these stand on
@@ -76,6 +79,7 @@ module _ (sites : OneSite) (faultless : SiteOrFault) where
   check_refuses_none around site Memory tells ends = tt
   check_refuses_none around site ReadFault tells ends = tt
   check_refuses_none around site WriteFault tells ends = tt
+  check_refuses_none around site AcceptFault tells ends = tt
   check_refuses_none around site (SiteRefused fault) tells ends = no_folder_fault around site fault tells ends.1.0
   check_refuses_none around site Usage tells ends = ends.1
   check_refuses_none around site (RecordRefused offset) tells ends = ends.1
@@ -117,6 +121,7 @@ module _ (sites : OneSite) (faultless : SiteOrFault) where
     get_refuses_none path query around site answer Memory tells answered ends = tt
     get_refuses_none path query around site answer ReadFault tells answered ends = tt
     get_refuses_none path query around site answer WriteFault tells answered ends = tt
+    get_refuses_none path query around site answer AcceptFault tells answered ends = tt
     get_refuses_none path query around site answer (SiteRefused fault) tells answered ends =
         no_folder_fault around site fault tells ends.1.0
     get_refuses_none path query around site answer (StartFailed fail) tells answered ends =
@@ -168,6 +173,7 @@ module _ (sites : OneSite) (faultless : SiteOrFault) where
   gen_refuses_none count journal around Memory never little ends = tt
   gen_refuses_none count journal around ReadFault never little ends = tt
   gen_refuses_none count journal around WriteFault never little ends = tt
+  gen_refuses_none count journal around AcceptFault never little ends = tt
   gen_refuses_none count journal around (SiteRefused fault) never little ends = ends.1
   gen_refuses_none count journal around (JournalFull entries weight) never little ends =
       let fills = ends.1.0 in (
@@ -181,6 +187,30 @@ module _ (sites : OneSite) (faultless : SiteOrFault) where
       fails.failed
   gen_refuses_none count journal around (RecordRefused offset) never little ends = ends.1
   gen_refuses_none count journal around Usage never little ends = ends.1
+
+  -- ---- `serve`
+
+  not_begun : (around : Around) (site : Site) (fail : Fail) → TellsSite around site
+      → NeverFailsToStart (rules_from site around.seed) → serve.FailsToBegin around.files around.seed fail → ⊥
+  not_begun around site fail tells never fails =
+      let same = same_site around tells.files site fails.site tells.tells tells.accepted fails.accepted in
+      never fail (subst (λ (site : Site). HasFailedToStart (rules_from site around.seed) fail) same fails.failed)
+
+  pub serve_refuses_none : (requests : ℕ) (around : Around) (site : Site) (status : Status) → TellsSite around site
+      → NeverFailsToStart (rules_from site around.seed) → ServeEnds requests around status
+      → ServesUnrefused around status
+  serve_refuses_none requests around site Ok tells never ends = tt
+  serve_refuses_none requests around site Memory tells never ends = tt
+  serve_refuses_none requests around site ReadFault tells never ends = tt
+  serve_refuses_none requests around site WriteFault tells never ends = tt
+  serve_refuses_none requests around site AcceptFault tells never ends = tt
+  serve_refuses_none requests around site (SiteRefused fault) tells never ends =
+      no_folder_fault around site fault tells ends.2
+  serve_refuses_none requests around site (StartFailed fail) tells never ends =
+      not_begun around site fail tells never ends.2
+  serve_refuses_none requests around site (JournalFull entries weight) tells never ends = ends.2
+  serve_refuses_none requests around site (RecordRefused offset) tells never ends = ends.2
+  serve_refuses_none requests around site Usage tells never ends = ends.2
 
   -- ---- `replay`
 
@@ -241,6 +271,7 @@ module _ (sites : OneSite) (faultless : SiteOrFault) where
     replay_refuses_none journal around site recording Memory tells also never little ends = tt
     replay_refuses_none journal around site recording ReadFault tells also never little ends = tt
     replay_refuses_none journal around site recording WriteFault tells also never little ends = tt
+    replay_refuses_none journal around site recording AcceptFault tells also never little ends = tt
     replay_refuses_none journal around site recording (SiteRefused fault) tells also never little ends =
         no_folder_fault around site fault tells ends.0
     replay_refuses_none journal around site recording (RecordRefused offset) tells also never little ends =

@@ -24,7 +24,7 @@ use Rattle.asp_replay.specs.Sequential.{is_memory_end}
 use Rattle.asp_site.specs.declared.site.Site.{Site}
 use Rattle.site_load.specs.Accepted.{IsAccepted}
 use Rattle.asp_host.specs.declared.status.Status.{Status}
-use Rattle.asp_host.specs.declared.status.Status.TheVariants.{Ok, Memory, ReadFault, WriteFault, JournalFull}
+use Rattle.asp_host.specs.declared.status.Status.TheVariants.{Ok, Memory, ReadFault, WriteFault, JournalFull, AcceptFault}
 use Rattle.asp_host.specs.Around.{Around, Change}
 use Rattle.asp_host.specs.Check.{CheckEnds}
 use Rattle.asp_host.specs.Gen.{FillsGenerated, GenEnds, GeneratesAll}
@@ -32,6 +32,9 @@ use Rattle.asp_host.specs.Get.{GetEnds, site_rules}
 use Rattle.asp_host.specs.Replay.{Fills, ReplayEnds, ReplaysAll, rules_for}
 use Rattle.asp_host.specs.Replayed.{HasFilled}
 use Rattle.asp_host.specs.Request.{job_of}
+use Rattle.asp_host.specs.Serve.{ServeEnds, rules_from}
+use Rattle.asp_host.specs.Serve as serve
+use Rattle.asp_serve.specs.Hosts.{HasFailedToStart}
 
 -- ---- what is told
 
@@ -74,17 +77,23 @@ OneOutcome = (rules : Rules) (job : Job) (one other : Result Answer GetStop) →
 
 -- ---- what is refused
 
--- The command did all of its work, memory ran out, or the folder, the source or the sink failed: nothing was refused.
+-- The command did all of its work, memory ran out, or the folder, the source, the sink or the wire failed: nothing was
+-- refused.
 abbrev pub IsNoRefusal : Status → Type 0
 IsNoRefusal Ok = Unit {0}
 IsNoRefusal Memory = Unit {0}
 IsNoRefusal ReadFault = Unit {0}
 IsNoRefusal WriteFault = Unit {0}
+IsNoRefusal AcceptFault = Unit {0}
 IsNoRefusal _ = ⊥
 
 -- no valid journal to which nothing came shows a first run that failed
 abbrev pub NeverFails : Rules → Type 0
 NeverFails rules = (past : List Entry) (fail : Fail) → IsValidJournal rules past → ¬ (HasFailed rules past fail)
+
+-- no valid journal shows one, whatever came to it
+abbrev pub NeverFailsToStart : Rules → Type 0
+NeverFailsToStart rules = (fail : Fail) → ¬ (HasFailedToStart rules fail)
 
 -- in no valid journal that is fed with the items, or with the first of them, and in which no run ended because memory ran
 -- out, was what could come next too much
@@ -102,6 +111,11 @@ abbrev pub GeneratesUnrefused : ℕ → Status → Type 0
 GeneratesUnrefused count (JournalFull entries weight) =
     (fills : FillsGenerated count entries weight) × ¬ (NoneIs is_memory_end fills.filled.0)
 GeneratesUnrefused count status = IsNoRefusal status
+
+-- a host that serves refused nothing, unless at some point of its journal something did not fit
+abbrev pub ServesUnrefused : Around → Status → Type 0
+ServesUnrefused around (JournalFull entries weight) = serve.Fills around.files around.seed entries weight
+ServesUnrefused around status = IsNoRefusal status
 
 -- `check` refuses no folder that is a site
 abbrev pub CheckRefusesNone : Type 0
@@ -130,6 +144,12 @@ GenRefusesNone = (count : ℕ) (journal : Bool) (around : Around) (status : Stat
     → ((site : Site) → IsAccepted count_files site
     → NeverFills (rules_for site (generated count)) (generated count).items)
     → GenEnds count journal around status → GeneratesUnrefused count status
+
+-- `serve` refuses no site whose application never fails to begin with its seed
+abbrev pub ServeRefusesNone : Type 0
+ServeRefusesNone = (requests : ℕ) (around : Around) (site : Site) (status : Status) → TellsSite around site
+    → NeverFailsToStart (rules_from site around.seed) → ServeEnds requests around status
+    → ServesUnrefused around status
 
 -- ---- what is written
 

@@ -3,7 +3,7 @@
 ghost use Rattle.host_laws.specs.Heads.{HeadsStayWhole};
 ghost use Rattle.host_laws.specs.Laws.{CheckRefusesNone, GenRefusesNone, GetRefusesNone};
 ghost use Rattle.host_laws.specs.Laws.{OneGenJournal, OneGetOutput, OneOutcome, OneReplayJournal, OneReplayOutput, OneSite};
-ghost use Rattle.host_laws.specs.Laws.{ReplayRefusesNone};
+ghost use Rattle.host_laws.specs.Laws.{ReplayRefusesNone, ServeRefusesNone};
 ghost use Rattle.host_laws.specs.Objects.{ObjectsEnd};
 
 use asp_acts::{objects_end_in_runs, runs_answer_sound};
@@ -37,6 +37,7 @@ pub fn nothing_refused_without_cause()
     ensures check { CheckRefusesNone }
     ensures get { GetRefusesNone }
     ensures replay { ReplayRefusesNone }
+    ensures serve { ServeRefusesNone }
     ensures generated { GenRefusesNone }
 {
     one_site();

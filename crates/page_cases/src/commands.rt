@@ -59,6 +59,22 @@ fn write_command(out: &mut Answer, command: &Command) {
             out.put(" workers");
             write_asked(out, *journal);
         }
+        Command::Serve {
+            site,
+            requests,
+            workers,
+            port,
+        } => {
+            out.put("serve ");
+            out.text(site.as_slice());
+            out.put(" at ");
+            out.show(port);
+            out.put(" until ");
+            out.show(requests);
+            out.put(" requests with ");
+            out.show(workers);
+            out.put(" workers");
+        }
         Command::Gen { count, journal } => {
             out.put("gen of ");
             out.show(count);

@@ -1,4 +1,4 @@
-use Rattle.asp_host.proofs.Literals.{memory_characters, usage_characters, read_characters, write_characters}
+use Rattle.asp_host.proofs.Literals.{accept_characters, memory_characters, read_characters, usage_characters, write_characters}
 use Rattle.asp_host.proofs.status.status_text.Goals as goal
 
 pub returns-in-Memory : goal.returns-in-Memory
@@ -12,3 +12,6 @@ returns-in-ReadFault c = rw (c.in-ReadFault.is, ← read_characters) c.from_str-
 
 pub returns-in-WriteFault : goal.returns-in-WriteFault
 returns-in-WriteFault c = rw (c.in-WriteFault.is, ← write_characters) c.from_str-in-WriteFault.ensures
+
+pub returns-in-AcceptFault : goal.returns-in-AcceptFault
+returns-in-AcceptFault c = rw (c.in-AcceptFault.is, ← accept_characters) c.from_str-in-AcceptFault.ensures
