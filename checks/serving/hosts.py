@@ -89,8 +89,9 @@ def wait_until(holds, seconds=LONGEST):
 class Host:
     """A run of the program. Its output and what it said stand in files, so that it never waits for a reader."""
 
-    def __init__(self, words, port):
+    def __init__(self, words, port, requests=1000):
         self.port = port
+        self.at_once = min(requests, 1000)
         self.output = tempfile.TemporaryFile()
         self.errors = tempfile.TemporaryFile()
         ends = {"stdin": subprocess.DEVNULL, "stdout": self.output, "stderr": self.errors}
@@ -123,7 +124,7 @@ class Host:
         end = time.monotonic() + LONGEST
         while self.runs() and time.monotonic() < end:
             try:
-                asked(self.port, nothing * 1000)
+                asked(self.port, nothing * self.at_once)
             except OSError:
                 time.sleep(0.05)
         return self.told()
@@ -181,7 +182,7 @@ class Check:
         folder = self.site(site) if isinstance(site, dict) else site
         port = port or free_port()
         words = ["serve", folder, "--requests", str(requests), "--workers", str(workers), "--port", str(port)]
-        return Serving(self, Host([*self.program, *words], port))
+        return Serving(self, Host([*self.program, *words], port, requests))
 
     def run(self, work):
         """Runs the check, and tells whether nothing differed."""

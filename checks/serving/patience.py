@@ -78,10 +78,12 @@ def earned(host):
 
 def unread(host):
     """A client that never reads. The bytes that went are those that wait at either end; its segments and its room are
-    small, so that they are few. That the connection ended is seen by its state."""
+    small, so that they are few. That the answer began is seen by its first bytes, and that the connection ended by its
+    state."""
     with Client(host.port, segment=536, room=4096) as client:
         here = client.link.getsockname()[1]
         client.send(request("/large.txt"))
+        select.select([client.link], [], [])
         begun = time.monotonic()
         went = 0
         while True:
