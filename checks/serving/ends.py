@@ -11,7 +11,7 @@ import time
 
 from .clients import Client, asked, cookie, masked, page, request
 from .hosts import COUNT, FAILS, SITE, USAGE, WITHOUT, Host, free_port, wait_until
-from .patience import LARGE
+from .patience import large
 
 A3B = page(b"A3B")
 # Words of `serve` that say no command.
@@ -112,7 +112,7 @@ def stopped_between(check):
 
 def broken_off(check):
     """A connection that its client breaks off, at any place, ends alone."""
-    with check.host({**SITE, **LARGE}, 100) as host:
+    with check.host(large(check), 100) as host:
         for sent in (b"", b"GET /p", request("/p.asp"), request("/large.txt"), request("/p.asp") * 3 + b"GET"):
             for pause in (0, 0.05):
                 client = Client(host.port)

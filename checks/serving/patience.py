@@ -16,9 +16,14 @@ from .hosts import EXAMPLES, IS_OPEN, SITE, sockets
 FIRST_BYTE, NEXT_REQUEST, TRANSFER, BYTES_A_SECOND = 3, 1, 20, 4096
 # How much later than by the table a connection may be seen to end, on a machine that does other work too.
 LATER = 4
-LARGE = {"/large.txt": b"a" * 4194304}
+LARGEST = 4194304
 A3B = page(b"A3B")
 SHOP = ["/", "/default.asp", "/find.asp", "/found.asp?thing=lamp&pieces=3", "/broken.asp", "/style.css"]
+
+
+def large(check):
+    """Returns a site with the largest file that there may be, or a smaller one for a program that is slow."""
+    return {**SITE, "/large.txt": b"a" * max(600000, check.many(LARGEST))}
 
 
 def until_end(client, wait=TRANSFER * 4):
@@ -113,7 +118,7 @@ def serves_others(check, host, ended):
 
 def slow_clients(check):
     """Each slow or silent client is let go by the table, while others are served."""
-    with check.host({**SITE, **LARGE}, 5000, workers=len(SLOW) + 1) as host:
+    with check.host(large(check), 5000, workers=len(SLOW) + 1) as host:
 
         def wait(slow):
             longest, lasted, came = slow(host)

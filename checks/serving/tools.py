@@ -60,7 +60,7 @@ def curled(check, site, words, paths, client=0, one_connection=True):
     wanted = b"".join(answers)
     check.same("curl's status", status, 0)
     check.same("the answers", without_moments(relay.came), without_moments(wanted))
-    if one_connection:
+    if one_connection and check.part == 1:
         check.same("connections", relay.connections, 1)
     return without_moments(output), [without_moments(it) for it in answers]
 
