@@ -53,7 +53,7 @@ def ran(*words, **how):
 def curled(check, site, words, paths, client=0, one_connection=True):
     """Runs curl over a host of a site. What comes is what `replay` writes for the requests that it sent, as those of a
     client: 0 is any that shows its cookie, and 1 one that keeps it. Returns what curl wrote, and those answers."""
-    with check.host(site, 100) as host, Relay(host.port) as relay:
+    with check.host(site, 50) as host, Relay(host.port) as relay:
         urls = [f"http://127.0.0.1:{relay.port}{path}" for path in paths]
         status, output = ran("curl", "--silent", "--path-as-is", "--max-time", "60", *words, *urls, cwd=check.folder)
     answers = replayed(check, site, client, requests_of(relay.sent))
@@ -118,7 +118,7 @@ def curl_parts(check):
 def benched(check):
     """Requests by ab, sixteen at a time and each on a connection of its own, on a page that counts them."""
     count = max(100, check.many(20000))
-    with check.host(COUNT, count + 2000) as host:
+    with check.host(COUNT, count + 50) as host:
         first = asked(host.port, request("/count.asp"))
         mine = cookie(first).removeprefix("Cookie: ")
         url = f"http://127.0.0.1:{host.port}/count.asp"
