@@ -173,9 +173,10 @@ def through_nginx(check, way):
     count = check.many(10000)
     with check.host(SITE, check.many(100000)) as host:
         with Nginx(check, lambda port: way.format(port=port, host=host.port)) as proxy:
+            seconds = "2" if check.part == 1 else "20"
             end = time.monotonic() + 60
             while time.monotonic() < end and proxy.statuses().get("200", 0) < count:
-                ran("wrk", "-c", "16", "-t", "2", "-d", "1", f"http://127.0.0.1:{proxy.port}/p.asp")
+                ran("wrk", "-c", "16", "-t", "2", "-d", seconds, f"http://127.0.0.1:{proxy.port}/p.asp")
             told = proxy.statuses()
             check.same("other statuses than 200", {it: told[it] for it in told if it not in ("200", "499")}, {})
             check.holds(f"in a minute only {told.get('200', 0)} requests", told.get("200", 0) >= count)
