@@ -171,7 +171,7 @@ def visited(port, path):
 def through_nginx(check, way):
     """Requests by wrk through nginx: each is answered by the host."""
     count = check.many(10000)
-    with check.host(SITE, check.many(100000)) as host:
+    with check.host(SITE, max(2000, check.many(100000))) as host:
         with Nginx(check, lambda port: way.format(port=port, host=host.port)) as proxy:
             seconds = "2" if check.part == 1 else "20"
             end = time.monotonic() + 60
