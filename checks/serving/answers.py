@@ -81,7 +81,7 @@ def refused():
 
 def session_over_cuts(check):
     """Two requests, the second with the first's cookie, each cut at each of its bytes."""
-    with check.host(SITE, 1000, workers=1) as host:
+    with check.host(SITE, 300, workers=1) as host:
         second = b""
         key = 0
         at = 0
@@ -99,7 +99,7 @@ def session_over_cuts(check):
 
 def session_in_one_piece(check):
     """Two requests of one session in one piece. Its cookie must be known before, so a request came for it."""
-    with check.host(SITE, 100) as host, Client(host.port) as client:
+    with check.host(SITE, 50) as host, Client(host.port) as client:
         client.send(request("/id.asp"))
         first = client.answer()
         check.same("the session", masked(first), page(b"1", key=1))
@@ -110,7 +110,7 @@ def session_in_one_piece(check):
 
 def byte_by_byte(check):
     """A head and a body, of which each byte comes alone."""
-    with check.host(SITE, 100) as host, Client(host.port) as client:
+    with check.host(SITE, 50) as host, Client(host.port) as client:
         for byte in POSTED:
             client.send(bytes([byte]))
             time.sleep(0.001)
@@ -119,7 +119,7 @@ def byte_by_byte(check):
 
 def kept_and_closed(check):
     """Answers of each kind on one connection, which the last of them ends."""
-    with check.host(SITE, 1000) as host:
+    with check.host(SITE, 50) as host:
         with Client(host.port) as client:
             for sent, wanted, is_head in KEPT:
                 client.send(sent)
@@ -135,7 +135,7 @@ def kept_and_closed(check):
 
 def version_before(check):
     """HTTP/1.0: each answer ends its connection, whatever was asked for."""
-    with check.host(SITE, 100) as host:
+    with check.host(SITE, 50) as host:
         for sent, wanted, _ in OLD:
             with Client(host.port) as client:
                 client.send(sent, request("/p.asp"))
@@ -144,7 +144,7 @@ def version_before(check):
 
 def thousandth(check):
     """1,001 requests in one piece: 1,000 answers, the last of which ends the connection."""
-    with check.host(SITE, 5000) as host, Client(host.port) as client:
+    with check.host(SITE, 1001) as host, Client(host.port) as client:
         client.send(request("/p.asp") * 1001)
         for number in range(1, 1000):
             check.same(f"answer {number}", masked(client.answer()), A3B)
@@ -154,7 +154,7 @@ def thousandth(check):
 
 def unfinished(check):
     """What is no whole request when no more comes gets no answer."""
-    with check.host(SITE, 1000) as host:
+    with check.host(SITE, 20) as host:
         for what, sent in (("nothing", b""), ("half a head", FIRST[:20]), ("half a body", POSTED[:-1])):
             check.same(what, asked(host.port, sent), b"")
             check.same(f"{what}, behind a request", masked(asked(host.port, request("/p.asp"), sent)), A3B)
@@ -162,7 +162,7 @@ def unfinished(check):
 
 def refusals(check):
     """What is refused gets its answer whole and no reset, and ends the connection."""
-    with check.host(SITE, 1000) as host:
+    with check.host(SITE, 50) as host:
         for what, (sent, status) in refused().items():
             with Client(host.port) as client:
                 client.send(sent)
@@ -176,7 +176,7 @@ def greatest(check):
     """The longest head, the most fields and the largest body that are taken."""
     body = b"a=" + b"b" * (MOST_BODY - 2)
     posted = request("/form.asp", FORM, method="POST", body=body)
-    with check.host(SITE, 100) as host:
+    with check.host(SITE, 50) as host:
         check.same("a head of 16,384 bytes", masked(asked(host.port, padded(LONGEST_HEAD))), A3B)
         check.same("64 fields", masked(asked(host.port, fields(MOST_FIELDS))), A3B)
         wanted = page(body[2:] + b";1;%d" % MOST_BODY)
@@ -194,7 +194,7 @@ def little_room(check):
 
 def cookies(check):
     """Whose cookie goes on with a session, and who gets a new key."""
-    with check.host(SITE, 100) as host:
+    with check.host(SITE, 50) as host:
         first = asked(host.port, FIRST)
         mine = cookie(first)
         letters = mine.partition("=")[2]
@@ -217,7 +217,7 @@ def cookies(check):
 
 def too_many_sessions(check):
     """Who comes without a cookie 4,097 times: the last is refused, and who has a session is not."""
-    with check.host(SITE, 10000, workers=1) as host:
+    with check.host(SITE, 4200, workers=1) as host:
         first = asked(host.port, FIRST)
         for _ in range(4):
             asked(host.port, FIRST * 1000)
@@ -231,7 +231,7 @@ def too_many_sessions(check):
 
 def no_content(check):
     """An answer of status 204 has no content and no length, and the next one is read from its beginning."""
-    with check.host(SITE, 100) as host:
+    with check.host(SITE, 50) as host:
         none = answer("204 x", HTML, PRIVATE)
         check.same("the bytes", masked(asked(host.port, request("/none.asp"), request("/hi.asp"))), none + page(b"hi"))
         link = http.client.HTTPConnection("127.0.0.1", host.port, timeout=60)
@@ -244,7 +244,7 @@ def no_content(check):
 
 def expected(check):
     """`Expect: 100-continue` gets nothing before the answer, which comes behind a body that comes a second later."""
-    with check.host(SITE, 100) as host, Client(host.port) as client:
+    with check.host(SITE, 50) as host, Client(host.port) as client:
         sent = request("/form.asp", FORM, "Expect: 100-continue", method="POST", body=b"a=1")
         head, empty, body = sent.partition(b"\r\n\r\n")
         client.send(head, empty)
@@ -267,7 +267,7 @@ def recordings():
 
 def recorded(check):
     """Requests as browsers and other clients send them."""
-    with check.host(SITE, 1000) as host:
+    with check.host(SITE, 50) as host:
         for name, sent, content in recordings():
             is_head = sent.startswith(b"HEAD ")
             closes = b" HTTP/1.0\r\n" in sent

@@ -136,7 +136,7 @@ def same_port(check):
 def counted(check):
     """Requests of one session on many connections at once: each is counted once."""
     count = check.many(2000)
-    with check.host(COUNT, count + 1000) as host:
+    with check.host(COUNT, count + 50) as host:
         mine = cookie(asked(host.port, request("/count.asp")))
         sent = request("/count.asp", mine) * 10
         with concurrent.futures.ThreadPoolExecutor(16) as threads:

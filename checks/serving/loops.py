@@ -12,8 +12,8 @@ from .tools import Nginx, visited
 
 # After how many requests a host of the loop ends, once a connection has ended: nginx keeps some while many visit.
 REQUESTS = 40
-# How often many visit and then few, and how many visits each time.
-ROUNDS, AT_ONCE, LATER = 3, 45, 20
+# How many hosts are to have visitors, how often at most many visit and then few, and how many visits each time.
+HOSTS, MOST_ROUNDS, AT_ONCE, LATER = 3, 12, 45, 20
 
 
 def lines(host):
@@ -60,15 +60,15 @@ def weeks(check):
 
     port = free_port()
     with Loop(check, port), Nginx(check, lines(port)) as proxy:
-        for _ in range(ROUNDS):
+        while counts.count(1) < HOSTS and len(counts) < MOST_ROUNDS * (AT_ONCE + LATER):
             threads = [threading.Thread(target=visit, args=(AT_ONCE // 3, 0)) for _ in range(3)]
             for thread in threads:
                 thread.start()
             for thread in threads:
                 thread.join()
             visit(LATER, 0.1)
-        check.same("statuses", proxy.statuses(), {"200": ROUNDS * (AT_ONCE + LATER)})
-    check.holds(f"{counts.count(1)} hosts had a first visitor", counts.count(1) >= ROUNDS)
+        check.same("statuses", proxy.statuses(), {"200": len(counts)})
+    check.holds(f"{counts.count(1)} hosts had a first visitor", counts.count(1) >= HOSTS)
 
 
 CHECKS = {"the loop of examples/serving behind nginx": (weeks, "nginx")}

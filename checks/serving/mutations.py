@@ -78,7 +78,7 @@ def mutated(check):
                 came = b"<reset>"
             check.holds(f"for {sent!r:.2000} came {came!r:.600}", is_right(came))
 
-    with check.host(SITE, min(100000, 3 * count + 100)) as host:
+    with check.host(SITE, min(100000, 2 * count + 50)) as host:
         port = host.port
         with concurrent.futures.ThreadPoolExecutor(4) as threads:
             list(threads.map(connections, range(4)))

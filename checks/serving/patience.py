@@ -118,7 +118,7 @@ def serves_others(check, host, ended):
 
 def slow_clients(check):
     """Each slow or silent client is let go by the table, while others are served."""
-    with check.host(large(check), 5000, workers=len(SLOW) + 1) as host:
+    with check.host(large(check), 600, workers=len(SLOW) + 1) as host:
 
         def wait(slow):
             longest, lasted, came = slow(host)

@@ -53,7 +53,7 @@ def ran(*words, **how):
 def curled(check, site, words, paths, client=0, one_connection=True):
     """Runs curl over a host of a site. What comes is what `replay` writes for the requests that it sent, as those of a
     client: 0 is any that shows its cookie, and 1 one that keeps it. Returns what curl wrote, and those answers."""
-    with check.host(site, 100) as host, Relay(host.port) as relay:
+    with check.host(site, 50) as host, Relay(host.port) as relay:
         urls = [f"http://127.0.0.1:{relay.port}{path}" for path in paths]
         status, output = ran("curl", "--silent", "--path-as-is", "--max-time", "60", *words, *urls, cwd=check.folder)
     answers = replayed(check, site, client, requests_of(relay.sent))
@@ -118,7 +118,7 @@ def curl_parts(check):
 def benched(check):
     """Requests by ab, sixteen at a time and each on a connection of its own, on a page that counts them."""
     count = max(100, check.many(20000))
-    with check.host(COUNT, count + 2000) as host:
+    with check.host(COUNT, count + 50) as host:
         first = asked(host.port, request("/count.asp"))
         mine = cookie(first).removeprefix("Cookie: ")
         url = f"http://127.0.0.1:{host.port}/count.asp"
@@ -171,11 +171,12 @@ def visited(port, path):
 def through_nginx(check, way):
     """Requests by wrk through nginx: each is answered by the host."""
     count = check.many(10000)
-    with check.host(SITE, check.many(100000)) as host:
+    with check.host(SITE, max(2000, check.many(100000))) as host:
         with Nginx(check, lambda port: way.format(port=port, host=host.port)) as proxy:
+            seconds = "2" if check.part == 1 else "20"
             end = time.monotonic() + 60
             while time.monotonic() < end and proxy.statuses().get("200", 0) < count:
-                ran("wrk", "-c", "16", "-t", "2", "-d", "1", f"http://127.0.0.1:{proxy.port}/p.asp")
+                ran("wrk", "-c", "16", "-t", "2", "-d", seconds, f"http://127.0.0.1:{proxy.port}/p.asp")
             told = proxy.statuses()
             check.same("other statuses than 200", {it: told[it] for it in told if it not in ("200", "499")}, {})
             check.holds(f"in a minute only {told.get('200', 0)} requests", told.get("200", 0) >= count)
