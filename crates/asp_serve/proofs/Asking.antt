@@ -1,10 +1,9 @@
 -- What a request's job brings to a journal, and what keeps it out.
-use Rattle.std.proofs.Common.{◌≡◌, ◌⊎◌, ℕ, ◌+◌, ◌<◌, ◌≤◌, ◌++◌, Bool, true, false, if◌then◌else◌, List, [], ◌∷◌, refl, ap, sym}
-use Rattle.std.proofs.Common.{◌∙◌, subst, append-nil, append_assoc, inl, inr, reverse, arith, Result, Ok, Err}
+use Rattle.std.proofs.Common.{◌≡◌, ◌⊎◌, ℕ, ◌+◌, ◌++◌, Bool, true, false, if◌then◌else◌, List, [], ◌∷◌, refl, ap, sym}
+use Rattle.std.proofs.Common.{◌∙◌, subst, append-nil, inl, inr, reverse, arith, Result, Ok, Err}
 use Rattle.std.specs.Prelude.{max}
-use Rattle.std.proofs.lemmas.Bool.{cases_Bool, cases_lt}
+use Rattle.std.proofs.lemmas.Bool.{cases_lt}
 use Rattle.turn_desk.specs.Histories.{BeginsWith}
-use Rattle.asp_job.specs.declared.answer.Answer.{Answer}
 use Rattle.asp_job.specs.declared.entry.Entry.{Entry}
 use Rattle.asp_job.specs.declared.entry.What.{What}
 use Rattle.asp_job.specs.declared.entry.What.TheVariants.{Admit, App, Begin, End, Halt, Queue, Refuse, Stop, Take, Tick}
@@ -13,13 +12,12 @@ use Rattle.asp_job.specs.declared.job.Work.{Work}
 use Rattle.asp_job.specs.declared.request.Request.{Request}
 use Rattle.asp_job.specs.History.{with_lane}
 use Rattle.asp_job.specs.Journal.{admit_entries, admit_entry, is_refused, job_now, past_after, queue_entries}
-use Rattle.asp_job.specs.Journal.{tick_entries, with_owed}
+use Rattle.asp_job.specs.Journal.{tick_entries}
 use Rattle.asp_job.specs.Keys.{session_of}
 use Rattle.asp_job.specs.Rules.{Rules}
-use Rattle.asp_job.specs.Runs.{drawn, is_halted, is_stopping, moment_of}
+use Rattle.asp_job.specs.Runs.{drawn, is_stopping, moment_of}
 use Rattle.asp_job.specs.Turns.{key_asked_by, key_for, needs_key, owed}
 use Rattle.asp_core.specs.declared.admitted.Admitted.{Admitted}
-use Rattle.asp_core.specs.declared.stop.AdmitStop.{AdmitStop}
 use Rattle.asp_core.specs.declared.stop.AdmitStop.TheVariants as admit
 use Rattle.asp_core.specs.Drawing.{entry_then, told_of}
 use Rattle.asp_core.specs.Kernel.{IsBeginTooMuch}
@@ -28,7 +26,7 @@ use Rattle.asp_desk.specs.Calls.{Admits, IsTurn}
 use Rattle.asp_serve.specs.declared.ending.LinkEnd.{LinkEnd}
 use Rattle.asp_serve.specs.declared.ending.LinkEnd.TheVariants as end
 use Rattle.asp_serve.specs.Jobs.{AreOfLink, Asking, IsAdmitted, IsOfLink, brought_by, job_for, jobs_in}
-use Rattle.asp_serve.specs.Served.{CallIsTooMuch, Grows, IsFull, JobIsTooMuch, Lane}
+use Rattle.asp_serve.specs.Served.{CallIsTooMuch, IsFull, JobIsTooMuch, Lane}
 use Rattle.asp_serve.specs.Steps.{Asks, Hinders, IsHindered, IsTold, Works}
 use Rattle.asp_serve.proofs.Lanes.{begins_then, grows_behind, jobs_both, links_both, turn_grows, turn_rests, works_then}
 

@@ -1,6 +1,6 @@
 -- One request of a connection after another.
-use Rattle.std.proofs.Common.{◌≡◌, ◌⊎◌, ℕ, ◌+◌, ◌<◌, ◌≤◌, ◌++◌, Bool, true, false, List, [], ◌∷◌, length, refl, ap, sym}
-use Rattle.std.proofs.Common.{◌∙◌, subst, append-nil, append_assoc, inl, inr, reverse, arith, Option, Some, None}
+use Rattle.std.proofs.Common.{◌≡◌, ◌⊎◌, ℕ, ◌+◌, ◌≤◌, ◌++◌, Bool, true, false, List, [], ◌∷◌, length, refl, ap, sym}
+use Rattle.std.proofs.Common.{◌∙◌, subst, append-nil, append_assoc, inl, inr, reverse, arith, None}
 use Rattle.std.proofs.Common.{IfSome, length-append}
 use Rattle.std.specs.Prelude.{option_to_list}
 use Rattle.turn_desk.specs.Histories.{BeginsWith}

@@ -1,21 +1,18 @@
 -- A look, and a hand-out, in a turn.
-use Rattle.std.proofs.Common.{◌≡◌, ◌==◌, ℕ, ◌++◌, Bool, true, false, List, [], ◌∷◌, refl, ap, sym, ◌∙◌, subst, reverse}
-use Rattle.std.proofs.Common.{Option, Some, None, Result, Ok, Err, inl, inr}
+use Rattle.std.proofs.Common.{◌≡◌, ◌==◌, ℕ, Bool, true, false, [], ◌∷◌, refl, ap, sym, ◌∙◌, reverse}
+use Rattle.std.proofs.Common.{Option, Some, None, Ok, Err, inl, inr}
 use Rattle.std.specs.Option.{is_some}
 use Rattle.std.proofs.lemmas.Bool.{cases_Bool}
 use Rattle.asp_job.specs.declared.answer.Answer.{Answer}
-use Rattle.asp_job.specs.declared.entry.Entry.{Entry}
 use Rattle.asp_job.specs.declared.entry.What.TheVariants.{Take}
-use Rattle.asp_job.specs.declared.request.Request.{Request}
 use Rattle.asp_job.specs.History.{with_lane}
 use Rattle.asp_job.specs.Output.{answer_of_run}
 use Rattle.asp_job.specs.Rules.{Rules}
 use Rattle.asp_job.specs.Runs.{asking_lane_of, has_ended, is_halted, is_stopping, is_taken, job_of}
 use Rattle.asp_job.specs.Running.{is_page}
 use Rattle.asp_core.specs.declared.stop.CollectStop.{CollectStop}
-use Rattle.asp_core.specs.declared.stop.CollectStop.TheVariants.{Foreign, NotEnded}
 use Rattle.asp_core.specs.Kernel.{RunView}
-use Rattle.asp_core.specs.Ready.{collect_stop, ended_stop, lane_stop, page_stop}
+use Rattle.asp_core.specs.Ready.{ended_stop, lane_stop}
 use Rattle.asp_core.proofs.Kept.{past_of_more}
 use Rattle.asp_desk.specs.declared.looking.Looked.{Looked}
 use Rattle.asp_desk.specs.Calls.{Collects, IsTurn, Looks, looked_of}

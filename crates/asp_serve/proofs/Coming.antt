@@ -4,7 +4,6 @@ use Rattle.std.proofs.Common.{arith, inl, inr, reverse, Option, Some, None, IfNo
 use Rattle.std.specs.Prelude.{◌||◌}
 use Rattle.std.proofs.lemmas.Bool.Decides.{nat_tests}
 use Rattle.asp_job.specs.declared.answer.Answer.{Answer}
-use Rattle.asp_job.specs.declared.entry.Entry.{Entry}
 use Rattle.asp_job.specs.declared.request.Request.{Request}
 use Rattle.asp_job.specs.Journal.{AreRight}
 use Rattle.asp_job.specs.Rules.{Rules}

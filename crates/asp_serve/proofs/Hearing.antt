@@ -1,5 +1,5 @@
 -- What is heard on a connection, piece after piece.
-use Rattle.std.proofs.Common.{◌≡◌, ℕ, ◌<◌, ◌≤◌, ◌^◌, ◌++◌, List, [], ◌∷◌, length, take, refl, ap, sym, ◌∙◌, subst, append-nil}
+use Rattle.std.proofs.Common.{◌≡◌, ℕ, ◌<◌, ◌≤◌, ◌^◌, ◌++◌, List, [], length, take, refl, ap, sym, ◌∙◌, subst, append-nil}
 use Rattle.std.proofs.Common.{append_assoc, Option, Some, None, IfSome}
 use Rattle.std.specs.Prelude.{option_map}
 use Rattle.asp_io.specs.Faults.{HasRisen}
@@ -7,7 +7,7 @@ use Rattle.asp_io.specs.Source.{Reads}
 use Rattle.http_front.specs.Reader.{Wants}
 use Rattle.asp_serve.specs.declared.reading.Heard.{Heard}
 use Rattle.asp_serve.specs.declared.reading.Heard.TheVariants as heard
-use Rattle.asp_serve.specs.Served.{LinkView, Moves}
+use Rattle.asp_serve.specs.Served.{LinkView}
 use Rattle.asp_serve.specs.Steps.{HasFed, HasHeard, Hears}
 use Rattle.asp_serve.proofs.Links.{moves_none, moves_then, reads_move, risen_then}
 

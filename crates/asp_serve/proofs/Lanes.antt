@@ -3,7 +3,7 @@ use Rattle.std.proofs.Common.{◌≡◌, ◌==◌, ℕ, ◌++◌, All, List, [],
 use Rattle.std.proofs.lemmas.List.{append_cancel_left}
 use Rattle.std.proofs.lemmas.List.Elements.{filter-append}
 use Rattle.turn_desk.specs.Histories.{BeginsWith, GrowsBy, own_part}
-use Rattle.turn_desk.specs.Shown.{IsSameLane, LaneFits}
+use Rattle.turn_desk.specs.Shown.{LaneFits}
 use Rattle.turn_desk.proofs.Parts.{own_part-own}
 use Rattle.asp_job.specs.declared.entry.Entry.{Entry}
 use Rattle.asp_job.specs.declared.entry.What.{What}

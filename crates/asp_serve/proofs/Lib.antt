@@ -8,3 +8,4 @@ pub mod Hearing
 pub mod Collecting
 pub mod Coming
 pub mod Visiting
+pub mod HostEnds

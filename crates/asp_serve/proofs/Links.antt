@@ -1,8 +1,7 @@
 -- What moves on a connection, in several steps.
-use Rattle.std.proofs.Common.{◌≡◌, ℕ, ◌+◌, ◌-◌, ◌<◌, ◌≤◌, ◌^◌, ◌++◌, List, [], ◌∷◌, length, take, drop, refl, ap, sym, ◌∙◌}
-use Rattle.std.proofs.Common.{subst, append-nil, append_assoc, arith, Option, Some, None}
-use Rattle.std.specs.Prelude.{option_map, min}
-use Rattle.asp_io.specs.Copying.{AddsPart}
+use Rattle.std.proofs.Common.{◌≡◌, ℕ, ◌<◌, ◌≤◌, ◌^◌, ◌++◌, List, [], refl, ap, sym, ◌∙◌}
+use Rattle.std.proofs.Common.{append-nil, append_assoc, arith, Option, Some, None}
+use Rattle.std.specs.Prelude.{option_map}
 use Rattle.asp_io.specs.Faults.{HasRisen}
 use Rattle.asp_io.specs.Sink.{with_bytes}
 use Rattle.asp_io.proofs.Writing.{with_bytes-append}

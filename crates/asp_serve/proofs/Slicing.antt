@@ -1,16 +1,12 @@
 -- A slice only works; and what did not fit in it.
-use Rattle.std.proofs.Common.{◌≡◌, ◌⊎◌, ℕ, ◌++◌, List, [], ◌∷◌, refl, ap, sym, ◌∙◌, subst, append-nil, inl, inr, reverse}
-use Rattle.std.proofs.Common.{Result, Ok, Err, true, false}
-use Rattle.turn_desk.specs.Histories.{BeginsWith}
-use Rattle.turn_desk.specs.Shown.{LaneView}
+use Rattle.std.proofs.Common.{◌≡◌, ℕ, ◌++◌, List, [], ◌∷◌, ap, sym, ◌∙◌, subst, append-nil, inl, inr, reverse}
+use Rattle.std.proofs.Common.{Ok, Err, false}
 use Rattle.asp_job.specs.declared.entry.Entry.{Entry}
 use Rattle.asp_job.specs.declared.request.Request.{Request}
-use Rattle.asp_job.specs.History.{call_entry}
-use Rattle.asp_job.specs.Journal.{begin_entry, end_entry}
+use Rattle.asp_job.specs.Journal.{begin_entry}
 use Rattle.asp_job.specs.Rules.{Rules}
 use Rattle.asp_job.specs.Running.{Pace}
 use Rattle.asp_job.specs.Told.{Meaning, Told}
-use Rattle.asp_job.specs.declared.entry.EndKind.TheVariants as kind
 use Rattle.asp_core.specs.declared.stop.BeginStop.{BeginStop}
 use Rattle.asp_core.specs.declared.stop.BeginStop.TheVariants as stop
 use Rattle.asp_core.specs.Kernel.{IsBeginTooMuch, RunView}
@@ -19,9 +15,9 @@ use Rattle.asp_desk.specs.declared.slices.Slice.TheVariants as slice
 use Rattle.asp_desk.specs.declared.steps.Stepped.{Stepped}
 use Rattle.asp_desk.specs.declared.steps.Stepped.TheVariants as step
 use Rattle.asp_desk.specs.Hands.{Fixed, HandView, HostView, rules_at}
-use Rattle.asp_desk.specs.Slices.{HasGoneOn, HasStepped, IsBegun, IsReady, IsRefused, IsSlice, Passes, StepsHere, Works, slice_of}
+use Rattle.asp_desk.specs.Slices.{HasGoneOn, HasStepped, IsBegun, IsReady, IsRefused, IsSlice, StepsHere, Works, slice_of}
 use Rattle.asp_desk.specs.Slices.{stopped}
-use Rattle.asp_desk.specs.Steps.{Begins, Steps, end_at}
+use Rattle.asp_desk.specs.Steps.{Begins, Steps}
 use Rattle.asp_serve.specs.Served.{CallIsTooMuch, IsFull}
 use Rattle.asp_serve.specs.Steps as serve
 use Rattle.asp_serve.specs.Steps.{AreOfWork}

@@ -1,13 +1,10 @@
 -- One step of a connection, and its ends.
-use Rattle.std.proofs.Common.{◌≡◌, ◌⊎◌, ℕ, ◌+◌, ◌<◌, ◌≤◌, ◌++◌, Bool, true, false, cond, List, [], ◌∷◌, length, refl, ap}
-use Rattle.std.proofs.Common.{sym, ◌∙◌, subst, append-nil, append_assoc, inl, inr, reverse, arith, Option, Some, None}
-use Rattle.std.proofs.Common.{Result, Ok, Err, IfSome, nat_lt, nat_le}
-use Rattle.std.specs.Prelude.{max, take, drop, not, ◌&&◌}
+use Rattle.std.proofs.Common.{◌≡◌, ◌⊎◌, ℕ, ◌+◌, ◌++◌, Bool, true, false, List, [], ◌∷◌, length, refl, ap}
+use Rattle.std.proofs.Common.{sym, ◌∙◌, subst, append-nil, inl, inr, reverse, arith, Option, Some, None}
+use Rattle.std.specs.Prelude.{max}
 use Rattle.httparse.specs.Grammar.{RequestHead}
 use Rattle.turn_desk.specs.Histories.{BeginsWith}
-use Rattle.asp_io.specs.Faults.{HasRisen}
 use Rattle.asp_job.specs.declared.answer.Answer.{Answer}
-use Rattle.asp_job.specs.declared.entry.Entry.{Entry}
 use Rattle.asp_job.specs.declared.job.Job.{Job}
 use Rattle.asp_job.specs.declared.request.Request.{Request}
 use Rattle.asp_job.specs.Journal.{AreRight}
@@ -28,13 +25,13 @@ use Rattle.asp_serve.specs.declared.reading.Heard.TheVariants as heard
 use Rattle.asp_serve.specs.declared.writing.Sent.{Sent}
 use Rattle.asp_serve.specs.declared.writing.Sent.TheVariants as sent
 use Rattle.asp_serve.specs.Jobs.{Asking, IsAdmitted, IsAnswered, closes, closing, is_last, job_for, work_closes}
-use Rattle.asp_serve.specs.Served.{Ends, Grows, HasServed, IsFixed, IsFull, IsNextOf, IsServedFrom, Lane, LinkView}
+use Rattle.asp_serve.specs.Served.{Ends, Grows, HasServed, IsNextOf, IsServedFrom, Lane, LinkView}
 use Rattle.asp_serve.specs.Served.{Moves, Served}
-use Rattle.asp_serve.specs.Steps.{Comes, GoesOn, HasCome, HasHeard, Hears, Hinders, IsHindered, IsTold, Sends, Works}
+use Rattle.asp_serve.specs.Steps.{Comes, GoesOn, HasCome, HasHeard, Hinders, IsHindered, IsTold, Sends, Works}
 use Rattle.asp_serve.specs.Steps.{closed_if, end_after}
 use Rattle.asp_serve.proofs.Asking.{full_more, full_then}
 use Rattle.asp_serve.proofs.Lanes.{grows_before, works_grow, works_none}
-use Rattle.asp_serve.proofs.Links.{moves_none, moves_then, risen_then}
+use Rattle.asp_serve.proofs.Links.{moves_none}
 use Rattle.asp_serve.proofs.Behind.{admitted_later, done, from_then, goes_then}
 
 -- ---- what was served by one step

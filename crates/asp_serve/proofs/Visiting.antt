@@ -1,6 +1,6 @@
 -- What is known at the end of a worker's parts.
-use Rattle.std.proofs.Common.{◌≡◌, ◌⊎◌, ℕ, ◌++◌, List, [], ◌∷◌, Option, None, Some, IfSome, refl, ap, sym, ◌∙◌, subst}
-use Rattle.std.proofs.Common.{append-nil, append_assoc, inl, inr, reverse, true, zero, suc, Result, Ok, Err}
+use Rattle.std.proofs.Common.{◌≡◌, ◌⊎◌, ℕ, ◌++◌, List, Option, None, Some, IfSome, ap, sym, ◌∙◌, subst}
+use Rattle.std.proofs.Common.{append_assoc, inl, inr, reverse, zero, suc, Err}
 use Rattle.std.proofs.Common.{unwrap_or}
 use Rattle.std.proofs.lemmas.List.{reverse-append}
 use Rattle.turn_desk.specs.Histories.{BeginsWith}

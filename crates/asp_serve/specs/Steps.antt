@@ -1,5 +1,5 @@
 -- The steps in which a connection is served.
-use Rattle.std.specs.Prelude.{◌≡◌, ◌⊎◌, ℕ, Bool, true, false, List, [], ◌∷◌, ◌++◌, length, reverse, take, Some, None}
+use Rattle.std.specs.Prelude.{◌≡◌, ◌⊎◌, ℕ, Bool, true, false, List, [], ◌∷◌, ◌++◌, length, reverse, Some, None}
 use Rattle.std.specs.Prelude.{IfSome, Option, Result, Ok, Err}
 use Rattle.turn_desk.specs.Histories.{BeginsWith}
 use Rattle.asp_io.specs.Faults.{HasRisen}
@@ -16,7 +16,6 @@ use Rattle.http_front.specs.Front.{IsFront}
 use Rattle.http_front.specs.Front as front
 use Rattle.http_front.specs.Reader.{ComesNext, Wants}
 use Rattle.http_front.specs.declared.reader.Next.TheVariants as next
-use Rattle.asp_response.specs.AnswerText.{IsAnswerText}
 use Rattle.asp_serve.specs.declared.ending.LinkEnd.{LinkEnd}
 use Rattle.asp_serve.specs.declared.ending.LinkEnd.TheVariants as end
 use Rattle.asp_serve.specs.declared.reading.Heard.{Heard}

@@ -1,10 +1,12 @@
 //! A host that serves: its first run, then its workers, and how it ended.
 #![tactic(auto)]
 
-ghost use Rattle.std.specs.Prelude.{◌≡◌, ◌≤◌, ◌∷◌, All, IfErr, IfOk, IfSome, IsTrue, None, [], true};
+ghost use Rattle.std.specs.Prelude.{◌≡◌, ◌≤◌, All, IfErr, IfOk, IfSome, None, false};
 ghost use Rattle.std.specs.List.{AllZip};
 ghost use Rattle.asp_core.specs.Kernel.{past_of, rules_by, rules_of, setting_of};
+ghost use Rattle.asp_core.specs.Start.{start_fail};
 ghost use Rattle.asp_desk.specs.Hands.{rules_at};
+ghost use Rattle.asp_job.specs.Journal.{IsValidJournal};
 ghost use Rattle.asp_serve.specs.Hosts as spec;
 ghost use Rattle.asp_serve.specs.Visits.{IsEarly, IsFreeHand, MayFail};
 
@@ -61,18 +63,55 @@ fn stop_of(early: Early) -> ServeStop
 }
 
 /// Why the first of the workers ended that ended early.
-fn first_early(made: &[Option<Early>]) -> Option<Early>
-    ensures { result ≡ spec.first_early made.now }
+fn first_early(mut made: &[Option<Early>]) -> Option<Early>
+    ensures { result ≡ spec.first_early made.entry.now }
 {
-    for early in made {
-        if early.is_some() {
-            return *early;
+    while let [early, rest @ ..] = made {
+        if let Some(early) = early {
+            return Some(*early);
         }
+        made = rest;
     }
     None
 }
 
-/// How a host ended whose journal this is, and whose workers came to this.
+/// How a host ended whose first run did not fail, and none of whose workers ended early.
+fn ended_late<W: Wire, R: Runner>(core: &Core<R>, requests: u32) -> Result<(), ServeStop>
+    requires account { IsValidJournal (rules_of R.meaning core.now) (past_of core.now) }
+    requires started { start_fail (rules_of R.meaning core.now) (past_of core.now) ≡ None }
+    ensures { spec.HasServed (MayFail W.faults) (rules_of R.meaning core.now) W.ENDS requests result }
+{
+    if !is_whole(core) {
+        return Err(ServeStop::Memory);
+    }
+    if W::ENDS {
+        return Ok(());
+    }
+    if core.admitted() < requests {
+        return Err(ServeStop::Memory);
+    }
+    Ok(())
+}
+
+/// How a host ended whose first run did not fail, and whose workers came to this.
+fn ended_well<W: Wire, R: Runner>(
+    core: &Core<R>,
+    made: &[Option<Early>],
+    requests: u32,
+) -> Result<(), ServeStop>
+    requires account { IsValidJournal (rules_of R.meaning core.now) (past_of core.now) }
+    requires started { start_fail (rules_of R.meaning core.now) (past_of core.now) ≡ None }
+    requires causes { All (λ early. IfSome early
+        (IsEarly (MayFail W.faults) (rules_of R.meaning core.now) (past_of core.now))) made.now }
+    ensures { spec.HasServed (MayFail W.faults) (rules_of R.meaning core.now) W.ENDS requests result }
+{
+    match first_early(made) {
+        Some(early) => Err(stop_of(early)),
+        None => ended_late::<W, R>(core, requests),
+    }
+}
+
+/// How a host ended whose workers came to this.
 fn ended<W: Wire, R: Runner>(
     core: &Core<R>,
     made: &[Option<Early>],
@@ -82,19 +121,12 @@ fn ended<W: Wire, R: Runner>(
         (IsEarly (MayFail W.faults) (rules_of R.meaning core.now) (past_of core.now))) made.now }
     ensures { spec.HasServed (MayFail W.faults) (rules_of R.meaning core.now) W.ENDS requests result }
 {
-    if let Some(fail) = core.start_fail() {
-        return Err(ServeStop::StartFailed(fail));
+    // The journal is valid.
+    let _ = core.journal();
+    match core.start_fail() {
+        Some(fail) => Err(ServeStop::StartFailed(fail)),
+        None => ended_well::<W, R>(core, made, requests),
     }
-    if let Some(early) = first_early(made) {
-        return Err(stop_of(early));
-    }
-    if !is_whole(core) {
-        return Err(ServeStop::Memory);
-    }
-    if !W::ENDS && core.admitted() < requests {
-        return Err(ServeStop::Memory);
-    }
-    Ok(())
 }
 
 /// Each worker takes connections until the host stops, and works until nothing is left. The hands, and why each ended.

@@ -36,7 +36,8 @@ fn full<Rt: Wait, R: Runner>(
 ) -> ServeStop
     requires hand { IsHandOf R.meaning R.stands host.now hand.old }
     requires was { WasTooMuch (rules_at R.meaning host.now) (reverse hand.old.lane.seen) entries weight }
-    ensures { spec.IsStop ⊥ (rules_at R.meaning host.now) result }
+    ensures hand { IsHandOf R.meaning R.stands host.now hand.new }
+    ensures stop { spec.IsStop ⊥ (rules_at R.meaning host.now) result }
 {
     match host.look(rt, hand).start_fail {
         Some(fail) => ServeStop::StartFailed(fail),

@@ -1,4 +1,4 @@
-use Rattle.std.proofs.Common.{◌≡◌, true, false, refl, subst, sym, ◌∙◌, ap}
+use Rattle.std.proofs.Common.{◌≡◌, true, false, subst, ap}
 use Rattle.asp_job.specs.declared.request.Request.{Request}
 use Rattle.asp_desk.specs.Hands.{rules_at}
 use Rattle.asp_serve.specs.Steps.{IsHindered, IsTold}

@@ -1,4 +1,4 @@
-use Rattle.std.proofs.Common.{◌≡◌, refl, subst, sym, ◌∙◌, ap}
+use Rattle.std.proofs.Common.{sym, ◌∙◌}
 use Rattle.asp_desk.specs.Hands.{rules_at}
 use Rattle.http_front.proofs.Bounds.{refused_range}
 use Rattle.http_front.proofs.Small.{small_request}

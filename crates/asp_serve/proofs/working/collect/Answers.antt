@@ -1,7 +1,6 @@
-use Rattle.std.proofs.Common.{refl, sym, ◌∙◌}
+use Rattle.std.proofs.Common.{sym, ◌∙◌}
 use Rattle.asp_desk.specs.Hands.{rules_at}
 use Rattle.asp_serve.proofs.Collecting.{collected, free_held, kept_back}
-use Rattle.asp_serve.proofs.Lanes.{works_none}
 use Rattle.asp_serve.proofs.working.collect.Goals as goal
 
 pub returns-in-Ok-clause-some : goal.returns-in-Ok-clause-some

@@ -1,5 +1,4 @@
 use Rattle.std.proofs.Common.{subst}
-use Rattle.asp_desk.specs.declared.slices.Slice.TheVariants as slice
 use Rattle.asp_desk.specs.Slices.{IsSlice}
 use Rattle.asp_serve.proofs.Slicing.{slice_full, slice_works}
 use Rattle.asp_serve.proofs.working.work.Goals as goal

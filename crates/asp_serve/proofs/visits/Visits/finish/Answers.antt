@@ -1,4 +1,4 @@
-use Rattle.std.proofs.Common.{◌≡◌, None, Option, Some, ap, sym, subst, ◌∙◌}
+use Rattle.std.proofs.Common.{◌≡◌, None, Option, Some, sym, subst}
 use Rattle.asp_desk.specs.Calls.{Halts}
 use Rattle.asp_desk.specs.Hands.{rules_at}
 use Rattle.asp_serve.specs.declared.visits.Early.{Early}

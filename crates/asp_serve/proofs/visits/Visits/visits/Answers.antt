@@ -1,7 +1,5 @@
 use Rattle.std.proofs.Common.{refl}
-use Rattle.asp_desk.specs.Hands.{rules_at}
-use Rattle.asp_serve.specs.Visits.{MayFail}
-use Rattle.asp_serve.proofs.Visiting.{ends_later, later_same, later_then}
+use Rattle.asp_serve.proofs.Visiting.{later_same}
 use Rattle.asp_serve.proofs.visits.Visits.visits.Goals as goal
 
 pub loop-init : goal.loop-init
