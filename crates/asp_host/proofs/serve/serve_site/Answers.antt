@@ -1,11 +1,15 @@
 use denote.Param.Send.{sendable}
 use Rattle.std.proofs.Common.{sym, subst, ◌∙◌}
+use Rattle.asp_run.proofs.Moved.{run}
 use Rattle.asp_serve.specs.Visits.{MayFail}
 use Rattle.asp_site.proofs.Shared.{site}
 use Rattle.asp_host.specs.declared.status.Status.{Status}
 use Rattle.asp_host.specs.Serve.{ServeMeets, rules_from}
 use Rattle.asp_host.proofs.ServeEnds.{accept_failed, serve_stopped}
 use Rattle.asp_host.proofs.serve.serve_site.Goals as goal
+
+pub serve-requires-send-R-State : goal.serve-requires-send-R-State
+serve-requires-send-R-State g c κs = search (run, sendable) depth 40 fits 20000
 
 pub serve-requires-sync-R-Site : goal.serve-requires-sync-R-Site
 serve-requires-sync-R-Site g c κs = search (site, sendable) depth 40 fits 20000
