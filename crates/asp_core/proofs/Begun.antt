@@ -33,7 +33,6 @@ pub begin_fit : (m : Rules) (past : List Entry) (run serial : ℕ) → AreRight 
     → IsFit past (Begin run serial)
 begin_fit m past run serial right may = record {
   numbered = begin_numbered m past run right may;
-  keyed = tt;
   timely = waiting_open past run (waits past run may);
 }
 
