@@ -2,13 +2,14 @@
 #![tactic(auto)]
 
 ghost use Rattle.std.specs.Prelude.{◌≡◌, ◌≤◌, ◌<◌, ◌+◌, ◌*◌, ◌^◌, ◌++◌, ◌∷◌, ◌↔◌, [], ℕ, reverse, length, true, false};
-ghost use Rattle.std.specs.Prelude.{OnOk, OnErr, IfOk, IfErr, IfNone, IfSome, OnSome, Err, vec_capacity};
+ghost use Rattle.std.specs.Prelude.{OnOk, OnErr, IfOk, IfErr, IfNone, IfSome, OnSome, Err};
 ghost use Rattle.asp_job.specs.History as history;
 ghost use Rattle.asp_job.specs.Journal as journals;
 ghost use Rattle.asp_job.specs.Runs as runs;
 ghost use Rattle.asp_job.specs.Turns as turns;
 ghost use Rattle.asp_job.specs.declared.entry.TheConstants.{MOST_ENTRIES, MOST_UNFINISHED};
 ghost use Rattle.asp_journal.specs.Tables.{IsFit};
+ghost use Rattle.asp_core.specs.Book.{Adds, HasRoomFor, IsRoomy, Stays, past_in};
 ghost use Rattle.asp_core.specs.Calm.{HasLoad};
 ghost use Rattle.asp_core.specs.Kernel as kernel;
 ghost use Rattle.asp_core.specs.Opening as spec;
@@ -17,6 +18,7 @@ ghost use Rattle.asp_core.specs.Sessions.{account_begun, sessions_in};
 ghost use Rattle.asp_core.specs.declared.ready.TheConstants.{MOST_BODIES};
 
 use crate::account::start_key;
+use crate::book::Book;
 use crate::kernel::Core;
 use crate::keys::least_run;
 use crate::opening::{Opening, SessionNumber, open_run, session_number};
@@ -25,62 +27,51 @@ use crate::room::room_for;
 use crate::run::{Progress, Run};
 use crate::setting::Setting;
 use crate::stop::{BeginStop, begin_stop};
-use asp_job::{Answer, Entry, Runner, What};
+use asp_job::{Entry, Runner, What};
 use asp_journal::Journal;
 use asp_session::Sessions;
-use std::alloc::Global;
 
 /// The run that is next, where there is room for the body of one more.
 #[tactic(auto, using(crate::proofs::Beginning::not_idle))]
-fn next_to_begin(journal: &Journal, answers: &[(u32, Answer)]) -> Option<u64>
-    requires { (run : ℕ) → turns.may_begin (reverse journal.now.items) run ≡ true →
-        (0 < run) × (run ≤ runs.drawn (reverse journal.now.items)) }
-    ensures none { IfNone result (spec.IsIdleWith answers.now (reverse journal.now.items)) }
-    ensures next { IfSome result (λ run. turns.IsNextRun (reverse journal.now.items) run) }
-    ensures within { IfSome result (λ run. run ≤ runs.drawn (reverse journal.now.items)) }
-    ensures few { OnSome result (length (runs.unfinished (reverse journal.now.items)) < MOST_UNFINISHED) }
-    ensures going { OnSome result (runs.is_halted (reverse journal.now.items) ≡ false) }
-    ensures light { OnSome result (waits.bodies_with_one answers.now (reverse journal.now.items) ≤ MOST_BODIES) }
+fn next_to_begin(book: &Book) -> Option<u64>
+    requires { (run : ℕ) → turns.may_begin (past_in book.now) run ≡ true →
+        (0 < run) × (run ≤ runs.drawn (past_in book.now)) }
+    ensures none { IfNone result (spec.IsIdleWith book.now.answers (past_in book.now)) }
+    ensures next { IfSome result (λ run. spec.IsNext (past_in book.now) run) }
+    ensures within { IfSome result (λ run. run ≤ runs.drawn (past_in book.now)) }
+    ensures light { OnSome result (waits.bodies_with_one book.now.answers (past_in book.now) ≤ MOST_BODIES) }
 {
-    if has_body_room(journal, answers) {
-        least_run(journal)
+    if has_body_room(book) {
+        least_run(book.journal())
     } else {
         None
     }
 }
 
-/// The run that is next and the number of its session, with room for its Begin. The entries stay.
+/// The run that is next and the number of its session, with room for its Begin. Entries and answers stay.
 fn next_with_room(
-    journal: &mut Journal,
-    answers: &mut Vec<(u32, Answer)>,
+    book: &mut Book,
     sessions: &Sessions,
 ) -> Result<(u32, SessionNumber), BeginStop>
-    requires numbered { (run : ℕ) → turns.may_begin (reverse journal.old.items) run ≡ true →
-        (0 < run) × (run ≤ runs.drawn (reverse journal.old.items)) }
-    requires few { history.entries_in (reverse journal.old.items) ≤ MOST_ENTRIES }
+    requires numbered { (run : ℕ) → turns.may_begin (past_in book.old) run ≡ true →
+        (0 < run) × (run ≤ runs.drawn (past_in book.old)) }
+    requires few { history.entries_in (past_in book.old) ≤ MOST_ENTRIES }
     requires count { sessions.now.account.opened + 1 < 2 ^ 31 }
-    ensures ok { IfOk result (λ next. spec.IsNextWith (reverse journal.old.items) sessions.now.account
-        answers.old.items next.0 next.1) }
-    ensures items { journal.new.items ≡ journal.old.items }
-    ensures answers { answers.new.items ≡ answers.old.items }
-    ensures capacity { journal.old.capacity ≤ journal.new.capacity }
-    ensures capacity_of_answers { vec_capacity answers.old ≤ vec_capacity answers.new }
-    ensures room { OnOk result (length journal.old.items + 2
-        + 2 * length (runs.unfinished (reverse journal.old.items)) + length answers.old.items + 3
-        ≤ journal.new.capacity) }
-    ensures answer_room { OnOk result (length answers.old.items + 2
-        + length (runs.unfinished (reverse journal.old.items)) ≤ vec_capacity answers.new) }
+    ensures ok { IfOk result (λ next. spec.IsNextWith (past_in book.old) sessions.now.account
+        book.old.answers next.0 next.1) }
+    ensures stays { Stays book.old book.new }
+    ensures room { OnOk result (IsRoomy book.new 2) }
     ensures idle { IfErr result (λ stop. stop ≡ BeginStop.Idle ↔
-        spec.IsIdleWith answers.old.items (reverse journal.old.items)) }
+        spec.IsIdleWith book.old.answers (past_in book.old)) }
     ensures full { (entries weight : ℕ) → result ≡ Err (BeginStop.JournalFull entries weight) →
-        spec.IsNextOver (reverse journal.old.items) entries weight }
-    ensures fits { result ≡ Err BeginStop.Memory → HasLoad (reverse journal.old.items) 2 128 }
+        spec.IsNextOver (past_in book.old) entries weight }
+    ensures fits { result ≡ Err BeginStop.Memory → HasLoad (past_in book.old) 2 128 }
 {
-    let Some(next) = next_to_begin(journal, answers.as_slice()) else {
+    let Some(next) = next_to_begin(book) else {
         return Err(BeginStop::Idle);
     };
-    let number = session_number(journal, sessions, next);
-    if let Err(stop) = room_for(journal, answers, 2, 128) {
+    let number = session_number(book.journal(), sessions, next);
+    if let Err(stop) = room_for(book, 2, 128) {
         return Err(begin_stop(stop));
     }
     Ok((next as u32, number))
@@ -88,22 +79,20 @@ fn next_with_room(
 
 /// Adds the Begin of a run, whose key's run does not wait any more.
 fn add_begin(
-    journal: &mut Journal,
+    book: &mut Book,
     sessions: &mut Sessions,
     lane: u32,
     run: u32,
     number: SessionNumber,
 )
-    requires fit { IsFit (reverse journal.old.items) (What.Begin run number.serial) }
-    requires room { length journal.old.items < journal.old.capacity }
+    requires fit { IsFit (past_in book.old) (What.Begin run number.serial) }
+    requires room { HasRoomFor book.old (history.with_lane lane (What.Begin run number.serial)) }
     requires count { sessions.old.account.opened + 1 < 2 ^ 31 }
-    ensures items { journal.new.items ≡ journal.old.items
-        ++ history.with_lane lane (What.Begin run number.serial) ∷ [] }
-    ensures capacity { journal.new.capacity ≡ journal.old.capacity }
-    ensures account { sessions.new.account ≡ account_begun (reverse journal.old.items) run sessions.old.account }
+    ensures adds { Adds book.old (history.with_lane lane (What.Begin run number.serial) ∷ []) book.new }
+    ensures account { sessions.new.account ≡ account_begun (past_in book.old) run sessions.old.account }
 {
-    start_key(sessions, journal.key_of(run as u64));
-    journal.push_reserved(Entry {
+    start_key(sessions, book.journal().key_of(run as u64));
+    book.push(Entry {
         lane,
         what: What::Begin {
             run,
@@ -116,7 +105,6 @@ fn add_begin(
 fn start_run<R: Runner>(
     runner: &R,
     site: &R::Site,
-    alloc: Global,
     setting: &Setting,
     journal: &Journal,
     sessions: &Sessions,
@@ -130,7 +118,7 @@ fn start_run<R: Runner>(
         (runs.draw_of (reverse journal.now.items) run)
         (sessions_in sessions.now.account (runs.key_of (reverse journal.now.items) run)) number run) }
 {
-    let Ok(opening) = open_run(alloc, &setting.seed, journal, sessions, number, run as u64) else {
+    let Ok(opening) = open_run(&setting.seed, journal, sessions, number, run as u64) else {
         return Err(store);
     };
     let Opening {
@@ -151,53 +139,45 @@ fn start_run<R: Runner>(
     }
 }
 
-/// A run that is next, the journal with its Begin and the session keys. A refusal leaves both.
+/// A run that is next, the book with its Begin and the session keys. A refusal leaves both.
 fn begin_run<R: Runner>(
     runner: &R,
     site: &R::Site,
     setting: &Setting,
-    journal: &mut Journal,
-    answers: &mut Vec<(u32, Answer)>,
+    book: &mut Book,
     sessions: &mut Sessions,
     lane: u32,
     store: R::Store,
 ) -> Result<Run<R>, (R::Store, BeginStop)>
     requires { spec.CanBegin (kernel.rules_by (R.meaning runner.now site.now) setting.now)
-        (reverse journal.old.items) sessions.old.account answers.old.items (journal.old.capacity) }
+        (past_in book.old) sessions.old.account book.old.answers }
     ensures ok { IfOk result (spec.HasBegun (kernel.rules_by (R.meaning runner.now site.now) setting.now)
-        (R.stands runner.now site.now) lane journal.old.items sessions.old.account answers.old.items
-        journal.new.items sessions.new.account (journal.new.capacity) (vec_capacity answers.new)) }
-    ensures err { OnErr result ((journal.new.items ≡ journal.old.items)
-        × (sessions.new.account ≡ sessions.old.account)) }
-    ensures answers { answers.new.items ≡ answers.old.items }
-    ensures capacity { journal.old.capacity ≤ journal.new.capacity }
-    ensures capacity_of_answers { vec_capacity answers.old ≤ vec_capacity answers.new }
+        (R.stands runner.now site.now) lane book.old sessions.old.account book.new sessions.new.account) }
+    ensures err { OnErr result (Stays book.old book.new × (sessions.new.account ≡ sessions.old.account)) }
     ensures idle { IfErr result (λ stop. stop.1 ≡ BeginStop.Idle ↔
-        spec.IsIdleWith answers.old.items (reverse journal.old.items)) }
+        spec.IsIdleWith book.old.answers (past_in book.old)) }
     ensures full { (entries weight : ℕ) → IfErr result (λ stop. stop.1 ≡ BeginStop.JournalFull entries weight →
         kernel.IsBeginTooMuch (kernel.rules_by (R.meaning runner.now site.now) setting.now)
-        (reverse journal.old.items) lane entries weight) }
+        (past_in book.old) lane entries weight) }
     ensures fits { IfErr result (λ stop. stop.1 ≡ BeginStop.Memory →
-        kernel.NextFits (kernel.rules_by (R.meaning runner.now site.now) setting.now)
-        (reverse journal.old.items) lane) }
+        kernel.NextFits (kernel.rules_by (R.meaning runner.now site.now) setting.now) (past_in book.old) lane) }
 {
-    let (run, number) = match next_with_room(journal, answers, sessions) {
+    let (run, number) = match next_with_room(book, sessions) {
         Ok(next) => next,
         Err(stop) => return Err((store, stop)),
     };
     match start_run(
         runner,
         site,
-        journal.alloc(),
         setting,
-        journal,
+        book.journal(),
         sessions,
         number,
         run,
         store,
     ) {
         Ok(begun) => {
-            add_begin(journal, sessions, lane, run, number);
+            add_begin(book, sessions, lane, run, number);
             Ok(begun)
         }
         Err(store) => Err((store, BeginStop::Memory)),
@@ -239,8 +219,7 @@ impl<R: Runner> Core<R> {
             runner,
             site,
             &self.house.setting,
-            &mut self.kept.journal,
-            &mut self.kept.answers,
+            &mut self.kept.book,
             &mut self.kept.sessions,
             lane,
             store,

@@ -3,12 +3,12 @@
 
 ghost use Rattle.std.specs.Prelude.{◌≡◌, ◌+◌, ◌-◌, ◌<◌, ◌≤◌, ◌^◌, ◌++◌, ◌∷◌, [], ℕ, min, reverse, length, sum_by, true};
 ghost use Rattle.std.specs.Prelude.{OnOk, OnErr, IfOk, Err};
-ghost use Rattle.std.specs.Prelude.{vec_capacity};
 ghost use Rattle.asp_job.specs.History as history;
 ghost use Rattle.asp_job.specs.Journal as journals;
 ghost use Rattle.asp_job.specs.Keys as keys;
 ghost use Rattle.asp_job.specs.Size.{IsSmall};
 ghost use Rattle.asp_job.specs.declared.entry.TheConstants.{MOST_ENTRIES};
+ghost use Rattle.asp_core.specs.Book.{Adds, Grows, Stays, past_in};
 ghost use Rattle.asp_core.specs.Calm as calm;
 ghost use Rattle.asp_core.specs.Drawing as drawing;
 ghost use Rattle.asp_core.specs.Kernel as kernel;
@@ -18,6 +18,7 @@ ghost use Rattle.asp_session.specs.Steps.{most_live};
 
 use crate::account::{ask, queue_runs};
 use crate::admitted::{Drawn, stand_in, told_of};
+use crate::book::Book;
 use crate::cookie::asked_key;
 use crate::room::{entries_weight, make_key_room, room_for};
 use crate::setting::Setting;
@@ -125,34 +126,33 @@ fn add_admission<R: Runner>(
     runner: &R,
     site: &R::Site,
     setting: &Setting,
-    journal: &mut Journal,
+    book: &mut Book,
     sessions: &mut Sessions,
     lane: u32,
     job: Job,
     answer: Option<Answer>,
 ) -> Drawn
-    requires tells { Tells sessions.old.account (reverse journal.old.items) }
+    requires tells { Tells sessions.old.account (past_in book.old) }
     requires small { IsSmall job }
-    requires few { history.entries_in (reverse journal.old.items) ≤ MOST_ENTRIES + MOST_ENTRIES + 1 }
+    requires few { history.entries_in (past_in book.old) ≤ MOST_ENTRIES + MOST_ENTRIES + 1 }
     requires answer { answer ≡ standing.stand_in Unavailable.TooManySessions job.work }
-    requires room { length journal.old.items < journal.old.capacity }
-    requires key_room { 0 < sessions.old.key_room }
-    requires run_room { 0 < sessions.old.run_room }
-    ensures items { journal.new.items ≡ journal.old.items
-        ++ drawing.drawn_by (kernel.rules_by (R.meaning runner.now site.now) setting.now)
-        (sessions_in sessions.old.account) (reverse journal.old.items) lane job ∷ [] }
+    requires room { 0 < book.old.room }
+    requires key_room { (0 < sessions.old.key_room) × (0 < sessions.old.run_room) }
+    ensures adds { Adds book.old (drawing.drawn_by
+        (kernel.rules_by (R.meaning runner.now site.now) setting.now)
+        (sessions_in sessions.old.account) (past_in book.old) lane job ∷ []) book.new }
     ensures drawn { drawing.IsDrawn
         (drawing.drawn_by (kernel.rules_by (R.meaning runner.now site.now) setting.now)
-        (sessions_in sessions.old.account) (reverse journal.old.items) lane job).what result }
+        (sessions_in sessions.old.account) (past_in book.old) lane job).what result }
     ensures account { sessions.new.account ≡ account_admitted
         (drawing.drawn_by (kernel.rules_by (R.meaning runner.now site.now) setting.now)
-        (sessions_in sessions.old.account) (reverse journal.old.items) lane job).what sessions.old.account }
-    ensures capacity { journal.new.capacity ≡ journal.old.capacity }
+        (sessions_in sessions.old.account) (past_in book.old) lane job).what sessions.old.account }
+    ensures room { (book.new.room + 1 ≡ book.old.room) × (book.new.places ≡ book.old.places) }
 {
-    let what = admission_of(runner, site, setting, journal, sessions, job);
+    let what = admission_of(runner, site, setting, book.journal(), sessions, job);
     let drawn = drawn_of(&what, answer);
     ask(sessions, &what);
-    journal.push_reserved(Entry { lane, what });
+    book.push(Entry { lane, what });
     drawn
 }
 
@@ -170,92 +170,82 @@ fn add_ticked<R: Runner>(
     runner: &R,
     site: &R::Site,
     setting: &Setting,
-    journal: &mut Journal,
+    book: &mut Book,
     sessions: &mut Sessions,
     lane: u32,
     more: List<Entry>,
     job: Job,
     answer: Option<Answer>,
 ) -> Drawn
-    requires few { history.entries_in (reverse journal.old.items) ≤ MOST_ENTRIES }
+    requires few { history.entries_in (past_in book.old) ≤ MOST_ENTRIES }
     requires small { IsSmall job }
     requires account { IsAccountOf (kernel.rules_by (R.meaning runner.now site.now) setting.now)
-        (reverse journal.old.items) sessions.old.account }
-    requires tick { more ≡ drawing.tick_before (sessions_in sessions.old.account) (reverse journal.old.items) lane job }
+        (past_in book.old) sessions.old.account }
+    requires tick { more ≡ drawing.tick_before (sessions_in sessions.old.account) (past_in book.old) lane job }
     requires answer { answer ≡ standing.stand_in Unavailable.TooManySessions job.work }
-    requires room { length journal.old.items + length more < journal.old.capacity }
-    requires key_room { 0 < sessions.old.key_room }
-    requires run_room { length more < sessions.old.run_room }
-    ensures entries { journal.new.items ≡ journal.old.items ++ drawing.entries_by
+    requires room { length more < book.old.room }
+    requires key_room { (0 < sessions.old.key_room) × (length more < sessions.old.run_room) }
+    ensures adds { Adds book.old (drawing.entries_by
         (kernel.rules_by (R.meaning runner.now site.now) setting.now) (sessions_in sessions.old.account)
-        (reverse journal.old.items) lane job }
+        (past_in book.old) lane job) book.new }
     ensures drawn { drawing.IsDrawn (drawing.drawn_then
         (kernel.rules_by (R.meaning runner.now site.now) setting.now) (sessions_in sessions.old.account)
-        (reverse journal.old.items) lane job).what result }
+        (past_in book.old) lane job).what result }
     ensures account { sessions.new.account ≡ account_grown
-        (kernel.rules_by (R.meaning runner.now site.now) setting.now) (reverse journal.old.items)
+        (kernel.rules_by (R.meaning runner.now site.now) setting.now) (past_in book.old)
         (drawing.entries_by (kernel.rules_by (R.meaning runner.now site.now) setting.now)
-        (sessions_in sessions.old.account) (reverse journal.old.items) lane job) sessions.old.account }
-    ensures capacity { journal.new.capacity ≡ journal.old.capacity }
+        (sessions_in sessions.old.account) (past_in book.old) lane job) sessions.old.account }
+    ensures room { (book.new.room + length more + 1 ≡ book.old.room) × (book.new.places ≡ book.old.places) }
 {
     queue_runs(sessions, more.as_slice());
-    journal.append_reserved(more);
-    add_admission(runner, site, setting, journal, sessions, lane, job, answer)
+    book.add(more);
+    add_admission(runner, site, setting, book, sessions, lane, job, answer)
 }
 
 /// Adds the entries of a job's Tick and the job's own, if they fit, with what they make of the session keys. A refusal
-/// leaves the journal and the session keys.
+/// leaves the book and the session keys.
 pub fn add_job<R: Runner>(
     runner: &R,
     site: &R::Site,
     setting: &Setting,
-    journal: &mut Journal,
-    answers: &mut Vec<(u32, Answer)>,
+    book: &mut Book,
     sessions: &mut Sessions,
     lane: u32,
     more: List<Entry>,
     job: Job,
     answer: Option<Answer>,
 ) -> Result<Drawn, EventStop>
-    requires few { history.entries_in (reverse journal.old.items) ≤ MOST_ENTRIES }
+    requires few { history.entries_in (past_in book.old) ≤ MOST_ENTRIES }
     requires small { IsSmall job }
     requires account { IsAccountOf (kernel.rules_by (R.meaning runner.now site.now) setting.now)
-        (reverse journal.old.items) sessions.old.account }
-    requires tick { more ≡ drawing.tick_before (sessions_in sessions.old.account) (reverse journal.old.items) lane job }
+        (past_in book.old) sessions.old.account }
+    requires tick { more ≡ drawing.tick_before (sessions_in sessions.old.account) (past_in book.old) lane job }
     requires answer { answer ≡ standing.stand_in Unavailable.TooManySessions job.work }
-    ensures entries { OnOk result (journal.new.items ≡ journal.old.items ++ drawing.entries_by
+    ensures grows { OnOk result (Grows book.old (drawing.entries_by
         (kernel.rules_by (R.meaning runner.now site.now) setting.now) (sessions_in sessions.old.account)
-        (reverse journal.old.items) lane job) }
+        (past_in book.old) lane job) book.new) }
     ensures drawn { IfOk result (drawing.IsDrawn (drawing.drawn_then
         (kernel.rules_by (R.meaning runner.now site.now) setting.now) (sessions_in sessions.old.account)
-        (reverse journal.old.items) lane job).what) }
+        (past_in book.old) lane job).what) }
     ensures account { OnOk result (sessions.new.account ≡ account_grown
-        (kernel.rules_by (R.meaning runner.now site.now) setting.now) (reverse journal.old.items)
+        (kernel.rules_by (R.meaning runner.now site.now) setting.now) (past_in book.old)
         (drawing.entries_by (kernel.rules_by (R.meaning runner.now site.now) setting.now)
-        (sessions_in sessions.old.account) (reverse journal.old.items) lane job) sessions.old.account) }
-    ensures err { OnErr result ((journal.new.items ≡ journal.old.items)
-        × (sessions.new.account ≡ sessions.old.account)) }
-    ensures answers { answers.new.items ≡ answers.old.items }
-    ensures capacity { journal.old.capacity ≤ journal.new.capacity }
-    ensures capacity_of_answers { vec_capacity answers.old ≤ vec_capacity answers.new }
-    ensures within { OnOk result (kernel.IsWithin (reverse journal.new.items)) }
-    ensures room { OnOk result (kernel.HasRoom (reverse journal.new.items)
-        (length answers.old.items + 1) (journal.new.capacity)) }
-    ensures answer_room { OnOk result (kernel.HasAnswerRoom (reverse journal.new.items)
-        (length answers.old.items + 1) (vec_capacity answers.new)) }
+        (sessions_in sessions.old.account) (past_in book.old) lane job) sessions.old.account) }
+    ensures place { OnOk result ((0 < book.new.room) × (0 < book.new.places)) }
+    ensures err { OnErr result (Stays book.old book.new × (sessions.new.account ≡ sessions.old.account)) }
     ensures full { (entries weight : ℕ) → result ≡ Err (EventStop.JournalFull entries weight) →
-        kernel.IsTooMuch (journals.past_after (reverse journal.old.items) (drawing.entries_by
+        kernel.IsTooMuch (journals.past_after (past_in book.old) (drawing.entries_by
         (kernel.rules_by (R.meaning runner.now site.now) setting.now) (sessions_in sessions.old.account)
-        (reverse journal.old.items) lane job)) entries weight }
+        (past_in book.old) lane job)) entries weight }
 {
     let weight = job_weight(more.as_slice(), &job);
-    if let Err(stop) = room_for(journal, answers, more.len() + 1, weight) {
+    if let Err(stop) = room_for(book, more.len() + 1, weight) {
         return Err(stop);
     }
     if let Err(stop) = make_key_room(sessions, 1, more.len() + 1) {
         return Err(stop);
     }
     Ok(add_ticked(
-        runner, site, setting, journal, sessions, lane, more, job, answer,
+        runner, site, setting, book, sessions, lane, more, job, answer,
     ))
 }

@@ -8,6 +8,7 @@ ghost use Rattle.asp_job.specs.Runs as runs;
 ghost use Rattle.asp_job.specs.Turns as turns;
 ghost use Rattle.asp_job.specs.declared.entry.TheConstants.{MOST_UNFINISHED};
 ghost use Rattle.asp_core.specs.Kernel as kernel;
+ghost use Rattle.asp_core.specs.Opening.{IsNext};
 ghost use Rattle.asp_core.specs.Sessions.{Tells, sessions_in};
 
 use asp_job::MOST_UNFINISHED;
@@ -38,10 +39,8 @@ pub fn least_run(journal: &Journal) -> Option<u64>
     requires { (run : ℕ) → turns.may_begin (reverse journal.now.items) run ≡ true →
         (0 < run) × (run ≤ runs.drawn (reverse journal.now.items)) }
     ensures none { IfNone result (kernel.NoneIsNext (reverse journal.now.items)) }
-    ensures next { IfSome result (λ run. turns.IsNextRun (reverse journal.now.items) run) }
+    ensures next { IfSome result (λ run. IsNext (reverse journal.now.items) run) }
     ensures within { IfSome result (λ run. run ≤ runs.drawn (reverse journal.now.items)) }
-    ensures few { OnSome result (length (runs.unfinished (reverse journal.now.items)) < MOST_UNFINISHED) }
-    ensures going { OnSome result (runs.is_halted (reverse journal.now.items) ≡ false) }
 {
     if journal.is_halted() || journal.unfinished() >= MOST_UNFINISHED as u64 {
         return None;

@@ -122,7 +122,6 @@ fn stand_ins(alloc: Global, work: &Work) -> Result<StandIns, Memory>
 
 /// What the run begins with, where that is the number of its session.
 pub fn open_run(
-    alloc: Global,
     seed: &[u8; 32],
     journal: &Journal,
     sessions: &Sessions,
@@ -133,6 +132,7 @@ pub fn open_run(
     ensures { IfOk result (spec.IsOpening seed.now (runs.draw_of (reverse journal.now.items) run)
         (sessions_in sessions.now.account (runs.key_of (reverse journal.now.items) run)) number) }
 {
+    let alloc = journal.alloc();
     let job = journal.job_of(run)?;
     let key = journal.key_of(run);
     let session = session_if(alloc, number, sessions.session(key))?;
