@@ -204,8 +204,7 @@ sound_taken m setting old new account then_account held fail lane job sound none
     free.0 page small free.1 taken.items_are taken.account_is in
     let sessions = sessions_in account in
     let made = job_made rules past sessions lane job (account_tells rules past account sound.0.sessions).1 in
-    let calm = subst AreCalm made (job_calm rules sessions past lane job) in
-    (
+    let calm = subst AreCalm made (job_calm rules sessions past lane job) in (
       rw taken.answers_are whole,
       taken.within,
       sound.2 ∙ sym (fail_calm rules old.items new.items _ taken.items_are calm),

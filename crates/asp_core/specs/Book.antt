@@ -6,6 +6,7 @@ use Rattle.asp_job.specs.declared.entry.Entry.{Entry}
 use Rattle.asp_job.specs.Application.{AppState}
 use Rattle.asp_job.specs.Rules.{Rules}
 use Rattle.asp_job.specs.Runs.{unfinished}
+use Rattle.asp_journal.specs.View.{JournalView}
 use Rattle.asp_session.specs.Account.{Account}
 use Rattle.asp_core.specs.Kernel.{IsKept, IsWithin, halts_to_come, to_come}
 use Rattle.asp_core.specs.Start.{start_fail}
@@ -20,6 +21,9 @@ pub record BookView : Type 0 where
 
 abbrev pub past_in : BookView → List Entry
 past_in book = reverse book.items
+
+abbrev pub past_by : JournalView → List Entry
+past_by journal = reverse journal.items
 
 -- ---- its room, where so many entries or answers take no memory
 

@@ -1,7 +1,7 @@
 //! The call of the core that takes a job.
 #![tactic(auto)]
 
-ghost use Rattle.std.specs.Prelude.{◌≡◌, ◌↔◌, ◌≤◌, ℕ, length, reverse, true, false, Err, OnOk, OnErr, IfOk};
+ghost use Rattle.std.specs.Prelude.{◌≡◌, ◌↔◌, ◌≤◌, ℕ, length, true, false, Err, OnOk, OnErr, IfOk};
 ghost use Rattle.asp_job.specs.History as history;
 ghost use Rattle.asp_job.specs.Journal as journals;
 ghost use Rattle.asp_job.specs.Runs as runs;
@@ -9,7 +9,7 @@ ghost use Rattle.asp_job.specs.Running.{is_page};
 ghost use Rattle.asp_job.specs.Size.{IsSmall};
 ghost use Rattle.asp_job.specs.Turns as turns;
 ghost use Rattle.asp_job.specs.declared.entry.TheConstants.{MOST_ENTRIES, MOST_WAITING};
-ghost use Rattle.asp_core.specs.Book.{Stays, past_in};
+ghost use Rattle.asp_core.specs.Book.{Stays, past_by, past_in};
 ghost use Rattle.asp_core.specs.Drawing as drawing;
 ghost use Rattle.asp_core.specs.Kernel as kernel;
 ghost use Rattle.asp_core.specs.Sessions.{IsAccountOf};
@@ -26,7 +26,7 @@ use asp_journal::Journal;
 use asp_session::Sessions;
 
 fn refused_before(journal: &Journal) -> Option<AdmitStop>
-    ensures { result ≡ taking.refused_before (reverse journal.now.items) }
+    ensures { result ≡ taking.refused_before (past_by journal.now) }
 {
     if journal.is_stopping() {
         Some(AdmitStop::Stopping)

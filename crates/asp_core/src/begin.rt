@@ -1,7 +1,7 @@
 //! The call of the core that begins a run.
 #![tactic(auto)]
 
-ghost use Rattle.std.specs.Prelude.{◌≡◌, ◌≤◌, ◌<◌, ◌+◌, ◌*◌, ◌^◌, ◌++◌, ◌∷◌, ◌↔◌, [], ℕ, reverse, length, true, false};
+ghost use Rattle.std.specs.Prelude.{◌≡◌, ◌≤◌, ◌<◌, ◌+◌, ◌*◌, ◌^◌, ◌++◌, ◌∷◌, ◌↔◌, [], ℕ, length, true, false};
 ghost use Rattle.std.specs.Prelude.{OnOk, OnErr, IfOk, IfErr, IfNone, IfSome, OnSome, Err};
 ghost use Rattle.asp_job.specs.History as history;
 ghost use Rattle.asp_job.specs.Journal as journals;
@@ -9,7 +9,7 @@ ghost use Rattle.asp_job.specs.Runs as runs;
 ghost use Rattle.asp_job.specs.Turns as turns;
 ghost use Rattle.asp_job.specs.declared.entry.TheConstants.{MOST_ENTRIES, MOST_UNFINISHED};
 ghost use Rattle.asp_journal.specs.Tables.{IsFit};
-ghost use Rattle.asp_core.specs.Book.{Adds, HasRoomFor, IsRoomy, Stays, past_in};
+ghost use Rattle.asp_core.specs.Book.{Adds, HasRoomFor, IsRoomy, Stays, past_by, past_in};
 ghost use Rattle.asp_core.specs.Calm.{HasLoad};
 ghost use Rattle.asp_core.specs.Kernel as kernel;
 ghost use Rattle.asp_core.specs.Opening as spec;
@@ -49,10 +49,7 @@ fn next_to_begin(book: &Book) -> Option<u64>
 }
 
 /// The run that is next and the number of its session, with room for its Begin. Entries and answers stay.
-fn next_with_room(
-    book: &mut Book,
-    sessions: &Sessions,
-) -> Result<(u32, SessionNumber), BeginStop>
+fn next_with_room(book: &mut Book, sessions: &Sessions) -> Result<(u32, SessionNumber), BeginStop>
     requires numbered { (run : ℕ) → turns.may_begin (past_in book.old) run ≡ true →
         (0 < run) × (run ≤ runs.drawn (past_in book.old)) }
     requires few { history.entries_in (past_in book.old) ≤ MOST_ENTRIES }
@@ -78,13 +75,7 @@ fn next_with_room(
 }
 
 /// Adds the Begin of a run, whose key's run does not wait any more.
-fn add_begin(
-    book: &mut Book,
-    sessions: &mut Sessions,
-    lane: u32,
-    run: u32,
-    number: SessionNumber,
-)
+fn add_begin(book: &mut Book, sessions: &mut Sessions, lane: u32, run: u32, number: SessionNumber)
     requires fit { IsFit (past_in book.old) (What.Begin run number.serial) }
     requires room { HasRoomFor book.old (history.with_lane lane (What.Begin run number.serial)) }
     requires count { sessions.old.account.opened + 1 < 2 ^ 31 }
@@ -112,11 +103,11 @@ fn start_run<R: Runner>(
     run: u32,
     store: R::Store,
 ) -> Result<Run<R>, R::Store>
-    requires { spec.CanOpen (runs.draw_of (reverse journal.now.items) run)
-        (sessions_in sessions.now.account (runs.key_of (reverse journal.now.items) run)) number }
+    requires { spec.CanOpen (runs.draw_of (past_by journal.now) run)
+        (sessions_in sessions.now.account (runs.key_of (past_by journal.now) run)) number }
     ensures { IfOk result (spec.HasOpened (R.stands runner.now site.now) setting.now.seed
-        (runs.draw_of (reverse journal.now.items) run)
-        (sessions_in sessions.now.account (runs.key_of (reverse journal.now.items) run)) number run) }
+        (runs.draw_of (past_by journal.now) run)
+        (sessions_in sessions.now.account (runs.key_of (past_by journal.now) run)) number run) }
 {
     let Ok(opening) = open_run(&setting.seed, journal, sessions, number, run as u64) else {
         return Err(store);

@@ -37,7 +37,7 @@ fn room_for_call(
         (history.with_lane lane (What.App run call.now reply.now) ∷ past_in book.old) entries weight }
 {
     let journal = book.journal();
-    let entries = journal.load() + 1;
+    let entries = journal.entries_in() + journal.unfinished() + 1;
     let weight = journal
         .weight_load()
         .saturating_add(call_weight(call))

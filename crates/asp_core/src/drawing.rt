@@ -1,14 +1,14 @@
 //! The entries that a job adds to a journal.
 #![tactic(auto)]
 
-ghost use Rattle.std.specs.Prelude.{◌≡◌, ◌+◌, ◌-◌, ◌<◌, ◌≤◌, ◌^◌, ◌++◌, ◌∷◌, [], ℕ, min, reverse, length, sum_by, true};
+ghost use Rattle.std.specs.Prelude.{◌≡◌, ◌+◌, ◌-◌, ◌<◌, ◌≤◌, ◌^◌, ◌++◌, ◌∷◌, [], ℕ, min, length, sum_by, true};
 ghost use Rattle.std.specs.Prelude.{OnOk, OnErr, IfOk, Err};
 ghost use Rattle.asp_job.specs.History as history;
 ghost use Rattle.asp_job.specs.Journal as journals;
 ghost use Rattle.asp_job.specs.Keys as keys;
 ghost use Rattle.asp_job.specs.Size.{IsSmall};
 ghost use Rattle.asp_job.specs.declared.entry.TheConstants.{MOST_ENTRIES};
-ghost use Rattle.asp_core.specs.Book.{Adds, Grows, Stays, past_in};
+ghost use Rattle.asp_core.specs.Book.{Adds, Grows, Stays, past_by, past_in};
 ghost use Rattle.asp_core.specs.Calm as calm;
 ghost use Rattle.asp_core.specs.Drawing as drawing;
 ghost use Rattle.asp_core.specs.Kernel as kernel;
@@ -33,10 +33,10 @@ use vb_value::{Copied, List, Memory};
 /// How a job is admitted, or that it is refused.
 #[tactic(auto, using(crate::proofs::Accounts::askable_is, crate::proofs::Accounts::most_are))]
 fn admission(journal: &Journal, sessions: &Sessions, keyed: bool, asked: u32, job: Job) -> What
-    requires few { history.entries_in (reverse journal.now.items) ≤ MOST_ENTRIES + MOST_ENTRIES + 1 }
-    requires tells { Tells sessions.now.account (reverse journal.now.items) }
+    requires few { history.entries_in (past_by journal.now) ≤ MOST_ENTRIES + MOST_ENTRIES + 1 }
+    requires tells { Tells sessions.now.account (past_by journal.now) }
     ensures what { result ≡ journals.admission keyed asked
-        (sessions_in sessions.now.account) (reverse journal.now.items) job }
+        (sessions_in sessions.now.account) (past_by journal.now) job }
     ensures free { keys.makes_key result ≡ true → length sessions.now.account.keys < most_live }
 {
     let run = journal.drawn() as u32 + 1;
@@ -75,7 +75,7 @@ fn drawn_of(what: &What, answer: Option<Answer>) -> Drawn
 
 /// The job as it is admitted: its moment is the journal's.
 fn job_now(journal: &Journal, job: Job) -> Job
-    ensures { result ≡ journals.job_now (reverse journal.now.items) job }
+    ensures { result ≡ journals.job_now (past_by journal.now) job }
 {
     let Job {
         work,
@@ -98,10 +98,10 @@ fn admission_of<R: Runner>(
     job: Job,
 ) -> What
     requires small { IsSmall job }
-    requires few { history.entries_in (reverse journal.now.items) ≤ MOST_ENTRIES + MOST_ENTRIES + 1 }
-    requires tells { Tells sessions.now.account (reverse journal.now.items) }
+    requires few { history.entries_in (past_by journal.now) ≤ MOST_ENTRIES + MOST_ENTRIES + 1 }
+    requires tells { Tells sessions.now.account (past_by journal.now) }
     ensures what { result ≡ (drawing.drawn_by (kernel.rules_by (R.meaning runner.now site.now) setting.now)
-        (sessions_in sessions.now.account) (reverse journal.now.items) 0 job).what }
+        (sessions_in sessions.now.account) (past_by journal.now) 0 job).what }
     ensures free { keys.makes_key result ≡ true → length sessions.now.account.keys < most_live }
 {
     let now = job_now(journal, job);

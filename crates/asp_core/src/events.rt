@@ -1,13 +1,13 @@
 //! The book after an event.
 #![tactic(auto)]
 
-ghost use Rattle.std.specs.Prelude.{◌≡◌, ◌+◌, ◌-◌, ◌<◌, ◌≤◌, ◌++◌, ℕ, reverse, length};
+ghost use Rattle.std.specs.Prelude.{◌≡◌, ◌+◌, ◌-◌, ◌<◌, ◌≤◌, ◌++◌, ℕ, length};
 ghost use Rattle.std.specs.Prelude.{OnOk, OnErr, IfOk, Err};
 ghost use Rattle.asp_job.specs.History as history;
 ghost use Rattle.asp_job.specs.Journal as journals;
 ghost use Rattle.asp_job.specs.declared.entry.TheConstants.{MOST_ENTRIES};
 ghost use Rattle.asp_job.specs.Size.{IsSmall};
-ghost use Rattle.asp_core.specs.Book.{Grows, Stays, past_in};
+ghost use Rattle.asp_core.specs.Book.{Grows, Stays, past_by, past_in};
 ghost use Rattle.asp_core.specs.Drawing as drawing;
 ghost use Rattle.asp_core.specs.Kernel as kernel;
 ghost use Rattle.asp_core.specs.Sessions.{IsAccountOf, Tells, account_grown, sessions_in};
@@ -35,12 +35,12 @@ fn ticked(
     lane: u32,
     moment: u64,
 ) -> Result<(List<Entry>, u32), Memory>
-    requires few { history.entries_in (reverse journal.now.items) ≤ MOST_ENTRIES }
-    requires tells { Tells sessions.now.account (reverse journal.now.items) }
+    requires few { history.entries_in (past_by journal.now) ≤ MOST_ENTRIES }
+    requires tells { Tells sessions.now.account (past_by journal.now) }
     ensures entries { IfOk result (λ made. made.0
-        ≡ kernel.ticked (sessions_in sessions.now.account) (reverse journal.now.items) lane moment) }
+        ≡ kernel.ticked (sessions_in sessions.now.account) (past_by journal.now) lane moment) }
     ensures count { IfOk result (λ made. made.1
-        ≡ kernel.expired_by (sessions_in sessions.now.account) (reverse journal.now.items) moment) }
+        ≡ kernel.expired_by (sessions_in sessions.now.account) (past_by journal.now) moment) }
 {
     let entries = tick_entries(alloc, journal, sessions, lane, moment)?;
     let expired = entries.len().saturating_sub(1) as u32;
@@ -156,7 +156,9 @@ pub fn with_job<R: Runner>(
     };
     match prepared(alloc, job) {
         Ok((job, answer)) => {
-            add_job(runner, site, setting, book, sessions, lane, more, job, answer)
+            add_job(
+                runner, site, setting, book, sessions, lane, more, job, answer,
+            )
         }
         Err(_) => Err(EventStop::Memory),
     }

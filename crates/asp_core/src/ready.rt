@@ -1,9 +1,9 @@
 //! The answers that wait to be handed out.
 #![tactic(auto)]
 
-ghost use Rattle.std.specs.Prelude.{◌≡◌, ◌-◌, ◌^◌, min, reverse, nat_le};
+ghost use Rattle.std.specs.Prelude.{◌≡◌, ◌-◌, ◌^◌, min, nat_le};
 ghost use Rattle.std.specs.Option.{option_map};
-ghost use Rattle.asp_core.specs.Book.{past_in};
+ghost use Rattle.asp_core.specs.Book.{past_by, past_in};
 ghost use Rattle.asp_core.specs.Ready as spec;
 
 use crate::book::Book;
@@ -37,7 +37,7 @@ pub fn has_body_room(book: &Book) -> bool
 }
 
 fn is_asked_by(journal: &Journal, lane: u32, run: u32) -> bool
-    ensures { result ≡ spec.asked_by (reverse journal.now.items) lane run }
+    ensures { result ≡ spec.asked_by (past_by journal.now) lane run }
 {
     match journal.asking_lane_of(run as u64) {
         Some(asking) => asking == lane,

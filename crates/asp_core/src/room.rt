@@ -1,13 +1,13 @@
 //! Room in a journal.
 #![tactic(auto)]
 
-ghost use Rattle.std.specs.Prelude.{◌≡◌, ◌+◌, ◌-◌, ◌*◌, ◌<◌, ◌≤◌, ◌^◌, ◌++◌, ℕ, min, reverse, length, sum_by};
+ghost use Rattle.std.specs.Prelude.{◌≡◌, ◌+◌, ◌-◌, ◌*◌, ◌<◌, ◌≤◌, ◌^◌, ◌++◌, ℕ, min, length, sum_by};
 ghost use Rattle.std.specs.Prelude.{OnOk, OnErr, IfNone, IfSome, Err};
 ghost use Rattle.asp_job.specs.History as history;
 ghost use Rattle.asp_job.specs.Journal as journals;
 ghost use Rattle.asp_job.specs.declared.entry.TheConstants.{MOST_ENTRIES};
 ghost use Rattle.asp_journal.specs.Tables.{AreFit};
-ghost use Rattle.asp_core.specs.Book.{Grows, IsRoomy, Stays, past_in};
+ghost use Rattle.asp_core.specs.Book.{Grows, IsRoomy, Stays, past_by, past_in};
 ghost use Rattle.asp_core.specs.Calm as spec;
 ghost use Rattle.asp_core.specs.Kernel as kernel;
 ghost use Rattle.asp_core.specs.Sessions.{account_closed};
@@ -35,10 +35,10 @@ pub fn entries_weight(entries: &[Entry]) -> u64
 /// How long and how heavy the journal would be with so many entries more, of that weight, and one end for each
 /// unfinished run, where that is too much.
 fn overfull(journal: &Journal, count: u64, weight: u64) -> Option<(u64, u64)>
-    requires few { history.entries_in (reverse journal.now.items) ≤ MOST_ENTRIES }
+    requires few { history.entries_in (past_by journal.now) ≤ MOST_ENTRIES }
     requires count { count < 2 ^ 62 }
-    ensures none { IfNone result (spec.HasLoad (reverse journal.now.items) count weight) }
-    ensures some { IfSome result (λ much. spec.IsOver (reverse journal.now.items) count weight much.0 much.1) }
+    ensures none { IfNone result (spec.HasLoad (past_by journal.now) count weight) }
+    ensures some { IfSome result (λ much. spec.IsOver (past_by journal.now) count weight much.0 much.1) }
 {
     let entries = journal.entries_in() + journal.unfinished() + count;
     let weight = journal.weight_load().saturating_add(weight);
@@ -84,7 +84,11 @@ pub fn make_key_room(sessions: &mut Sessions, keys: u32, runs: usize) -> Result<
 
 /// Adds entries that begin and end no run, if they fit, and queues the runs that they queue. A refusal leaves the book and
 /// the session keys.
-pub fn add_calm(book: &mut Book, sessions: &mut Sessions, more: List<Entry>) -> Result<(), EventStop>
+pub fn add_calm(
+    book: &mut Book,
+    sessions: &mut Sessions,
+    more: List<Entry>,
+) -> Result<(), EventStop>
     requires few { history.entries_in (past_in book.old) ≤ MOST_ENTRIES }
     requires fit { AreFit (past_in book.old) more }
     requires calm { spec.AreCalm more }

@@ -1,14 +1,14 @@
 //! Answers that are handed out.
 #![tactic(auto)]
 
-ghost use Rattle.std.specs.Prelude.{◌≡◌, ◌<◌, ◌==◌, ◌++◌, ◌∷◌, [], reverse, length, nat_eq, Some, IsSome};
+ghost use Rattle.std.specs.Prelude.{◌≡◌, ◌<◌, ◌==◌, ◌++◌, ◌∷◌, [], length, nat_eq, Some, IsSome};
 ghost use Rattle.std.specs.Prelude.{vec_capacity};
 ghost use Rattle.std.specs.List.{position};
 ghost use Rattle.std.specs.Map.{lookup, remove_entry};
 ghost use Rattle.asp_job.specs.History.{with_lane};
 ghost use Rattle.asp_job.specs.Runs as runs;
 ghost use Rattle.asp_journal.specs.Tables.{IsFit};
-ghost use Rattle.asp_core.specs.Book.{past_in};
+ghost use Rattle.asp_core.specs.Book.{past_by, past_in};
 ghost use Rattle.asp_core.specs.Ready as spec;
 
 use crate::book::Book;
@@ -51,7 +51,7 @@ fn lane_stop(
 
 /// Why the answer of a run is not handed out to the lane.
 pub fn collect_stop(journal: &Journal, lane: u32, run: u32) -> Option<CollectStop>
-    ensures { result ≡ spec.collect_stop (reverse journal.now.items) lane run }
+    ensures { result ≡ spec.collect_stop (past_by journal.now) lane run }
 {
     lane_stop(
         lane,

@@ -12,7 +12,7 @@ use Rattle.asp_core.proofs.events.with_job.Goals as goal
 pub tick_entries-requires-clause-tells : goal.tick_entries-requires-clause-tells
 tick_entries-requires-clause-tells g c =
     let m = rules_by (g.R.Runner.meaning c.args.runner.now c.args.site.now) c.args.setting.now in
-    (account_tells m (past_in c.args.book.now) c.args.sessions.now.account c.requires.account).0
+    rw c.journal-2.ensures (account_tells m (past_in c.args.book.now) c.args.sessions.now.account c.requires.account).0
 
 pub returns-in-Ok-prepared-clause-grows : goal.returns-in-Ok-prepared-clause-grows
 returns-in-Ok-prepared-clause-grows g c =

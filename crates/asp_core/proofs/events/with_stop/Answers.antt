@@ -11,7 +11,7 @@ returns-in-Ok-clause-full g c entries weight e =
     let m = rules_by (g.R.Runner.meaning c.args.house.now.runner.value c.args.house.now.site.value) c.args.house.now.setting in
     let past = past_in c.args.book.now in
     subst (λ more. IsTooMuch (past_after past more) entries weight)
-    (c.in-Ok.ensures ∙ stopped_is m past c.args.sessions.now.account c.args.lane c.requires.account)
+    ((rw c.journal-2.ensures at c.in-Ok.ensures) ∙ stopped_is m past c.args.sessions.now.account c.args.lane c.requires.account)
     (c.add_calm.ensures.full entries weight e)
 
 pub returns-in-Ok-clause-account : goal.returns-in-Ok-clause-account
@@ -19,4 +19,4 @@ returns-in-Ok-clause-account g c =
     let m = rules_by (g.R.Runner.meaning c.args.house.now.runner.value c.args.house.now.site.value) c.args.house.now.setting in
     on_ok c.add_calm.result _ _ (λ closed. closed
     ∙ stopped_grown m (past_in c.args.book.now) c.in-Ok.more c.args.sessions.now.account c.args.lane
-    c.requires.account c.in-Ok.ensures) c.add_calm.ensures.account
+    c.requires.account (rw c.journal-2.ensures at c.in-Ok.ensures)) c.add_calm.ensures.account
