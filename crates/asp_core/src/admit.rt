@@ -18,8 +18,8 @@ ghost use Rattle.asp_core.specs.Taking as taking;
 use crate::admitted::Admitted;
 use crate::book::Book;
 use crate::events::with_job;
+use crate::house::Lent;
 use crate::kernel::Core;
-use crate::setting::Setting;
 use crate::stop::{AdmitStop, EventStop, admit_stop};
 use asp_job::{Job, MOST_WAITING, Runner};
 use asp_journal::Journal;
@@ -39,29 +39,27 @@ fn refused_before(journal: &Journal) -> Option<AdmitStop>
 
 /// The book and the session keys after a job. A refusal leaves them.
 pub(crate) fn take_job<R: Runner>(
-    runner: &R,
-    site: &R::Site,
-    setting: &Setting,
+    lent: &Lent<R, R::Site>,
     book: &mut Book,
     sessions: &mut Sessions,
     lane: u32,
     job: &Job,
 ) -> Result<Admitted, EventStop>
-    requires account { IsAccountOf (kernel.rules_by (R.meaning runner.now site.now) setting.now)
+    requires account { IsAccountOf (kernel.rules_by (R.meaning lent.now.runner.now lent.now.site.now) lent.now.setting)
         (past_in book.old) sessions.old.account }
     requires few { history.entries_in (past_in book.old) ≤ MOST_ENTRIES }
     requires small { IsSmall job.now }
-    ensures ok { OnOk result (taking.HasTaken (kernel.rules_by (R.meaning runner.now site.now) setting.now)
+    ensures ok { OnOk result (taking.HasTaken (kernel.rules_by (R.meaning lent.now.runner.now lent.now.site.now) lent.now.setting)
         lane job.now book.old sessions.old.account book.new sessions.new.account) }
     ensures told { IfOk result (λ told. told ≡ drawing.told_of (drawing.entry_then
-        (kernel.rules_by (R.meaning runner.now site.now) setting.now) (past_in book.old) lane job.now).what) }
+        (kernel.rules_by (R.meaning lent.now.runner.now lent.now.site.now) lent.now.setting) (past_in book.old) lane job.now).what) }
     ensures err { OnErr result (Stays book.old book.new × (sessions.new.account ≡ sessions.old.account)) }
     ensures full { (entries weight : ℕ) → result ≡ Err (EventStop.JournalFull entries weight) →
         kernel.IsTooMuch (journals.past_after (past_in book.old) (journals.admit_entries
-        (kernel.rules_by (R.meaning runner.now site.now) setting.now) (past_in book.old) lane job.now))
+        (kernel.rules_by (R.meaning lent.now.runner.now lent.now.site.now) lent.now.setting) (past_in book.old) lane job.now))
         entries weight }
 {
-    let drawn = match with_job(runner, site, setting, book, sessions, lane, job) {
+    let drawn = match with_job(lent, book, sessions, lane, job) {
         Ok(drawn) => drawn,
         Err(stop) => return Err(stop),
     };
@@ -98,10 +96,13 @@ impl<R: Runner> Core<R> {
         if let Some(stop) = refused_before(self.kept.book.journal()) {
             return Err(stop);
         }
-        let made = take_job(
+        let lent = Lent {
             runner,
             site,
-            &self.house.setting,
+            setting: self.house.setting,
+        };
+        let made = take_job(
+            &lent,
             &mut self.kept.book,
             &mut self.kept.sessions,
             lane,

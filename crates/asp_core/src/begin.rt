@@ -19,13 +19,13 @@ ghost use Rattle.asp_core.specs.declared.ready.TheConstants.{MOST_BODIES};
 
 use crate::account::start_key;
 use crate::book::Book;
+use crate::house::Lent;
 use crate::kernel::Core;
 use crate::keys::least_run;
 use crate::opening::{Opening, SessionNumber, open_run, session_number};
 use crate::ready::has_body_room;
 use crate::room::room_for;
 use crate::run::{Progress, Run};
-use crate::setting::Setting;
 use crate::stop::{BeginStop, begin_stop};
 use asp_job::{Entry, Runner, What};
 use asp_journal::Journal;
@@ -94,22 +94,20 @@ fn add_begin(book: &mut Book, sessions: &mut Sessions, lane: u32, run: u32, numb
 
 /// The run, with the runner's state of it. Without memory the store comes back.
 fn start_run<R: Runner>(
-    runner: &R,
-    site: &R::Site,
-    setting: &Setting,
+    lent: &Lent<R, R::Site>,
     journal: &Journal,
     sessions: &Sessions,
-    number: SessionNumber,
-    run: u32,
+    next: (u32, SessionNumber),
     store: R::Store,
 ) -> Result<Run<R>, R::Store>
-    requires { spec.CanOpen (runs.draw_of (past_by journal.now) run)
-        (sessions_in sessions.now.account (runs.key_of (past_by journal.now) run)) number }
-    ensures { IfOk result (spec.HasOpened (R.stands runner.now site.now) setting.now.seed
-        (runs.draw_of (past_by journal.now) run)
-        (sessions_in sessions.now.account (runs.key_of (past_by journal.now) run)) number run) }
+    requires { spec.CanOpen (runs.draw_of (past_by journal.now) next.0)
+        (sessions_in sessions.now.account (runs.key_of (past_by journal.now) next.0)) next.1 }
+    ensures { IfOk result (spec.HasOpened (R.stands lent.now.runner.now lent.now.site.now) lent.now.setting.seed
+        (runs.draw_of (past_by journal.now) next.0)
+        (sessions_in sessions.now.account (runs.key_of (past_by journal.now) next.0)) next.1 next.0) }
 {
-    let Ok(opening) = open_run(&setting.seed, journal, sessions, number, run as u64) else {
+    let (run, number) = next;
+    let Ok(opening) = open_run(&lent.setting.seed, journal, sessions, number, run as u64) else {
         return Err(store);
     };
     let Opening {
@@ -118,7 +116,10 @@ fn start_run<R: Runner>(
         cookie,
         stand_ins,
     } = opening;
-    match runner.start(site, &job, session, number.is_new, cookie, store) {
+    match lent
+        .runner
+        .start(lent.site, &job, session, number.is_new, cookie, store)
+    {
         Ok(state) => Ok(Run {
             number: run,
             progress: Progress::Going,
@@ -132,43 +133,32 @@ fn start_run<R: Runner>(
 
 /// A run that is next, the book with its Begin and the session keys. A refusal leaves both.
 fn begin_run<R: Runner>(
-    runner: &R,
-    site: &R::Site,
-    setting: &Setting,
+    lent: &Lent<R, R::Site>,
     book: &mut Book,
     sessions: &mut Sessions,
     lane: u32,
     store: R::Store,
 ) -> Result<Run<R>, (R::Store, BeginStop)>
-    requires { spec.CanBegin (kernel.rules_by (R.meaning runner.now site.now) setting.now)
+    requires { spec.CanBegin (kernel.rules_by (R.meaning lent.now.runner.now lent.now.site.now) lent.now.setting)
         (past_in book.old) sessions.old.account book.old.answers }
-    ensures ok { IfOk result (spec.HasBegun (kernel.rules_by (R.meaning runner.now site.now) setting.now)
-        (R.stands runner.now site.now) lane book.old sessions.old.account book.new sessions.new.account) }
+    ensures ok { IfOk result (spec.HasBegun (kernel.rules_by (R.meaning lent.now.runner.now lent.now.site.now) lent.now.setting)
+        (R.stands lent.now.runner.now lent.now.site.now) lane book.old sessions.old.account book.new sessions.new.account) }
     ensures err { OnErr result (Stays book.old book.new × (sessions.new.account ≡ sessions.old.account)) }
     ensures idle { IfErr result (λ stop. stop.1 ≡ BeginStop.Idle ↔
         spec.IsIdleWith book.old.answers (past_in book.old)) }
     ensures full { (entries weight : ℕ) → IfErr result (λ stop. stop.1 ≡ BeginStop.JournalFull entries weight →
-        kernel.IsBeginTooMuch (kernel.rules_by (R.meaning runner.now site.now) setting.now)
+        kernel.IsBeginTooMuch (kernel.rules_by (R.meaning lent.now.runner.now lent.now.site.now) lent.now.setting)
         (past_in book.old) lane entries weight) }
     ensures fits { IfErr result (λ stop. stop.1 ≡ BeginStop.Memory →
-        kernel.NextFits (kernel.rules_by (R.meaning runner.now site.now) setting.now) (past_in book.old) lane) }
+        kernel.NextFits (kernel.rules_by (R.meaning lent.now.runner.now lent.now.site.now) lent.now.setting) (past_in book.old) lane) }
 {
-    let (run, number) = match next_with_room(book, sessions) {
+    let next = match next_with_room(book, sessions) {
         Ok(next) => next,
         Err(stop) => return Err((store, stop)),
     };
-    match start_run(
-        runner,
-        site,
-        setting,
-        book.journal(),
-        sessions,
-        number,
-        run,
-        store,
-    ) {
+    match start_run(lent, book.journal(), sessions, next, store) {
         Ok(begun) => {
-            add_begin(book, sessions, lane, run, number);
+            add_begin(book, sessions, lane, next.0, next.1);
             Ok(begun)
         }
         Err(store) => Err((store, BeginStop::Memory)),
@@ -206,10 +196,13 @@ impl<R: Runner> Core<R> {
             kernel.NextFits (kernel.rules_of R.meaning self.old) (kernel.past_of self.old) lane) }
         ensures err { OnErr result (self.new ≡ self.old) }
     {
-        begin_run(
+        let lent = Lent {
             runner,
             site,
-            &self.house.setting,
+            setting: self.house.setting,
+        };
+        begin_run(
+            &lent,
             &mut self.kept.book,
             &mut self.kept.sessions,
             lane,

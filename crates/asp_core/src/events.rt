@@ -14,11 +14,10 @@ ghost use Rattle.asp_core.specs.Sessions.{IsAccountOf, Tells, account_grown, ses
 
 use crate::admitted::Drawn;
 use crate::book::Book;
-use crate::drawing::{add_job, prepared};
+use crate::drawing::{Coming, add_job, prepared};
 use crate::entries::{stop_entries, tick_entries};
-use crate::house::House;
+use crate::house::{House, Lent};
 use crate::room::add_calm;
-use crate::setting::Setting;
 use crate::stop::EventStop;
 use asp_job::{Entry, Job, Runner};
 use asp_journal::Journal;
@@ -121,32 +120,30 @@ pub fn with_stop<R: Runner>(
 
 /// The book and the session keys after a job. A refusal leaves them.
 #[tactic(auto)]
-pub fn with_job<R: Runner>(
-    runner: &R,
-    site: &R::Site,
-    setting: &Setting,
+pub(crate) fn with_job<R: Runner>(
+    lent: &Lent<R, R::Site>,
     book: &mut Book,
     sessions: &mut Sessions,
     lane: u32,
     job: &Job,
 ) -> Result<Drawn, EventStop>
-    requires account { IsAccountOf (kernel.rules_by (R.meaning runner.now site.now) setting.now)
+    requires account { IsAccountOf (kernel.rules_by (R.meaning lent.now.runner.now lent.now.site.now) lent.now.setting)
         (past_in book.old) sessions.old.account }
     requires few { history.entries_in (past_in book.old) ≤ MOST_ENTRIES }
     requires small { IsSmall job.now }
     ensures grows { OnOk result (Grows book.old (journals.admit_entries
-        (kernel.rules_by (R.meaning runner.now site.now) setting.now) (past_in book.old) lane job.now) book.new) }
+        (kernel.rules_by (R.meaning lent.now.runner.now lent.now.site.now) lent.now.setting) (past_in book.old) lane job.now) book.new) }
     ensures drawn { IfOk result (drawing.IsDrawn (drawing.entry_then
-        (kernel.rules_by (R.meaning runner.now site.now) setting.now) (past_in book.old) lane job.now).what) }
+        (kernel.rules_by (R.meaning lent.now.runner.now lent.now.site.now) lent.now.setting) (past_in book.old) lane job.now).what) }
     ensures account { OnOk result (sessions.new.account ≡ account_grown
-        (kernel.rules_by (R.meaning runner.now site.now) setting.now) (past_in book.old)
-        (journals.admit_entries (kernel.rules_by (R.meaning runner.now site.now) setting.now)
+        (kernel.rules_by (R.meaning lent.now.runner.now lent.now.site.now) lent.now.setting) (past_in book.old)
+        (journals.admit_entries (kernel.rules_by (R.meaning lent.now.runner.now lent.now.site.now) lent.now.setting)
         (past_in book.old) lane job.now) sessions.old.account) }
     ensures place { OnOk result ((0 < book.new.room) × (0 < book.new.places)) }
     ensures err { OnErr result (Stays book.old book.new × (sessions.new.account ≡ sessions.old.account)) }
     ensures full { (entries weight : ℕ) → result ≡ Err (EventStop.JournalFull entries weight) →
         kernel.IsTooMuch (journals.past_after (past_in book.old) (journals.admit_entries
-        (kernel.rules_by (R.meaning runner.now site.now) setting.now) (past_in book.old) lane job.now))
+        (kernel.rules_by (R.meaning lent.now.runner.now lent.now.site.now) lent.now.setting) (past_in book.old) lane job.now))
         entries weight }
 {
     let alloc = book.journal().alloc();
@@ -156,9 +153,8 @@ pub fn with_job<R: Runner>(
     };
     match prepared(alloc, job) {
         Ok((job, answer)) => {
-            add_job(
-                runner, site, setting, book, sessions, lane, more, job, answer,
-            )
+            let coming = Coming { more, job, answer };
+            add_job(lent, book, sessions, lane, coming)
         }
         Err(_) => Err(EventStop::Memory),
     }

@@ -11,19 +11,19 @@ use Rattle.asp_core.proofs.begin.begin_run.Goals as goal
 
 pub next_with_room-requires-clause-numbered : goal.next_with_room-requires-clause-numbered
 next_with_room-requires-clause-numbered g c =
-    let m = rules_by (g.R.Runner.meaning c.args.runner.now c.args.site.now) c.args.setting.now in
+    let m = rules_by (g.R.Runner.meaning c.args.lent.now.runner.now c.args.lent.now.site.now) c.args.lent.now.setting in
     can_number m (past_in c.args.book.now) c.args.sessions.now.account c.args.book.now.answers
     c.requires
 
 pub next_with_room-requires-clause-few : goal.next_with_room-requires-clause-few
 next_with_room-requires-clause-few g c =
-    let m = rules_by (g.R.Runner.meaning c.args.runner.now c.args.site.now) c.args.setting.now in
+    let m = rules_by (g.R.Runner.meaning c.args.lent.now.runner.now c.args.lent.now.site.now) c.args.lent.now.setting in
     can_add m (past_in c.args.book.now) c.args.sessions.now.account c.args.book.now.answers
     c.requires
 
 pub next_with_room-requires-clause-count : goal.next_with_room-requires-clause-count
 next_with_room-requires-clause-count g c =
-    let m = rules_by (g.R.Runner.meaning c.args.runner.now c.args.site.now) c.args.setting.now in
+    let m = rules_by (g.R.Runner.meaning c.args.lent.now.runner.now c.args.lent.now.site.now) c.args.lent.now.setting in
     can_count m (past_in c.args.book.now) c.args.sessions.now.account c.args.book.now.answers
     c.requires
 
@@ -35,32 +35,32 @@ returns-in-Err-clause-idle g c = c.in-Err.ensures.idle
 
 pub returns-in-Err-clause-full : goal.returns-in-Err-clause-full
 returns-in-Err-clause-full g c entries weight = λ e.
-    let m = rules_by (g.R.Runner.meaning c.args.runner.now c.args.site.now) c.args.setting.now in
+    let m = rules_by (g.R.Runner.meaning c.args.lent.now.runner.now c.args.lent.now.site.now) c.args.lent.now.setting in
     begin_too_much m (past_in c.args.book.now) c.args.sessions.now.account c.args.book.now.answers
     c.args.lane entries weight c.requires
     (c.in-Err.ensures.full entries weight (ap Err e))
 
 pub returns-in-Err-clause-fits : goal.returns-in-Err-clause-fits
 returns-in-Err-clause-fits g c = λ e.
-    let m = rules_by (g.R.Runner.meaning c.args.runner.now c.args.site.now) c.args.setting.now in
+    let m = rules_by (g.R.Runner.meaning c.args.lent.now.runner.now c.args.lent.now.site.now) c.args.lent.now.setting in
     begin_fits m (past_in c.args.book.now) c.args.sessions.now.account c.args.book.now.answers
     c.args.lane c.requires (c.in-Err.ensures.fits (ap Err e))
 
 pub start_run-requires : goal.start_run-requires
 start_run-requires g c =
-    let m = rules_by (g.R.Runner.meaning c.args.runner.now c.args.site.now) c.args.setting.now in
+    let m = rules_by (g.R.Runner.meaning c.args.lent.now.runner.now c.args.lent.now.site.now) c.args.lent.now.setting in
     rw (c.journal.ensures, c.next_with_room.ensures.stays.0) (can_open m (past_in c.args.book.now)
     c.args.sessions.now.account c.args.book.now.answers c.in-Ok.next.0 c.in-Ok.next.1 c.requires c.in-Ok.ensures.ok)
 
 pub add_begin-requires-clause-fit : goal.add_begin-requires-clause-fit
 add_begin-requires-clause-fit g c =
-    let m = rules_by (g.R.Runner.meaning c.args.runner.now c.args.site.now) c.args.setting.now in
+    let m = rules_by (g.R.Runner.meaning c.args.lent.now.runner.now c.args.lent.now.site.now) c.args.lent.now.setting in
     rw c.next_with_room.ensures.stays.0 (begin_fit m (past_in c.args.book.now) c.in-Ok.next.0
     c.in-Ok.next.1.serial c.requires.kept.sessions.journal.entries c.in-Ok.ensures.ok.next.first.begins)
 
 pub add_begin-requires-clause-room : goal.add_begin-requires-clause-room
 add_begin-requires-clause-room g c =
-    let m = rules_by (g.R.Runner.meaning c.args.runner.now c.args.site.now) c.args.setting.now in
+    let m = rules_by (g.R.Runner.meaning c.args.lent.now.runner.now c.args.lent.now.site.now) c.args.lent.now.setting in
     let items = sym c.next_with_room.ensures.stays.0 in
     let begins = c.in-Ok.ensures.ok.next.first.begins in
     begin_roomy m c.next_with_room.new.book c.args.lane c.in-Ok.next.0 c.in-Ok.next.1.serial
@@ -69,7 +69,7 @@ add_begin-requires-clause-room g c =
 
 pub add_begin-requires-clause-count : goal.add_begin-requires-clause-count
 add_begin-requires-clause-count g c =
-    let m = rules_by (g.R.Runner.meaning c.args.runner.now c.args.site.now) c.args.setting.now in
+    let m = rules_by (g.R.Runner.meaning c.args.lent.now.runner.now c.args.lent.now.site.now) c.args.lent.now.setting in
     can_count m (past_in c.args.book.now) c.args.sessions.now.account c.args.book.now.answers
     c.requires
 
@@ -77,8 +77,8 @@ pub returns-in-Ok-start_run-clause-ok : goal.returns-in-Ok-start_run-clause-ok
 returns-in-Ok-start_run-clause-ok g c =
     let stays = c.next_with_room.ensures.stays in
     let adds = c.add_begin.ensures.adds in
-    has_begun (g.R.Runner.meaning c.args.runner.now c.args.site.now) c.args.setting.now
-    (g.R.Runner.stands c.args.runner.now c.args.site.now) c.args.lane c.args.book.now c.add_begin.new.book
+    has_begun (g.R.Runner.meaning c.args.lent.now.runner.now c.args.lent.now.site.now) c.args.lent.now.setting
+    (g.R.Runner.stands c.args.lent.now.runner.now c.args.lent.now.site.now) c.args.lane c.args.book.now c.add_begin.new.book
     c.args.sessions.now.account c.add_begin.new.sessions.account c.in-Ok-start_run.begun c.in-Ok.next.0 c.in-Ok.next.1
     c.requires c.in-Ok.ensures.ok (rw stays.0 at adds.0, adds.1 ∙ stays.1) (rw stays.0 at c.add_begin.ensures.account)
     (rw (c.journal.ensures, stays.0) at c.in-Ok-start_run.ensures)
@@ -98,6 +98,6 @@ returns-in-Err-start_run-clause-full g c entries weight = λ e. absurd cc
 
 pub returns-in-Err-start_run-clause-fits : goal.returns-in-Err-start_run-clause-fits
 returns-in-Err-start_run-clause-fits g c = λ e.
-    let m = rules_by (g.R.Runner.meaning c.args.runner.now c.args.site.now) c.args.setting.now in
+    let m = rules_by (g.R.Runner.meaning c.args.lent.now.runner.now c.args.lent.now.site.now) c.args.lent.now.setting in
     begin_fits m (past_in c.args.book.now) c.args.sessions.now.account c.args.book.now.answers
     c.args.lane c.requires c.in-Ok.ensures.ok.load

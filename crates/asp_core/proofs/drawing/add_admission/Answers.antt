@@ -20,17 +20,17 @@ ask-requires-clause-made g c =
 
 pub push-requires-clause-fit : goal.push-requires-clause-fit
 push-requires-clause-fit g c =
-    let m = rules_by (g.R.Runner.meaning c.args.runner.now c.args.site.now) c.args.setting.now in
+    let m = rules_by (g.R.Runner.meaning c.args.lent.now.runner.now c.args.lent.now.site.now) c.args.lent.now.setting in
     let past = past_in c.args.book.now in
     let what = rw c.journal.ensures at c.admission_of-what.ensures.what in
-    subst (λ (w : What). IsFit past w) (sym what) (drawn_fit m (sessions_in c.args.sessions.now.account) past 0 c.args.job)
+    subst (λ (w : What). IsFit past w) (sym what) (drawn_fit m (sessions_in c.args.sessions.now.account) past 0 c.args.came.0)
 
 pub push-requires-clause-room : goal.push-requires-clause-room
 push-requires-clause-room g c =
-    let m = rules_by (g.R.Runner.meaning c.args.runner.now c.args.site.now) c.args.setting.now in
+    let m = rules_by (g.R.Runner.meaning c.args.lent.now.runner.now c.args.lent.now.site.now) c.args.lent.now.setting in
     let past = past_in c.args.book.now in
     let what = rw c.journal.ensures at c.admission_of-what.ensures.what in
-    job_roomy m (sessions_in c.args.sessions.now.account) c.args.book.now c.args.lane c.args.job
+    job_roomy m (sessions_in c.args.sessions.now.account) c.args.book.now c.args.lane c.args.came.0
     c.admission_of-what.result what c.requires.room
 
 pub returns-clause-adds : goal.returns-clause-adds
@@ -41,16 +41,16 @@ returns-clause-adds g c =
 
 pub returns-clause-drawn : goal.returns-clause-drawn
 returns-clause-drawn g c =
-    let m = rules_by (g.R.Runner.meaning c.args.runner.now c.args.site.now) c.args.setting.now in
+    let m = rules_by (g.R.Runner.meaning c.args.lent.now.runner.now c.args.lent.now.site.now) c.args.lent.now.setting in
     let past = past_in c.args.book.now in
     let sessions = sessions_in c.args.sessions.now.account in
     let what = rw c.journal.ensures at c.admission_of-what.ensures.what in
     let drawn = c.drawn_of-drawn.ensures in
     record {
       told_is = drawn.told ∙ ap told_of what;
-      answer_is = drawn.answer ∙ ap (λ (w : What). answer_if w c.args.answer) what
-          ∙ ap (answer_if (drawn_by m sessions past 0 c.args.job).what) c.requires.answer
-          ∙ answer_drawn m sessions past 0 c.args.job;
+      answer_is = drawn.answer ∙ ap (λ (w : What). answer_if w c.args.came.1) what
+          ∙ ap (answer_if (drawn_by m sessions past 0 c.args.came.0).what) c.requires.answer
+          ∙ answer_drawn m sessions past 0 c.args.came.0;
     }
 
 pub returns-clause-account : goal.returns-clause-account
@@ -60,7 +60,7 @@ returns-clause-account g c =
 
 pub returns-clause-room : goal.returns-clause-room
 returns-clause-room g c =
-    let m = rules_by (g.R.Runner.meaning c.args.runner.now c.args.site.now) c.args.setting.now in
+    let m = rules_by (g.R.Runner.meaning c.args.lent.now.runner.now c.args.lent.now.site.now) c.args.lent.now.setting in
     let what = rw c.journal.ensures at c.admission_of-what.ensures.what in
-    job_leaves m (sessions_in c.args.sessions.now.account) c.args.book.now c.push.new.self c.args.lane c.args.job
+    job_leaves m (sessions_in c.args.sessions.now.account) c.args.book.now c.push.new.self c.args.lane c.args.came.0
     c.admission_of-what.result what c.push.ensures.room

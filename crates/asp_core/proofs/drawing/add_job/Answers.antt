@@ -16,14 +16,14 @@ use Rattle.asp_core.proofs.drawing.add_job.Goals as goal
 pub returns-in-Err-clause-full : goal.returns-in-Err-clause-full
 returns-in-Err-clause-full g c entries total e =
     let same : c.in-Err.stop ≡ JournalFull entries total = cc in
-    let m = rules_by (g.R.Runner.meaning c.args.runner.now c.args.site.now) c.args.setting.now in
+    let m = rules_by (g.R.Runner.meaning c.args.lent.now.runner.now c.args.lent.now.site.now) c.args.lent.now.setting in
     let sessions = sessions_in c.args.sessions.now.account in
     let past = past_in c.args.book.now in
-    let count : c.len.result ≡ length c.args.more = grind (arith, common_steps) in
+    let count : c.len.result ≡ length c.args.coming.more = grind (arith, common_steps) in
     let weighs : c.job_weight-weight.result
-    ≡ min (sum_by entry_weight c.args.more + (64 + work_weight c.args.job.work)) (2 ^ 64 - 1) =
+    ≡ min (sum_by entry_weight c.args.coming.more + (64 + work_weight c.args.coming.job.work)) (2 ^ 64 - 1) =
     grind (arith, common_steps) in
-    job_much m sessions past c.args.more c.args.lane c.args.job c.len.result c.job_weight-weight.result entries total
+    job_much m sessions past c.args.coming.more c.args.lane c.args.coming.job c.len.result c.job_weight-weight.result entries total
     c.requires.tick count weighs (c.in-Err.ensures.full entries total (ap Err same))
 
 pub add_ticked-requires-clause-few : goal.add_ticked-requires-clause-few
@@ -32,7 +32,7 @@ add_ticked-requires-clause-few g c =
 
 pub add_ticked-requires-clause-account : goal.add_ticked-requires-clause-account
 add_ticked-requires-clause-account g c =
-    let m = rules_by (g.R.Runner.meaning c.args.runner.now c.args.site.now) c.args.setting.now in
+    let m = rules_by (g.R.Runner.meaning c.args.lent.now.runner.now c.args.lent.now.site.now) c.args.lent.now.setting in
     let same = c.room_for.ensures.stays.0 in
     let still = c.make_key_room.ensures.account in
     subst (λ (items : List Entry). IsAccountOf m (reverse items) c.make_key_room.new.sessions.account) (sym same)
@@ -42,38 +42,38 @@ pub add_ticked-requires-clause-tick : goal.add_ticked-requires-clause-tick
 add_ticked-requires-clause-tick g c =
     let same = sym c.room_for.ensures.stays.0 in
     let still = sym c.make_key_room.ensures.account in
-    c.requires.tick ∙ (λ i. tick_before (sessions_in (still i)) (reverse (same i)) c.args.lane c.args.job)
+    c.requires.tick ∙ (λ i. tick_before (sessions_in (still i)) (reverse (same i)) c.args.lane c.args.coming.job)
 
 pub returns-clause-drawn : goal.returns-clause-drawn
 returns-clause-drawn g c =
-    let m = rules_by (g.R.Runner.meaning c.args.runner.now c.args.site.now) c.args.setting.now in
+    let m = rules_by (g.R.Runner.meaning c.args.lent.now.runner.now c.args.lent.now.site.now) c.args.lent.now.setting in
     let same = c.room_for.ensures.stays.0 in
     let still = c.make_key_room.ensures.account in
     subst (λ (entry : Entry). IsDrawn entry.what c.add_ticked.result)
-    (λ i. drawn_then m (sessions_in (still i)) (reverse (same i)) c.args.lane c.args.job) c.add_ticked.ensures.drawn
+    (λ i. drawn_then m (sessions_in (still i)) (reverse (same i)) c.args.lane c.args.coming.job) c.add_ticked.ensures.drawn
 
 pub returns-clause-account : goal.returns-clause-account
 returns-clause-account g c =
-    let m = rules_by (g.R.Runner.meaning c.args.runner.now c.args.site.now) c.args.setting.now in
+    let m = rules_by (g.R.Runner.meaning c.args.lent.now.runner.now c.args.lent.now.site.now) c.args.lent.now.setting in
     let same = c.room_for.ensures.stays.0 in
     let still = c.make_key_room.ensures.account in
     c.add_ticked.ensures.account ∙ (λ i. account_grown m (reverse (same i))
-    (entries_by m (sessions_in (still i)) (reverse (same i)) c.args.lane c.args.job) (still i))
+    (entries_by m (sessions_in (still i)) (reverse (same i)) c.args.lane c.args.coming.job) (still i))
 
 pub returns-clause-grows : goal.returns-clause-grows
 returns-clause-grows g c =
-    let m = rules_by (g.R.Runner.meaning c.args.runner.now c.args.site.now) c.args.setting.now in
+    let m = rules_by (g.R.Runner.meaning c.args.lent.now.runner.now c.args.lent.now.site.now) c.args.lent.now.setting in
     let sessions = sessions_in c.args.sessions.now.account in
     let stays = c.room_for.ensures.stays in
     let same = stays.0 in
     let still = c.make_key_room.ensures.account in
     let adds = c.add_ticked.ensures.adds in
-    let next = adds.0 ∙ (λ i. same i ++ entries_by m (sessions_in (still i)) (reverse (same i)) c.args.lane c.args.job) in
-    let count : c.len.result ≡ length c.args.more = grind (arith, common_steps) in
+    let next = adds.0 ∙ (λ i. same i ++ entries_by m (sessions_in (still i)) (reverse (same i)) c.args.lane c.args.coming.job) in
+    let count : c.len.result ≡ length c.args.coming.more = grind (arith, common_steps) in
     let weighs : c.job_weight-weight.result
-    ≡ min (sum_by entry_weight c.args.more + (64 + work_weight c.args.job.work)) (2 ^ 64 - 1) =
+    ≡ min (sum_by entry_weight c.args.coming.more + (64 + work_weight c.args.coming.job.work)) (2 ^ 64 - 1) =
     grind (arith, common_steps) in (
       (next, adds.1 ∙ stays.1),
-      job_within m sessions c.args.book.now.items c.add_ticked.new.book.items c.args.more c.args.lane c.args.job
+      job_within m sessions c.args.book.now.items c.add_ticked.new.book.items c.args.coming.more c.args.lane c.args.coming.job
           c.len.result c.job_weight-weight.result c.requires.tick next count weighs c.in_default.ensures.ok.0,
     )

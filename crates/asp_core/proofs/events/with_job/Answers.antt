@@ -11,12 +11,12 @@ use Rattle.asp_core.proofs.events.with_job.Goals as goal
 
 pub tick_entries-requires-clause-tells : goal.tick_entries-requires-clause-tells
 tick_entries-requires-clause-tells g c =
-    let m = rules_by (g.R.Runner.meaning c.args.runner.now c.args.site.now) c.args.setting.now in
+    let m = rules_by (g.R.Runner.meaning c.args.lent.now.runner.now c.args.lent.now.site.now) c.args.lent.now.setting in
     rw c.journal-2.ensures (account_tells m (past_in c.args.book.now) c.args.sessions.now.account c.requires.account).0
 
 pub returns-in-Ok-prepared-clause-grows : goal.returns-in-Ok-prepared-clause-grows
 returns-in-Ok-prepared-clause-grows g c =
-    let m = rules_by (g.R.Runner.meaning c.args.runner.now c.args.site.now) c.args.setting.now in
+    let m = rules_by (g.R.Runner.meaning c.args.lent.now.runner.now c.args.lent.now.site.now) c.args.lent.now.setting in
     let past = past_in c.args.book.now in
     let made = job_made m past (sessions_in c.args.sessions.now.account) c.args.lane c.in-Ok-prepared.job
     (account_tells m past c.args.sessions.now.account c.requires.account).1
@@ -26,7 +26,7 @@ returns-in-Ok-prepared-clause-grows g c =
 
 pub returns-in-Ok-prepared-clause-drawn : goal.returns-in-Ok-prepared-clause-drawn
 returns-in-Ok-prepared-clause-drawn g c =
-    let m = rules_by (g.R.Runner.meaning c.args.runner.now c.args.site.now) c.args.setting.now in
+    let m = rules_by (g.R.Runner.meaning c.args.lent.now.runner.now c.args.lent.now.site.now) c.args.lent.now.setting in
     let past = past_in c.args.book.now in
     let made = job_entry m past (sessions_in c.args.sessions.now.account) c.args.lane c.in-Ok-prepared.job
     (account_tells m past c.args.sessions.now.account c.requires.account).1
@@ -35,7 +35,7 @@ returns-in-Ok-prepared-clause-drawn g c =
 
 pub returns-in-Ok-prepared-clause-full : goal.returns-in-Ok-prepared-clause-full
 returns-in-Ok-prepared-clause-full g c entries weight e =
-    let m = rules_by (g.R.Runner.meaning c.args.runner.now c.args.site.now) c.args.setting.now in
+    let m = rules_by (g.R.Runner.meaning c.args.lent.now.runner.now c.args.lent.now.site.now) c.args.lent.now.setting in
     let past = past_in c.args.book.now in
     let made = job_made m past (sessions_in c.args.sessions.now.account) c.args.lane c.in-Ok-prepared.job
     (account_tells m past c.args.sessions.now.account c.requires.account).1
@@ -45,7 +45,7 @@ returns-in-Ok-prepared-clause-full g c entries weight e =
 
 pub returns-in-Ok-prepared-clause-account : goal.returns-in-Ok-prepared-clause-account
 returns-in-Ok-prepared-clause-account g c =
-    let m = rules_by (g.R.Runner.meaning c.args.runner.now c.args.site.now) c.args.setting.now in
+    let m = rules_by (g.R.Runner.meaning c.args.lent.now.runner.now c.args.lent.now.site.now) c.args.lent.now.setting in
     let past = past_in c.args.book.now in
     let account = c.args.sessions.now.account in
     let made = job_made m past (sessions_in account) c.args.lane c.in-Ok-prepared.job
