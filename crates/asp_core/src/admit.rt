@@ -49,14 +49,17 @@ pub(crate) fn take_job<R: Runner>(
         (past_in book.old) sessions.old.account }
     requires few { history.entries_in (past_in book.old) ≤ MOST_ENTRIES }
     requires small { IsSmall job.now }
-    ensures ok { OnOk result (taking.HasTaken (kernel.rules_by (R.meaning lent.now.runner.now lent.now.site.now) lent.now.setting)
+    ensures ok { OnOk result (taking.HasTaken
+        (kernel.rules_by (R.meaning lent.now.runner.now lent.now.site.now) lent.now.setting)
         lane job.now book.old sessions.old.account book.new sessions.new.account) }
     ensures told { IfOk result (λ told. told ≡ drawing.told_of (drawing.entry_then
-        (kernel.rules_by (R.meaning lent.now.runner.now lent.now.site.now) lent.now.setting) (past_in book.old) lane job.now).what) }
+        (kernel.rules_by (R.meaning lent.now.runner.now lent.now.site.now) lent.now.setting)
+        (past_in book.old) lane job.now).what) }
     ensures err { OnErr result (Stays book.old book.new × (sessions.new.account ≡ sessions.old.account)) }
     ensures full { (entries weight : ℕ) → result ≡ Err (EventStop.JournalFull entries weight) →
         kernel.IsTooMuch (journals.past_after (past_in book.old) (journals.admit_entries
-        (kernel.rules_by (R.meaning lent.now.runner.now lent.now.site.now) lent.now.setting) (past_in book.old) lane job.now))
+        (kernel.rules_by (R.meaning lent.now.runner.now lent.now.site.now) lent.now.setting)
+        (past_in book.old) lane job.now))
         entries weight }
 {
     let drawn = match with_job(lent, book, sessions, lane, job) {

@@ -141,7 +141,8 @@ fn begin_run<R: Runner>(
 ) -> Result<Run<R>, (R::Store, BeginStop)>
     requires { spec.CanBegin (kernel.rules_by (R.meaning lent.now.runner.now lent.now.site.now) lent.now.setting)
         (past_in book.old) sessions.old.account book.old.answers }
-    ensures ok { IfOk result (spec.HasBegun (kernel.rules_by (R.meaning lent.now.runner.now lent.now.site.now) lent.now.setting)
+    ensures ok { IfOk result (spec.HasBegun
+        (kernel.rules_by (R.meaning lent.now.runner.now lent.now.site.now) lent.now.setting)
         (R.stands lent.now.runner.now lent.now.site.now) lane book.old sessions.old.account book.new sessions.new.account) }
     ensures err { OnErr result (Stays book.old book.new × (sessions.new.account ≡ sessions.old.account)) }
     ensures idle { IfErr result (λ stop. stop.1 ≡ BeginStop.Idle ↔
@@ -150,7 +151,8 @@ fn begin_run<R: Runner>(
         kernel.IsBeginTooMuch (kernel.rules_by (R.meaning lent.now.runner.now lent.now.site.now) lent.now.setting)
         (past_in book.old) lane entries weight) }
     ensures fits { IfErr result (λ stop. stop.1 ≡ BeginStop.Memory →
-        kernel.NextFits (kernel.rules_by (R.meaning lent.now.runner.now lent.now.site.now) lent.now.setting) (past_in book.old) lane) }
+        kernel.NextFits (kernel.rules_by (R.meaning lent.now.runner.now lent.now.site.now) lent.now.setting)
+        (past_in book.old) lane) }
 {
     let next = match next_with_room(book, sessions) {
         Ok(next) => next,

@@ -106,7 +106,8 @@ fn admission_of<R: Runner>(
     requires small { IsSmall job }
     requires few { history.entries_in (past_by journal.now) ≤ MOST_ENTRIES + MOST_ENTRIES + 1 }
     requires tells { Tells sessions.now.account (past_by journal.now) }
-    ensures what { result ≡ (drawing.drawn_by (kernel.rules_by (R.meaning lent.now.runner.now lent.now.site.now) lent.now.setting)
+    ensures what { result ≡ (drawing.drawn_by
+        (kernel.rules_by (R.meaning lent.now.runner.now lent.now.site.now) lent.now.setting)
         (sessions_in sessions.now.account) (past_by journal.now) 0 job).what }
     ensures free { keys.makes_key result ≡ true → length sessions.now.account.keys < most_live }
 {
@@ -187,10 +188,12 @@ fn add_ticked<R: Runner>(
     requires room { length coming.more < book.old.room }
     requires key_room { (0 < sessions.old.key_room) × (length coming.more < sessions.old.run_room) }
     ensures adds { Adds book.old (drawing.entries_by
-        (kernel.rules_by (R.meaning lent.now.runner.now lent.now.site.now) lent.now.setting) (sessions_in sessions.old.account)
+        (kernel.rules_by (R.meaning lent.now.runner.now lent.now.site.now) lent.now.setting)
+        (sessions_in sessions.old.account)
         (past_in book.old) lane coming.job) book.new }
     ensures drawn { drawing.IsDrawn (drawing.drawn_then
-        (kernel.rules_by (R.meaning lent.now.runner.now lent.now.site.now) lent.now.setting) (sessions_in sessions.old.account)
+        (kernel.rules_by (R.meaning lent.now.runner.now lent.now.site.now) lent.now.setting)
+        (sessions_in sessions.old.account)
         (past_in book.old) lane coming.job).what result }
     ensures account { sessions.new.account ≡ account_grown
         (kernel.rules_by (R.meaning lent.now.runner.now lent.now.site.now) lent.now.setting) (past_in book.old)
@@ -221,10 +224,12 @@ pub(crate) fn add_job<R: Runner>(
         lane coming.job }
     requires answer { coming.answer ≡ standing.stand_in Unavailable.TooManySessions coming.job.work }
     ensures grows { OnOk result (Grows book.old (drawing.entries_by
-        (kernel.rules_by (R.meaning lent.now.runner.now lent.now.site.now) lent.now.setting) (sessions_in sessions.old.account)
+        (kernel.rules_by (R.meaning lent.now.runner.now lent.now.site.now) lent.now.setting)
+        (sessions_in sessions.old.account)
         (past_in book.old) lane coming.job) book.new) }
     ensures drawn { IfOk result (drawing.IsDrawn (drawing.drawn_then
-        (kernel.rules_by (R.meaning lent.now.runner.now lent.now.site.now) lent.now.setting) (sessions_in sessions.old.account)
+        (kernel.rules_by (R.meaning lent.now.runner.now lent.now.site.now) lent.now.setting)
+        (sessions_in sessions.old.account)
         (past_in book.old) lane coming.job).what) }
     ensures account { OnOk result (sessions.new.account ≡ account_grown
         (kernel.rules_by (R.meaning lent.now.runner.now lent.now.site.now) lent.now.setting) (past_in book.old)
@@ -234,7 +239,8 @@ pub(crate) fn add_job<R: Runner>(
     ensures err { OnErr result (Stays book.old book.new × (sessions.new.account ≡ sessions.old.account)) }
     ensures full { (entries weight : ℕ) → result ≡ Err (EventStop.JournalFull entries weight) →
         kernel.IsTooMuch (journals.past_after (past_in book.old) (drawing.entries_by
-        (kernel.rules_by (R.meaning lent.now.runner.now lent.now.site.now) lent.now.setting) (sessions_in sessions.old.account)
+        (kernel.rules_by (R.meaning lent.now.runner.now lent.now.site.now) lent.now.setting)
+        (sessions_in sessions.old.account)
         (past_in book.old) lane coming.job)) entries weight }
 {
     let count = coming.more.len() + 1;

@@ -132,9 +132,11 @@ pub(crate) fn with_job<R: Runner>(
     requires few { history.entries_in (past_in book.old) ≤ MOST_ENTRIES }
     requires small { IsSmall job.now }
     ensures grows { OnOk result (Grows book.old (journals.admit_entries
-        (kernel.rules_by (R.meaning lent.now.runner.now lent.now.site.now) lent.now.setting) (past_in book.old) lane job.now) book.new) }
+        (kernel.rules_by (R.meaning lent.now.runner.now lent.now.site.now) lent.now.setting)
+        (past_in book.old) lane job.now) book.new) }
     ensures drawn { IfOk result (drawing.IsDrawn (drawing.entry_then
-        (kernel.rules_by (R.meaning lent.now.runner.now lent.now.site.now) lent.now.setting) (past_in book.old) lane job.now).what) }
+        (kernel.rules_by (R.meaning lent.now.runner.now lent.now.site.now) lent.now.setting)
+        (past_in book.old) lane job.now).what) }
     ensures account { OnOk result (sessions.new.account ≡ account_grown
         (kernel.rules_by (R.meaning lent.now.runner.now lent.now.site.now) lent.now.setting) (past_in book.old)
         (journals.admit_entries (kernel.rules_by (R.meaning lent.now.runner.now lent.now.site.now) lent.now.setting)
@@ -143,7 +145,8 @@ pub(crate) fn with_job<R: Runner>(
     ensures err { OnErr result (Stays book.old book.new × (sessions.new.account ≡ sessions.old.account)) }
     ensures full { (entries weight : ℕ) → result ≡ Err (EventStop.JournalFull entries weight) →
         kernel.IsTooMuch (journals.past_after (past_in book.old) (journals.admit_entries
-        (kernel.rules_by (R.meaning lent.now.runner.now lent.now.site.now) lent.now.setting) (past_in book.old) lane job.now))
+        (kernel.rules_by (R.meaning lent.now.runner.now lent.now.site.now) lent.now.setting)
+        (past_in book.old) lane job.now))
         entries weight }
 {
     let alloc = book.journal().alloc();

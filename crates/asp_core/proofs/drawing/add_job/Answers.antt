@@ -19,11 +19,11 @@ returns-in-Err-clause-full g c entries total e =
     let m = rules_by (g.R.Runner.meaning c.args.lent.now.runner.now c.args.lent.now.site.now) c.args.lent.now.setting in
     let sessions = sessions_in c.args.sessions.now.account in
     let past = past_in c.args.book.now in
-    let count : c.len.result ≡ length c.args.coming.more = grind (arith, common_steps) in
+    let count : c.len-count.result ≡ length c.args.coming.more = grind (arith, common_steps) in
     let weighs : c.job_weight-weight.result
     ≡ min (sum_by entry_weight c.args.coming.more + (64 + work_weight c.args.coming.job.work)) (2 ^ 64 - 1) =
     grind (arith, common_steps) in
-    job_much m sessions past c.args.coming.more c.args.lane c.args.coming.job c.len.result c.job_weight-weight.result entries total
+    job_much m sessions past c.args.coming.more c.args.lane c.args.coming.job c.len-count.result c.job_weight-weight.result entries total
     c.requires.tick count weighs (c.in-Err.ensures.full entries total (ap Err same))
 
 pub add_ticked-requires-clause-few : goal.add_ticked-requires-clause-few
@@ -69,11 +69,11 @@ returns-clause-grows g c =
     let still = c.make_key_room.ensures.account in
     let adds = c.add_ticked.ensures.adds in
     let next = adds.0 ∙ (λ i. same i ++ entries_by m (sessions_in (still i)) (reverse (same i)) c.args.lane c.args.coming.job) in
-    let count : c.len.result ≡ length c.args.coming.more = grind (arith, common_steps) in
+    let count : c.len-count.result ≡ length c.args.coming.more = grind (arith, common_steps) in
     let weighs : c.job_weight-weight.result
     ≡ min (sum_by entry_weight c.args.coming.more + (64 + work_weight c.args.coming.job.work)) (2 ^ 64 - 1) =
     grind (arith, common_steps) in (
       (next, adds.1 ∙ stays.1),
       job_within m sessions c.args.book.now.items c.add_ticked.new.book.items c.args.coming.more c.args.lane c.args.coming.job
-          c.len.result c.job_weight-weight.result c.requires.tick next count weighs c.in_default.ensures.ok.0,
+          c.len-count.result c.job_weight-weight.result c.requires.tick next count weighs c.in_default.ensures.ok.0,
     )
