@@ -1,6 +1,6 @@
 -- What a Begin leaves of a right journal.
 use Rattle.std.proofs.Common.{◌≡◌, ℕ, ◌+◌, ◌<◌, ◌≤◌, ◌==◌, ◌&&◌, ◌^◌, Bool, true, false, not}
-use Rattle.std.proofs.Common.{◌↔◌, ◌*◌, if◌then◌else◌, List, [], ◌∷◌, ◌++◌, length, reverse}
+use Rattle.std.proofs.Common.{◌↔◌, if◌then◌else◌, List, [], ◌∷◌, ◌++◌, reverse}
 use Rattle.std.proofs.Common.{Option, Result, Ok, Err, IfOk, OnOk, refl, ap, sym, ◌∙◌, subst, arith}
 use Rattle.std.proofs.Common.{inl, inr}
 use Rattle.asp_core.specs.Book.{Adds, BookView, IsSound, past_in}
@@ -24,14 +24,13 @@ use Rattle.asp_job.specs.Keys.{opened, opens, session_of}
 use Rattle.asp_job.specs.Keys.{told}
 use Rattle.asp_job.specs.Rules.{Rules}
 use Rattle.asp_job.specs.Running.{is_page}
-use Rattle.asp_job.specs.Runs.{draw_of, drawn, is_halted, key_of}
-use Rattle.asp_job.specs.Runs.{unfinished}
+use Rattle.asp_job.specs.Runs.{draw_of, drawn, key_of}
 use Rattle.asp_job.specs.Told.{Meaning, Told}
-use Rattle.asp_job.specs.Turns.{IsNextRun, IsRunning, serial_of}
+use Rattle.asp_job.specs.Turns.{IsRunning, serial_of}
 use Rattle.asp_job.specs.declared.answer.Answer.{Answer}
 use Rattle.asp_job.specs.declared.answer.Fail.{Fail}
 use Rattle.asp_job.specs.declared.entry.Entry.{Entry}
-use Rattle.asp_job.specs.declared.entry.TheConstants.{MOST_ENTRIES, MOST_UNFINISHED}
+use Rattle.asp_job.specs.declared.entry.TheConstants.{MOST_ENTRIES}
 use Rattle.asp_job.specs.declared.entry.What.{What}
 use Rattle.asp_job.specs.declared.entry.What.TheVariants.{Admit, App, Begin, End, Halt, Queue, Refuse, Stop, Take, Tick}
 use Rattle.asp_session.specs.Account.{Account}

@@ -1,5 +1,5 @@
 -- The room that a Begin needs.
-use Rattle.std.proofs.Common.{◌≡◌, ℕ, ◌+◌, ◌*◌, ◌-◌, ◌^◌, ◌<◌, ◌≤◌, ◌∷◌, true, false, List, length, min, reverse}
+use Rattle.std.proofs.Common.{◌≡◌, ℕ, ◌+◌, ◌-◌, ◌^◌, ◌<◌, ◌≤◌, ◌∷◌, true, false, List, length, min}
 use Rattle.std.proofs.Common.{refl, ap, sym, ◌∙◌, arith}
 use Rattle.asp_job.specs.declared.entry.Entry.{Entry}
 use Rattle.asp_job.specs.declared.entry.Stage.TheVariants.{Unfinished}
@@ -8,7 +8,7 @@ use Rattle.asp_job.specs.declared.entry.What.TheVariants.{Begin}
 use Rattle.asp_job.specs.History.{load, weight_load, with_lane}
 use Rattle.asp_job.specs.Journal.{AreRight}
 use Rattle.asp_job.specs.Rules.{Rules}
-use Rattle.asp_job.specs.Runs.{drawn, is_halted, is_stage_unfinished, is_stage_waiting}
+use Rattle.asp_job.specs.Runs.{drawn, is_stage_unfinished, is_stage_waiting}
 use Rattle.asp_job.specs.Runs.{is_unfinished, is_waiting, stage_of, unfinished}
 use Rattle.asp_job.specs.Turns.{may_begin}
 use Rattle.asp_journal.specs.Tables.{IsFit}

@@ -18,7 +18,6 @@ use Rattle.asp_job.specs.History.{call_entry, held_by, with_lane}
 use Rattle.asp_job.specs.Rules.{Rules}
 use Rattle.asp_job.specs.Told.{Meaning, Told, heard}
 use Rattle.asp_job.specs.declared.answer.Answer.{Answer}
-use Rattle.asp_job.specs.declared.entry.Entry.{Entry}
 use Rattle.asp_job.specs.declared.entry.What.TheVariants.{App}
 use Rattle.asp_session.specs.Account.{Account}
 use Rattle.vb_value.specs.declared.application.AppCall.{AppCall}

@@ -1,5 +1,5 @@
 -- Entries that begin and end no run, one after another.
-use Rattle.std.proofs.Common.{◌≡◌, ℕ, ◌+◌, ◌*◌, ◌-◌, ◌^◌, ◌≤◌, ◌<◌, ◌==◌, ◌++◌, Bool, true, false, if◌then◌else◌}
+use Rattle.std.proofs.Common.{◌≡◌, ℕ, ◌+◌, ◌-◌, ◌^◌, ◌≤◌, ◌<◌, ◌==◌, ◌++◌, false, if◌then◌else◌}
 use Rattle.std.proofs.Common.{List, [], ◌∷◌, length, filter, min, sum_by, refl, ap, sym, ◌∙◌, arith, append-nil}
 use Rattle.std.proofs.Common.{reverse, subst}
 use Rattle.std.proofs.lemmas.List.Sums.{sum_by-cons}

@@ -1,10 +1,9 @@
 -- The entries of events may be added.
-use Rattle.std.proofs.Common.{◌≡◌, ℕ, ◌+◌, ◌<◌, ◌≤◌, ◌==◌, ◌&&◌, ◌++◌, Bool, true, false, if◌then◌else◌, not}
-use Rattle.std.proofs.Common.{nat_le, nat_lt}
-use Rattle.std.proofs.Common.{List, [], ◌∷◌, filter, length, Option, refl, ap, sym, ◌∙◌, arith, inl, inr, subst}
-use Rattle.std.proofs.Common.{zero, suc, add-one, length-append, sum_by}
+use Rattle.std.proofs.Common.{◌≡◌, ℕ, ◌+◌, ◌<◌, ◌≤◌, ◌++◌, Bool, true, false, if◌then◌else◌}
+use Rattle.std.proofs.Common.{nat_lt}
+use Rattle.std.proofs.Common.{List, [], ◌∷◌, length, Option, refl, ap, sym, ◌∙◌, arith, subst}
+use Rattle.std.proofs.Common.{length-append, sum_by}
 use Rattle.std.proofs.lemmas.List.Sums.{sum_by_push}
-use Rattle.std.proofs.lemmas.Bool.{cases_Bool}
 use Rattle.asp_job.specs.declared.entry.Entry.{Entry}
 use Rattle.asp_job.specs.declared.entry.EndKind.{EndKind}
 use Rattle.asp_job.specs.declared.entry.Stage.{Stage}
@@ -16,10 +15,10 @@ use Rattle.asp_job.specs.declared.job.Work.TheVariants as work
 use Rattle.asp_job.specs.declared.session.SessionState.{SessionState}
 use Rattle.asp_job.specs.History.{what_weight, with_lane, work_weight}
 use Rattle.asp_job.specs.Journal.{AreRight, job_now, past_after, queue_entries}
-use Rattle.asp_job.specs.Keys.{due_at, is_askable, is_due_key, is_live, live, made}
+use Rattle.asp_job.specs.Keys.{due_at, live}
 use Rattle.asp_job.specs.Rules.{Rules}
-use Rattle.asp_job.specs.Runs.{drawn, is_open, is_stage_ended, is_stopping, is_unfinished, moment_of, numbers, stage_of}
-use Rattle.asp_job.specs.Turns.{closing_runs, has_most_keys, key_asked_by}
+use Rattle.asp_job.specs.Runs.{drawn, is_open, is_stage_ended, is_unfinished, moment_of, stage_of}
+use Rattle.asp_job.specs.Turns.{closing_runs}
 use Rattle.asp_response.specs.declared.fixed.Unavailable.TheVariants as cause
 use Rattle.asp_journal.specs.Tables.{AreFit, IsFit}
 use Rattle.asp_core.specs.Calm.{AreCalm, IsCalm, entry_weight}

@@ -1,5 +1,5 @@
 -- What a Halt leaves of a right journal.
-use Rattle.std.proofs.Common.{◌≡◌, ℕ, true, false, if◌then◌else◌, Bool, List, [], ◌∷◌, length, Option}
+use Rattle.std.proofs.Common.{◌≡◌, ℕ, true, false, if◌then◌else◌, Bool, List, [], ◌∷◌, Option}
 use Rattle.std.proofs.Common.{reverse, refl, ap, ◌∙◌, arith}
 use Rattle.asp_core.specs.Book.{Adds, BookView, HasRoomFor, IsSound, past_in}
 use Rattle.asp_core.specs.Kernel.{IsKept, IsWithin, halts_to_come}

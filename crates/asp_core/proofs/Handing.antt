@@ -6,7 +6,6 @@ use Rattle.std.specs.List.{find, position, position_or_len, remove}
 use Rattle.std.specs.Map.{lookup, remove_entry}
 use Rattle.std.specs.Option.{option_map, option_map_or}
 use Rattle.std.proofs.lemmas.Bool.{cases_Bool, eqb-true}
-use Rattle.std.proofs.lemmas.List.{length-reverse}
 use Rattle.std.proofs.lemmas.List.Quantifiers.{position-Some}
 use Rattle.asp_core.specs.Book.{BookView, IsSound, past_in}
 use Rattle.asp_core.specs.Kernel.{IsKept, IsWithin}
@@ -28,7 +27,7 @@ use Rattle.asp_job.specs.declared.entry.What.TheVariants.{Take}
 use Rattle.asp_session.specs.Account.{Account}
 use Rattle.asp_journal.proofs.Others.{own_number}
 use Rattle.asp_journal.proofs.Past.{past_push}
-use Rattle.asp_core.proofs.Answering.{are_those, its_answer, removed_length}
+use Rattle.asp_core.proofs.Answering.{are_those, its_answer}
 use Rattle.asp_core.proofs.Jobs.{page_asked}
 use Rattle.asp_core.proofs.Kept.{may_follow}
 

@@ -1,6 +1,5 @@
 -- What is kept after an event that may have been refused.
-use Rattle.std.proofs.Common.{◌≡◌, ℕ, List, Result, Ok, Err, IfOk, OnOk, OnErr, Option, subst, sym, ◌∙◌}
-use Rattle.asp_job.specs.declared.answer.Answer.{Answer}
+use Rattle.std.proofs.Common.{◌≡◌, List, Result, Ok, Err, IfOk, OnOk, OnErr, Option, subst, sym, ◌∙◌}
 use Rattle.asp_job.specs.declared.answer.Fail.{Fail}
 use Rattle.asp_job.specs.declared.entry.Entry.{Entry}
 use Rattle.asp_session.specs.Account.{Account}

@@ -1,6 +1,6 @@
 use Rattle.std.proofs.Common.{◌≡◌, ◌++◌, ◌∷◌, [], ℕ, ap, ◌∙◌}
 use Rattle.asp_core.specs.Book.{past_in}
-use Rattle.asp_core.specs.Ends.{CanEnd, end_what, left_of}
+use Rattle.asp_core.specs.Ends.{end_what, left_of}
 use Rattle.asp_core.specs.Kernel.{CoreView, grown, past_of, rules_by, rules_of}
 use Rattle.asp_core.specs.Ready.{with_answer}
 use Rattle.asp_core.specs.Sessions.{account_ended, after_of}
