@@ -1,15 +1,17 @@
 -- What a job leaves of a right journal.
 use Rattle.std.proofs.Common.{◌≡◌, ℕ, ◌+◌, ◌<◌, ◌≤◌, ◌&&◌, Bool, true, false, if◌then◌else◌, List}
-use Rattle.std.proofs.Common.{[], ◌∷◌, ◌++◌, length, reverse, Option, Some, None, Result, Ok, Err, OnOk, OnErr, refl}
+use Rattle.std.proofs.Common.{[], ◌∷◌, ◌++◌, length, reverse, Option, Some, None, refl}
 use Rattle.std.proofs.Common.{ap, sym, ◌∙◌, subst, arith, inl, inr, length-append}
 use Rattle.std.proofs.lemmas.Bool.{cases_Bool}
 use Rattle.std.proofs.lemmas.List.{reverse-append}
 use Rattle.asp_core.specs.Drawing.{answer_for, drawn_then, entries_by, entry_then, told_of, tick_before}
-use Rattle.asp_core.specs.Kernel.{HasAnswerRoom, HasRoom, IsKept, IsWithin, rules_by}
+use Rattle.asp_core.specs.Book.{BookView, IsSound, past_in}
+use Rattle.asp_core.specs.Calm.{AreCalm}
+use Rattle.asp_core.specs.Kernel.{IsKept, rules_by}
 use Rattle.asp_core.specs.Ready.{with_answer}
-use Rattle.asp_core.specs.Sessions.{account_after, account_grown}
+use Rattle.asp_core.specs.Sessions.{account_after, account_grown, sessions_in}
 use Rattle.asp_core.specs.Standing.{stand_in}
-use Rattle.asp_core.specs.Taking.{HasTaken}
+use Rattle.asp_core.specs.Taking.{HasTaken, refused_before}
 use Rattle.asp_job.specs.Application.{AppState}
 use Rattle.asp_job.specs.History.{with_lane}
 use Rattle.asp_job.specs.Journal.{admission, admit_entries, is_refused, job_now, past_after, tick_entries}
@@ -22,6 +24,7 @@ use Rattle.asp_job.specs.Size.{IsSmall}
 use Rattle.asp_job.specs.Told.{Meaning}
 use Rattle.asp_job.specs.Turns.{IsAsked, has_most_keys, key_asked_by, key_for, needs_key, waiting_pages}
 use Rattle.asp_job.specs.declared.answer.Answer.{Answer}
+use Rattle.asp_job.specs.declared.answer.Fail.{Fail}
 use Rattle.asp_job.specs.declared.entry.Entry.{Entry}
 use Rattle.asp_job.specs.declared.entry.TheConstants.{MOST_WAITING}
 use Rattle.asp_job.specs.declared.entry.What.{What}
@@ -32,8 +35,11 @@ use Rattle.asp_job.specs.declared.job.Work.TheVariants as work
 use Rattle.asp_job.specs.declared.session.SessionState.{SessionState}
 use Rattle.asp_response.specs.declared.fixed.Unavailable.TheVariants as cause
 use Rattle.asp_session.specs.Account.{Account}
-use Rattle.asp_core.proofs.Growing.{account_then, grown_then}
+use Rattle.asp_core.proofs.Failing.{fail_calm}
+use Rattle.asp_core.proofs.Fits.{job_calm}
+use Rattle.asp_core.proofs.Growing.{account_tells, account_then, grown_then}
 use Rattle.asp_core.proofs.Kept.{may_follow, kept_tick, grown_past, past_after_is, quiet_tick}
+use Rattle.asp_core.proofs.Refusing.{none_before}
 use Rattle.asp_core.proofs.Waiting.{tick_stopping, tick_waiting}
 use Rattle.asp_core.specs.declared.setting.Setting.{Setting}
 
@@ -184,31 +190,25 @@ job_made m past sessions lane job right =
     ap (λ s. tick_before s past lane job ++ drawn_then m sessions past lane job ∷ []) right
     ∙ ap (λ entry. entries ++ entry ∷ []) (job_entry m past sessions lane job right)
 
--- a core's parts after a job that may have been refused
-pub kept_taken : {T E : Type 0} → (result : Result T E) (m : Meaning) (setting : Setting) (journal next : List Entry)
-    (account then_account : Account) (held : AppState)
-    (answers then_answers : List (ℕ × Answer)) (lane : ℕ) (job : Job) (old new old_of new_of : ℕ)
-    → let rules = rules_by m setting in IsKept rules (reverse journal) account held answers
-    → IsWithin (reverse journal) → HasRoom (reverse journal) (length answers) old
-    → HasAnswerRoom (reverse journal) (length answers) old_of → is_stopping (reverse journal) ≡ false → is_page job.work
-    ≡ true → IsSmall job → length (waiting_pages (reverse journal)) < MOST_WAITING
-    → OnOk result (HasTaken rules lane job journal account answers next then_account then_answers new new_of)
-    → OnErr result ((next ≡ journal) × (then_account ≡ account) × (then_answers ≡ answers))
-    → OnErr result ((old ≤ new) × (old_of ≤ new_of)) → IsKept rules (reverse next) then_account held then_answers
-    × IsWithin (reverse next) × HasRoom (reverse next) (length then_answers) new × HasAnswerRoom (reverse next)
-    (length then_answers) new_of
-kept_taken (Ok told) m setting journal next account then_account held answers then_answers lane job old new old_of
-    new_of
-    kept within room room_of going page small few taken same more =
-    let whole = kept_after_job m setting journal next account then_account held answers lane job kept going page small few
-    taken.journal_is taken.account_is in
-    (rw taken.answers_are whole, taken.within, taken.room, taken.answer_room)
-kept_taken (Err stop) m setting journal next account then_account held answers then_answers lane job old new old_of
-    new_of kept within room room_of going page small few taken same more =
-    let wide = more.0 in let wide_of = more.1 in
-    let has : HasRoom (reverse journal) (length answers) new = omega arith in
-    let has_of : HasAnswerRoom (reverse journal) (length answers) new_of = omega arith in
-    rw (same.0, same.1, same.2) (kept, within, has, has_of)
+-- what a core keeps after a job
+pub sound_taken : (m : Meaning) (setting : Setting) (old new : BookView) (account then_account : Account)
+    (held : AppState) (fail : Option Fail) (lane : ℕ) (job : Job) → let rules = rules_by m setting in
+    IsSound rules (past_in old) account held old.answers fail → refused_before (past_in old) ≡ None
+    → is_page job.work ≡ true → IsSmall job → HasTaken rules lane job old account new then_account
+    → IsSound rules (past_in new) then_account held new.answers fail
+sound_taken m setting old new account then_account held fail lane job sound none page small taken =
+    let rules = rules_by m setting in
+    let past = past_in old in
+    let free = none_before past none in
+    let whole = kept_after_job m setting old.items new.items account then_account held old.answers lane job sound.0
+    free.0 page small free.1 taken.items_are taken.account_is in
+    let sessions = sessions_in account in
+    let made = job_made rules past sessions lane job (account_tells rules past account sound.0.sessions).1 in
+    let calm = subst AreCalm made (job_calm rules sessions past lane job) in (
+      rw taken.answers_are whole,
+      taken.within,
+      sound.2 ∙ sym (fail_calm rules old.items new.items _ taken.items_are calm),
+    )
 
 -- one answer more at most
 pub answers_few : (answers : List (ℕ × Answer)) (run : ℕ) (answer : Option Answer)

@@ -1,5 +1,5 @@
 -- The room that a Begin needs.
-use Rattle.std.proofs.Common.{◌≡◌, ℕ, ◌+◌, ◌*◌, ◌-◌, ◌^◌, ◌<◌, ◌≤◌, ◌∷◌, true, false, List, length, min, reverse}
+use Rattle.std.proofs.Common.{◌≡◌, ℕ, ◌+◌, ◌-◌, ◌^◌, ◌<◌, ◌≤◌, ◌∷◌, true, false, List, length, min}
 use Rattle.std.proofs.Common.{refl, ap, sym, ◌∙◌, arith}
 use Rattle.asp_job.specs.declared.entry.Entry.{Entry}
 use Rattle.asp_job.specs.declared.entry.Stage.TheVariants.{Unfinished}
@@ -8,16 +8,16 @@ use Rattle.asp_job.specs.declared.entry.What.TheVariants.{Begin}
 use Rattle.asp_job.specs.History.{load, weight_load, with_lane}
 use Rattle.asp_job.specs.Journal.{AreRight}
 use Rattle.asp_job.specs.Rules.{Rules}
-use Rattle.asp_job.specs.Runs.{drawn, is_halted, is_stage_unfinished, is_stage_waiting}
+use Rattle.asp_job.specs.Runs.{drawn, is_stage_unfinished, is_stage_waiting}
 use Rattle.asp_job.specs.Runs.{is_unfinished, is_waiting, stage_of, unfinished}
 use Rattle.asp_job.specs.Turns.{may_begin}
 use Rattle.asp_journal.specs.Tables.{IsFit}
 use Rattle.asp_journal.proofs.Open.{waiting_open}
 use Rattle.asp_core.specs.Calm.{HasLoad, IsOver}
-use Rattle.asp_core.specs.Kernel.{HasAnswerRoom, HasRoom, IsTooMuch, IsWithin}
+use Rattle.asp_core.specs.Book.{BookView, HasRoomFor, IsRoomy, past_in}
+use Rattle.asp_core.specs.Kernel.{IsTooMuch, IsWithin}
 use Rattle.asp_journal.proofs.Others.{own_number, stage_other}
-use Rattle.asp_journal.proofs.Past.{length_past}
-use Rattle.asp_core.proofs.Calm.{bounded, one_at_most}
+use Rattle.asp_core.proofs.Calm.{bounded}
 use Rattle.asp_core.proofs.Counts.{filter_one}
 use Rattle.asp_core.proofs.Right.{is_drawn, may_begin_waits, numbered}
 
@@ -33,7 +33,6 @@ pub begin_fit : (m : Rules) (past : List Entry) (run serial : ℕ) → AreRight 
     → IsFit past (Begin run serial)
 begin_fit m past run serial right may = record {
   numbered = begin_numbered m past run right may;
-  keyed = tt;
   timely = waiting_open past run (waits past run may);
 }
 
@@ -73,20 +72,11 @@ begin_much m past lane run serial entries total right may over =
       much = over.much;
     }
 
-pub begin_room : (m : Rules) (journal : List Entry) (lane run serial answers capacity : ℕ)
-    → AreRight m (reverse journal) → may_begin (reverse journal) run ≡ true
-    → length journal + 2 + 2 * length (unfinished (reverse journal)) + answers + 3 ≤ capacity
-    → HasRoom (with_lane lane (Begin run serial) ∷ reverse journal) (answers + 1) capacity
-begin_room m journal lane run serial answers capacity right may room =
-    let past = reverse journal in
-    let long = length_past journal in
-    let one = one_unfinished m past lane run serial right may in
-    let halts = one_at_most (is_halted past) in
-    omega arith
-
-pub begin_answers : (m : Rules) (past : List Entry) (lane run serial answers capacity : ℕ) → AreRight m past
-    → may_begin past run ≡ true → answers + 2 + length (unfinished past) ≤ capacity
-    → HasAnswerRoom (with_lane lane (Begin run serial) ∷ past) (answers + 1) capacity
-begin_answers m past lane run serial answers capacity right may room =
-    let one = one_unfinished m past lane run serial right may in
-    omega arith
+-- room for two entries more is room for a Begin
+pub begin_roomy : (m : Rules) (book : BookView) (lane run serial : ℕ) → AreRight m (past_in book)
+    → may_begin (past_in book) run ≡ true → IsRoomy book 2 → HasRoomFor book (with_lane lane (Begin run serial))
+begin_roomy m book lane run serial right may roomy =
+    let one = one_unfinished m (past_in book) lane run serial right may in
+    let room = roomy.0 in
+    let places = roomy.1 in
+    (omega arith, omega arith)

@@ -1,10 +1,11 @@
 -- What the core's contract says of a call, and the steps of the code.
-use Rattle.std.proofs.Common.{◌≡◌, ◌↔◌, ℕ, ◌+◌, ◌<◌, ◌≤◌}
-use Rattle.std.proofs.Common.{List, [], ◌∷◌, ◌++◌, length, reverse, Option, Some, None, IsSome, Result}
-use Rattle.std.proofs.Common.{Ok, Err, refl, ap, sym, ◌∙◌, subst, arith}
+use Rattle.std.proofs.Common.{◌≡◌, ◌↔◌, ℕ}
+use Rattle.std.proofs.Common.{List, [], ◌∷◌, ◌++◌, reverse, Option, Some, None, IsSome, Result}
+use Rattle.std.proofs.Common.{Ok, Err, refl, ap, sym, ◌∙◌, subst}
 use Rattle.asp_core.specs.Calling.{HasCalled, IsCallTooMuch, IsReplied, blocker_by}
-use Rattle.asp_core.specs.Kernel.{CoreView, HasRoom, IsKept, IsRunOf, IsTooMuch, RunView}
-use Rattle.asp_core.specs.Kernel.{HasNotFitFor, to_come, called, grown, past_of, wanted_by}
+use Rattle.asp_core.specs.Book.{Adds, BookView, Stays, past_in}
+use Rattle.asp_core.specs.Kernel.{CoreView, IsKept, IsRunOf, IsTooMuch, RunView}
+use Rattle.asp_core.specs.Kernel.{HasNotFitFor, called, grown, past_of, wanted_by}
 use Rattle.asp_core.specs.Stops.{app_stop}
 use Rattle.asp_core.specs.declared.stop.AppStepStop.{AppStepStop}
 use Rattle.asp_core.specs.declared.stop.AppStepStop.TheVariants as step
@@ -17,12 +18,11 @@ use Rattle.asp_job.specs.History.{call_entry, held_by, with_lane}
 use Rattle.asp_job.specs.Rules.{Rules}
 use Rattle.asp_job.specs.Told.{Meaning, Told, heard}
 use Rattle.asp_job.specs.declared.answer.Answer.{Answer}
-use Rattle.asp_job.specs.declared.entry.Entry.{Entry}
 use Rattle.asp_job.specs.declared.entry.What.TheVariants.{App}
 use Rattle.asp_session.specs.Account.{Account}
 use Rattle.vb_value.specs.declared.application.AppCall.{AppCall}
 use Rattle.vb_value.specs.declared.application.AppReply.{AppReply}
-use Rattle.asp_journal.proofs.Past.{length_past, past_push}
+use Rattle.asp_journal.proofs.Past.{past_push}
 use Rattle.asp_core.proofs.Same.{view_of}
 use Rattle.asp_job.specs.Journal.{past_after}
 use Rattle.asp_core.proofs.Calling.{call_grown, run_called, not_fit}
@@ -36,39 +36,35 @@ called_is core lane run c wants = rw (wants, called) refl
 
 -- the core has the entry of the call more
 pub core_called : {R Site State : Type 0} → (runner : R) (site : Site) (setting : Setting)
-    (stands : Site → State → Told → ℕ → Type 0) (lane : ℕ) (journal : List Entry) (held : AppState) (answers : ℕ)
-    (run : RunView State) (next : List Entry) (then_held : AppState) (capacity : ℕ) (then_run : RunView State) →
-    held ≡ held_by (reverse journal) →
-    HasCalled stands lane journal held answers run next then_held capacity then_run →
-    view_of runner site setting next
-    ≡ grown (view_of runner site setting journal) (called (view_of runner site setting journal) lane run)
-core_called runner site setting stands lane journal held answers run next then_held capacity then_run held_is has =
-    let core = view_of runner site setting journal in
-    let made = call_grown stands lane journal held answers run next then_held capacity then_run held_is has in
+    (stands : Site → State → Told → ℕ → Type 0) (lane : ℕ) (old : BookView) (held : AppState) (run : RunView State)
+    (new : BookView) (then_held : AppState) (then_run : RunView State) → held ≡ held_by (past_in old) →
+    HasCalled stands lane old held run new then_held then_run →
+    view_of runner site setting new.items
+    ≡ grown (view_of runner site setting old.items) (called (view_of runner site setting old.items) lane run)
+core_called runner site setting stands lane old held run new then_held then_run held_is has =
+    let core = view_of runner site setting old.items in
+    let made = call_grown stands lane old held run new then_held then_run held_is has in
     ap (view_of runner site setting) made ∙ ap (grown core) (sym (called_is core lane run has.call has.wanted))
 
 -- the run that made it is the core's still
 pub run_of_called : {R Site State : Type 0} → (meaning : R → Site → Meaning)
     (stands : R → Site → State → Told → ℕ → Type 0) (runner : R) (site : Site) (setting : Setting) (lane : ℕ)
-    (journal : List Entry) (held : AppState) (answers : ℕ) (run : RunView State) (next : List Entry)
-    (then_held : AppState) (capacity : ℕ) (then_run : RunView State) → held ≡ held_by (reverse journal) →
-    IsRunOf meaning stands (view_of runner site setting journal) lane run →
-    HasCalled (stands runner) lane journal held answers run next then_held capacity then_run →
-    IsRunOf meaning stands (view_of runner site setting next) lane then_run
-run_of_called meaning stands runner site setting lane journal held answers run next then_held capacity then_run
-    held_is is
-    has =
-    let made = call_grown (stands runner) lane journal held answers run next then_held capacity then_run held_is has in
-    run_called meaning stands (view_of runner site setting journal) lane run then_run next has.call
+    (old : BookView) (held : AppState) (run : RunView State) (new : BookView) (then_held : AppState)
+    (then_run : RunView State) → held ≡ held_by (past_in old) →
+    IsRunOf meaning stands (view_of runner site setting old.items) lane run →
+    HasCalled (stands runner) lane old held run new then_held then_run →
+    IsRunOf meaning stands (view_of runner site setting new.items) lane then_run
+run_of_called meaning stands runner site setting lane old held run new then_held then_run held_is is has =
+    let made = call_grown (stands runner) lane old held run new then_held then_run held_is has in
+    run_called meaning stands (view_of runner site setting old.items) lane run then_run new.items has.call
     (apply held run.number has.call).1 is has.wanted made (ap (λ h. (apply h run.number has.call).1) held_is)
     has.number_is has.stand_ins_are has.progress_is (has.heard_so site)
 
 -- it was let through
-pub free_called : {Site State : Type 0} → (stands : Site → State → Told → ℕ → Type 0) (lane : ℕ) (journal : List Entry)
-    (held : AppState) (answers : ℕ) (run : RunView State) (next : List Entry) (then_held : AppState) (capacity : ℕ)
-    (then_run : RunView State) → HasCalled stands lane journal held answers run next then_held capacity then_run →
-    blocker_by held run ≡ None
-free_called stands lane journal held answers run next then_held capacity then_run has =
+pub free_called : {Site State : Type 0} → (stands : Site → State → Told → ℕ → Type 0) (lane : ℕ) (old : BookView)
+    (held : AppState) (run : RunView State) (new : BookView) (then_held : AppState) (then_run : RunView State) →
+    HasCalled stands lane old held run new then_held then_run → blocker_by held run ≡ None
+free_called stands lane old held run new then_held then_run has =
     let wants = has.wanted in rw (wants, blocker_by) has.free
 
 -- its entry does not fit
@@ -135,34 +131,24 @@ pub full_told : (stop : EventStop) (told_stop : AppStepStop) (entries weight : �
 full_told stop told_stop entries weight is e =
     let same : told_stop ≡ step.JournalFull entries weight = cc in full_back stop entries weight (sym is ∙ same)
 
--- the room that was made is room for the entry
-pub room_one : (journal next : List Entry) (entry : Entry) (answers capacity : ℕ) →
-    HasRoom (entry ∷ reverse journal) answers capacity → next ≡ journal → length next < capacity
-room_one journal next entry answers capacity room same =
-    let long = length_past journal in
-    let is : length next ≡ length journal = ap length same in
-    let has : length (entry ∷ reverse journal) + to_come (entry ∷ reverse journal) answers ≤ capacity = room in
-    omega arith
-
 -- what was made of the call
 pub has_called : {Site State : Type 0} → (stands : Site → State → Told → ℕ → Type 0) (lane : ℕ)
-    (journal mid next : List Entry) (held then_held : AppState) (answers : ℕ) (run then_run : RunView State)
-    (number : ℕ) (c taken : AppCall) (replies : AppReply × AppReply) (capacity then_capacity : ℕ) →
-    wanted_by run.progress ≡ Some c → Some taken ≡ wanted_by run.progress → number ≡ run.number → IsAppCall c →
-    IsReplied (reverse journal) lane number c held then_held answers capacity replies → mid ≡ journal →
-    next ≡ mid ++ with_lane lane (App number taken replies.0) ∷ [] → then_capacity ≡ capacity →
-    then_run.number ≡ run.number → then_run.stand_ins ≡ run.stand_ins → then_run.progress ≡ progress.Going →
+    (old mid new : BookView) (held then_held : AppState) (run then_run : RunView State) (number : ℕ)
+    (c taken : AppCall) (replies : AppReply × AppReply) → wanted_by run.progress ≡ Some c →
+    Some taken ≡ wanted_by run.progress → number ≡ run.number → IsAppCall c →
+    IsReplied mid lane number c held then_held replies → Stays old mid →
+    Adds mid (with_lane lane (App number taken replies.0) ∷ []) new → then_run.number ≡ run.number →
+    then_run.stand_ins ≡ run.stand_ins → then_run.progress ≡ progress.Going →
     ((site : Site) (t : Told) (spent : ℕ) → stands site run.state t spent →
-    stands site then_run.state (heard t replies.1) spent) →
-    HasCalled stands lane journal held answers run next then_held then_capacity then_run
-has_called stands lane journal mid next held then_held answers run then_run number c taken replies capacity
-    then_capacity wants took same asks is mid_is next_is capacity_is number_is ins going heard_so =
+    stands site then_run.state (heard t replies.1) spent) → HasCalled stands lane old held run new then_held then_run
+has_called stands lane old mid new held then_held run then_run number c taken replies wants took same asks is stays
+    adds number_is ins going heard_so =
     let taken_is : taken ≡ c = cc in
     let entry = with_lane lane (App number c replies.0) in
-    let made : next ≡ journal ++ entry ∷ [] =
-    next_is ∙ ap (λ items. items ++ with_lane lane (App number taken replies.0) ∷ []) mid_is
-    ∙ ap (λ x. journal ++ with_lane lane (App number x replies.0) ∷ []) taken_is in
-    let of : reverse next ≡ entry ∷ reverse journal = ap reverse made ∙ past_push journal entry in
+    let here : new.items ≡ mid.items ++ entry ∷ [] =
+    adds.0 ∙ ap (λ x. mid.items ++ with_lane lane (App number x replies.0) ∷ []) taken_is in
+    let of : past_in new ≡ entry ∷ past_in mid = ap reverse here ∙ past_push mid.items entry in
+    let made : new.items ≡ old.items ++ entry ∷ [] = here ∙ ap (λ items. items ++ entry ∷ []) stays.0 in
     let free = is.free in
     record {
       call = c;
@@ -170,11 +156,15 @@ has_called stands lane journal mid next held then_held answers run then_run numb
       asks = asks;
       replied = subst (λ n. IsReply (apply held n c).1) same (subst IsReply is.reply_is is.may);
       free = subst (λ n. blocker_of held n c ≡ None) same free;
-      journal_is = made ∙ ap (λ r. journal ++ with_lane lane (App number c r) ∷ []) is.reply_is
-          ∙ ap (λ n. journal ++ with_lane lane (App n c (apply held n c).1) ∷ []) same;
+      grows = (
+        (
+          made ∙ ap (λ r. old.items ++ with_lane lane (App number c r) ∷ []) is.reply_is
+              ∙ ap (λ n. old.items ++ with_lane lane (App n c (apply held n c).1) ∷ []) same,
+          adds.1 ∙ stays.1,
+        ),
+        rw of is.within,
+      );
       held_is = is.held_is ∙ ap (λ n. (apply held n c).0) same;
-      within = rw of is.within;
-      room = rw (of, capacity_is) is.room;
       number_is = number_is;
       stand_ins_are = ins;
       progress_is = going;

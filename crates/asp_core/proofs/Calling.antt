@@ -1,9 +1,10 @@
 -- What a call of the Application object leaves of a right journal.
-use Rattle.std.proofs.Common.{◌≡◌, ℕ, ◌-◌, ◌^◌, ◌<◌, ◌≤◌, ◌⊎◌, min, Bool, true, false}
-use Rattle.std.proofs.Common.{if◌then◌else◌, List, [], ◌∷◌, ◌++◌, length, reverse, Option, Some, None, Result}
-use Rattle.std.proofs.Common.{Ok, Err, OnOk, OnErr, refl, ap, sym, ◌∙◌, subst, arith, inl, inr}
+use Rattle.std.proofs.Common.{◌≡◌, ℕ, ◌-◌, ◌^◌, ◌<◌, ◌⊎◌, min, Bool, true, false}
+use Rattle.std.proofs.Common.{if◌then◌else◌, List, [], ◌∷◌, ◌++◌, reverse, Option, Some, None}
+use Rattle.std.proofs.Common.{refl, ap, sym, ◌∙◌, subst, arith, inl, inr}
 use Rattle.asp_core.specs.Calling.{HasCalled, IsShort, is_read}
-use Rattle.asp_core.specs.Kernel.{CoreView, HasAnswerRoom, HasRoom, IsKept, IsRunOf, IsTooMuch, IsWithin, RunView}
+use Rattle.asp_core.specs.Book.{BookView, IsSound, past_in}
+use Rattle.asp_core.specs.Kernel.{CoreView, IsKept, IsRunOf, IsTooMuch, IsWithin, RunView}
 use Rattle.asp_core.specs.Kernel.{StandsAt, past_of, rules_of, wanted_by}
 use Rattle.asp_core.specs.declared.run.Progress.{Progress}
 use Rattle.asp_core.specs.declared.run.Progress.TheVariants as progress
@@ -17,6 +18,7 @@ use Rattle.asp_job.specs.Runs.{replies_of}
 use Rattle.asp_job.specs.Told.{Meaning, Outcome, Told, Wants, heard}
 use Rattle.asp_job.specs.Turns.{IsRunning}
 use Rattle.asp_job.specs.declared.answer.Answer.{Answer}
+use Rattle.asp_job.specs.declared.answer.Fail.{Fail}
 use Rattle.asp_job.specs.declared.entry.Entry.{Entry}
 use Rattle.asp_job.specs.declared.entry.TheConstants.{MOST_ENTRIES, MOST_WEIGHT}
 use Rattle.asp_job.specs.declared.entry.What.TheVariants.{App}
@@ -27,7 +29,9 @@ use Rattle.vb_value.specs.declared.application.AppReply.{AppReply}
 use Rattle.vb_value.specs.declared.application.AppReply.TheVariants as reply
 use Rattle.asp_journal.proofs.Others.{own_number}
 use Rattle.asp_journal.proofs.Past.{past_push}
+use Rattle.asp_core.proofs.Failing.{fail_push}
 use Rattle.asp_core.proofs.Kept.{may_follow}
+use Rattle.asp_core.proofs.Same.{sound_grown}
 
 -- ---- calls that read, and calls that write
 
@@ -150,47 +154,35 @@ called_told m past lane run c =
     ap (λ r. record (told m past run) { replies = r }) replies
 
 -- the journal grows by the entry of the call
-pub call_grown : {Site State : Type 0} → (stands : Site → State → Told → ℕ → Type 0) (lane : ℕ) (journal : List Entry)
-    (held : AppState) (answers : ℕ) (run : RunView State) (next : List Entry) (then_held : AppState) (capacity : ℕ)
-    (then_run : RunView State) → held ≡ held_by (reverse journal) →
-    (has : HasCalled stands lane journal held answers run next then_held capacity then_run) →
-    next ≡ journal ++ call_entry (reverse journal) lane run.number has.call ∷ []
-call_grown stands lane journal held answers run next then_held capacity then_run held_is has =
-    has.journal_is
-    ∙ ap (λ h. journal ++ with_lane lane (App run.number has.call (apply h run.number has.call).1) ∷ []) held_is
+pub call_grown : {Site State : Type 0} → (stands : Site → State → Told → ℕ → Type 0) (lane : ℕ) (old : BookView)
+    (held : AppState) (run : RunView State) (new : BookView) (then_held : AppState) (then_run : RunView State) →
+    held ≡ held_by (past_in old) → (has : HasCalled stands lane old held run new then_held then_run) →
+    new.items ≡ old.items ++ call_entry (past_in old) lane run.number has.call ∷ []
+call_grown stands lane old held run new then_held then_run held_is has =
+    has.grows.0.0
+    ∙ ap (λ h. old.items ++ with_lane lane (App run.number has.call (apply h run.number has.call).1) ∷ []) held_is
 
 -- what a run that is the core's wants, its meaning wants
 abbrev pub MeansIt : {State : Type 0} → Rules → List Entry → RunView State → Type 0
 MeansIt m past run = (c : AppCall) → wanted_by run.progress ≡ Some c → m.meaning.does (told m past run.number) ≡ Wants c
 
--- a core's parts after a call that may have been refused
-pub kept_either_called : {T E Site State : Type 0} → (result : Result T E) (m : Rules)
-    (stands : Site → State → Told → ℕ → Type 0) (lane : ℕ) (journal next : List Entry)
-    (account : Account) (held then_held : AppState) (answers : List (ℕ × Answer))
-    (run then_run : RunView State) (old new capacity_of : ℕ) → IsKept m (reverse journal) account held answers →
-    IsWithin (reverse journal) → HasRoom (reverse journal) (length answers) old →
-    HasAnswerRoom (reverse journal) (length answers) capacity_of → IsRunning (reverse journal) lane run.number →
-    MeansIt m (reverse journal) run →
-    OnOk result (HasCalled stands lane journal held (length answers) run next then_held new then_run) →
-    OnErr result ((next ≡ journal) × (then_held ≡ held) × (then_run ≡ run)) → old ≤ new →
-    IsKept m (reverse next) account then_held answers × IsWithin (reverse next)
-    × HasRoom (reverse next) (length answers) new × HasAnswerRoom (reverse next) (length answers) capacity_of
-kept_either_called (Ok done) m stands lane journal next account held then_held answers run then_run old new
-    capacity_of kept within room room_of running means has same more =
-    let past = reverse journal in
+-- what a core keeps after the call
+pub sound_called : {Site State : Type 0} → (m : Rules) (stands : Site → State → Told → ℕ → Type 0) (lane : ℕ)
+    (old new : BookView) (account : Account) (held then_held : AppState) (fail : Option Fail)
+    (run then_run : RunView State) → IsSound m (past_in old) account held old.answers fail →
+    IsRunning (past_in old) lane run.number → MeansIt m (past_in old) run →
+    HasCalled stands lane old held run new then_held then_run →
+    IsSound m (past_in new) account then_held new.answers fail
+sound_called m stands lane old new account held then_held fail run then_run sound running means has =
+    let past = past_in old in
     let entry = call_entry past lane run.number has.call in
-    let made = call_grown stands lane journal held (length answers) run next then_held new then_run kept.held_is has in
-    let of : reverse next ≡ entry ∷ past = ap reverse made ∙ past_push journal entry in
-    let all : IsKept m (entry ∷ past) account (apply held run.number has.call).0 answers =
-    kept_call m past account held answers lane run.number has.call kept running
+    let made = call_grown stands lane old held run new then_held then_run sound.0.held_is has in
+    let of : past_in new ≡ entry ∷ past = ap reverse made ∙ past_push old.items entry in
+    let all : IsKept m (entry ∷ past) account (apply held run.number has.call).0 old.answers =
+    kept_call m past account held old.answers lane run.number has.call sound.0 running
     (means has.call has.wanted) has.free has.asks has.replied in
-    let then_kept : IsKept m (reverse next) account then_held answers = rw (of, has.held_is) all in
-    let has_of : HasAnswerRoom (reverse next) (length answers) capacity_of = rw of room_of in
-    (then_kept, has.within, has.room, has_of)
-kept_either_called (Err stop) m stands lane journal next account held then_held answers run then_run old new
-    capacity_of kept within room room_of running means has same more =
-    let wide : HasRoom (reverse journal) (length answers) new = omega arith in
-    rw (same.0, same.1) (kept, within, wide, room_of)
+    sound_grown m old new _ account then_held fail has.grows (rw (of, has.held_is) all)
+    (fail_push m old.items new.items entry made refl) sound.2
 
 -- ---- the run that made the call
 

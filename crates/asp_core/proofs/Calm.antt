@@ -1,5 +1,5 @@
 -- Entries that begin and end no run, one after another.
-use Rattle.std.proofs.Common.{◌≡◌, ℕ, ◌+◌, ◌*◌, ◌-◌, ◌^◌, ◌≤◌, ◌<◌, ◌==◌, ◌++◌, Bool, true, false, if◌then◌else◌}
+use Rattle.std.proofs.Common.{◌≡◌, ℕ, ◌+◌, ◌-◌, ◌^◌, ◌≤◌, ◌<◌, ◌==◌, ◌++◌, false, if◌then◌else◌}
 use Rattle.std.proofs.Common.{List, [], ◌∷◌, length, filter, min, sum_by, refl, ap, sym, ◌∙◌, arith, append-nil}
 use Rattle.std.proofs.Common.{reverse, subst}
 use Rattle.std.proofs.lemmas.List.Sums.{sum_by-cons}
@@ -10,14 +10,14 @@ use Rattle.asp_job.specs.declared.entry.What.{What}
 use Rattle.asp_job.specs.declared.entry.What.TheVariants.{Admit, App, Begin, End, Halt, Queue, Refuse, Stop, Take, Tick}
 use Rattle.asp_job.specs.History.{entries_in, load, run_in, weight_in, weight_load, what_weight, with_lane}
 use Rattle.asp_job.specs.Journal.{past_after}
-use Rattle.asp_job.specs.Runs.{drawn, is_halted, is_stage_unfinished, is_unfinished, numbers, stage_of, unfinished}
+use Rattle.asp_job.specs.Runs.{drawn, is_stage_unfinished, is_unfinished, numbers, stage_of, unfinished}
 use Rattle.asp_journal.specs.Rows.{IsNumberedFor}
 use Rattle.asp_journal.specs.Tables.{AreFit}
+use Rattle.asp_core.specs.Book.{owed}
 use Rattle.asp_core.specs.Calm.{AreCalm, HasLoad, IsCalm, IsOver, entry_weight}
-use Rattle.asp_core.specs.Kernel.{HasAnswerRoom, HasRoom, IsTooMuch, IsWithin, halts_to_come}
+use Rattle.asp_core.specs.Kernel.{IsTooMuch, IsWithin, halts_to_come}
 use Rattle.asp_journal.proofs.Numbers.{filter_more, filter_same}
 use Rattle.asp_journal.proofs.Others.{stage_other}
-use Rattle.asp_journal.proofs.Past.{length_past}
 use Rattle.asp_journal.proofs.Open.{next_is, own_next}
 use Rattle.asp_core.proofs.Kept.{grown_past}
 
@@ -95,7 +95,7 @@ calm_weight past (entry ∷ more) =
     sum_by-cons entry_weight entry more in
     omega arith
 
-length_after : (past more : List Entry) → length (past_after past more) ≡ length past + length more
+pub length_after : (past more : List Entry) → length (past_after past more) ≡ length past + length more
 length_after past [] = omega arith
 length_after past (entry ∷ more) = let rest = length_after (entry ∷ past) more in omega arith
 
@@ -107,6 +107,30 @@ calm_load past more fit calm =
     let entries = calm_entries past more calm in
     let weight = calm_weight past more in
     (omega arith, omega arith)
+
+calm_halted : (past : List Entry) (lane : ℕ) (what : What) → IsCalm what
+    → halts_to_come (with_lane lane what ∷ past) ≡ halts_to_come past
+calm_halted past lane (Queue run work key) calm = refl
+calm_halted past lane (Admit run key fresh job) calm = refl
+calm_halted past lane (Refuse run job) calm = refl
+calm_halted past lane (Tick moment) calm = refl
+calm_halted past lane Stop calm = refl
+calm_halted past lane (Begin run serial) calm = absurd calm
+calm_halted past lane (App run call reply) calm = absurd calm
+calm_halted past lane (End run kind status size n1 n2) calm = absurd calm
+calm_halted past lane (Take run) calm = absurd calm
+calm_halted past lane Halt calm = absurd calm
+
+calm_halts : (past more : List Entry) → AreCalm more → halts_to_come (past_after past more) ≡ halts_to_come past
+calm_halts past [] calm = refl
+calm_halts past (entry ∷ more) calm =
+    calm_halts (entry ∷ past) more calm.1 ∙ calm_halted past entry.lane entry.what calm.0
+
+pub calm_owed : (past more : List Entry) → AreFit past more → AreCalm more → owed (past_after past more) ≡ owed past
+calm_owed past more fit calm =
+    let open_ = ap length (calm_unfinished past more fit calm) in
+    let halts = calm_halts past more calm in
+    omega arith
 
 -- ---- room
 
@@ -151,33 +175,3 @@ calm_much past more count weight entries total fit calm c w over =
           ∙ ap (λ x. min x (2 ^ 64 - 1)) (sym loads.1);
       much = over.much;
     }
-
-pub one_at_most : (b : Bool) → (if b then 0 else 1) ≤ 1
-one_at_most true = omega arith
-one_at_most false = omega arith
-
--- at most one Halt is to come
-pub halts_few : (past : List Entry) → halts_to_come past ≤ 1
-halts_few past = one_at_most (is_halted past)
-
-pub calm_room : (journal next more : List Entry) (count answers capacity : ℕ) → next ≡ journal ++ more
-    → AreFit (reverse journal) more → AreCalm more → count ≡ length more
-    → length journal + count + 2 * length (unfinished (reverse journal)) + answers + 3 ≤ capacity
-    → HasRoom (reverse next) (answers + 1) capacity
-calm_room journal next more count answers capacity e fit calm c room =
-    let past = reverse journal in
-    let all = length_after past more in
-    let long = length_past journal in
-    let open_ = ap length (calm_unfinished past more fit calm) in
-    let halts = one_at_most (is_halted (past_after past more)) in
-    let whole : HasRoom (past_after past more) (answers + 1) capacity = omega arith in
-    rw (grown_past journal next more e) whole
-
-pub calm_answers : (journal next more : List Entry) (answers capacity : ℕ) → next ≡ journal ++ more
-    → AreFit (reverse journal) more → AreCalm more → answers + 2 + length (unfinished (reverse journal)) ≤ capacity
-    → HasAnswerRoom (reverse next) (answers + 1) capacity
-calm_answers journal next more answers capacity e fit calm room =
-    let past = reverse journal in
-    let open_ = ap length (calm_unfinished past more fit calm) in
-    let whole : HasAnswerRoom (past_after past more) (answers + 1) capacity = omega arith in
-    rw (grown_past journal next more e) whole

@@ -1,18 +1,21 @@
 -- Room for the entries of a job's Tick and for the job's own.
-use Rattle.std.proofs.Common.{◌≡◌, ℕ, ◌+◌, ◌*◌, ◌-◌, ◌^◌, ◌≤◌, ◌++◌, List, Option, length, min, reverse, sum_by}
+use Rattle.std.proofs.Common.{◌≡◌, ℕ, ◌+◌, ◌-◌, ◌^◌, ◌<◌, ◌++◌, List, Option, length, min, reverse, subst, sum_by}
 use Rattle.std.proofs.Common.{ap, sym, ◌∙◌}
 use Rattle.asp_job.specs.declared.entry.Entry.{Entry}
+use Rattle.asp_job.specs.declared.entry.What.{What}
 use Rattle.asp_job.specs.declared.job.Job.{Job}
 use Rattle.asp_job.specs.declared.session.SessionState.{SessionState}
-use Rattle.asp_job.specs.History.{work_weight}
+use Rattle.asp_job.specs.History.{with_lane, work_weight}
 use Rattle.asp_job.specs.Journal.{past_after}
 use Rattle.asp_job.specs.Rules.{Rules}
-use Rattle.asp_job.specs.Runs.{unfinished}
-use Rattle.asp_core.specs.Calm.{HasLoad, IsOver, entry_weight}
-use Rattle.asp_core.specs.Drawing.{entries_by, tick_before}
-use Rattle.asp_core.specs.Kernel.{HasAnswerRoom, HasRoom, IsTooMuch, IsWithin}
-use Rattle.asp_core.proofs.Calm.{calm_answers, calm_much, calm_room, calm_within}
-use Rattle.asp_core.proofs.Fits.{job_calm, job_fit, job_length, job_weight}
+use Rattle.asp_core.specs.Book.{BookView, HasRoomFor, LeavesRoom, past_in}
+use Rattle.asp_core.specs.Calm.{HasLoad, IsCalm, IsOver, entry_weight}
+use Rattle.asp_core.specs.Drawing.{drawn_by, entries_by, tick_before}
+use Rattle.asp_core.specs.Kernel.{IsTooMuch, IsWithin}
+use Rattle.asp_core.proofs.Calm.{calm_much, calm_within}
+use Rattle.asp_core.proofs.Booking.{calm_leaves, calm_roomy}
+use Rattle.asp_core.proofs.Fits.{drawn_calm, drawn_fit, job_calm, job_fit, job_length, job_weight}
+use Rattle.asp_journal.specs.Tables.{IsFit}
 
 count_is : (rules : Rules) (sessions : ℕ → Option SessionState) (past more : List Entry) (lane : ℕ) (job : Job)
     (count : ℕ) → more ≡ tick_before sessions past lane job → count ≡ length more
@@ -51,27 +54,22 @@ job_much rules sessions past more lane job count weight entries total tick c w o
     (count_is rules sessions past more lane job count tick c)
     (weight_is rules sessions past more lane job weight tick w) over
 
-pub job_room : (rules : Rules) (sessions : ℕ → Option SessionState) (journal next more : List Entry) (lane : ℕ)
-    (job : Job) (count answers capacity : ℕ) → more ≡ tick_before sessions (reverse journal) lane job
-    → next ≡ journal ++ entries_by rules sessions (reverse journal) lane job → count ≡ length more
-    → length journal + (count + 1) + 2 * length (unfinished (reverse journal)) + answers + 3 ≤ capacity
-    → HasRoom (reverse next) (answers + 1) capacity
-job_room rules sessions journal next more lane job count answers capacity tick e c room =
-    let past = reverse journal in
-    calm_room journal next (entries_by rules sessions past lane job) (count + 1) answers capacity e
-    (job_fit rules sessions past lane job) (job_calm rules sessions past lane job)
-    (count_is rules sessions past more lane job count tick c) room
+-- the entry of a job takes one place of the room
+pub job_roomy : (rules : Rules) (sessions : ℕ → Option SessionState) (book : BookView) (lane : ℕ) (job : Job)
+    (what : What) → what ≡ (drawn_by rules sessions (past_in book) 0 job).what → 0 < book.room
+    → HasRoomFor book (with_lane lane what)
+job_roomy rules sessions book lane job what is room =
+    let past = past_in book in
+    calm_roomy book (with_lane lane what) (subst (IsFit past) (sym is) (drawn_fit rules sessions past 0 job))
+    (subst IsCalm (sym is) (drawn_calm rules sessions past 0 job)) room
 
-pub job_answers : (rules : Rules) (sessions : ℕ → Option SessionState) (journal next : List Entry) (lane : ℕ)
-    (job : Job) (answers capacity : ℕ) → next ≡ journal ++ entries_by rules sessions (reverse journal) lane job
-    → answers + 2 + length (unfinished (reverse journal)) ≤ capacity
-    → HasAnswerRoom (reverse next) (answers + 1) capacity
-job_answers rules sessions journal next lane job answers capacity e room =
-    let past = reverse journal in
-    calm_answers journal next (entries_by rules sessions past lane job) answers capacity e
-    (job_fit rules sessions past lane job) (job_calm rules sessions past lane job) room
+pub job_leaves : (rules : Rules) (sessions : ℕ → Option SessionState) (old new : BookView) (lane : ℕ) (job : Job)
+    (what : What) → what ≡ (drawn_by rules sessions (past_in old) 0 job).what
+    → LeavesRoom old (with_lane lane what) new → (new.room + 1 ≡ old.room) × (new.places ≡ old.places)
+job_leaves rules sessions old new lane job what is leaves =
+    let past = past_in old in
+    calm_leaves old new (with_lane lane what) (subst (IsFit past) (sym is) (drawn_fit rules sessions past 0 job))
+    (subst IsCalm (sym is) (drawn_calm rules sessions past 0 job)) leaves
 
-pub tick_added : (journal roomy mid more tick : List Entry) → roomy ≡ journal → mid ≡ roomy ++ more → more ≡ tick
-    → mid ≡ journal ++ tick
-tick_added journal roomy mid more tick same added is =
-    added ∙ ap (λ items. items ++ more) same ∙ ap (λ entries. journal ++ entries) is
+pub tick_added : (journal mid more tick : List Entry) → mid ≡ journal ++ more → more ≡ tick → mid ≡ journal ++ tick
+tick_added journal mid more tick added is = added ∙ ap (λ entries. journal ++ entries) is

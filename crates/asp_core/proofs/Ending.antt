@@ -1,12 +1,12 @@
 -- What an End leaves of a right journal.
-use Rattle.std.proofs.Common.{◌≡◌, ℕ, ◌+◌, ◌^◌, ◌<◌, true, List, [], ◌∷◌, ◌++◌, length, reverse, Option, Some, None}
+use Rattle.std.proofs.Common.{◌≡◌, ℕ, ◌+◌, ◌^◌, ◌<◌, List, [], ◌∷◌, ◌++◌, length, reverse, Option, Some, None}
 use Rattle.std.proofs.Common.{IfSome}
 use Rattle.std.proofs.Common.{is_some, refl, ap, sym, ◌∙◌, subst, arith}
 use lib.Utf8.{encode}
 use Rattle.std.specs.Prelude.{codes, encode_utf8_all}
-use Rattle.std.proofs.lemmas.List.{length-reverse}
-use Rattle.asp_core.specs.Ends.{end_what, left_of}
-use Rattle.asp_core.specs.Kernel.{CoreView, HasAnswerRoom, HasRoom, IsEndOf, IsKept, IsRunOf, IsSessionIn, IsWithin}
+use Rattle.asp_core.specs.Book.{BookView, IsSound, past_in}
+use Rattle.asp_core.specs.Ends.{CanEnd, end_what, left_of}
+use Rattle.asp_core.specs.Kernel.{CoreView, IsEndOf, IsKept, IsRunOf, IsSessionIn, IsWithin}
 use Rattle.asp_core.specs.Kernel.{RunView, StandsAt, past_of, rules_by, rules_of, wanted_by}
 use Rattle.asp_core.specs.Ready.{ready, with_answer}
 use Rattle.asp_core.specs.Sessions.{account_ended, after_of, left_after}
@@ -18,13 +18,13 @@ use Rattle.asp_core.specs.declared.run.Progress.TheVariants as progress
 use Rattle.asp_core.specs.declared.run.StandIns.{StandIns}
 use Rattle.asp_job.specs.Application.{AppState, freed}
 use Rattle.asp_job.specs.History.{with_lane}
-use Rattle.asp_job.specs.Journal.{MayEnd, end_entry}
+use Rattle.asp_job.specs.Journal.{AreRight, MayEnd, end_entry}
 use Rattle.asp_job.specs.Keys.{session_left, told}
 use Rattle.asp_job.specs.Output.{answer_by, answer_in, counted, end_of, finished_in, length_in, made_in, status_in}
 use Rattle.asp_job.specs.Output.{unavailable_in}
 use Rattle.asp_job.specs.Rules.{Rules, JournalFull, OutOfMemory}
 use Rattle.asp_job.specs.Running.{IsBounded, IsFinish, Over, is_page}
-use Rattle.asp_job.specs.Runs.{is_unfinished, job_of, key_of, unfinished}
+use Rattle.asp_job.specs.Runs.{job_of, key_of, unfinished}
 use Rattle.asp_job.specs.Told.{Ends, Meaning, Outcome, Told, Wants}
 use Rattle.asp_job.specs.Turns.{IsRunning}
 use Rattle.asp_job.specs.declared.answer.Answer.{Answer}
@@ -45,11 +45,12 @@ use Rattle.asp_session.specs.Account.{Account}
 use Rattle.asp_session.specs.declared.after.After.{After}
 use Rattle.asp_session.specs.declared.after.After.TheVariants.{Kept, Now}
 use Rattle.vb_value.specs.declared.application.AppCall.{AppCall}
+use Rattle.asp_journal.proofs.Open.{unfinished_open}
 use Rattle.asp_journal.proofs.Past.{past_push}
-use Rattle.asp_core.proofs.Admitting.{answers_few}
 use Rattle.asp_core.proofs.Answering.{page_answered}
 use Rattle.asp_core.proofs.Counts.{fewer_unfinished}
 use Rattle.asp_core.proofs.Kept.{may_follow}
+use Rattle.asp_core.proofs.Fits.{end_numbered}
 use Rattle.asp_core.proofs.Growing.{account_then}
 use Rattle.asp_core.specs.declared.setting.Setting.{Setting}
 
@@ -239,17 +240,17 @@ kept_end m past account held answers lane run kind left kept running is =
       formed = (tt, kept.formed);
     }
 
--- there is room for the End of an unfinished run and for its answer
-pub end_room : (m : Rules) (journal : List Entry) (run answers capacity capacity_of : ℕ)
-    (account : Account) (held : AppState) (list : List (ℕ × Answer))
-    → IsKept m (reverse journal) account held list → is_unfinished (reverse journal) run ≡ true
-    → HasRoom (reverse journal) answers capacity → HasAnswerRoom (reverse journal) answers capacity_of
-    → (length journal < capacity) × (answers < capacity_of)
-end_room m journal run answers capacity capacity_of account held list kept open_ room room_of =
-    let past = reverse journal in
-    let fewer = fewer_unfinished m past 0 run how.Memory 0 0 0 0 kept.sessions.journal.entries open_ in
-    let same : length past ≡ length journal = length-reverse journal in
-    (omega arith, omega arith)
+-- the run may be ended so
+pub can_end : (m : Rules) (past : List Entry) (lane run : ℕ) (kind : EndKind) (left : Left) → AreRight m past
+    → IsRunning past lane run → IsEnding m past lane run kind left → CanEnd past lane run kind left
+can_end m past lane run kind left right running is = record {
+  bounded = is.bounded;
+  session = is.valid;
+  timely = unfinished_open past run running.unfinished;
+  numbered = end_numbered m past run right running.unfinished;
+  fewer = fewer_unfinished m past lane run kind (status_in left.answer) (length_in left.answer) left.made left.finished
+      right running.unfinished;
+}
 
 -- the journal grows by the entry of the End
 pub end_grown : (m : Rules) (journal next : List Entry) (lane run : ℕ) (kind : EndKind) (left : Left)
@@ -258,46 +259,29 @@ pub end_grown : (m : Rules) (journal next : List Entry) (lane run : ℕ) (kind :
 end_grown m journal next lane run kind left is e = e ∙ ap (λ what. journal ++ with_lane lane what ∷ [])
     (end_is m (reverse journal) lane run kind left is)
 
--- why the first run failed, after the End
-pub end_fails : (m : Rules) (journal next : List Entry) (before then_fail : Option Fail) (lane run : ℕ)
-    (kind : EndKind) (left : Left) → IsEnding m (reverse journal) lane run kind left
-    → before ≡ start_fail m (reverse journal) → next ≡ journal ++ with_lane lane (end_what run kind left) ∷ []
-    → then_fail ≡ fail_after before run left.fail → then_fail ≡ start_fail m (reverse next)
-end_fails m journal next before then_fail lane run kind left is was e after =
-    let past = reverse journal in
+-- what a core keeps after the End
+pub sound_end : (m : Rules) (old new : BookView) (account then_account : Account) (held : AppState)
+    (before then_fail : Option Fail) (lane run : ℕ) (kind : EndKind) (left : Left)
+    → IsSound m (past_in old) account held old.answers before → IsRunning (past_in old) lane run
+    → IsEnding m (past_in old) lane run kind left
+    → new.items ≡ old.items ++ with_lane lane (end_what run kind left) ∷ []
+    → new.answers ≡ with_answer old.answers run left.answer
+    → then_account ≡ account_ended (key_of (past_in old) run) (after_of kind left.session) account
+    → then_fail ≡ fail_after before run left.fail
+    → IsSound m (past_in new) then_account (freed run held) new.answers then_fail
+sound_end m old new account then_account held before then_fail lane run kind left sound running is e added ended after =
+    let past = past_in old in
     let entry = end_entry m past lane run kind in
-    let of : reverse next ≡ entry ∷ past = ap reverse (end_grown m journal next lane run kind left is e)
-    ∙ past_push journal entry in
-    after ∙ ap (λ fail. fail_after fail run left.fail) was
-    ∙ ap (fail_after (start_fail m past) run) is.fail_is ∙ ap (start_fail m) (sym of)
-
--- a journal with an End is kept
-pub kept_after_end : (m : Rules) (journal next : List Entry) (account : Account)
-    (held : AppState) (answers : List (ℕ × Answer)) (lane run : ℕ) (kind : EndKind) (left : Left)
-    (capacity capacity_of : ℕ) → IsKept m (reverse journal) account held answers → IsWithin (reverse journal)
-    → HasRoom (reverse journal) (length answers) capacity → HasAnswerRoom (reverse journal) (length answers) capacity_of
-    → IsRunning (reverse journal) lane run → IsEnding m (reverse journal) lane run kind left
-    → next ≡ journal ++ with_lane lane (end_what run kind left) ∷ []
-    → IsKept m (reverse next) (account_ended (key_of (reverse journal) run) (after_of kind left.session) account)
-    (freed run held) (with_answer answers run left.answer) × IsWithin (reverse next) × HasRoom (reverse next)
-    (length (with_answer answers run left.answer)) capacity × HasAnswerRoom (reverse next)
-    (length (with_answer answers run left.answer)) capacity_of
-kept_after_end m journal next account held answers lane run kind left capacity capacity_of kept within room room_of
-    running is e =
-    let past = reverse journal in
-    let entry = end_entry m past lane run kind in
-    let of : reverse next ≡ entry ∷ past = ap reverse (end_grown m journal next lane run kind left is e)
-    ∙ past_push journal entry in
+    let of : past_in new ≡ entry ∷ past = ap reverse (end_grown m old.items new.items lane run kind left is e)
+    ∙ past_push old.items entry in
     let answer = answer_by m past run kind in
     let outcome = m.meaning.does (told m past run) in
     let fewer : length (unfinished (entry ∷ past)) + 1 ≡ length (unfinished past) = fewer_unfinished m past lane run
     kind (status_in answer) (length_in answer) (counted kind (made_in outcome)) (counted kind (finished_in outcome))
-    kept.sessions.journal.entries running.unfinished in
-    let more = answers_few answers run left.answer in
-    let few = within.few in
-    let light = within.light in
-    let then_within : IsWithin (entry ∷ past) = record { few = omega arith; light = omega arith } in
-    let has : HasRoom (entry ∷ past) (length (with_answer answers run left.answer)) capacity = omega arith in
-    let has_of : HasAnswerRoom (entry ∷ past) (length (with_answer answers run left.answer)) capacity_of =
-    omega arith in
-    rw of (kept_end m past account held answers lane run kind left kept running is, then_within, has, has_of)
+    sound.0.sessions.journal.entries running.unfinished in
+    let few = sound.1.few in
+    let light = sound.1.light in
+    let within : IsWithin (entry ∷ past) = record { few = omega arith; light = omega arith } in
+    let failed : then_fail ≡ start_fail m (entry ∷ past) = after ∙ ap (λ fail. fail_after fail run left.fail) sound.2
+    ∙ ap (fail_after (start_fail m past) run) is.fail_is in
+    rw (of, added, ended) (kept_end m past account held old.answers lane run kind left sound.0 running is, within, failed)

@@ -1,6 +1,5 @@
 -- Why the first run failed stays so while others come.
-use Rattle.std.proofs.Common.{◌≡◌, ℕ, ◌++◌, List, [], ◌∷◌, reverse, refl, ap, sym, ◌∙◌, Option, Result, Ok, Err, OnOk, OnErr}
-use Rattle.asp_job.specs.declared.answer.Fail.{Fail}
+use Rattle.std.proofs.Common.{◌≡◌, ℕ, ◌++◌, List, [], ◌∷◌, reverse, refl, ap, ◌∙◌}
 use Rattle.asp_job.specs.declared.entry.Entry.{Entry}
 use Rattle.asp_job.specs.declared.entry.What.{What}
 use Rattle.asp_job.specs.declared.entry.What.TheVariants.{Admit, App, Begin, End, Halt, Queue, Refuse, Stop, Take, Tick}
@@ -43,11 +42,3 @@ pub fail_push : (m : Rules) (journal next : List Entry) (entry : Entry) → next
     → start_fail m (reverse next) ≡ start_fail m (reverse journal)
 fail_push m journal next entry e same = ap (λ j. start_fail m (reverse j)) e
     ∙ ap (start_fail m) (past_push journal entry) ∙ same
-
--- a refusal leaves it
-pub fail_either : {T E : Type 0} → (result : Result T E) (m : Rules) (journal next : List Entry) (fail : Option Fail)
-    → fail ≡ start_fail m (reverse journal)
-    → OnOk result (start_fail m (reverse next) ≡ start_fail m (reverse journal)) → OnErr result (next ≡ journal)
-    → fail ≡ start_fail m (reverse next)
-fail_either (Ok done) m journal next fail is same still = is ∙ sym same
-fail_either (Err stop) m journal next fail is same still = is ∙ ap (λ j. start_fail m (reverse j)) (sym still)

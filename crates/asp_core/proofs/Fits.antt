@@ -1,10 +1,9 @@
 -- The entries of events may be added.
-use Rattle.std.proofs.Common.{◌≡◌, ℕ, ◌+◌, ◌<◌, ◌≤◌, ◌==◌, ◌&&◌, ◌++◌, Bool, true, false, if◌then◌else◌, not}
-use Rattle.std.proofs.Common.{nat_le, nat_lt}
-use Rattle.std.proofs.Common.{List, [], ◌∷◌, filter, length, Option, refl, ap, sym, ◌∙◌, arith, inl, inr, subst}
-use Rattle.std.proofs.Common.{zero, suc, add-one, length-append, sum_by}
+use Rattle.std.proofs.Common.{◌≡◌, ℕ, ◌+◌, ◌<◌, ◌≤◌, ◌++◌, Bool, true, false, if◌then◌else◌}
+use Rattle.std.proofs.Common.{nat_lt}
+use Rattle.std.proofs.Common.{List, [], ◌∷◌, length, Option, refl, ap, sym, ◌∙◌, arith, subst}
+use Rattle.std.proofs.Common.{length-append, sum_by}
 use Rattle.std.proofs.lemmas.List.Sums.{sum_by_push}
-use Rattle.std.proofs.lemmas.Bool.{cases_Bool}
 use Rattle.asp_job.specs.declared.entry.Entry.{Entry}
 use Rattle.asp_job.specs.declared.entry.EndKind.{EndKind}
 use Rattle.asp_job.specs.declared.entry.Stage.{Stage}
@@ -16,10 +15,10 @@ use Rattle.asp_job.specs.declared.job.Work.TheVariants as work
 use Rattle.asp_job.specs.declared.session.SessionState.{SessionState}
 use Rattle.asp_job.specs.History.{what_weight, with_lane, work_weight}
 use Rattle.asp_job.specs.Journal.{AreRight, job_now, past_after, queue_entries}
-use Rattle.asp_job.specs.Keys.{due_at, is_askable, is_due_key, is_live, live, made}
+use Rattle.asp_job.specs.Keys.{due_at, live}
 use Rattle.asp_job.specs.Rules.{Rules}
-use Rattle.asp_job.specs.Runs.{drawn, is_open, is_stage_ended, is_stopping, is_unfinished, moment_of, numbers, stage_of}
-use Rattle.asp_job.specs.Turns.{closing_runs, has_most_keys, key_asked_by}
+use Rattle.asp_job.specs.Runs.{drawn, is_open, is_stage_ended, is_unfinished, moment_of, stage_of}
+use Rattle.asp_job.specs.Turns.{closing_runs}
 use Rattle.asp_response.specs.declared.fixed.Unavailable.TheVariants as cause
 use Rattle.asp_journal.specs.Tables.{AreFit, IsFit}
 use Rattle.asp_core.specs.Calm.{AreCalm, IsCalm, entry_weight}
@@ -31,62 +30,14 @@ use Rattle.asp_core.proofs.Right.{is_drawn, numbered, unfinished_is}
 use Rattle.asp_core.specs.Kernel.{stopped_by, ticked}
 use Rattle.asp_core.specs.Standing.{stand_in}
 
--- ---- keys that were made
-
-abbrev AreMade : ℕ → List ℕ → Type 0
-AreMade n [] = Unit {0}
-AreMade n (k ∷ keys) = (k ≤ n) × AreMade n keys
-
-made_next : (n : ℕ) (keys : List ℕ) → AreMade n keys → AreMade (n + 1) keys
-made_next n [] h = tt
-made_next n (k ∷ keys) h = let one = h.0 in (omega arith, made_next n keys h.1)
-
-made_append : (n k : ℕ) (keys : List ℕ) → AreMade n keys → k ≤ n → AreMade n (keys ++ k ∷ [])
-made_append n k [] h l = (l, tt)
-made_append n k (x ∷ keys) h l = (h.0, made_append n k keys h.1 l)
-
-numbers_made : (n : ℕ) → AreMade n (numbers n)
-numbers_made zero = tt
-numbers_made (suc n) = made_append (suc n) (suc n) (numbers n)
-    (subst (λ i. AreMade i (numbers n)) (add-one n) (made_next n (numbers n) (numbers_made n))) (omega arith)
-
-filter_made : (p : ℕ → Bool) (n : ℕ) (keys : List ℕ) → AreMade n keys → AreMade n (filter p keys)
-filter_made p n [] h = tt
-filter_made p n (k ∷ keys) h = elim (cases_Bool (p k)) [
-  | inl passes ↦ rw passes (h.0, filter_made p n keys h.1)
-  | inr stops ↦ rw stops (filter_made p n keys h.1)
-]
-
-made_if : (b : Bool) (n : ℕ) (keys : List ℕ) → AreMade n keys → AreMade n (if b then [] else keys)
-made_if true n keys h = tt
-made_if false n keys h = h
-
-due_made : (sessions : ℕ → Option SessionState) (past : List Entry) (moment : ℕ)
-    → AreMade (made past) (due_at sessions past moment)
-due_made sessions past moment = made_if (is_stopping past) (made past) _
-    (filter_made (is_due_key sessions past moment) (made past) (numbers (made past)) (numbers_made (made past)))
-
-live_made : (sessions : ℕ → Option SessionState) (past : List Entry) → AreMade (made past) (live sessions past)
-live_made sessions past =
-    filter_made (is_live sessions past) (made past) (numbers (made past)) (numbers_made (made past))
-
 -- ---- runs that are queued
 
-abbrev AreKeyed : ℕ → List (Work × ℕ) → Type 0
-AreKeyed n [] = Unit {0}
-AreKeyed n (first ∷ rest) = (first.1 ≤ n) × AreKeyed n rest
-
-closing_keyed : (n : ℕ) (keys : List ℕ) (more : List (Work × ℕ)) → AreMade n keys → AreKeyed n more
-    → AreKeyed n (closing_runs keys ++ more)
-closing_keyed n [] more h m = m
-closing_keyed n (k ∷ keys) more h m = (h.0, closing_keyed n keys more h.1 m)
-
 queue_fit : (past : List Entry) (lane run : ℕ) (runs : List (Work × ℕ)) → run ≡ drawn past + 1
-    → AreKeyed (made past) runs → AreFit past (queue_entries lane run runs)
-queue_fit past lane run [] e keyed = tt
-queue_fit past lane run (first ∷ rest) e keyed = (
-  record { numbered = e; keyed = keyed.0; timely = tt },
-  queue_fit (with_lane lane (Queue run first.0 first.1) ∷ past) lane (run + 1) rest (omega arith) keyed.1,
+    → AreFit past (queue_entries lane run runs)
+queue_fit past lane run [] e = tt
+queue_fit past lane run (first ∷ rest) e = (
+  record { numbered = e; timely = tt },
+  queue_fit (with_lane lane (Queue run first.0 first.1) ∷ past) lane (run + 1) rest (omega arith),
 )
 
 queue_calm : (lane run : ℕ) (runs : List (Work × ℕ)) → AreCalm (queue_entries lane run runs)
@@ -101,20 +52,15 @@ calm_if : (b : Bool) (entries : List Entry) → AreCalm entries → AreCalm (if 
 calm_if true entries h = h
 calm_if false entries h = tt
 
-no_more : (n : ℕ) (keys : List ℕ) → AreMade n keys → AreKeyed n (closing_runs keys)
-no_more n [] h = tt
-no_more n (k ∷ keys) h = (h.0, no_more n keys h.1)
-
 pub tick_fit : (sessions : ℕ → Option SessionState) (past more : List Entry) (lane moment : ℕ)
     → more ≡ ticked sessions past lane moment → AreFit past more
 tick_fit sessions past more lane moment e =
     let keys = due_at sessions past moment in
     let queued : AreFit (with_lane lane (Tick moment) ∷ past)
     (queue_entries lane (drawn past + 1) (closing_runs keys)) =
-    queue_fit (with_lane lane (Tick moment) ∷ past) lane (drawn past + 1) (closing_runs keys) refl
-    (no_more (made past) keys (due_made sessions past moment)) in
+    queue_fit (with_lane lane (Tick moment) ∷ past) lane (drawn past + 1) (closing_runs keys) refl in
     subst (AreFit past) (sym e) (fit_if (nat_lt (moment_of past) moment) past _
-    (record { numbered = tt; keyed = tt; timely = tt }, queued))
+    (record { numbered = tt; timely = tt }, queued))
 
 pub tick_calm : (sessions : ℕ → Option SessionState) (past more : List Entry) (lane moment : ℕ)
     → more ≡ ticked sessions past lane moment → AreCalm more
@@ -129,9 +75,9 @@ stop_fit sessions past more lane e =
     let keys = live sessions past in
     let queued : AreFit (with_lane lane Stop ∷ past)
     (queue_entries lane (drawn past + 1) (closing_runs keys ++ (work.Stop, 0) ∷ [])) =
-    queue_fit (with_lane lane Stop ∷ past) lane (drawn past + 1) (closing_runs keys ++ (work.Stop, 0) ∷ []) refl
-    (closing_keyed (made past) keys ((work.Stop, 0) ∷ []) (live_made sessions past) (omega arith, tt)) in
-    subst (AreFit past) (sym e) (record { numbered = tt; keyed = tt; timely = tt }, queued)
+    queue_fit (with_lane lane Stop ∷ past) lane (drawn past + 1) (closing_runs keys ++ (work.Stop, 0) ∷ [])
+    refl in
+    subst (AreFit past) (sym e) (record { numbered = tt; timely = tt }, queued)
 
 pub stop_calm : (sessions : ℕ → Option SessionState) (past more : List Entry) (lane : ℕ)
     → more ≡ stopped_by sessions past lane → AreCalm more
@@ -141,34 +87,14 @@ stop_calm sessions past more lane e =
 
 -- ---- the entry of a job
 
-within_and : (a b c d : Bool) → (a && b && c && d) ≡ true → b ≡ true
-within_and true true c d e = refl
-within_and true false c d e = absurd cc
-within_and false b c d e = absurd cc
-
-askable_made : (sessions : ℕ → Option SessionState) (past : List Entry) (k : ℕ) → is_askable sessions past k ≡ true
-    → k ≤ made past
-askable_made sessions past k e =
-    let test : nat_le k (made past) ≡ true = within_and (not (k == 0)) (nat_le k (made past)) _ _ e in
-    grind arith
-
-fit_by : (keyed askable most : Bool) (asked : ℕ) (past : List Entry) (job : Job)
-    → (askable ≡ true → asked ≤ made past)
-    → IsFit past (if keyed && not askable && most then Refuse (drawn past + 1) job
-    else Admit (drawn past + 1) (if keyed && not askable then made past + 1 else (if keyed then asked else 0))
-    (keyed && not askable) job)
-fit_by true true most asked past job h = record { numbered = refl; keyed = h refl; timely = tt }
-fit_by true false true asked past job h = record { numbered = refl; keyed = tt; timely = tt }
-fit_by true false false asked past job h = record { numbered = refl; keyed = refl; timely = tt }
-fit_by false askable most asked past job h = record { numbered = refl; keyed = omega arith; timely = tt }
+fit_by : (refused : Bool) (past : List Entry) (key : ℕ) (fresh : Bool) (job : Job)
+    → IsFit past (if refused then Refuse (drawn past + 1) job else Admit (drawn past + 1) key fresh job)
+fit_by true past key fresh job = record { numbered = refl; timely = tt }
+fit_by false past key fresh job = record { numbered = refl; timely = tt }
 
 pub drawn_fit : (rules : Rules) (sessions : ℕ → Option SessionState) (past : List Entry) (lane : ℕ) (job : Job)
     → IsFit past (drawn_by rules sessions past lane job).what
-drawn_fit rules sessions past lane job =
-    let now = job_now past job in
-    let asked = key_asked_by rules now in
-    fit_by (rules.meaning.is_keyed now) (is_askable sessions past asked) (has_most_keys sessions past) asked past now
-    (askable_made sessions past asked)
+drawn_fit rules sessions past lane job = fit_by _ past _ _ (job_now past job)
 
 answer_by : (refused : Bool) (past : List Entry) (key : ℕ) (fresh : Bool) (job : Job)
     → answer_if (if refused then Refuse (drawn past + 1) job else Admit (drawn past + 1) key fresh job)
@@ -224,7 +150,6 @@ pub take_fit : (m : Rules) (past : List Entry) (lane run : ℕ) → AreRight m p
     → IsFit past (Take run)
 take_fit m past lane run right can = record {
   numbered = numbered m past right run (ended_drawn (stage_of past run) can.is_take.ended);
-  keyed = tt;
   timely = tt;
 }
 
@@ -235,7 +160,7 @@ end_numbered m past run right open_ =
 
 pub end_fit : (past : List Entry) (run : ℕ) (kind : EndKind) (left : Left) → (0 < run) × (run ≤ drawn past)
     → is_open past run ≡ true → IsFit past (end_what run kind left)
-end_fit past run kind left n t = record { numbered = n; keyed = tt; timely = t }
+end_fit past run kind left n t = record { numbered = n; timely = t }
 
 -- ---- a Tick and the entry of a job
 

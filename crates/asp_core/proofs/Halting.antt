@@ -1,12 +1,14 @@
 -- What a Halt leaves of a right journal.
-use Rattle.std.proofs.Common.{◌≡◌, ℕ, true, false, if◌then◌else◌, Bool, List, [], ◌∷◌, ◌++◌, length}
+use Rattle.std.proofs.Common.{◌≡◌, ℕ, true, false, if◌then◌else◌, Bool, List, [], ◌∷◌, Option}
 use Rattle.std.proofs.Common.{reverse, refl, ap, ◌∙◌, arith}
-use Rattle.asp_core.specs.Kernel.{HasAnswerRoom, HasRoom, IsKept, IsWithin, halts_to_come}
+use Rattle.asp_core.specs.Book.{Adds, BookView, HasRoomFor, IsSound, past_in}
+use Rattle.asp_core.specs.Kernel.{IsKept, IsWithin, halts_to_come}
 use Rattle.asp_job.specs.Application.{AppState}
 use Rattle.asp_job.specs.History.{with_lane}
 use Rattle.asp_job.specs.Rules.{Rules}
 use Rattle.asp_job.specs.Runs.{is_halted}
 use Rattle.asp_job.specs.declared.answer.Answer.{Answer}
+use Rattle.asp_job.specs.declared.answer.Fail.{Fail}
 use Rattle.asp_job.specs.declared.entry.Entry.{Entry}
 use Rattle.asp_job.specs.declared.entry.What.TheVariants.{Halt}
 use Rattle.asp_session.specs.Account.{Account}
@@ -40,30 +42,22 @@ going_one : (b : Bool) (n : ℕ) → n ≡ (if b then 0 else 1) → b ≡ false 
 going_one true n is e = absurd cc
 going_one false n is e = is
 
-room_halt : (past : List Entry) (lane answers capacity : ℕ) → is_halted past ≡ false → HasRoom past answers capacity
-    → HasRoom (with_lane lane Halt ∷ past) answers capacity
-room_halt past lane answers capacity going room =
+-- a Halt takes the room that was kept for it
+pub halt_roomy : (book : BookView) (lane : ℕ) → is_halted (past_in book) ≡ false
+    → HasRoomFor book (with_lane lane Halt)
+halt_roomy book lane going =
+    let past = past_in book in
     let one : halts_to_come past ≡ 1 = going_one (is_halted past) (halts_to_come past) refl going in
     let none : halts_to_come (with_lane lane Halt ∷ past) ≡ 0 = refl in
-    omega arith
+    (omega arith, omega arith)
 
 -- a journal with a Halt is kept
-pub kept_after_halt : (m : Rules) (journal next : List Entry) (account : Account)
-    (held : AppState) (answers : List (ℕ × Answer)) (lane capacity capacity_of : ℕ)
-    → IsKept m (reverse journal) account held answers → IsWithin (reverse journal)
-    → HasRoom (reverse journal) (length answers) capacity → HasAnswerRoom (reverse journal) (length answers) capacity_of
-    → is_halted (reverse journal) ≡ false → next ≡ journal ++ with_lane lane Halt ∷ []
-    → IsKept m (reverse next) account held answers × IsWithin (reverse next) × HasRoom (reverse next)
-    (length answers) capacity × HasAnswerRoom (reverse next) (length answers) capacity_of
-kept_after_halt m journal next account held answers lane capacity capacity_of kept within room room_of going e =
-    let past = reverse journal in
-    let of : reverse next ≡ with_lane lane Halt ∷ past = ap reverse e ∙ past_push journal (with_lane lane Halt) in
-    let then_within : IsWithin (with_lane lane Halt ∷ past) =
-    record { few = within.few; light = (let light = within.light in omega arith) } in
-    rw of (
-      kept_halt m past account held answers lane kept going,
-      then_within,
-      room_halt past lane (length answers)
-          capacity going room,
-      room_of,
-    )
+pub sound_halt : (m : Rules) (old new : BookView) (account : Account) (held : AppState) (fail : Option Fail) (lane : ℕ)
+    → IsSound m (past_in old) account held old.answers fail → is_halted (past_in old) ≡ false
+    → Adds old (with_lane lane Halt ∷ []) new → IsSound m (past_in new) account held new.answers fail
+sound_halt m old new account held fail lane sound going adds =
+    let past = past_in old in
+    let of : past_in new ≡ with_lane lane Halt ∷ past = ap reverse adds.0 ∙ past_push old.items (with_lane lane Halt) in
+    let light = sound.1.light in
+    let within : IsWithin (with_lane lane Halt ∷ past) = record { few = sound.1.few; light = omega arith } in
+    rw (of, adds.1) (kept_halt m past account held old.answers lane sound.0 going, within, sound.2)

@@ -6,12 +6,13 @@ use Rattle.std.specs.List.{find, position, position_or_len, remove}
 use Rattle.std.specs.Map.{lookup, remove_entry}
 use Rattle.std.specs.Option.{option_map, option_map_or}
 use Rattle.std.proofs.lemmas.Bool.{cases_Bool, eqb-true}
-use Rattle.std.proofs.lemmas.List.{length-reverse}
 use Rattle.std.proofs.lemmas.List.Quantifiers.{position-Some}
-use Rattle.asp_core.specs.Kernel.{HasAnswerRoom, HasRoom, IsKept, IsWithin}
+use Rattle.asp_core.specs.Book.{BookView, IsSound, past_in}
+use Rattle.asp_core.specs.Kernel.{IsKept, IsWithin}
 use Rattle.asp_core.specs.Ready.{IsAnswered, asked_by, collect_stop, ended_stop, first_for, lane_stop, ready}
 use Rattle.asp_core.specs.Waits.{AreOnce, HasNone, waits}
 use Rattle.asp_core.specs.declared.stop.CollectStop.TheVariants.{Foreign}
+use Rattle.asp_job.specs.declared.answer.Fail.{Fail}
 use Rattle.asp_job.specs.Application.{AppState}
 use Rattle.asp_job.specs.History.{with_lane}
 use Rattle.asp_job.specs.Journal.{AreRight}
@@ -26,7 +27,7 @@ use Rattle.asp_job.specs.declared.entry.What.TheVariants.{Take}
 use Rattle.asp_session.specs.Account.{Account}
 use Rattle.asp_journal.proofs.Others.{own_number}
 use Rattle.asp_journal.proofs.Past.{past_push}
-use Rattle.asp_core.proofs.Answering.{are_those, its_answer, removed_length}
+use Rattle.asp_core.proofs.Answering.{are_those, its_answer}
 use Rattle.asp_core.proofs.Jobs.{page_asked}
 use Rattle.asp_core.proofs.Kept.{may_follow}
 
@@ -239,34 +240,16 @@ kept_take m past account held answers lane run kept is =
       formed = (tt, kept.formed);
     }
 
--- there is room for a hand-out
-pub take_room : (journal : List Entry) (answers : List (ℕ × Answer)) (run capacity : ℕ)
-    → HasRoom (reverse journal) (length answers) capacity → IsSome (lookup (nat_eq run) answers)
-    → length journal < capacity
-take_room journal answers run capacity room some =
-    let less = removed_length run answers some in
-    let same : length (reverse journal) ≡ length journal = length-reverse journal in
-    omega arith
-
 -- a journal with a hand-out is kept
-pub kept_after_take : (m : Rules) (journal next : List Entry) (account : Account)
-    (held : AppState) (answers : List (ℕ × Answer)) (lane run capacity capacity_of : ℕ)
-    → IsKept m (reverse journal) account held answers → IsWithin (reverse journal)
-    → HasRoom (reverse journal) (length answers) capacity → HasAnswerRoom (reverse journal) (length answers) capacity_of
-    → CanTake m (reverse journal) lane run → next ≡ journal ++ with_lane lane (Take run) ∷ []
-    → IsKept m (reverse next) account held (remove_entry (nat_eq run) answers) × IsWithin (reverse next)
-    × HasRoom (reverse next) (length (remove_entry (nat_eq run) answers)) capacity × HasAnswerRoom (reverse next)
-    (length (remove_entry (nat_eq run) answers)) capacity_of
-kept_after_take m journal next account held answers lane run capacity capacity_of kept within room room_of can e =
-    let past = reverse journal in
+pub sound_take : (m : Rules) (old new : BookView) (account : Account) (held : AppState) (fail : Option Fail)
+    (lane run : ℕ) → IsSound m (past_in old) account held old.answers fail → CanTake m (past_in old) lane run
+    → new.items ≡ old.items ++ with_lane lane (Take run) ∷ [] → new.answers ≡ remove_entry (nat_eq run) old.answers
+    → IsSound m (past_in new) account held new.answers fail
+sound_take m old new account held fail lane run sound can e taken =
+    let past = past_in old in
     let entry = with_lane lane (Take run) in
-    let of : reverse next ≡ entry ∷ past = ap reverse e ∙ past_push journal entry in
-    let some : IsSome (lookup (nat_eq run) answers) = subst (λ list. IsSome (lookup (nat_eq run) list))
-    (sym kept.answers_are) can.some in
-    let less = removed_length run answers some in
-    let few = within.few in
-    let light = within.light in
-    let then_within : IsWithin (entry ∷ past) = record { few = omega arith; light = omega arith } in
-    let has : HasRoom (entry ∷ past) (length (remove_entry (nat_eq run) answers)) capacity = omega arith in
-    let has_of : HasAnswerRoom (entry ∷ past) (length (remove_entry (nat_eq run) answers)) capacity_of = omega arith in
-    rw of (kept_take m past account held answers lane run kept can.is_take, then_within, has, has_of)
+    let of : past_in new ≡ entry ∷ past = ap reverse e ∙ past_push old.items entry in
+    let few = sound.1.few in
+    let light = sound.1.light in
+    let within : IsWithin (entry ∷ past) = record { few = omega arith; light = omega arith } in
+    rw (of, taken) (kept_take m past account held old.answers lane run sound.0 can.is_take, within, sound.2)

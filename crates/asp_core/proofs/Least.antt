@@ -1,13 +1,15 @@
 -- The least run that may begin, among the numbers from 1 to the number of runs.
-use Rattle.std.proofs.Common.{◌≡◌, ℕ, ◌+◌, ◌-◌, ◌<◌, ◌≤◌, true, false, List, Option, Some, None, IfNone, IfSome, ap}
+use Rattle.std.proofs.Common.{◌≡◌, ℕ, ◌+◌, ◌-◌, ◌<◌, ◌≤◌, true, false, List, length, Option, Some, None, IfNone, IfSome, ap}
 use Rattle.std.proofs.Common.{subst, arith, inl, inr}
 use Rattle.std.proofs.lemmas.Bool.{cases_Bool}
 use Rattle.asp_core.specs.Kernel.{NoneIsNext}
+use Rattle.asp_core.specs.Opening.{IsNext}
 use Rattle.asp_job.specs.Journal.{AreRight}
 use Rattle.asp_job.specs.Rules.{Rules}
-use Rattle.asp_job.specs.Runs.{drawn, numbers}
-use Rattle.asp_job.specs.Turns.{IsNextRun, may_begin}
+use Rattle.asp_job.specs.Runs.{drawn, is_halted, unfinished}
+use Rattle.asp_job.specs.Turns.{may_begin}
 use Rattle.asp_job.specs.declared.entry.Entry.{Entry}
+use Rattle.asp_job.specs.declared.entry.TheConstants.{MOST_UNFINISHED}
 use Rattle.asp_core.proofs.Right.{numbered, may_begin_waits, is_drawn}
 
 -- only runs with a number may begin
@@ -30,14 +32,19 @@ none_may past None numbers none = inr (inr (λ run. elim (cases_Bool (may_begin 
 ]))
 
 pub least_may : (past : List Entry) (result : Option ℕ) → AreNumbered past
+    → length (unfinished past) < MOST_UNFINISHED → is_halted past ≡ false
     → IfSome result (λ run. may_begin past run ≡ true) → IfSome result (λ run. (other : ℕ) → other + 1 < run
-    → may_begin past (other + 1) ≡ false) → IfSome result (λ run. IsNextRun past run)
-least_may past None numbers next least = next
-least_may past (Some run) numbers next least = record {
-  begins = next;
-  least = λ other below. elim (cases_Bool (may_begin past other)) [
-    | inl may ↦ (let known = numbers other may in let low = known.0 in from_one past other low
-        (least (other - 1) (omega arith)))
-    | inr may ↦ may
-  ];
+    → may_begin past (other + 1) ≡ false) → IfSome result (λ run. IsNext past run)
+least_may past None numbers few going next least = next
+least_may past (Some run) numbers few going next least = record {
+  first = record {
+    begins = next;
+    least = λ other below. elim (cases_Bool (may_begin past other)) [
+      | inl may ↦ (let known = numbers other may in let low = known.0 in from_one past other low
+          (least (other - 1) (omega arith)))
+      | inr may ↦ may
+    ];
+  };
+  few = few;
+  going = going;
 }

@@ -3,6 +3,7 @@ pub mod Right
 pub mod Least
 pub mod Kept
 pub mod Calm
+pub mod Booking
 pub mod Fits
 pub mod Failing
 pub mod Begun

@@ -6,6 +6,7 @@ use Rattle.asp_job.specs.contracts.entry.Entry as Entry
 use Rattle.asp_job.specs.contracts.entry.What as What
 use Rattle.asp_job.specs.contracts.job.Job as Job
 use Rattle.asp_session.proofs.Moved.{list, sessions, value}
+use Rattle.asp_core.specs.contracts.book.Book as Book
 use Rattle.asp_core.specs.contracts.tables.Tables as Tables
 use Rattle.std.proofs.Crossing.{crosses}
 use Rattle.vb_value.specs.contracts.application.AppCall as Call
@@ -37,6 +38,8 @@ application = search (value, list, sendable, crosses) depth 100 fits 100000
 answer : IsSend Answer.the_row
 answer = declared_send Answer.the_type (search (list, sendable, crosses) depth 100 fits 100000)
 
+book : IsSend Book.the_row
+book = search (journal, answer, sendable, crosses) depth 100 fits 100000
+
 pub tables : IsSend Tables.the_row
-tables = declared_send Tables.the_type (search (journal, sessions, application, answer, sendable, crosses) depth 100 fits
-    100000)
+tables = declared_send Tables.the_type (search (book, sessions, application, sendable, crosses) depth 100 fits 100000)

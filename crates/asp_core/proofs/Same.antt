@@ -1,35 +1,33 @@
 -- What is kept after an event that may have been refused.
-use Rattle.std.proofs.Common.{◌≡◌, ℕ, ◌+◌, ◌≤◌, List, reverse, length, Result, Ok, Err, IfOk, OnOk, OnErr}
-use Rattle.std.proofs.Common.{arith}
-use Rattle.asp_job.specs.declared.answer.Answer.{Answer}
+use Rattle.std.proofs.Common.{◌≡◌, List, Result, Ok, Err, IfOk, OnOk, OnErr, Option, subst, sym, ◌∙◌}
+use Rattle.asp_job.specs.declared.answer.Fail.{Fail}
 use Rattle.asp_job.specs.declared.entry.Entry.{Entry}
 use Rattle.asp_session.specs.Account.{Account}
 use Rattle.asp_job.specs.Application.{AppState}
 use Rattle.asp_job.specs.Rules.{Rules}
-use Rattle.asp_core.specs.Kernel.{CoreView, IsKept, IsWithin, HasRoom, HasAnswerRoom}
+use Rattle.asp_core.specs.Book.{BookView, Grows, IsSound, past_in}
+use Rattle.asp_core.specs.Kernel.{CoreView, IsKept}
+use Rattle.asp_core.specs.Start.{start_fail}
 use Rattle.asp_core.specs.declared.setting.Setting.{Setting}
 
--- all of it, in a journal and a list of answers with as much room or more
-pub kept_either : {T E : Type 0} → (result : Result T E) (m : Rules) (journal next : List Entry)
-    (account then_account : Account) (held : AppState) (answers then_answers : List (ℕ × Answer))
-    (old new old_of new_of : ℕ) → IsKept m (reverse journal) account held answers → IsWithin (reverse journal)
-    → HasRoom (reverse journal) (length answers) old → HasAnswerRoom (reverse journal) (length answers) old_of
-    → OnOk result (IsKept m (reverse next) then_account held answers) → OnOk result (IsWithin (reverse next))
-    → OnOk result (HasRoom (reverse next) (length answers + 1) new)
-    → OnOk result (HasAnswerRoom (reverse next) (length answers + 1) new_of)
-    → OnErr result ((next ≡ journal) × (then_account ≡ account)) → old ≤ new → old_of ≤ new_of → then_answers ≡ answers → IsKept m (reverse next) then_account held then_answers
-    × IsWithin (reverse next) × HasRoom (reverse next) (length then_answers) new × HasAnswerRoom (reverse next)
-    (length then_answers) new_of
-kept_either (Ok done) m journal next account then_account held answers then_answers old new old_of new_of kept within room
-    room_of then_kept then_within then_room then_room_of same more more_of still =
-    let has : HasRoom (reverse next) (length answers) new = omega arith in
-    let has_of : HasAnswerRoom (reverse next) (length answers) new_of = omega arith in
-    rw still (then_kept, then_within, has, has_of)
-kept_either (Err stop) m journal next account then_account held answers then_answers old new old_of new_of kept within room
-    room_of then_kept then_within then_room then_room_of same more more_of still =
-    let has : HasRoom (reverse journal) (length answers) new = omega arith in
-    let has_of : HasAnswerRoom (reverse journal) (length answers) new_of = omega arith in
-    rw (same.0, same.1, still) (kept, within, has, has_of)
+-- what a core keeps where its journal grew and its answers stayed
+pub sound_grown : (m : Rules) (old new : BookView) (more : List Entry) (account : Account) (held : AppState)
+    (fail : Option Fail) → Grows old more new → IsKept m (past_in new) account held old.answers
+    → start_fail m (past_in new) ≡ start_fail m (past_in old) → fail ≡ start_fail m (past_in old)
+    → IsSound m (past_in new) account held new.answers fail
+sound_grown m old new more account held fail grows kept same is =
+    (subst (IsKept m (past_in new) account held) (sym grows.0.1) kept, grows.1, is ∙ sym same)
+
+-- what it keeps where the call may have been refused
+pub sound_either : {T E : Type 0} → (result : Result T E) (m : Rules) (old new : BookView)
+    (account then_account : Account) (held then_held : AppState) (fail : Option Fail)
+    → IsSound m (past_in old) account held old.answers fail
+    → OnOk result (IsSound m (past_in new) then_account then_held new.answers fail)
+    → OnErr result (((new.items ≡ old.items) × (new.answers ≡ old.answers)) × (then_account ≡ account)
+    × (then_held ≡ held)) → IsSound m (past_in new) then_account then_held new.answers fail
+sound_either (Ok done) m old new account then_account held then_held fail sound then_sound same = then_sound
+sound_either (Err stop) m old new account then_account held then_held fail sound then_sound same =
+    rw (same.0.0, same.0.1, same.1, same.2) sound
 
 -- a fact of what was done becomes another
 pub on_ok : {T E : Type 0} → (result : Result T E) (P Q : Type 0) → (P → Q) → OnOk result P → OnOk result Q

@@ -24,7 +24,7 @@ use Rattle.asp_job.specs.Running.{is_page}
 use Rattle.asp_job.specs.Runs.{job_of, key_of, numbers, stage_of}
 use Rattle.asp_job.specs.Turns.{goes_before, is_behind, owed}
 use Rattle.asp_journal.proofs.Others.{key_other, stage_other}
-use Rattle.asp_journal.specs.Keyed.{is_session_end}
+use Rattle.asp_core.specs.Sessions.{is_session_end}
 use Rattle.asp_core.proofs.Accounts.{IsBeyond}
 use Rattle.asp_core.proofs.Jobs.{admit_right}
 use Rattle.asp_core.proofs.Made.{keys_made, owed_keys, queue_key}

@@ -20,7 +20,7 @@ use Rattle.asp_job.specs.Running.{is_page}
 use Rattle.asp_job.specs.Runs.{draw_of, drawn, is_stage_unfinished, is_stage_waiting, is_unfinished, is_waiting}
 use Rattle.asp_job.specs.Runs.{job_of, key_of, numbers, stage_of}
 use Rattle.asp_job.specs.Turns.{goes_before, is_behind, key_asked_by, owed}
-use Rattle.asp_journal.specs.Keyed.{is_session_end}
+use Rattle.asp_core.specs.Sessions.{is_session_end}
 use Rattle.asp_journal.proofs.Numbers.{filter_more}
 use Rattle.asp_journal.proofs.Others.{own_number, stage_other}
 use Rattle.asp_session.specs.declared.key.KeyState.{KeyState}

@@ -21,7 +21,7 @@ use Rattle.asp_job.specs.Rules.{Rules}
 use Rattle.asp_job.specs.Runs.{drawn, is_open, is_stage_unfinished, is_stage_waiting, is_unfinished, is_waiting, job_of}
 use Rattle.asp_job.specs.Runs.{key_of, numbers, stage_of}
 use Rattle.asp_job.specs.Turns.{owed}
-use Rattle.asp_journal.specs.Keyed.{is_session_end}
+use Rattle.asp_core.specs.Sessions.{is_session_end}
 use Rattle.asp_journal.proofs.Numbers.{filter_more}
 use Rattle.asp_journal.proofs.Others.{key_other, stage_other}
 use Rattle.asp_session.specs.declared.key.KeyState.{KeyState}

@@ -1,5 +1,5 @@
 -- What a call of the Application object leaves of a core.
-use Rattle.std.specs.Prelude.{◌≡◌, ℕ, ◌∷◌, ◌++◌, Bool, true, false, List, [], reverse, Option, Some, None}
+use Rattle.std.specs.Prelude.{◌≡◌, ℕ, ◌<◌, ◌∷◌, Bool, true, false, List, [], Option, Some, None}
 use Rattle.vb_value.specs.declared.application.AppCall.{AppCall}
 use Rattle.vb_value.specs.declared.application.AppCall.TheVariants as call
 use Rattle.vb_value.specs.declared.application.AppReply.{AppReply}
@@ -11,7 +11,8 @@ use Rattle.asp_job.specs.Calls.{IsAppCall, IsReply}
 use Rattle.asp_job.specs.History.{with_lane}
 use Rattle.asp_job.specs.Told.{Told, heard}
 use Rattle.asp_core.specs.declared.run.Progress.TheVariants as progress
-use Rattle.asp_core.specs.Kernel.{RunView, IsWithin, HasRoom, IsTooMuch, wanted_by}
+use Rattle.asp_core.specs.Book.{BookView, Grows, past_in}
+use Rattle.asp_core.specs.Kernel.{RunView, IsWithin, IsTooMuch, wanted_by}
 
 -- whether the call leaves the object as it is
 abbrev pub is_read : AppCall → Bool
@@ -29,14 +30,14 @@ IsShort _ = ⊥
 
 -- The call is let through, the reply and the object after it are those of the call, and its entry fits with the room
 -- that was made. The reply is there twice.
-pub record IsReplied (past : List Entry) (lane run : ℕ) (call : AppCall) (held then_held : AppState)
-    (answers capacity : ℕ) (replies : AppReply × AppReply) : Type 0 where
+pub record IsReplied (book : BookView) (lane run : ℕ) (call : AppCall) (held then_held : AppState)
+    (replies : AppReply × AppReply) : Type 0 where
   pub free : blocker_of held run call ≡ None
   pub reply_is : replies.0 ≡ (apply held run call).1
   pub copy_is : replies.1 ≡ replies.0
   pub held_is : then_held ≡ (apply held run call).0
-  pub within : IsWithin (with_lane lane (App run call replies.0) ∷ past)
-  pub room : HasRoom (with_lane lane (App run call replies.0) ∷ past) answers capacity
+  pub within : IsWithin (with_lane lane (App run call replies.0) ∷ past_in book)
+  pub room : 0 < book.room
   pub may : IsReply replies.0
 
 -- the run that keeps the call out that a run wants
@@ -46,23 +47,21 @@ blocker_by held run =
 
 -- The call that the run wants is let through, and its entry is added with the room that was made. The object is as
 -- after the call, and the run was told the reply.
-pub record HasCalled {Site State : Type 0} (stands : Site → State → Told → ℕ → Type 0) (lane : ℕ) (journal : List Entry)
-    (held : AppState) (answers : ℕ) (run : RunView State) (next : List Entry) (then_held : AppState) (capacity : ℕ)
-    (then_run : RunView State) : Type 0 where
-  pub call : AppCall
-  pub wanted : wanted_by run.progress ≡ Some call
-  pub asks : IsAppCall call
-  pub replied : IsReply (apply held run.number call).1
-  pub free : blocker_of held run.number call ≡ None
-  pub journal_is : next ≡ journal ++ with_lane lane (App run.number call (apply held run.number call).1) ∷ []
-  pub held_is : then_held ≡ (apply held run.number call).0
-  pub within : IsWithin (reverse next)
-  pub room : HasRoom (reverse next) answers capacity
-  pub number_is : then_run.number ≡ run.number
-  pub stand_ins_are : then_run.stand_ins ≡ run.stand_ins
-  pub progress_is : then_run.progress ≡ progress.Going
-  pub heard_so : (site : Site) (t : Told) (spent : ℕ) → stands site run.state t spent →
-      stands site then_run.state (heard t (apply held run.number call).1) spent
+pub record HasCalled {Site State : Type 0} (stands : Site → State → Told → ℕ → Type 0) (lane : ℕ) (old : BookView)
+    (held : AppState) (run : RunView State) (new : BookView) (then_held : AppState) (then_run : RunView State) : Type 0
+  where
+    pub call : AppCall
+    pub wanted : wanted_by run.progress ≡ Some call
+    pub asks : IsAppCall call
+    pub replied : IsReply (apply held run.number call).1
+    pub free : blocker_of held run.number call ≡ None
+    pub grows : Grows old (with_lane lane (App run.number call (apply held run.number call).1) ∷ []) new
+    pub held_is : then_held ≡ (apply held run.number call).0
+    pub number_is : then_run.number ≡ run.number
+    pub stand_ins_are : then_run.stand_ins ≡ run.stand_ins
+    pub progress_is : then_run.progress ≡ progress.Going
+    pub heard_so : (site : Site) (t : Told) (spent : ℕ) → stands site run.state t spent →
+        stands site then_run.state (heard t (apply held run.number call).1) spent
 
 -- the call that the run wants is let through, and with its entry there would be too much
 pub record IsCallTooMuch {State : Type 0} (past : List Entry) (lane : ℕ) (held : AppState) (run : RunView State)

@@ -1,5 +1,6 @@
 pub mod Cookie
 pub mod Kernel
+pub mod Book
 pub mod Laws
 pub mod Ready
 pub mod Drawing

@@ -1,6 +1,6 @@
 -- How a run begins that was drawn so, where its key has that session and so many were opened.
-use Rattle.std.specs.Prelude.{◌≡◌, ℕ, ◌+◌, ◌≤◌, ◌<◌, ◌⊎◌, ◌++◌, ◌∷◌, Bool, true, false, if◌then◌else◌}
-use Rattle.std.specs.Prelude.{List, [], length, reverse, Option, Some, None, IfSome}
+use Rattle.std.specs.Prelude.{◌≡◌, ℕ, ◌+◌, ◌≤◌, ◌<◌, ◌⊎◌, ◌∷◌, Bool, true, false, if◌then◌else◌}
+use Rattle.std.specs.Prelude.{List, [], length, Option, Some, None, IfSome}
 use Rattle.asp_job.specs.declared.answer.Answer.{Answer}
 use Rattle.asp_job.specs.declared.entry.Entry.{Entry}
 use Rattle.asp_job.specs.declared.entry.TheConstants.{MOST_UNFINISHED}
@@ -20,8 +20,9 @@ use Rattle.asp_core.specs.declared.opening.Opening.{Opening}
 use Rattle.asp_core.specs.declared.opening.SessionNumber.{SessionNumber}
 use Rattle.asp_core.specs.declared.ready.TheConstants.{MOST_BODIES}
 use Rattle.asp_core.specs.declared.run.Progress.TheVariants as progress
+use Rattle.asp_core.specs.Book.{BookView, Grows, past_in}
 use Rattle.asp_core.specs.Calm.{HasLoad, IsOver}
-use Rattle.asp_core.specs.Kernel.{RunView, IsKept, IsSessionIn, IsWithin, HasRoom, HasAnswerRoom, NoneIsNext}
+use Rattle.asp_core.specs.Kernel.{RunView, IsKept, IsSessionIn, IsWithin, NoneIsNext}
 use Rattle.asp_core.specs.Ready.{bodies_with_one}
 use Rattle.asp_core.specs.Sessions.{account_begun, sessions_in}
 use Rattle.asp_core.specs.Standing.{stand_ins}
@@ -76,12 +77,10 @@ abbrev pub IsIdleWith : List (ℕ × Answer) → List Entry → Type 0
 IsIdleWith answers past = NoneIsNext past ⊎ (MOST_BODIES < bodies_with_one answers past)
 
 -- what a run needs to begin: the parts of a core are those of its journal
-pub record CanBegin (rules : Rules) (past : List Entry) (account : Account) (answers : List (ℕ × Answer))
-    (capacity : ℕ) : Type 0 where
+pub record CanBegin (rules : Rules) (past : List Entry) (account : Account) (answers : List (ℕ × Answer)) : Type 0 where
   pub held : AppState
   pub kept : IsKept rules past account held answers
   pub within : IsWithin past
-  pub room : HasRoom past (length answers) capacity
 
 -- the run is next, few are unfinished and no Halt stands
 pub record IsNext (past : List Entry) (run : ℕ) : Type 0 where
@@ -104,21 +103,15 @@ pub record IsNextOver (past : List Entry) (entries weight : ℕ) : Type 0 where
   pub next : IsNext past run
   pub over : IsOver past 2 128 entries weight
 
--- what the Begin of a run leaves of a journal and of the account of the session keys, and the run
-pub record HasBegun {State : Type 0} (rules : Rules) (stands : State → Told → ℕ → Type 0) (lane : ℕ)
-    (journal : List Entry) (account : Account) (answers : List (ℕ × Answer)) (next : List Entry)
-    (then_account : Account) (capacity capacity_of : ℕ) (run : RunView State) : Type 0 where
-  pub is_next : IsNextRun (reverse journal) run.number
-  pub few : length (unfinished (reverse journal)) < MOST_UNFINISHED
-  pub going : is_halted (reverse journal) ≡ false
-  pub light : bodies_with_one answers (reverse journal) ≤ MOST_BODIES
-  pub journal_is : next ≡ journal ++ begin_entry rules (reverse journal) lane run.number ∷ []
-  pub account_is : then_account ≡ account_begun (reverse journal) run.number account
-  pub within : IsWithin (reverse next)
-  pub room : HasRoom (reverse next) (length answers) capacity
-  pub answer_room : HasAnswerRoom (reverse next) (length answers) capacity_of
+-- what the Begin of a run leaves of a book and of the account of the session keys, and the run
+pub record HasBegun {State : Type 0} (rules : Rules) (stands : State → Told → ℕ → Type 0) (lane : ℕ) (old : BookView)
+    (account : Account) (new : BookView) (then_account : Account) (run : RunView State) : Type 0 where
+  pub next : IsNext (past_in old) run.number
+  pub light : bodies_with_one old.answers (past_in old) ≤ MOST_BODIES
+  pub grows : Grows old (begin_entry rules (past_in old) lane run.number ∷ []) new
+  pub account_is : then_account ≡ account_begun (past_in old) run.number account
   pub progress_is : run.progress ≡ progress.Going
   pub told_is : stands run.state
-      (keys.told rules (begin_entry rules (reverse journal) lane run.number ∷ reverse journal) run.number) 0
-  pub stand_ins_are : run.stand_ins ≡ stand_ins (job_of (reverse journal) run.number).work
+      (keys.told rules (begin_entry rules (past_in old) lane run.number ∷ past_in old) run.number) 0
+  pub stand_ins_are : run.stand_ins ≡ stand_ins (job_of (past_in old) run.number).work
   pub turns_is : run.turns ≡ 0

@@ -1,17 +1,19 @@
 -- The account of the session keys, read off a journal, and what each entry makes of it. All of it is the profile's.
-use Rattle.std.specs.Prelude.{◌≡◌, ℕ, ◌==◌, ◌&&◌, Bool, false, not, if◌then◌else◌, List, [], ◌∷◌, filter, map, Option}
+use Rattle.std.specs.Prelude.{◌≡◌, ℕ, ◌==◌, ◌&&◌, Bool, true, false, not, if◌then◌else◌}
+use Rattle.std.specs.Prelude.{List, [], ◌∷◌, filter, map, Option}
 use Rattle.std.specs.List.{list_any}
 use Rattle.asp_job.specs.declared.entry.EndKind.{EndKind}
 use Rattle.asp_job.specs.declared.entry.EndKind.TheVariants as kind
 use Rattle.asp_job.specs.declared.entry.Entry.{Entry}
 use Rattle.asp_job.specs.declared.entry.What.{What}
 use Rattle.asp_job.specs.declared.entry.What.TheVariants.{Queue, Admit, Begin, End}
+use Rattle.asp_job.specs.declared.job.Work.{Work}
+use Rattle.asp_job.specs.declared.job.Work.TheVariants as work
 use Rattle.asp_job.specs.declared.session.SessionState.{SessionState}
 use Rattle.asp_job.specs.Journal.{IsValidJournal}
 use Rattle.asp_job.specs.Keys.{made, opened, live, session_of, session_left, told, last_asked, is_closing}
 use Rattle.asp_job.specs.Rules.{Rules}
 use Rattle.asp_job.specs.Runs.{numbers, drawn, key_of, job_of, is_unfinished, is_waiting}
-use Rattle.asp_journal.specs.Keyed.{is_session_end}
 use Rattle.asp_session.specs.declared.after.After.{After}
 use Rattle.asp_session.specs.declared.after.After.TheVariants.{Kept, Now}
 use Rattle.asp_session.specs.declared.key.KeyState.{KeyState}
@@ -41,6 +43,11 @@ state_at sessions past k = record {
 -- the live keys, in order, each with what is kept of it
 abbrev pub keys_by : (ℕ → Option SessionState) → List Entry → List (ℕ × KeyState)
 keys_by sessions past = map (λ k. (k, state_at sessions past k)) (live sessions past)
+
+-- whether the work is the end of a session
+abbrev pub is_session_end : Work → Bool
+is_session_end work.SessionEnd = true
+is_session_end _ = false
 
 -- the runs with a key that wait, in order
 abbrev pub waits_keyed : List Entry → ℕ → Bool

@@ -1,6 +1,5 @@
 -- What a job leaves of a core, and why it is not taken.
-use Rattle.std.specs.Prelude.{◌≡◌, ℕ, ◌++◌, if◌then◌else◌, List, length, reverse, Option, Some, None, nat_le}
-use Rattle.asp_job.specs.declared.answer.Answer.{Answer}
+use Rattle.std.specs.Prelude.{◌≡◌, ℕ, ◌++◌, if◌then◌else◌, List, length, Option, Some, None, nat_le}
 use Rattle.asp_job.specs.declared.entry.Entry.{Entry}
 use Rattle.asp_job.specs.declared.entry.TheConstants.{MOST_WAITING}
 use Rattle.asp_job.specs.declared.job.Job.{Job}
@@ -11,7 +10,8 @@ use Rattle.asp_job.specs.Turns.{waiting_pages}
 use Rattle.asp_core.specs.declared.stop.AdmitStop.{AdmitStop}
 use Rattle.asp_core.specs.declared.stop.AdmitStop.TheVariants.{Stopping, WaitingFull}
 use Rattle.asp_core.specs.Drawing.{answer_for, entry_then, told_of}
-use Rattle.asp_core.specs.Kernel.{IsWithin, HasRoom, HasAnswerRoom}
+use Rattle.asp_core.specs.Book.{BookView, past_in}
+use Rattle.asp_core.specs.Kernel.{IsWithin}
 use Rattle.asp_core.specs.Ready.{with_answer}
 use Rattle.asp_core.specs.Sessions.{account_grown}
 use Rattle.asp_session.specs.Account.{Account}
@@ -22,16 +22,13 @@ refused_before past =
     if is_stopping past then Some Stopping
     else if nat_le MOST_WAITING (length (waiting_pages past)) then Some WaitingFull else None
 
--- what a job leaves of a journal, of the account of the session keys and of the answers that wait, with room
-pub record HasTaken (rules : Rules) (lane : ℕ) (job : Job) (journal : List Entry) (account : Account)
-    (answers : List (ℕ × Answer)) (next : List Entry) (then_account : Account)
-    (then_answers : List (ℕ × Answer)) (capacity capacity_of : ℕ) : Type 0 where
-  pub journal_is : next ≡ journal ++ admit_entries rules (reverse journal) lane job
+-- what a job leaves of a book and of the account of the session keys
+pub record HasTaken (rules : Rules) (lane : ℕ) (job : Job) (old : BookView) (account : Account) (new : BookView)
+    (then_account : Account) : Type 0 where
+  pub items_are : new.items ≡ old.items ++ admit_entries rules (past_in old) lane job
   pub account_is :
-      then_account ≡ account_grown rules (reverse journal) (admit_entries rules (reverse journal) lane job) account
+      then_account ≡ account_grown rules (past_in old) (admit_entries rules (past_in old) lane job) account
   pub answers_are :
-      then_answers ≡ with_answer answers (told_of (entry_then rules (reverse journal) lane job).what).run
-      (answer_for (entry_then rules (reverse journal) lane job).what)
-  pub within : IsWithin (reverse next)
-  pub room : HasRoom (reverse next) (length then_answers) capacity
-  pub answer_room : HasAnswerRoom (reverse next) (length then_answers) capacity_of
+      new.answers ≡ with_answer old.answers (told_of (entry_then rules (past_in old) lane job).what).run
+      (answer_for (entry_then rules (past_in old) lane job).what)
+  pub within : IsWithin (past_in new)

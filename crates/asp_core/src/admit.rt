@@ -1,8 +1,7 @@
 //! The call of the core that takes a job.
 #![tactic(auto)]
 
-ghost use Rattle.std.specs.Prelude.{◌≡◌, ◌↔◌, ◌≤◌, ℕ, length, reverse, true, false, Err, OnOk, OnErr, IfOk};
-ghost use Rattle.std.specs.Prelude.{vec_capacity, Result, Ok};
+ghost use Rattle.std.specs.Prelude.{◌≡◌, ◌↔◌, ◌≤◌, ℕ, length, true, false, Err, OnOk, OnErr, IfOk};
 ghost use Rattle.asp_job.specs.History as history;
 ghost use Rattle.asp_job.specs.Journal as journals;
 ghost use Rattle.asp_job.specs.Runs as runs;
@@ -10,23 +9,24 @@ ghost use Rattle.asp_job.specs.Running.{is_page};
 ghost use Rattle.asp_job.specs.Size.{IsSmall};
 ghost use Rattle.asp_job.specs.Turns as turns;
 ghost use Rattle.asp_job.specs.declared.entry.TheConstants.{MOST_ENTRIES, MOST_WAITING};
+ghost use Rattle.asp_core.specs.Book.{Stays, past_by, past_in};
 ghost use Rattle.asp_core.specs.Drawing as drawing;
 ghost use Rattle.asp_core.specs.Kernel as kernel;
 ghost use Rattle.asp_core.specs.Sessions.{IsAccountOf};
 ghost use Rattle.asp_core.specs.Taking as taking;
 
 use crate::admitted::Admitted;
+use crate::book::Book;
 use crate::events::with_job;
+use crate::house::Lent;
 use crate::kernel::Core;
-use crate::places::add_answer;
-use crate::setting::Setting;
 use crate::stop::{AdmitStop, EventStop, admit_stop};
-use asp_job::{Answer, Job, MOST_WAITING, Runner};
+use asp_job::{Job, MOST_WAITING, Runner};
 use asp_journal::Journal;
 use asp_session::Sessions;
 
 fn refused_before(journal: &Journal) -> Option<AdmitStop>
-    ensures { result ≡ taking.refused_before (reverse journal.now.items) }
+    ensures { result ≡ taking.refused_before (past_by journal.now) }
 {
     if journal.is_stopping() {
         Some(AdmitStop::Stopping)
@@ -37,42 +37,36 @@ fn refused_before(journal: &Journal) -> Option<AdmitStop>
     }
 }
 
-/// The journal, the answers and the session keys after a job. A refusal leaves them.
-#[tactic(auto, using(crate::proofs::Admitting::answers_few))]
+/// The book and the session keys after a job. A refusal leaves them.
 pub(crate) fn take_job<R: Runner>(
-    runner: &R,
-    site: &R::Site,
-    setting: &Setting,
-    journal: &mut Journal,
-    answers: &mut Vec<(u32, Answer)>,
+    lent: &Lent<R, R::Site>,
+    book: &mut Book,
     sessions: &mut Sessions,
     lane: u32,
     job: &Job,
 ) -> Result<Admitted, EventStop>
-    requires account { IsAccountOf (kernel.rules_by (R.meaning runner.now site.now) setting.now)
-        (reverse journal.old.items) sessions.old.account }
-    requires few { history.entries_in (reverse journal.old.items) ≤ MOST_ENTRIES }
+    requires account { IsAccountOf (kernel.rules_by (R.meaning lent.now.runner.now lent.now.site.now) lent.now.setting)
+        (past_in book.old) sessions.old.account }
+    requires few { history.entries_in (past_in book.old) ≤ MOST_ENTRIES }
     requires small { IsSmall job.now }
-    ensures ok { OnOk result (taking.HasTaken (kernel.rules_by (R.meaning runner.now site.now) setting.now)
-        lane job.now journal.old.items sessions.old.account answers.old.items
-        journal.new.items sessions.new.account answers.new.items
-        (journal.new.capacity) (vec_capacity answers.new)) }
+    ensures ok { OnOk result (taking.HasTaken
+        (kernel.rules_by (R.meaning lent.now.runner.now lent.now.site.now) lent.now.setting)
+        lane job.now book.old sessions.old.account book.new sessions.new.account) }
     ensures told { IfOk result (λ told. told ≡ drawing.told_of (drawing.entry_then
-        (kernel.rules_by (R.meaning runner.now site.now) setting.now) (reverse journal.old.items) lane job.now).what) }
-    ensures err { OnErr result ((journal.new.items ≡ journal.old.items)
-        × (sessions.new.account ≡ sessions.old.account) × (answers.new.items ≡ answers.old.items)) }
-    ensures capacity { OnErr result ((journal.old.capacity ≤ journal.new.capacity)
-        × (vec_capacity answers.old ≤ vec_capacity answers.new)) }
+        (kernel.rules_by (R.meaning lent.now.runner.now lent.now.site.now) lent.now.setting)
+        (past_in book.old) lane job.now).what) }
+    ensures err { OnErr result (Stays book.old book.new × (sessions.new.account ≡ sessions.old.account)) }
     ensures full { (entries weight : ℕ) → result ≡ Err (EventStop.JournalFull entries weight) →
-        kernel.IsTooMuch (journals.past_after (reverse journal.old.items) (journals.admit_entries
-        (kernel.rules_by (R.meaning runner.now site.now) setting.now) (reverse journal.old.items) lane job.now))
+        kernel.IsTooMuch (journals.past_after (past_in book.old) (journals.admit_entries
+        (kernel.rules_by (R.meaning lent.now.runner.now lent.now.site.now) lent.now.setting)
+        (past_in book.old) lane job.now))
         entries weight }
 {
-    let drawn = match with_job(runner, site, setting, journal, answers, sessions, lane, job) {
+    let drawn = match with_job(lent, book, sessions, lane, job) {
         Ok(drawn) => drawn,
         Err(stop) => return Err(stop),
     };
-    add_answer(answers, drawn.told.run, drawn.answer);
+    book.put(drawn.told.run, drawn.answer);
     Ok(drawn.told)
 }
 
@@ -102,15 +96,17 @@ impl<R: Runner> Core<R> {
             (kernel.rules_of R.meaning self.old) (kernel.past_of self.old) lane job.now)) entries weight }
         ensures err { OnErr result (self.new ≡ self.old) }
     {
-        if let Some(stop) = refused_before(&self.kept.journal) {
+        if let Some(stop) = refused_before(self.kept.book.journal()) {
             return Err(stop);
         }
-        let made = take_job(
+        let lent = Lent {
             runner,
             site,
-            &self.house.setting,
-            &mut self.kept.journal,
-            &mut self.kept.answers,
+            setting: self.house.setting,
+        };
+        let made = take_job(
+            &lent,
+            &mut self.kept.book,
             &mut self.kept.sessions,
             lane,
             job,

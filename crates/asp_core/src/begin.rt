@@ -1,14 +1,15 @@
 //! The call of the core that begins a run.
 #![tactic(auto)]
 
-ghost use Rattle.std.specs.Prelude.{◌≡◌, ◌≤◌, ◌<◌, ◌+◌, ◌*◌, ◌^◌, ◌++◌, ◌∷◌, ◌↔◌, [], ℕ, reverse, length, true, false};
-ghost use Rattle.std.specs.Prelude.{OnOk, OnErr, IfOk, IfErr, IfNone, IfSome, OnSome, Err, vec_capacity};
+ghost use Rattle.std.specs.Prelude.{◌≡◌, ◌≤◌, ◌<◌, ◌+◌, ◌*◌, ◌^◌, ◌++◌, ◌∷◌, ◌↔◌, [], ℕ, length, true, false};
+ghost use Rattle.std.specs.Prelude.{OnOk, OnErr, IfOk, IfErr, IfNone, IfSome, OnSome, Err};
 ghost use Rattle.asp_job.specs.History as history;
 ghost use Rattle.asp_job.specs.Journal as journals;
 ghost use Rattle.asp_job.specs.Runs as runs;
 ghost use Rattle.asp_job.specs.Turns as turns;
 ghost use Rattle.asp_job.specs.declared.entry.TheConstants.{MOST_ENTRIES, MOST_UNFINISHED};
 ghost use Rattle.asp_journal.specs.Tables.{IsFit};
+ghost use Rattle.asp_core.specs.Book.{Adds, HasRoomFor, IsRoomy, Stays, past_by, past_in};
 ghost use Rattle.asp_core.specs.Calm.{HasLoad};
 ghost use Rattle.asp_core.specs.Kernel as kernel;
 ghost use Rattle.asp_core.specs.Opening as spec;
@@ -17,93 +18,72 @@ ghost use Rattle.asp_core.specs.Sessions.{account_begun, sessions_in};
 ghost use Rattle.asp_core.specs.declared.ready.TheConstants.{MOST_BODIES};
 
 use crate::account::start_key;
+use crate::book::Book;
+use crate::house::Lent;
 use crate::kernel::Core;
 use crate::keys::least_run;
 use crate::opening::{Opening, SessionNumber, open_run, session_number};
 use crate::ready::has_body_room;
 use crate::room::room_for;
 use crate::run::{Progress, Run};
-use crate::setting::Setting;
 use crate::stop::{BeginStop, begin_stop};
-use asp_job::{Answer, Entry, Runner, What};
+use asp_job::{Entry, Runner, What};
 use asp_journal::Journal;
 use asp_session::Sessions;
-use std::alloc::Global;
 
 /// The run that is next, where there is room for the body of one more.
 #[tactic(auto, using(crate::proofs::Beginning::not_idle))]
-fn next_to_begin(journal: &Journal, answers: &[(u32, Answer)]) -> Option<u64>
-    requires { (run : ℕ) → turns.may_begin (reverse journal.now.items) run ≡ true →
-        (0 < run) × (run ≤ runs.drawn (reverse journal.now.items)) }
-    ensures none { IfNone result (spec.IsIdleWith answers.now (reverse journal.now.items)) }
-    ensures next { IfSome result (λ run. turns.IsNextRun (reverse journal.now.items) run) }
-    ensures within { IfSome result (λ run. run ≤ runs.drawn (reverse journal.now.items)) }
-    ensures few { OnSome result (length (runs.unfinished (reverse journal.now.items)) < MOST_UNFINISHED) }
-    ensures going { OnSome result (runs.is_halted (reverse journal.now.items) ≡ false) }
-    ensures light { OnSome result (waits.bodies_with_one answers.now (reverse journal.now.items) ≤ MOST_BODIES) }
+fn next_to_begin(book: &Book) -> Option<u64>
+    requires { (run : ℕ) → turns.may_begin (past_in book.now) run ≡ true →
+        (0 < run) × (run ≤ runs.drawn (past_in book.now)) }
+    ensures none { IfNone result (spec.IsIdleWith book.now.answers (past_in book.now)) }
+    ensures next { IfSome result (λ run. spec.IsNext (past_in book.now) run) }
+    ensures within { IfSome result (λ run. run ≤ runs.drawn (past_in book.now)) }
+    ensures light { OnSome result (waits.bodies_with_one book.now.answers (past_in book.now) ≤ MOST_BODIES) }
 {
-    if has_body_room(journal, answers) {
-        least_run(journal)
+    if has_body_room(book) {
+        least_run(book.journal())
     } else {
         None
     }
 }
 
-/// The run that is next and the number of its session, with room for its Begin. The entries stay.
-fn next_with_room(
-    journal: &mut Journal,
-    answers: &mut Vec<(u32, Answer)>,
-    sessions: &Sessions,
-) -> Result<(u32, SessionNumber), BeginStop>
-    requires numbered { (run : ℕ) → turns.may_begin (reverse journal.old.items) run ≡ true →
-        (0 < run) × (run ≤ runs.drawn (reverse journal.old.items)) }
-    requires few { history.entries_in (reverse journal.old.items) ≤ MOST_ENTRIES }
+/// The run that is next and the number of its session, with room for its Begin. Entries and answers stay.
+fn next_with_room(book: &mut Book, sessions: &Sessions) -> Result<(u32, SessionNumber), BeginStop>
+    requires numbered { (run : ℕ) → turns.may_begin (past_in book.old) run ≡ true →
+        (0 < run) × (run ≤ runs.drawn (past_in book.old)) }
+    requires few { history.entries_in (past_in book.old) ≤ MOST_ENTRIES }
     requires count { sessions.now.account.opened + 1 < 2 ^ 31 }
-    ensures ok { IfOk result (λ next. spec.IsNextWith (reverse journal.old.items) sessions.now.account
-        answers.old.items next.0 next.1) }
-    ensures items { journal.new.items ≡ journal.old.items }
-    ensures answers { answers.new.items ≡ answers.old.items }
-    ensures capacity { journal.old.capacity ≤ journal.new.capacity }
-    ensures capacity_of_answers { vec_capacity answers.old ≤ vec_capacity answers.new }
-    ensures room { OnOk result (length journal.old.items + 2
-        + 2 * length (runs.unfinished (reverse journal.old.items)) + length answers.old.items + 3
-        ≤ journal.new.capacity) }
-    ensures answer_room { OnOk result (length answers.old.items + 2
-        + length (runs.unfinished (reverse journal.old.items)) ≤ vec_capacity answers.new) }
+    ensures ok { IfOk result (λ next. spec.IsNextWith (past_in book.old) sessions.now.account
+        book.old.answers next.0 next.1) }
+    ensures stays { Stays book.old book.new }
+    ensures room { OnOk result (IsRoomy book.new 2) }
     ensures idle { IfErr result (λ stop. stop ≡ BeginStop.Idle ↔
-        spec.IsIdleWith answers.old.items (reverse journal.old.items)) }
+        spec.IsIdleWith book.old.answers (past_in book.old)) }
     ensures full { (entries weight : ℕ) → result ≡ Err (BeginStop.JournalFull entries weight) →
-        spec.IsNextOver (reverse journal.old.items) entries weight }
-    ensures fits { result ≡ Err BeginStop.Memory → HasLoad (reverse journal.old.items) 2 128 }
+        spec.IsNextOver (past_in book.old) entries weight }
+    ensures fits { result ≡ Err BeginStop.Memory → HasLoad (past_in book.old) 2 128 }
 {
-    let Some(next) = next_to_begin(journal, answers.as_slice()) else {
+    let Some(next) = next_to_begin(book) else {
         return Err(BeginStop::Idle);
     };
-    let number = session_number(journal, sessions, next);
-    if let Err(stop) = room_for(journal, answers, 2, 128) {
+    let number = session_number(book.journal(), sessions, next);
+    if let Err(stop) = room_for(book, 2, 128) {
         return Err(begin_stop(stop));
     }
     Ok((next as u32, number))
 }
 
 /// Adds the Begin of a run, whose key's run does not wait any more.
-fn add_begin(
-    journal: &mut Journal,
-    sessions: &mut Sessions,
-    lane: u32,
-    run: u32,
-    number: SessionNumber,
-)
-    requires fit { IsFit (reverse journal.old.items) (What.Begin run number.serial) }
-    requires room { length journal.old.items < journal.old.capacity }
+fn add_begin(book: &mut Book, sessions: &mut Sessions, lane: u32, run: u32, number: SessionNumber)
+    requires fit { IsFit (past_in book.old) (What.Begin run number.serial) }
+    requires room { HasRoomFor book.old (history.with_lane lane (What.Begin run number.serial)) }
     requires count { sessions.old.account.opened + 1 < 2 ^ 31 }
-    ensures items { journal.new.items ≡ journal.old.items
-        ++ history.with_lane lane (What.Begin run number.serial) ∷ [] }
-    ensures capacity { journal.new.capacity ≡ journal.old.capacity }
-    ensures account { sessions.new.account ≡ account_begun (reverse journal.old.items) run sessions.old.account }
+    ensures adds { Adds book.old (history.with_lane lane (What.Begin run number.serial) ∷ []) book.new }
+    ensures account { sessions.new.account ≡ account_begun (past_in book.old) run sessions.old.account }
 {
-    start_key(sessions, journal.key_of(run as u64));
-    journal.push_reserved(Entry {
+    start_key(sessions, book.journal().key_of(run as u64));
+    book.push(Entry {
         lane,
         what: What::Begin {
             run,
@@ -114,23 +94,20 @@ fn add_begin(
 
 /// The run, with the runner's state of it. Without memory the store comes back.
 fn start_run<R: Runner>(
-    runner: &R,
-    site: &R::Site,
-    alloc: Global,
-    setting: &Setting,
+    lent: &Lent<R, R::Site>,
     journal: &Journal,
     sessions: &Sessions,
-    number: SessionNumber,
-    run: u32,
+    next: (u32, SessionNumber),
     store: R::Store,
 ) -> Result<Run<R>, R::Store>
-    requires { spec.CanOpen (runs.draw_of (reverse journal.now.items) run)
-        (sessions_in sessions.now.account (runs.key_of (reverse journal.now.items) run)) number }
-    ensures { IfOk result (spec.HasOpened (R.stands runner.now site.now) setting.now.seed
-        (runs.draw_of (reverse journal.now.items) run)
-        (sessions_in sessions.now.account (runs.key_of (reverse journal.now.items) run)) number run) }
+    requires { spec.CanOpen (runs.draw_of (past_by journal.now) next.0)
+        (sessions_in sessions.now.account (runs.key_of (past_by journal.now) next.0)) next.1 }
+    ensures { IfOk result (spec.HasOpened (R.stands lent.now.runner.now lent.now.site.now) lent.now.setting.seed
+        (runs.draw_of (past_by journal.now) next.0)
+        (sessions_in sessions.now.account (runs.key_of (past_by journal.now) next.0)) next.1 next.0) }
 {
-    let Ok(opening) = open_run(alloc, &setting.seed, journal, sessions, number, run as u64) else {
+    let (run, number) = next;
+    let Ok(opening) = open_run(&lent.setting.seed, journal, sessions, number, run as u64) else {
         return Err(store);
     };
     let Opening {
@@ -139,7 +116,10 @@ fn start_run<R: Runner>(
         cookie,
         stand_ins,
     } = opening;
-    match runner.start(site, &job, session, number.is_new, cookie, store) {
+    match lent
+        .runner
+        .start(lent.site, &job, session, number.is_new, cookie, store)
+    {
         Ok(state) => Ok(Run {
             number: run,
             progress: Progress::Going,
@@ -151,53 +131,36 @@ fn start_run<R: Runner>(
     }
 }
 
-/// A run that is next, the journal with its Begin and the session keys. A refusal leaves both.
+/// A run that is next, the book with its Begin and the session keys. A refusal leaves both.
 fn begin_run<R: Runner>(
-    runner: &R,
-    site: &R::Site,
-    setting: &Setting,
-    journal: &mut Journal,
-    answers: &mut Vec<(u32, Answer)>,
+    lent: &Lent<R, R::Site>,
+    book: &mut Book,
     sessions: &mut Sessions,
     lane: u32,
     store: R::Store,
 ) -> Result<Run<R>, (R::Store, BeginStop)>
-    requires { spec.CanBegin (kernel.rules_by (R.meaning runner.now site.now) setting.now)
-        (reverse journal.old.items) sessions.old.account answers.old.items (journal.old.capacity) }
-    ensures ok { IfOk result (spec.HasBegun (kernel.rules_by (R.meaning runner.now site.now) setting.now)
-        (R.stands runner.now site.now) lane journal.old.items sessions.old.account answers.old.items
-        journal.new.items sessions.new.account (journal.new.capacity) (vec_capacity answers.new)) }
-    ensures err { OnErr result ((journal.new.items ≡ journal.old.items)
-        × (sessions.new.account ≡ sessions.old.account)) }
-    ensures answers { answers.new.items ≡ answers.old.items }
-    ensures capacity { journal.old.capacity ≤ journal.new.capacity }
-    ensures capacity_of_answers { vec_capacity answers.old ≤ vec_capacity answers.new }
+    requires { spec.CanBegin (kernel.rules_by (R.meaning lent.now.runner.now lent.now.site.now) lent.now.setting)
+        (past_in book.old) sessions.old.account book.old.answers }
+    ensures ok { IfOk result (spec.HasBegun
+        (kernel.rules_by (R.meaning lent.now.runner.now lent.now.site.now) lent.now.setting)
+        (R.stands lent.now.runner.now lent.now.site.now) lane book.old sessions.old.account book.new sessions.new.account) }
+    ensures err { OnErr result (Stays book.old book.new × (sessions.new.account ≡ sessions.old.account)) }
     ensures idle { IfErr result (λ stop. stop.1 ≡ BeginStop.Idle ↔
-        spec.IsIdleWith answers.old.items (reverse journal.old.items)) }
+        spec.IsIdleWith book.old.answers (past_in book.old)) }
     ensures full { (entries weight : ℕ) → IfErr result (λ stop. stop.1 ≡ BeginStop.JournalFull entries weight →
-        kernel.IsBeginTooMuch (kernel.rules_by (R.meaning runner.now site.now) setting.now)
-        (reverse journal.old.items) lane entries weight) }
+        kernel.IsBeginTooMuch (kernel.rules_by (R.meaning lent.now.runner.now lent.now.site.now) lent.now.setting)
+        (past_in book.old) lane entries weight) }
     ensures fits { IfErr result (λ stop. stop.1 ≡ BeginStop.Memory →
-        kernel.NextFits (kernel.rules_by (R.meaning runner.now site.now) setting.now)
-        (reverse journal.old.items) lane) }
+        kernel.NextFits (kernel.rules_by (R.meaning lent.now.runner.now lent.now.site.now) lent.now.setting)
+        (past_in book.old) lane) }
 {
-    let (run, number) = match next_with_room(journal, answers, sessions) {
+    let next = match next_with_room(book, sessions) {
         Ok(next) => next,
         Err(stop) => return Err((store, stop)),
     };
-    match start_run(
-        runner,
-        site,
-        journal.alloc(),
-        setting,
-        journal,
-        sessions,
-        number,
-        run,
-        store,
-    ) {
+    match start_run(lent, book.journal(), sessions, next, store) {
         Ok(begun) => {
-            add_begin(journal, sessions, lane, run, number);
+            add_begin(book, sessions, lane, next.0, next.1);
             Ok(begun)
         }
         Err(store) => Err((store, BeginStop::Memory)),
@@ -235,12 +198,14 @@ impl<R: Runner> Core<R> {
             kernel.NextFits (kernel.rules_of R.meaning self.old) (kernel.past_of self.old) lane) }
         ensures err { OnErr result (self.new ≡ self.old) }
     {
-        begin_run(
+        let lent = Lent {
             runner,
             site,
-            &self.house.setting,
-            &mut self.kept.journal,
-            &mut self.kept.answers,
+            setting: self.house.setting,
+        };
+        begin_run(
+            &lent,
+            &mut self.kept.book,
             &mut self.kept.sessions,
             lane,
             store,

@@ -3,45 +3,41 @@
 
 ghost use Rattle.std.specs.Prelude.{◌≡◌, ◌↔◌, ◌+◌, ◌*◌, ◌-◌, ◌^◌, ◌<◌, ◌≤◌, ◌∷◌, ◌++◌, ℕ, min, reverse, length};
 ghost use Rattle.std.specs.Prelude.{false, true};
-ghost use Rattle.std.specs.Prelude.{Some, None, Err, IsSome, IfOk, OnOk, OnErr, vec_capacity};
+ghost use Rattle.std.specs.Prelude.{Some, None, Err, IsSome, IfOk, OnOk, OnErr};
 ghost use Rattle.asp_job.specs.Application as object;
 ghost use Rattle.asp_job.specs.Calls.{IsAppCall, IsReply};
 ghost use Rattle.asp_job.specs.History as history;
 ghost use Rattle.asp_job.specs.Journal as journals;
+ghost use Rattle.asp_core.specs.Book.{Stays, past_in};
 ghost use Rattle.asp_core.specs.Calling as spec;
 ghost use Rattle.asp_core.specs.Kernel as kernel;
 ghost use Rattle.asp_core.specs.Stops as stops;
 
+use crate::book::Book;
 use crate::kernel::Core;
 use crate::run::{Progress, Run};
 use crate::stop::{AppStepStop, EventStop, app_stop};
 use asp_app::Application;
-use asp_job::{Answer, Entry, MOST_ENTRIES, MOST_WEIGHT, Runner, What, copy_reply};
-use asp_journal::{Journal, call_weight, reply_weight};
+use asp_job::{Entry, MOST_ENTRIES, MOST_WEIGHT, Runner, What, copy_reply};
+use asp_journal::{call_weight, reply_weight};
 use vb_value::{AppCall, AppReply};
 
 /// Makes room for the entry of a call and for all that is to come for sure, if the entry fits.
-#[tactic(auto, using(asp_journal::proofs::Past::length_past, crate::proofs::Calm::halts_few))]
 fn room_for_call(
-    journal: &mut Journal,
-    answers: &[(u32, Answer)],
+    book: &mut Book,
     lane: u32,
     run: u32,
     call: &AppCall,
     reply: &AppReply,
 ) -> Result<(), EventStop>
-    ensures items { journal.new.items ≡ journal.old.items }
-    ensures capacity { journal.old.capacity ≤ journal.new.capacity }
-    ensures within { OnOk result (kernel.IsWithin
-        (history.with_lane lane (What.App run call.now reply.now) ∷ reverse journal.old.items)) }
-    ensures room { OnOk result (kernel.HasRoom
-        (history.with_lane lane (What.App run call.now reply.now) ∷ reverse journal.old.items)
-        (length answers.now) (journal.new.capacity)) }
+    ensures stays { Stays book.old book.new }
+    ensures ok { OnOk result (kernel.IsWithin
+        (history.with_lane lane (What.App run call.now reply.now) ∷ past_in book.old) × (0 < book.new.room)) }
     ensures full { (entries weight : ℕ) → result ≡ Err (EventStop.JournalFull entries weight) → kernel.IsTooMuch
-        (history.with_lane lane (What.App run call.now reply.now) ∷ reverse journal.old.items) entries weight }
+        (history.with_lane lane (What.App run call.now reply.now) ∷ past_in book.old) entries weight }
 {
-    let open = journal.unfinished();
-    let entries = journal.entries_in() + open + 1;
+    let journal = book.journal();
+    let entries = journal.entries_in() + journal.unfinished() + 1;
     let weight = journal
         .weight_load()
         .saturating_add(call_weight(call))
@@ -50,8 +46,7 @@ fn room_for_call(
     if entries > MOST_ENTRIES || weight > MOST_WEIGHT {
         return Err(EventStop::JournalFull { entries, weight });
     }
-    let more = 2 * open as usize + 3 + answers.len();
-    if journal.reserve(more).is_err() {
+    if book.make_room(0).is_err() {
         return Err(EventStop::Memory);
     }
     Ok(())
@@ -80,8 +75,7 @@ fn short_copy(reply: &AppReply) -> AppReply
 /// The reply to a call that reads, twice.
 #[tactic(auto, using(crate::proofs::Calling::of_reads))]
 fn read_reply(
-    journal: &mut Journal,
-    answers: &[(u32, Answer)],
+    book: &mut Book,
     application: &mut Application,
     lane: u32,
     run: u32,
@@ -89,21 +83,19 @@ fn read_reply(
 ) -> Result<(AppReply, AppReply), EventStop>
     requires call { IsAppCall call.now }
     requires read { spec.is_read call.now ≡ true }
-    ensures ok { IfOk result (spec.IsReplied (reverse journal.old.items) lane run call.now
-        application.old application.new (length answers.now) (journal.new.capacity)) }
-    ensures items { journal.new.items ≡ journal.old.items }
-    ensures capacity { journal.old.capacity ≤ journal.new.capacity }
+    ensures ok { IfOk result (spec.IsReplied book.new lane run call.now application.old application.new) }
+    ensures stays { Stays book.old book.new }
     ensures err { OnErr result (application.new ≡ application.old) }
     ensures full { (entries weight : ℕ) → result ≡ Err (EventStop.JournalFull entries weight) → kernel.IsTooMuch
         (history.with_lane lane (What.App run call.now (object.apply application.old run call.now).1)
-        ∷ reverse journal.old.items) entries weight }
+        ∷ past_in book.old) entries weight }
 {
     let reply = match application.call(run, call) {
         Ok(reply) => reply,
         Err(_) => return Err(EventStop::Memory),
     };
-    room_for_call(journal, answers, lane, run, call, &reply)?;
-    match copy_reply(journal.alloc(), &reply) {
+    room_for_call(book, lane, run, call, &reply)?;
+    match copy_reply(book.journal().alloc(), &reply) {
         Ok(copy) => Ok((reply, copy)),
         Err(_) => Err(EventStop::Memory),
     }
@@ -112,8 +104,7 @@ fn read_reply(
 /// The reply to a call that writes, twice.
 #[tactic(auto, using(crate::proofs::Calling::of_writes))]
 fn write_reply(
-    journal: &mut Journal,
-    answers: &[(u32, Answer)],
+    book: &mut Book,
     application: &mut Application,
     lane: u32,
     run: u32,
@@ -122,16 +113,14 @@ fn write_reply(
     requires call { IsAppCall call.now }
     requires write { spec.is_read call.now ≡ false }
     requires free { object.blocker_of application.old run call.now ≡ None }
-    ensures ok { IfOk result (spec.IsReplied (reverse journal.old.items) lane run call.now
-        application.old application.new (length answers.now) (journal.new.capacity)) }
-    ensures items { journal.new.items ≡ journal.old.items }
-    ensures capacity { journal.old.capacity ≤ journal.new.capacity }
+    ensures ok { IfOk result (spec.IsReplied book.new lane run call.now application.old application.new) }
+    ensures stays { Stays book.old book.new }
     ensures err { OnErr result (application.new ≡ application.old) }
     ensures full { (entries weight : ℕ) → result ≡ Err (EventStop.JournalFull entries weight) → kernel.IsTooMuch
         (history.with_lane lane (What.App run call.now (object.apply application.old run call.now).1)
-        ∷ reverse journal.old.items) entries weight }
+        ∷ past_in book.old) entries weight }
 {
-    room_for_call(journal, answers, lane, run, call, &AppReply::Done)?;
+    room_for_call(book, lane, run, call, &AppReply::Done)?;
     match application.call(run, call) {
         Ok(reply) => {
             let copy = short_copy(&reply);
@@ -143,8 +132,7 @@ fn write_reply(
 
 /// The reply to a call that the lock lets through, twice.
 fn replies_to(
-    journal: &mut Journal,
-    answers: &[(u32, Answer)],
+    book: &mut Book,
     application: &mut Application,
     lane: u32,
     run: u32,
@@ -152,41 +140,37 @@ fn replies_to(
 ) -> Result<(AppReply, AppReply), EventStop>
     requires call { IsAppCall call.now }
     requires free { object.blocker_of application.old run call.now ≡ None }
-    ensures ok { IfOk result (spec.IsReplied (reverse journal.old.items) lane run call.now
-        application.old application.new (length answers.now) (journal.new.capacity)) }
-    ensures items { journal.new.items ≡ journal.old.items }
-    ensures capacity { journal.old.capacity ≤ journal.new.capacity }
+    ensures ok { IfOk result (spec.IsReplied book.new lane run call.now application.old application.new) }
+    ensures stays { Stays book.old book.new }
     ensures err { OnErr result (application.new ≡ application.old) }
     ensures full { (entries weight : ℕ) → result ≡ Err (EventStop.JournalFull entries weight) → kernel.IsTooMuch
         (history.with_lane lane (What.App run call.now (object.apply application.old run call.now).1)
-        ∷ reverse journal.old.items) entries weight }
+        ∷ past_in book.old) entries weight }
 {
     if is_read(call) {
-        read_reply(journal, answers, application, lane, run, call)
+        read_reply(book, application, lane, run, call)
     } else {
-        write_reply(journal, answers, application, lane, run, call)
+        write_reply(book, application, lane, run, call)
     }
 }
 
-/// The journal, the Application object and the run after the call that the run wants. A refusal leaves them.
+/// The book, the Application object and the run after the call that the run wants. A refusal leaves them.
 fn make_call<R: Runner>(
     runner: &R,
-    journal: &mut Journal,
-    answers: &[(u32, Answer)],
+    book: &mut Book,
     application: &mut Application,
     lane: u32,
     run: &mut Run<R>,
 ) -> Result<(), AppStepStop>
     requires { IsSome (kernel.wanted_by run.old.progress) }
-    ensures ok { OnOk result (spec.HasCalled (R.stands runner.now) lane journal.old.items application.old
-        (length answers.now) run.old journal.new.items application.new (journal.new.capacity) run.new) }
-    ensures err { OnErr result ((journal.new.items ≡ journal.old.items) × (application.new ≡ application.old)
+    ensures ok { OnOk result (spec.HasCalled (R.stands runner.now) lane book.old application.old run.old
+        book.new application.new run.new) }
+    ensures err { OnErr result (Stays book.old book.new × (application.new ≡ application.old)
         × (run.new ≡ run.old)) }
-    ensures capacity { journal.old.capacity ≤ journal.new.capacity }
     ensures blocked { (holder : ℕ) → result ≡ Err (AppStepStop.Blocked holder) ↔
         (spec.blocker_by application.old run.old ≡ Some holder) }
     ensures full { (entries weight : ℕ) → result ≡ Err (AppStepStop.JournalFull entries weight) →
-        spec.IsCallTooMuch (reverse journal.old.items) lane application.old run.old entries weight }
+        spec.IsCallTooMuch (past_in book.old) lane application.old run.old entries weight }
 {
     let number = run.number();
     let Some(call) = run.wanted() else {
@@ -195,14 +179,14 @@ fn make_call<R: Runner>(
     if let Some(holder) = application.blocker(number, call) {
         return Err(AppStepStop::Blocked { holder });
     }
-    let (reply, copy) = match replies_to(journal, answers, application, lane, number, call) {
+    let (reply, copy) = match replies_to(book, application, lane, number, call) {
         Ok(replies) => replies,
         Err(stop) => return Err(app_stop(stop)),
     };
     let Some(call) = run.take_reply(runner, copy) else {
         unreachable!()
     };
-    journal.push_reserved(Entry {
+    book.push(Entry {
         lane,
         what: What::App {
             run: number,
@@ -235,8 +219,7 @@ impl<R: Runner> Core<R> {
     {
         make_call(
             runner,
-            &mut self.kept.journal,
-            self.kept.answers.as_slice(),
+            &mut self.kept.book,
             &mut self.kept.application,
             lane,
             run,

@@ -1,14 +1,14 @@
 //! The entries that a job adds to a journal.
 #![tactic(auto)]
 
-ghost use Rattle.std.specs.Prelude.{◌≡◌, ◌+◌, ◌-◌, ◌<◌, ◌≤◌, ◌^◌, ◌++◌, ◌∷◌, [], ℕ, min, reverse, length, sum_by, true};
+ghost use Rattle.std.specs.Prelude.{◌≡◌, ◌+◌, ◌-◌, ◌<◌, ◌≤◌, ◌^◌, ◌++◌, ◌∷◌, [], ℕ, min, length, sum_by, true};
 ghost use Rattle.std.specs.Prelude.{OnOk, OnErr, IfOk, Err};
-ghost use Rattle.std.specs.Prelude.{vec_capacity};
 ghost use Rattle.asp_job.specs.History as history;
 ghost use Rattle.asp_job.specs.Journal as journals;
 ghost use Rattle.asp_job.specs.Keys as keys;
 ghost use Rattle.asp_job.specs.Size.{IsSmall};
 ghost use Rattle.asp_job.specs.declared.entry.TheConstants.{MOST_ENTRIES};
+ghost use Rattle.asp_core.specs.Book.{Adds, Grows, Stays, past_by, past_in};
 ghost use Rattle.asp_core.specs.Calm as calm;
 ghost use Rattle.asp_core.specs.Drawing as drawing;
 ghost use Rattle.asp_core.specs.Kernel as kernel;
@@ -18,9 +18,10 @@ ghost use Rattle.asp_session.specs.Steps.{most_live};
 
 use crate::account::{ask, queue_runs};
 use crate::admitted::{Drawn, stand_in, told_of};
+use crate::book::Book;
 use crate::cookie::asked_key;
+use crate::house::Lent;
 use crate::room::{entries_weight, make_key_room, room_for};
-use crate::setting::Setting;
 use crate::stop::EventStop;
 use asp_job::{Answer, Entry, Job, Runner, What};
 use asp_journal::{Journal, work_weight};
@@ -29,13 +30,21 @@ use asp_session::Sessions;
 use std::alloc::Global;
 use vb_value::{Copied, List, Memory};
 
+/// A job that comes: the entries of its Tick, the job, and the answer that it has where it is refused.
+#[derive(Drop)]
+pub struct Coming {
+    pub more: List<Entry>,
+    pub job: Job,
+    pub answer: Option<Answer>,
+}
+
 /// How a job is admitted, or that it is refused.
 #[tactic(auto, using(crate::proofs::Accounts::askable_is, crate::proofs::Accounts::most_are))]
 fn admission(journal: &Journal, sessions: &Sessions, keyed: bool, asked: u32, job: Job) -> What
-    requires few { history.entries_in (reverse journal.now.items) ≤ MOST_ENTRIES + MOST_ENTRIES + 1 }
-    requires tells { Tells sessions.now.account (reverse journal.now.items) }
+    requires few { history.entries_in (past_by journal.now) ≤ MOST_ENTRIES + MOST_ENTRIES + 1 }
+    requires tells { Tells sessions.now.account (past_by journal.now) }
     ensures what { result ≡ journals.admission keyed asked
-        (sessions_in sessions.now.account) (reverse journal.now.items) job }
+        (sessions_in sessions.now.account) (past_by journal.now) job }
     ensures free { keys.makes_key result ≡ true → length sessions.now.account.keys < most_live }
 {
     let run = journal.drawn() as u32 + 1;
@@ -74,7 +83,7 @@ fn drawn_of(what: &What, answer: Option<Answer>) -> Drawn
 
 /// The job as it is admitted: its moment is the journal's.
 fn job_now(journal: &Journal, job: Job) -> Job
-    ensures { result ≡ journals.job_now (reverse journal.now.items) job }
+    ensures { result ≡ journals.job_now (past_by journal.now) job }
 {
     let Job {
         work,
@@ -89,23 +98,22 @@ fn job_now(journal: &Journal, job: Job) -> Job
 }
 
 fn admission_of<R: Runner>(
-    runner: &R,
-    site: &R::Site,
-    setting: &Setting,
+    lent: &Lent<R, R::Site>,
     journal: &Journal,
     sessions: &Sessions,
     job: Job,
 ) -> What
     requires small { IsSmall job }
-    requires few { history.entries_in (reverse journal.now.items) ≤ MOST_ENTRIES + MOST_ENTRIES + 1 }
-    requires tells { Tells sessions.now.account (reverse journal.now.items) }
-    ensures what { result ≡ (drawing.drawn_by (kernel.rules_by (R.meaning runner.now site.now) setting.now)
-        (sessions_in sessions.now.account) (reverse journal.now.items) 0 job).what }
+    requires few { history.entries_in (past_by journal.now) ≤ MOST_ENTRIES + MOST_ENTRIES + 1 }
+    requires tells { Tells sessions.now.account (past_by journal.now) }
+    ensures what { result ≡ (drawing.drawn_by
+        (kernel.rules_by (R.meaning lent.now.runner.now lent.now.site.now) lent.now.setting)
+        (sessions_in sessions.now.account) (past_by journal.now) 0 job).what }
     ensures free { keys.makes_key result ≡ true → length sessions.now.account.keys < most_live }
 {
     let now = job_now(journal, job);
-    let keyed = runner.keyed(site, &now);
-    let asked = asked_key(&setting.seed, &now);
+    let keyed = lent.runner.keyed(lent.site, &now);
+    let asked = asked_key(&lent.setting.seed, &now);
     admission(journal, sessions, keyed, asked, now)
 }
 
@@ -122,37 +130,34 @@ pub fn prepared(alloc: Global, job: &Job) -> Result<(Job, Option<Answer>), Memor
 /// Adds the entry of a job that came with the answer that it has where it is refused, and its key and its run are asked
 /// for. It takes no memory.
 fn add_admission<R: Runner>(
-    runner: &R,
-    site: &R::Site,
-    setting: &Setting,
-    journal: &mut Journal,
+    lent: &Lent<R, R::Site>,
+    book: &mut Book,
     sessions: &mut Sessions,
     lane: u32,
-    job: Job,
-    answer: Option<Answer>,
+    came: (Job, Option<Answer>),
 ) -> Drawn
-    requires tells { Tells sessions.old.account (reverse journal.old.items) }
-    requires small { IsSmall job }
-    requires few { history.entries_in (reverse journal.old.items) ≤ MOST_ENTRIES + MOST_ENTRIES + 1 }
-    requires answer { answer ≡ standing.stand_in Unavailable.TooManySessions job.work }
-    requires room { length journal.old.items < journal.old.capacity }
-    requires key_room { 0 < sessions.old.key_room }
-    requires run_room { 0 < sessions.old.run_room }
-    ensures items { journal.new.items ≡ journal.old.items
-        ++ drawing.drawn_by (kernel.rules_by (R.meaning runner.now site.now) setting.now)
-        (sessions_in sessions.old.account) (reverse journal.old.items) lane job ∷ [] }
+    requires tells { Tells sessions.old.account (past_in book.old) }
+    requires small { IsSmall came.0 }
+    requires few { history.entries_in (past_in book.old) ≤ MOST_ENTRIES + MOST_ENTRIES + 1 }
+    requires answer { came.1 ≡ standing.stand_in Unavailable.TooManySessions came.0.work }
+    requires room { 0 < book.old.room }
+    requires key_room { (0 < sessions.old.key_room) × (0 < sessions.old.run_room) }
+    ensures adds { Adds book.old (drawing.drawn_by
+        (kernel.rules_by (R.meaning lent.now.runner.now lent.now.site.now) lent.now.setting)
+        (sessions_in sessions.old.account) (past_in book.old) lane came.0 ∷ []) book.new }
     ensures drawn { drawing.IsDrawn
-        (drawing.drawn_by (kernel.rules_by (R.meaning runner.now site.now) setting.now)
-        (sessions_in sessions.old.account) (reverse journal.old.items) lane job).what result }
+        (drawing.drawn_by (kernel.rules_by (R.meaning lent.now.runner.now lent.now.site.now) lent.now.setting)
+        (sessions_in sessions.old.account) (past_in book.old) lane came.0).what result }
     ensures account { sessions.new.account ≡ account_admitted
-        (drawing.drawn_by (kernel.rules_by (R.meaning runner.now site.now) setting.now)
-        (sessions_in sessions.old.account) (reverse journal.old.items) lane job).what sessions.old.account }
-    ensures capacity { journal.new.capacity ≡ journal.old.capacity }
+        (drawing.drawn_by (kernel.rules_by (R.meaning lent.now.runner.now lent.now.site.now) lent.now.setting)
+        (sessions_in sessions.old.account) (past_in book.old) lane came.0).what sessions.old.account }
+    ensures room { (book.new.room + 1 ≡ book.old.room) × (book.new.places ≡ book.old.places) }
 {
-    let what = admission_of(runner, site, setting, journal, sessions, job);
+    let (job, answer) = came;
+    let what = admission_of(lent, book.journal(), sessions, job);
     let drawn = drawn_of(&what, answer);
     ask(sessions, &what);
-    journal.push_reserved(Entry { lane, what });
+    book.push(Entry { lane, what });
     drawn
 }
 
@@ -167,95 +172,84 @@ fn job_weight(more: &[Entry], job: &Job) -> u64
 
 /// Adds the entries of a job's Tick and the job's own, with what they make of the session keys. It takes no memory.
 fn add_ticked<R: Runner>(
-    runner: &R,
-    site: &R::Site,
-    setting: &Setting,
-    journal: &mut Journal,
+    lent: &Lent<R, R::Site>,
+    book: &mut Book,
     sessions: &mut Sessions,
     lane: u32,
-    more: List<Entry>,
-    job: Job,
-    answer: Option<Answer>,
+    coming: Coming,
 ) -> Drawn
-    requires few { history.entries_in (reverse journal.old.items) ≤ MOST_ENTRIES }
-    requires small { IsSmall job }
-    requires account { IsAccountOf (kernel.rules_by (R.meaning runner.now site.now) setting.now)
-        (reverse journal.old.items) sessions.old.account }
-    requires tick { more ≡ drawing.tick_before (sessions_in sessions.old.account) (reverse journal.old.items) lane job }
-    requires answer { answer ≡ standing.stand_in Unavailable.TooManySessions job.work }
-    requires room { length journal.old.items + length more < journal.old.capacity }
-    requires key_room { 0 < sessions.old.key_room }
-    requires run_room { length more < sessions.old.run_room }
-    ensures entries { journal.new.items ≡ journal.old.items ++ drawing.entries_by
-        (kernel.rules_by (R.meaning runner.now site.now) setting.now) (sessions_in sessions.old.account)
-        (reverse journal.old.items) lane job }
+    requires few { history.entries_in (past_in book.old) ≤ MOST_ENTRIES }
+    requires small { IsSmall coming.job }
+    requires account { IsAccountOf (kernel.rules_by (R.meaning lent.now.runner.now lent.now.site.now) lent.now.setting)
+        (past_in book.old) sessions.old.account }
+    requires tick { coming.more ≡ drawing.tick_before (sessions_in sessions.old.account) (past_in book.old)
+        lane coming.job }
+    requires answer { coming.answer ≡ standing.stand_in Unavailable.TooManySessions coming.job.work }
+    requires room { length coming.more < book.old.room }
+    requires key_room { (0 < sessions.old.key_room) × (length coming.more < sessions.old.run_room) }
+    ensures adds { Adds book.old (drawing.entries_by
+        (kernel.rules_by (R.meaning lent.now.runner.now lent.now.site.now) lent.now.setting)
+        (sessions_in sessions.old.account)
+        (past_in book.old) lane coming.job) book.new }
     ensures drawn { drawing.IsDrawn (drawing.drawn_then
-        (kernel.rules_by (R.meaning runner.now site.now) setting.now) (sessions_in sessions.old.account)
-        (reverse journal.old.items) lane job).what result }
+        (kernel.rules_by (R.meaning lent.now.runner.now lent.now.site.now) lent.now.setting)
+        (sessions_in sessions.old.account)
+        (past_in book.old) lane coming.job).what result }
     ensures account { sessions.new.account ≡ account_grown
-        (kernel.rules_by (R.meaning runner.now site.now) setting.now) (reverse journal.old.items)
-        (drawing.entries_by (kernel.rules_by (R.meaning runner.now site.now) setting.now)
-        (sessions_in sessions.old.account) (reverse journal.old.items) lane job) sessions.old.account }
-    ensures capacity { journal.new.capacity ≡ journal.old.capacity }
+        (kernel.rules_by (R.meaning lent.now.runner.now lent.now.site.now) lent.now.setting) (past_in book.old)
+        (drawing.entries_by (kernel.rules_by (R.meaning lent.now.runner.now lent.now.site.now) lent.now.setting)
+        (sessions_in sessions.old.account) (past_in book.old) lane coming.job) sessions.old.account }
+    ensures room { (book.new.room + length coming.more + 1 ≡ book.old.room) × (book.new.places ≡ book.old.places) }
 {
+    let Coming { more, job, answer } = coming;
     queue_runs(sessions, more.as_slice());
-    journal.append_reserved(more);
-    add_admission(runner, site, setting, journal, sessions, lane, job, answer)
+    book.add(more);
+    add_admission(lent, book, sessions, lane, (job, answer))
 }
 
 /// Adds the entries of a job's Tick and the job's own, if they fit, with what they make of the session keys. A refusal
-/// leaves the journal and the session keys.
-pub fn add_job<R: Runner>(
-    runner: &R,
-    site: &R::Site,
-    setting: &Setting,
-    journal: &mut Journal,
-    answers: &mut Vec<(u32, Answer)>,
+/// leaves the book and the session keys.
+pub(crate) fn add_job<R: Runner>(
+    lent: &Lent<R, R::Site>,
+    book: &mut Book,
     sessions: &mut Sessions,
     lane: u32,
-    more: List<Entry>,
-    job: Job,
-    answer: Option<Answer>,
+    coming: Coming,
 ) -> Result<Drawn, EventStop>
-    requires few { history.entries_in (reverse journal.old.items) ≤ MOST_ENTRIES }
-    requires small { IsSmall job }
-    requires account { IsAccountOf (kernel.rules_by (R.meaning runner.now site.now) setting.now)
-        (reverse journal.old.items) sessions.old.account }
-    requires tick { more ≡ drawing.tick_before (sessions_in sessions.old.account) (reverse journal.old.items) lane job }
-    requires answer { answer ≡ standing.stand_in Unavailable.TooManySessions job.work }
-    ensures entries { OnOk result (journal.new.items ≡ journal.old.items ++ drawing.entries_by
-        (kernel.rules_by (R.meaning runner.now site.now) setting.now) (sessions_in sessions.old.account)
-        (reverse journal.old.items) lane job) }
+    requires few { history.entries_in (past_in book.old) ≤ MOST_ENTRIES }
+    requires small { IsSmall coming.job }
+    requires account { IsAccountOf (kernel.rules_by (R.meaning lent.now.runner.now lent.now.site.now) lent.now.setting)
+        (past_in book.old) sessions.old.account }
+    requires tick { coming.more ≡ drawing.tick_before (sessions_in sessions.old.account) (past_in book.old)
+        lane coming.job }
+    requires answer { coming.answer ≡ standing.stand_in Unavailable.TooManySessions coming.job.work }
+    ensures grows { OnOk result (Grows book.old (drawing.entries_by
+        (kernel.rules_by (R.meaning lent.now.runner.now lent.now.site.now) lent.now.setting)
+        (sessions_in sessions.old.account)
+        (past_in book.old) lane coming.job) book.new) }
     ensures drawn { IfOk result (drawing.IsDrawn (drawing.drawn_then
-        (kernel.rules_by (R.meaning runner.now site.now) setting.now) (sessions_in sessions.old.account)
-        (reverse journal.old.items) lane job).what) }
+        (kernel.rules_by (R.meaning lent.now.runner.now lent.now.site.now) lent.now.setting)
+        (sessions_in sessions.old.account)
+        (past_in book.old) lane coming.job).what) }
     ensures account { OnOk result (sessions.new.account ≡ account_grown
-        (kernel.rules_by (R.meaning runner.now site.now) setting.now) (reverse journal.old.items)
-        (drawing.entries_by (kernel.rules_by (R.meaning runner.now site.now) setting.now)
-        (sessions_in sessions.old.account) (reverse journal.old.items) lane job) sessions.old.account) }
-    ensures err { OnErr result ((journal.new.items ≡ journal.old.items)
-        × (sessions.new.account ≡ sessions.old.account)) }
-    ensures answers { answers.new.items ≡ answers.old.items }
-    ensures capacity { journal.old.capacity ≤ journal.new.capacity }
-    ensures capacity_of_answers { vec_capacity answers.old ≤ vec_capacity answers.new }
-    ensures within { OnOk result (kernel.IsWithin (reverse journal.new.items)) }
-    ensures room { OnOk result (kernel.HasRoom (reverse journal.new.items)
-        (length answers.old.items + 1) (journal.new.capacity)) }
-    ensures answer_room { OnOk result (kernel.HasAnswerRoom (reverse journal.new.items)
-        (length answers.old.items + 1) (vec_capacity answers.new)) }
+        (kernel.rules_by (R.meaning lent.now.runner.now lent.now.site.now) lent.now.setting) (past_in book.old)
+        (drawing.entries_by (kernel.rules_by (R.meaning lent.now.runner.now lent.now.site.now) lent.now.setting)
+        (sessions_in sessions.old.account) (past_in book.old) lane coming.job) sessions.old.account) }
+    ensures place { OnOk result ((0 < book.new.room) × (0 < book.new.places)) }
+    ensures err { OnErr result (Stays book.old book.new × (sessions.new.account ≡ sessions.old.account)) }
     ensures full { (entries weight : ℕ) → result ≡ Err (EventStop.JournalFull entries weight) →
-        kernel.IsTooMuch (journals.past_after (reverse journal.old.items) (drawing.entries_by
-        (kernel.rules_by (R.meaning runner.now site.now) setting.now) (sessions_in sessions.old.account)
-        (reverse journal.old.items) lane job)) entries weight }
+        kernel.IsTooMuch (journals.past_after (past_in book.old) (drawing.entries_by
+        (kernel.rules_by (R.meaning lent.now.runner.now lent.now.site.now) lent.now.setting)
+        (sessions_in sessions.old.account)
+        (past_in book.old) lane coming.job)) entries weight }
 {
-    let weight = job_weight(more.as_slice(), &job);
-    if let Err(stop) = room_for(journal, answers, more.len() + 1, weight) {
+    let count = coming.more.len() + 1;
+    let weight = job_weight(coming.more.as_slice(), &coming.job);
+    if let Err(stop) = room_for(book, count, weight) {
         return Err(stop);
     }
-    if let Err(stop) = make_key_room(sessions, 1, more.len() + 1) {
+    if let Err(stop) = make_key_room(sessions, 1, count) {
         return Err(stop);
     }
-    Ok(add_ticked(
-        runner, site, setting, journal, sessions, lane, more, job, answer,
-    ))
+    Ok(add_ticked(lent, book, sessions, lane, coming))
 }

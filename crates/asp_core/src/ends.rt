@@ -1,13 +1,14 @@
 //! The call of the core that ends a run.
 #![tactic(auto)]
 
-ghost use Rattle.std.specs.Prelude.{◌≡◌, ◌≤◌, ◌<◌, ◌++◌, ◌∷◌, [], reverse, length, IfSome, true, vec_capacity, vec_len};
+ghost use Rattle.std.specs.Prelude.{◌≡◌, ◌≤◌, ◌<◌, ◌++◌, ◌∷◌, [], IfSome};
 ghost use Rattle.std.specs.Option.{option_copied};
 ghost use Rattle.asp_job.specs.History as history;
 ghost use Rattle.asp_job.specs.Journal as journals;
 ghost use Rattle.asp_job.specs.Output as output;
 ghost use Rattle.asp_job.specs.Runs as runs;
 ghost use Rattle.asp_job.specs.Running.{IsBounded};
+ghost use Rattle.asp_core.specs.Book.{past_in};
 ghost use Rattle.asp_core.specs.Ends as spec;
 ghost use Rattle.asp_core.specs.Kernel as kernel;
 ghost use Rattle.asp_core.specs.Ready as waits;
@@ -16,11 +17,9 @@ ghost use Rattle.asp_core.specs.Start as starts;
 
 use crate::account::end_key;
 use crate::kernel::Core;
-use crate::places::add_answer;
 use crate::run::{Run, StandIns};
+use crate::tables::Tables;
 use asp_job::{Answer, EndKind, Entry, Fail, Finished, Runner, SessionState, What};
-use asp_journal::Journal;
-use asp_session::Sessions;
 
 /// What a run leaves: its answer, its session, why it failed, and how many objects it made and ended.
 #[derive(Debug, Drop)]
@@ -100,34 +99,19 @@ fn fail_after(before: Option<Fail>, run: u32, fail: Option<Fail>) -> Option<Fail
     if run == 1 { fail } else { before }
 }
 
-/// The parts of a core after the End of a run.
+/// What a core keeps after the End of a run, whose lock was let go.
 #[tactic(auto, using(crate::proofs::Fits::end_fit))]
-fn end_run(
-    journal: &mut Journal,
-    answers: &mut Vec<(u32, Answer)>,
-    sessions: &mut Sessions,
-    start_fail: &mut Option<Fail>,
-    lane: u32,
-    run: u32,
-    kind: EndKind,
-    left: Left,
-)
-    requires bounded { IfSome left.answer IsBounded }
-    requires session { kernel.IsSessionIn left.session }
-    requires timely { runs.is_open (reverse journal.old.items) run ≡ true }
-    requires numbered { (0 < run) × (run ≤ runs.drawn (reverse journal.old.items)) }
-    requires room { length journal.old.items < journal.old.capacity }
-    requires answer_room { vec_len answers.old < vec_capacity answers.old }
-    ensures journal { journal.new.items
-        ≡ journal.old.items ++ history.with_lane lane (spec.end_what run kind left) ∷ [] }
-    ensures capacity { journal.new.capacity ≡ journal.old.capacity }
-    ensures answers { answers.new.items ≡ waits.with_answer answers.old.items run left.answer }
-    ensures capacity_of_answers { vec_capacity answers.new ≡ vec_capacity answers.old }
-    ensures account { sessions.new.account ≡ account_ended (runs.key_of (reverse journal.old.items) run)
-        (after_of kind left.session) sessions.old.account }
-    ensures start { start_fail.new ≡ starts.fail_after start_fail.old run left.fail }
+fn end_run(kept: &mut Tables, lane: u32, run: u32, kind: EndKind, left: Left)
+    requires { spec.CanEnd (past_in kept.old.book) lane run kind left }
+    ensures items { kept.new.book.items
+        ≡ kept.old.book.items ++ history.with_lane lane (spec.end_what run kind left) ∷ [] }
+    ensures answers { kept.new.book.answers ≡ waits.with_answer kept.old.book.answers run left.answer }
+    ensures account { kept.new.sessions.account ≡ account_ended (runs.key_of (past_in kept.old.book) run)
+        (after_of kind left.session) kept.old.sessions.account }
+    ensures start { kept.new.start_fail ≡ starts.fail_after kept.old.start_fail run left.fail }
+    ensures application { kept.new.application ≡ kept.old.application }
 {
-    let key = journal.key_of(run as u64);
+    let key = kept.book.journal().key_of(run as u64);
     let what = end_what(run, kind, &left);
     let Left {
         answer,
@@ -136,10 +120,10 @@ fn end_run(
         made: _,
         finished: _,
     } = left;
-    end_key(sessions, key, kind, session);
-    *start_fail = fail_after(*start_fail, run, fail);
-    add_answer(answers, run, answer);
-    journal.push_reserved(Entry { lane, what });
+    end_key(&mut kept.sessions, key, kind, session);
+    kept.start_fail = fail_after(kept.start_fail, run, fail);
+    kept.book.push(Entry { lane, what });
+    kept.book.put(run, answer);
 }
 
 impl<R: Runner> Core<R> {
@@ -155,16 +139,7 @@ impl<R: Runner> Core<R> {
         let (told, store, stand_ins) = run.finish(runner);
         let left = left_of(kind, told, stand_ins);
         self.kept.application.free(number);
-        end_run(
-            &mut self.kept.journal,
-            &mut self.kept.answers,
-            &mut self.kept.sessions,
-            &mut self.kept.start_fail,
-            lane,
-            number,
-            kind,
-            left,
-        );
+        end_run(&mut self.kept, lane, number, kind, left);
         store
     }
 }

@@ -1,7 +1,7 @@
 //! The entries that an event adds to a journal.
 #![tactic(auto)]
 
-ghost use Rattle.std.specs.Prelude.{◌≡◌, ◌+◌, ◌<◌, ◌≤◌, ◌^◌, ◌++◌, ◌∷◌, [], ℕ, List as Items, reverse, length, OnOk};
+ghost use Rattle.std.specs.Prelude.{◌≡◌, ◌+◌, ◌<◌, ◌≤◌, ◌^◌, ◌++◌, ◌∷◌, [], ℕ, List as Items, length, OnOk};
 ghost use Rattle.std.specs.Prelude.{OnErr, IfOk, IfErr};
 ghost use Rattle.vb_value.specs.Outcome.{Gives, Adds};
 ghost use Rattle.asp_job.specs.History as history;
@@ -10,6 +10,7 @@ ghost use Rattle.asp_job.specs.Keys as keys;
 ghost use Rattle.asp_job.specs.Runs as runs;
 ghost use Rattle.asp_job.specs.Turns as turns;
 ghost use Rattle.asp_job.specs.declared.entry.TheConstants.{MOST_ENTRIES};
+ghost use Rattle.asp_core.specs.Book.{past_by};
 ghost use Rattle.asp_core.specs.Kernel as kernel;
 ghost use Rattle.asp_core.specs.Sessions.{Tells, sessions_in};
 
@@ -49,11 +50,11 @@ fn due_entries(
     lane: u32,
     moment: u64,
 ) -> Result<List<Entry>, Memory>
-    requires few { history.entries_in (reverse journal.now.items) ≤ MOST_ENTRIES }
-    requires tells { Tells sessions.now.account (reverse journal.now.items) }
+    requires few { history.entries_in (past_by journal.now) ≤ MOST_ENTRIES }
+    requires tells { Tells sessions.now.account (past_by journal.now) }
     ensures { Gives result (history.with_lane lane (What.Tick moment)
-        ∷ journals.queue_entries lane (runs.drawn (reverse journal.now.items) + 1)
-        (turns.closing_runs (keys.due_at (sessions_in sessions.now.account) (reverse journal.now.items) moment))) }
+        ∷ journals.queue_entries lane (runs.drawn (past_by journal.now) + 1)
+        (turns.closing_runs (keys.due_at (sessions_in sessions.now.account) (past_by journal.now) moment))) }
 {
     let keys = due_at(alloc, journal, sessions, moment)?;
     let first = journal.drawn() as u32 + 1;
@@ -75,9 +76,9 @@ pub fn tick_entries(
     lane: u32,
     moment: u64,
 ) -> Result<List<Entry>, Memory>
-    requires few { history.entries_in (reverse journal.now.items) ≤ MOST_ENTRIES }
-    requires tells { Tells sessions.now.account (reverse journal.now.items) }
-    ensures { Gives result (kernel.ticked (sessions_in sessions.now.account) (reverse journal.now.items) lane moment) }
+    requires few { history.entries_in (past_by journal.now) ≤ MOST_ENTRIES }
+    requires tells { Tells sessions.now.account (past_by journal.now) }
+    ensures { Gives result (kernel.ticked (sessions_in sessions.now.account) (past_by journal.now) lane moment) }
 {
     if journal.moment() < moment {
         due_entries(alloc, journal, sessions, lane, moment)
@@ -94,9 +95,9 @@ pub fn stop_entries(
     sessions: &Sessions,
     lane: u32,
 ) -> Result<List<Entry>, Memory>
-    requires few { history.entries_in (reverse journal.now.items) ≤ MOST_ENTRIES }
-    requires tells { Tells sessions.now.account (reverse journal.now.items) }
-    ensures { Gives result (kernel.stopped_by (sessions_in sessions.now.account) (reverse journal.now.items) lane) }
+    requires few { history.entries_in (past_by journal.now) ≤ MOST_ENTRIES }
+    requires tells { Tells sessions.now.account (past_by journal.now) }
+    ensures { Gives result (kernel.stopped_by (sessions_in sessions.now.account) (past_by journal.now) lane) }
 {
     let keys = sessions.live(alloc)?;
     let first = journal.drawn() as u32 + 1;

@@ -24,10 +24,10 @@ impl<R: Runner> Core<R> {
         ensures ok { OnOk result (self.new ≡ grown self.old (with_lane lane (What.Take run) ∷ [])) }
         ensures err { OnErr result (self.new ≡ self.old) }
     {
-        if let Some(stop) = collect_stop(&self.kept.journal, lane, run) {
+        if let Some(stop) = collect_stop(self.kept.book.journal(), lane, run) {
             return Err(stop);
         }
-        Ok(take_run(&mut self.kept.journal, &mut self.kept.answers, lane, run))
+        Ok(take_run(&mut self.kept.book, lane, run))
     }
 
     /// Hands the first answer out that waits for the lane, if one does: that of the run that ended or was refused first
@@ -40,10 +40,10 @@ impl<R: Runner> Core<R> {
         ensures some { IfSome result (λ given. self.new ≡ grown self.old (with_lane lane (What.Take given.0) ∷ [])) }
         ensures none { IfNone result (self.new ≡ self.old) }
     {
-        let Some(run) = first_for(&self.kept.journal, self.kept.answers.as_slice(), lane) else {
+        let Some(run) = first_for(&self.kept.book, lane) else {
             return None;
         };
-        let answer = take_run(&mut self.kept.journal, &mut self.kept.answers, lane, run);
+        let answer = take_run(&mut self.kept.book, lane, run);
         Some((run, answer))
     }
 
@@ -53,10 +53,10 @@ impl<R: Runner> Core<R> {
             self.new ≡ grown self.old (with_lane lane What.Halt ∷ []) }
         ensures again { runs.is_halted (past_of self.old) ≡ true → self.new ≡ self.old }
     {
-        if self.kept.journal.is_halted() {
+        if self.kept.book.journal().is_halted() {
             return;
         }
-        self.kept.journal.push_reserved(Entry {
+        self.kept.book.push(Entry {
             lane,
             what: What::Halt,
         });

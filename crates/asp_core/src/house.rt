@@ -52,3 +52,11 @@ impl<R: Runner> Housed for HouseOf<R, R::Site> {
 
     ghost rules = { λ house. rules_by (R.meaning house.runner.value house.site.value) house.setting };
 }
+
+/// What a call is lent: the runner and the site that the core was given, with its setting.
+#[derive(Drop)]
+pub(crate) struct Lent<'a, R, S> {
+    pub runner: &'a R,
+    pub site: &'a S,
+    pub setting: Setting,
+}

@@ -3,24 +3,23 @@
 
 ghost use Rattle.std.specs.Prelude.{◌≡◌, ◌+◌, ◌-◌, ◌^◌, ◌<◌, ◌≤◌, ◌++◌, ◌∷◌, [], ℕ, List as Items, reverse, length, OnOk};
 ghost use Rattle.std.specs.Prelude.{OnErr, IfOk, IfErr, IsOk};
-ghost use Rattle.std.specs.Prelude.{Some, None, Err, true, false, ◌↔◌, ◌≢◌, IsSome, vec_capacity};
+ghost use Rattle.std.specs.Prelude.{Some, None, Err, true, false, ◌↔◌, ◌≢◌, IsSome};
 ghost use Rattle.asp_job.specs.History as history;
 ghost use Rattle.asp_job.specs.Journal as journals;
 ghost use Rattle.asp_job.specs.Runs as runs;
 ghost use Rattle.asp_core.specs.Kernel.{CoreView, RunView, past_of, rules_of, grown};
 ghost use Rattle.asp_core.specs.Kernel.{AreWellFormed, IsHostOf, IsTooMuch, IsWithin};
-ghost use Rattle.asp_core.specs.Kernel.{IsRunOf, HasRoom, HasAnswerRoom, expired, setting_of};
+ghost use Rattle.asp_core.specs.Kernel.{IsRunOf, expired, setting_of};
 ghost use Rattle.asp_core.specs.Ready.{IsAnswered};
 
+use crate::book::Book;
 use crate::events::{with_stop, with_tick};
 use crate::house::{House, HouseOf, Housed};
-use crate::room::make_room;
 use crate::setting::Setting;
 use crate::stop::EventStop;
 use crate::tables::{Keeps, Tables};
 use asp_app::Application;
-use asp_job::{Answer, Entry, Runner, What, Work};
-use asp_journal::Journal;
+use asp_job::{Entry, Runner, What, Work};
 use asp_session::Sessions;
 use std::alloc::Global;
 use std::marker::Model;
@@ -57,34 +56,9 @@ impl<K: Keeps, H: Housed> Model for CoreOf<K, H> {
     ghost invariant = { λ c. K.keeps c.kept (H.rules c.house) };
 }
 
-fn first_journal(
-    alloc: Global,
-    lane: u32,
-    answers: &mut Vec<(u32, Answer)>,
-) -> Result<Journal, Memory>
-    ensures items { IfOk result (λ journal. journal.items ≡ history.with_lane lane (What.Queue 1 Work.Start 0) ∷ []) }
-    ensures answers { answers.new.items ≡ answers.old.items }
-    ensures room { IfOk result (λ journal. HasRoom (reverse journal.items)
-        (length answers.old.items + 1) journal.capacity) }
-    ensures answer_room { IfOk result (λ journal. HasAnswerRoom (reverse journal.items)
-        (length answers.old.items + 1) (vec_capacity answers.new)) }
-{
-    let mut journal = Journal::new(alloc);
-    journal.push(Entry {
-        lane,
-        what: What::Queue {
-            run: 1,
-            work: Work::Start,
-            key: 0,
-        },
-    })?;
-    make_room(&mut journal, answers, 0)?;
-    Ok(journal)
-}
-
 impl<R: Runner> Core<R> {
     /// A core whose journal queues the first run. Later calls take the same runner and site.
-    #[tactic(auto, using(crate::proofs::Starting::kept_start, crate::proofs::Starting::within_start, crate::proofs::Starting::fail_start))]
+    #[tactic(auto, using(crate::proofs::Starting::sound_start))]
     pub fn new(
         alloc: Global,
         lane: u32,
@@ -97,14 +71,11 @@ impl<R: Runner> Core<R> {
         ensures host { IfOk result (λ core. IsHostOf core runner.now site.now) }
         ensures setting { IfOk result (λ core. core.setting ≡ setting_of seed strict) }
     {
-        let mut answers = Vec::new(alloc);
-        let journal = first_journal(alloc, lane, &mut answers)?;
         Ok(CoreOf {
             kept: Tables {
-                journal,
+                book: Book::new(alloc, lane)?,
                 sessions: Sessions::new(alloc, seed),
                 application: Application::new(alloc),
-                answers,
                 start_fail: None,
             },
             house: HouseOf {
@@ -123,21 +94,21 @@ impl<R: Runner> Core<R> {
         ensures within { IsWithin (past_of self.now) }
         ensures formed { AreWellFormed (past_of self.now) }
     {
-        self.kept.journal.entries()
+        self.kept.book.journal().entries()
     }
 
     /// The moment of the last Tick, 0 before the first: seconds since 1970.
     pub fn moment(&self) -> u64
         ensures { result ≡ runs.moment_of (past_of self.now) }
     {
-        self.kept.journal.moment()
+        self.kept.book.journal().moment()
     }
 
     /// How many entries the journal has. Those of hand-outs and of a Halt do not count.
     pub fn entries(&self) -> u64
         ensures { result ≡ history.entries_in (past_of self.now) }
     {
-        self.kept.journal.entries_in()
+        self.kept.book.journal().entries_in()
     }
 
     /// How many entries the journal has, those of hand-outs and of a Halt too.
@@ -146,28 +117,28 @@ impl<R: Runner> Core<R> {
         ensures length { result ≡ length self.now.journal }
         ensures short { result < 2 ^ 32 }
     {
-        self.kept.journal.len() as u64
+        self.kept.book.journal().len() as u64
     }
 
     /// How many runs are unfinished.
     pub fn unfinished(&self) -> u32
         ensures { result ≡ length (runs.unfinished (past_of self.now)) }
     {
-        self.kept.journal.unfinished() as u32
+        self.kept.book.journal().unfinished() as u32
     }
 
     /// Whether a Stop stands.
     pub fn stopping(&self) -> bool
         ensures { result ≡ runs.is_stopping (past_of self.now) }
     {
-        self.kept.journal.is_stopping()
+        self.kept.book.journal().is_stopping()
     }
 
     /// Whether a Halt stands.
     pub fn halted(&self) -> bool
         ensures { result ≡ runs.is_halted (past_of self.now) }
     {
-        self.kept.journal.is_halted()
+        self.kept.book.journal().is_halted()
     }
 
     /// Time goes on to `moment`, in seconds since 1970, and sessions end: it answers how many keys' sessions. An earlier
@@ -183,15 +154,12 @@ impl<R: Runner> Core<R> {
         ensures early { moment ≤ runs.moment_of (past_of self.old) → IsOk result }
         ensures err { OnErr result (self.new ≡ self.old) }
     {
-        if moment <= self.kept.journal.moment() {
+        if moment <= self.kept.book.journal().moment() {
             return Ok(0);
         }
         with_tick(
-            &self.house.runner,
-            &self.house.site,
-            &self.house.setting,
-            &mut self.kept.journal,
-            &mut self.kept.answers,
+            &self.house,
+            &mut self.kept.book,
             &mut self.kept.sessions,
             lane,
             moment,
@@ -209,15 +177,12 @@ impl<R: Runner> Core<R> {
             (journals.stop_entries (rules_of R.meaning self.old) (past_of self.old) lane)) entries weight }
         ensures err { OnErr result (self.new ≡ self.old) }
     {
-        if self.kept.journal.is_stopping() {
+        if self.kept.book.journal().is_stopping() {
             return Ok(());
         }
         with_stop(
-            &self.house.runner,
-            &self.house.site,
-            &self.house.setting,
-            &mut self.kept.journal,
-            &mut self.kept.answers,
+            &self.house,
+            &mut self.kept.book,
             &mut self.kept.sessions,
             lane,
         )

@@ -1,13 +1,15 @@
 //! Which keys' sessions are over, and which run is next.
 #![tactic(auto)]
 
-ghost use Rattle.std.specs.Prelude.{◌≡◌, ◌≤◌, ◌<◌, reverse, length, ℕ, false, true, IfNone, IfSome, OnSome};
+ghost use Rattle.std.specs.Prelude.{◌≡◌, ◌≤◌, ◌<◌, length, ℕ, false, true, IfNone, IfSome, OnSome};
 ghost use Rattle.vb_value.specs.Outcome.{Gives};
 ghost use Rattle.asp_job.specs.Keys as spec;
 ghost use Rattle.asp_job.specs.Runs as runs;
 ghost use Rattle.asp_job.specs.Turns as turns;
 ghost use Rattle.asp_job.specs.declared.entry.TheConstants.{MOST_UNFINISHED};
+ghost use Rattle.asp_core.specs.Book.{past_by};
 ghost use Rattle.asp_core.specs.Kernel as kernel;
+ghost use Rattle.asp_core.specs.Opening.{IsNext};
 ghost use Rattle.asp_core.specs.Sessions.{Tells, sessions_in};
 
 use asp_job::MOST_UNFINISHED;
@@ -24,8 +26,8 @@ pub fn due_at(
     sessions: &Sessions,
     moment: u64,
 ) -> Result<List<u32>, Memory>
-    requires { Tells sessions.now.account (reverse journal.now.items) }
-    ensures { Gives result (spec.due_at (sessions_in sessions.now.account) (reverse journal.now.items) moment) }
+    requires { Tells sessions.now.account (past_by journal.now) }
+    ensures { Gives result (spec.due_at (sessions_in sessions.now.account) (past_by journal.now) moment) }
 {
     if journal.is_stopping() {
         return Ok(List::new(alloc));
@@ -35,13 +37,11 @@ pub fn due_at(
 
 /// The least of the runs that may begin, where few are unfinished and no Halt stands.
 pub fn least_run(journal: &Journal) -> Option<u64>
-    requires { (run : ℕ) → turns.may_begin (reverse journal.now.items) run ≡ true →
-        (0 < run) × (run ≤ runs.drawn (reverse journal.now.items)) }
-    ensures none { IfNone result (kernel.NoneIsNext (reverse journal.now.items)) }
-    ensures next { IfSome result (λ run. turns.IsNextRun (reverse journal.now.items) run) }
-    ensures within { IfSome result (λ run. run ≤ runs.drawn (reverse journal.now.items)) }
-    ensures few { OnSome result (length (runs.unfinished (reverse journal.now.items)) < MOST_UNFINISHED) }
-    ensures going { OnSome result (runs.is_halted (reverse journal.now.items) ≡ false) }
+    requires { (run : ℕ) → turns.may_begin (past_by journal.now) run ≡ true →
+        (0 < run) × (run ≤ runs.drawn (past_by journal.now)) }
+    ensures none { IfNone result (kernel.NoneIsNext (past_by journal.now)) }
+    ensures next { IfSome result (λ run. IsNext (past_by journal.now) run) }
+    ensures within { IfSome result (λ run. run ≤ runs.drawn (past_by journal.now)) }
 {
     if journal.is_halted() || journal.unfinished() >= MOST_UNFINISHED as u64 {
         return None;

@@ -1,10 +1,11 @@
 //! How a run begins.
 #![tactic(auto)]
 
-ghost use Rattle.std.specs.Prelude.{◌≡◌, ◌<◌, ◌≤◌, ◌+◌, ◌^◌, reverse, Option, IfSome, IfOk, true, if◌then◌else◌};
+ghost use Rattle.std.specs.Prelude.{◌≡◌, ◌<◌, ◌≤◌, ◌+◌, ◌^◌, Option, IfSome, IfOk, true, if◌then◌else◌};
 ghost use Rattle.std.specs.Option.{option_copied};
 ghost use Rattle.vb_value.specs.Outcome.{Gives};
 ghost use Rattle.asp_job.specs.Runs as runs;
+ghost use Rattle.asp_core.specs.Book.{past_by};
 ghost use Rattle.asp_core.specs.Kernel as kernel;
 ghost use Rattle.asp_core.specs.Opening as spec;
 ghost use Rattle.asp_core.specs.Sessions.{sessions_in};
@@ -49,11 +50,11 @@ fn serial_if(opened: u32, opens: bool, session: Option<&SessionState>) -> u32
 /// The number of the session with which the run begins.
 pub fn session_number(journal: &Journal, sessions: &Sessions, run: u64) -> SessionNumber
     requires { sessions.now.account.opened + 1 < 2 ^ 31 }
-    ensures number { spec.IsNumberOf (runs.draw_of (reverse journal.now.items) run)
-        (sessions_in sessions.now.account (runs.key_of (reverse journal.now.items) run))
+    ensures number { spec.IsNumberOf (runs.draw_of (past_by journal.now) run)
+        (sessions_in sessions.now.account (runs.key_of (past_by journal.now) run))
         sessions.now.account.opened result }
     ensures may { kernel.IsSessionIn
-        (sessions_in sessions.now.account (runs.key_of (reverse journal.now.items) run)) }
+        (sessions_in sessions.now.account (runs.key_of (past_by journal.now) run)) }
 {
     let key = journal.key_of(run);
     let held = sessions.session(key);
@@ -122,17 +123,17 @@ fn stand_ins(alloc: Global, work: &Work) -> Result<StandIns, Memory>
 
 /// What the run begins with, where that is the number of its session.
 pub fn open_run(
-    alloc: Global,
     seed: &[u8; 32],
     journal: &Journal,
     sessions: &Sessions,
     number: SessionNumber,
     run: u64,
 ) -> Result<Opening, Memory>
-    requires { runs.is_fresh (reverse journal.now.items) run ≡ true → 0 < runs.key_of (reverse journal.now.items) run }
-    ensures { IfOk result (spec.IsOpening seed.now (runs.draw_of (reverse journal.now.items) run)
-        (sessions_in sessions.now.account (runs.key_of (reverse journal.now.items) run)) number) }
+    requires { runs.is_fresh (past_by journal.now) run ≡ true → 0 < runs.key_of (past_by journal.now) run }
+    ensures { IfOk result (spec.IsOpening seed.now (runs.draw_of (past_by journal.now) run)
+        (sessions_in sessions.now.account (runs.key_of (past_by journal.now) run)) number) }
 {
+    let alloc = journal.alloc();
     let job = journal.job_of(run)?;
     let key = journal.key_of(run);
     let session = session_if(alloc, number, sessions.session(key))?;

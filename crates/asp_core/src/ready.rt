@@ -1,10 +1,12 @@
 //! The answers that wait to be handed out.
 #![tactic(auto)]
 
-ghost use Rattle.std.specs.Prelude.{◌≡◌, ◌-◌, ◌^◌, min, reverse, nat_le};
+ghost use Rattle.std.specs.Prelude.{◌≡◌, ◌-◌, ◌^◌, min, nat_le};
 ghost use Rattle.std.specs.Option.{option_map};
+ghost use Rattle.asp_core.specs.Book.{past_by, past_in};
 ghost use Rattle.asp_core.specs.Ready as spec;
 
+use crate::book::Book;
 use asp_job::Answer;
 use asp_journal::Journal;
 
@@ -27,15 +29,15 @@ fn bodies_of(answers: &[(u32, Answer)]) -> u64
 }
 
 /// Whether there is room for the body of one more run.
-pub fn has_body_room(journal: &Journal, answers: &[(u32, Answer)]) -> bool
-    ensures { result ≡ nat_le (spec.bodies_with_one answers.now (reverse journal.now.items)) MOST_BODIES }
+pub fn has_body_room(book: &Book) -> bool
+    ensures { result ≡ nat_le (spec.bodies_with_one book.now.answers (past_in book.now)) MOST_BODIES }
 {
-    let open = journal.unfinished() as u128 + 1;
-    bodies_of(answers) as u128 + BODY_ROOM as u128 * open <= MOST_BODIES as u128
+    let open = book.journal().unfinished() as u128 + 1;
+    bodies_of(book.answers()) as u128 + BODY_ROOM as u128 * open <= MOST_BODIES as u128
 }
 
 fn is_asked_by(journal: &Journal, lane: u32, run: u32) -> bool
-    ensures { result ≡ spec.asked_by (reverse journal.now.items) lane run }
+    ensures { result ≡ spec.asked_by (past_by journal.now) lane run }
 {
     match journal.asking_lane_of(run as u64) {
         Some(asking) => asking == lane,
@@ -44,10 +46,12 @@ fn is_asked_by(journal: &Journal, lane: u32, run: u32) -> bool
 }
 
 /// The first answer for whose run a lane asked, as its run.
-pub fn first_for(journal: &Journal, answers: &[(u32, Answer)], lane: u32) -> Option<u32>
-    ensures { result ≡ option_map (λ ready. ready.0) (spec.first_for (reverse journal.now.items) lane answers.now) }
+pub fn first_for(book: &Book, lane: u32) -> Option<u32>
+    ensures { result ≡ option_map (λ ready. ready.0) (spec.first_for (past_in book.now) lane book.now.answers) }
 {
-    match answers
+    let journal = book.journal();
+    match book
+        .answers()
         .iter()
         .find(|ready| is_asked_by(journal, lane, ready.0))
     {

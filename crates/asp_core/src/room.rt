@@ -1,24 +1,24 @@
 //! Room in a journal.
 #![tactic(auto)]
 
-ghost use Rattle.std.specs.Prelude.{◌≡◌, ◌+◌, ◌-◌, ◌*◌, ◌<◌, ◌≤◌, ◌^◌, ◌++◌, ℕ, min, reverse, length, sum_by};
+ghost use Rattle.std.specs.Prelude.{◌≡◌, ◌+◌, ◌-◌, ◌*◌, ◌<◌, ◌≤◌, ◌^◌, ◌++◌, ℕ, min, length, sum_by};
 ghost use Rattle.std.specs.Prelude.{OnOk, OnErr, IfNone, IfSome, Err};
-ghost use Rattle.std.specs.Prelude.{vec_capacity};
 ghost use Rattle.asp_job.specs.History as history;
 ghost use Rattle.asp_job.specs.Journal as journals;
-ghost use Rattle.asp_job.specs.Runs.{unfinished};
 ghost use Rattle.asp_job.specs.declared.entry.TheConstants.{MOST_ENTRIES};
 ghost use Rattle.asp_journal.specs.Tables.{AreFit};
+ghost use Rattle.asp_core.specs.Book.{Grows, IsRoomy, Stays, past_by, past_in};
 ghost use Rattle.asp_core.specs.Calm as spec;
 ghost use Rattle.asp_core.specs.Kernel as kernel;
 ghost use Rattle.asp_core.specs.Sessions.{account_closed};
 
 use crate::account::queue_runs;
+use crate::book::Book;
 use crate::stop::EventStop;
-use asp_job::{Answer, Entry, MOST_ENTRIES, MOST_WEIGHT};
+use asp_job::{Entry, MOST_ENTRIES, MOST_WEIGHT};
 use asp_journal::{Journal, what_weight};
 use asp_session::Sessions;
-use vb_value::{List, Memory};
+use vb_value::List;
 
 /// What entries weigh. 2^64 - 1 stands for a greater weight.
 #[tactic(auto, using(asp_journal::proofs::Past::sum_more))]
@@ -35,10 +35,10 @@ pub fn entries_weight(entries: &[Entry]) -> u64
 /// How long and how heavy the journal would be with so many entries more, of that weight, and one end for each
 /// unfinished run, where that is too much.
 fn overfull(journal: &Journal, count: u64, weight: u64) -> Option<(u64, u64)>
-    requires few { history.entries_in (reverse journal.now.items) ≤ MOST_ENTRIES }
+    requires few { history.entries_in (past_by journal.now) ≤ MOST_ENTRIES }
     requires count { count < 2 ^ 62 }
-    ensures none { IfNone result (spec.HasLoad (reverse journal.now.items) count weight) }
-    ensures some { IfSome result (λ much. spec.IsOver (reverse journal.now.items) count weight much.0 much.1) }
+    ensures none { IfNone result (spec.HasLoad (past_by journal.now) count weight) }
+    ensures some { IfSome result (λ much. spec.IsOver (past_by journal.now) count weight much.0 much.1) }
 {
     let entries = journal.entries_in() + journal.unfinished() + count;
     let weight = journal.weight_load().saturating_add(weight);
@@ -49,56 +49,20 @@ fn overfull(journal: &Journal, count: u64, weight: u64) -> Option<(u64, u64)>
     }
 }
 
-/// Makes room for so many entries and for all that is to come for sure, with one run begun and one answer more than
-/// there are.
-pub fn make_room(
-    journal: &mut Journal,
-    answers: &mut Vec<(u32, Answer)>,
-    count: usize,
-) -> Result<(), Memory>
-    requires few { length (unfinished (reverse journal.old.items)) ≤ MOST_ENTRIES }
-    requires count { count < 2 ^ 62 }
-    ensures items { journal.new.items ≡ journal.old.items }
-    ensures answers { answers.new.items ≡ answers.old.items }
-    ensures capacity { journal.old.capacity ≤ journal.new.capacity }
-    ensures capacity_of_answers { vec_capacity answers.old ≤ vec_capacity answers.new }
-    ensures room { OnOk result (length journal.old.items + count + 2 * length (unfinished (reverse journal.old.items))
-        + length answers.old.items + 3 ≤ journal.new.capacity) }
-    ensures answer_room { OnOk result (length answers.old.items + 2 + length (unfinished (reverse journal.old.items))
-        ≤ vec_capacity answers.new) }
-{
-    let open = journal.unfinished() as usize;
-    let waiting = answers.len();
-    journal.reserve(2 * open + 3 + waiting + count)?;
-    Ok(answers.reserve(open + 2)?)
-}
-
 /// Looks whether so many entries of that weight fit, and makes room for them and for all that is to come for sure.
-pub fn room_for(
-    journal: &mut Journal,
-    answers: &mut Vec<(u32, Answer)>,
-    count: usize,
-    weight: u64,
-) -> Result<(), EventStop>
-    requires few { history.entries_in (reverse journal.old.items) ≤ MOST_ENTRIES }
+pub fn room_for(book: &mut Book, count: usize, weight: u64) -> Result<(), EventStop>
+    requires few { history.entries_in (past_in book.old) ≤ MOST_ENTRIES }
     requires count { count < 2 ^ 62 }
-    ensures items { journal.new.items ≡ journal.old.items }
-    ensures answers { answers.new.items ≡ answers.old.items }
-    ensures capacity { journal.old.capacity ≤ journal.new.capacity }
-    ensures capacity_of_answers { vec_capacity answers.old ≤ vec_capacity answers.new }
-    ensures within { OnOk result (spec.HasLoad (reverse journal.old.items) count weight) }
-    ensures room { OnOk result (length journal.old.items + count + 2 * length (unfinished (reverse journal.old.items))
-        + length answers.old.items + 3 ≤ journal.new.capacity) }
-    ensures answer_room { OnOk result (length answers.old.items + 2 + length (unfinished (reverse journal.old.items))
-        ≤ vec_capacity answers.new) }
+    ensures stays { Stays book.old book.new }
+    ensures ok { OnOk result (spec.HasLoad (past_in book.old) count weight × IsRoomy book.new count) }
     ensures full { (entries total : ℕ) → result ≡ Err (EventStop.JournalFull entries total) →
-        spec.IsOver (reverse journal.old.items) count weight entries total }
-    ensures fits { result ≡ Err EventStop.Memory → spec.HasLoad (reverse journal.old.items) count weight }
+        spec.IsOver (past_in book.old) count weight entries total }
+    ensures fits { result ≡ Err EventStop.Memory → spec.HasLoad (past_in book.old) count weight }
 {
-    if let Some((entries, weight)) = overfull(journal, count as u64, weight) {
+    if let Some((entries, weight)) = overfull(book.journal(), count as u64, weight) {
         return Err(EventStop::JournalFull { entries, weight });
     }
-    if make_room(journal, answers, count).is_err() {
+    if book.make_room(count).is_err() {
         return Err(EventStop::Memory);
     }
     Ok(())
@@ -118,40 +82,30 @@ pub fn make_key_room(sessions: &mut Sessions, keys: u32, runs: usize) -> Result<
     }
 }
 
-/// Adds entries that begin and end no run, if they fit, and queues the runs that they queue. A refusal leaves the journal
-/// and the session keys.
+/// Adds entries that begin and end no run, if they fit, and queues the runs that they queue. A refusal leaves the book and
+/// the session keys.
 pub fn add_calm(
-    journal: &mut Journal,
-    answers: &mut Vec<(u32, Answer)>,
+    book: &mut Book,
     sessions: &mut Sessions,
     more: List<Entry>,
 ) -> Result<(), EventStop>
-    requires few { history.entries_in (reverse journal.old.items) ≤ MOST_ENTRIES }
-    requires fit { AreFit (reverse journal.old.items) more }
+    requires few { history.entries_in (past_in book.old) ≤ MOST_ENTRIES }
+    requires fit { AreFit (past_in book.old) more }
     requires calm { spec.AreCalm more }
-    ensures ok { OnOk result (journal.new.items ≡ journal.old.items ++ more) }
+    ensures ok { OnOk result (Grows book.old more book.new) }
     ensures account { OnOk result (sessions.new.account ≡ account_closed more sessions.old.account) }
-    ensures err { OnErr result ((journal.new.items ≡ journal.old.items)
-        × (sessions.new.account ≡ sessions.old.account)) }
-    ensures answers { answers.new.items ≡ answers.old.items }
-    ensures capacity { journal.old.capacity ≤ journal.new.capacity }
-    ensures capacity_of_answers { vec_capacity answers.old ≤ vec_capacity answers.new }
-    ensures within { OnOk result (kernel.IsWithin (reverse journal.new.items)) }
-    ensures room { OnOk result (kernel.HasRoom (reverse journal.new.items)
-        (length answers.old.items + 1) journal.new.capacity) }
-    ensures answer_room { OnOk result (kernel.HasAnswerRoom (reverse journal.new.items)
-        (length answers.old.items + 1) (vec_capacity answers.new)) }
+    ensures err { OnErr result (Stays book.old book.new × (sessions.new.account ≡ sessions.old.account)) }
     ensures full { (entries weight : ℕ) → result ≡ Err (EventStop.JournalFull entries weight) →
-        kernel.IsTooMuch (journals.past_after (reverse journal.old.items) more) entries weight }
+        kernel.IsTooMuch (journals.past_after (past_in book.old) more) entries weight }
 {
     let weight = entries_weight(more.as_slice());
-    if let Err(stop) = room_for(journal, answers, more.len(), weight) {
+    if let Err(stop) = room_for(book, more.len(), weight) {
         return Err(stop);
     }
     if let Err(stop) = make_key_room(sessions, 0, more.len()) {
         return Err(stop);
     }
     queue_runs(sessions, more.as_slice());
-    journal.append_reserved(more);
+    book.add(more);
     Ok(())
 }

@@ -1,15 +1,17 @@
 //! Answers that are handed out.
 #![tactic(auto)]
 
-ghost use Rattle.std.specs.Prelude.{◌≡◌, ◌<◌, ◌==◌, ◌++◌, ◌∷◌, [], reverse, length, nat_eq, Some, IsSome};
-ghost use Rattle.std.specs.Prelude.{vec_capacity, vec_len};
+ghost use Rattle.std.specs.Prelude.{◌≡◌, ◌<◌, ◌==◌, ◌++◌, ◌∷◌, [], length, nat_eq, Some, IsSome};
+ghost use Rattle.std.specs.Prelude.{vec_capacity};
 ghost use Rattle.std.specs.List.{position};
 ghost use Rattle.std.specs.Map.{lookup, remove_entry};
 ghost use Rattle.asp_job.specs.History.{with_lane};
 ghost use Rattle.asp_job.specs.Runs as runs;
 ghost use Rattle.asp_journal.specs.Tables.{IsFit};
+ghost use Rattle.asp_core.specs.Book.{past_by, past_in};
 ghost use Rattle.asp_core.specs.Ready as spec;
 
+use crate::book::Book;
 use crate::stop::CollectStop;
 use asp_job::{Answer, Entry, What};
 use asp_journal::Journal;
@@ -49,7 +51,7 @@ fn lane_stop(
 
 /// Why the answer of a run is not handed out to the lane.
 pub fn collect_stop(journal: &Journal, lane: u32, run: u32) -> Option<CollectStop>
-    ensures { result ≡ spec.collect_stop (reverse journal.now.items) lane run }
+    ensures { result ≡ spec.collect_stop (past_by journal.now) lane run }
 {
     lane_stop(
         lane,
@@ -69,7 +71,7 @@ fn place_of(answers: &[(u32, Answer)], run: u32) -> Option<usize>
 
 /// Takes the answer of a run out.
 #[tactic(auto, using(crate::proofs::Handing::place_some, crate::proofs::Handing::place_none))]
-fn take_answer(answers: &mut Vec<(u32, Answer)>, run: u32) -> Answer
+pub fn take_answer(answers: &mut Vec<(u32, Answer)>, run: u32) -> Answer
     requires { IsSome (lookup (nat_eq run) answers.old.items) }
     ensures answer { lookup (nat_eq run) answers.old.items ≡ Some result }
     ensures items { answers.new.items ≡ remove_entry (nat_eq run) answers.old.items }
@@ -82,23 +84,15 @@ fn take_answer(answers: &mut Vec<(u32, Answer)>, run: u32) -> Answer
 }
 
 /// Hands the answer of a run out: its entry comes, and the answer waits no more.
-pub fn take_run(
-    journal: &mut Journal,
-    answers: &mut Vec<(u32, Answer)>,
-    lane: u32,
-    run: u32,
-) -> Answer
-    requires waits { IsSome (lookup (nat_eq run) answers.old.items) }
-    requires fit { IsFit (reverse journal.old.items) (What.Take run) }
-    requires room { length journal.old.items < journal.old.capacity }
-    ensures answer { lookup (nat_eq run) answers.old.items ≡ Some result }
-    ensures journal { journal.new.items ≡ journal.old.items ++ with_lane lane (What.Take run) ∷ [] }
-    ensures capacity { journal.new.capacity ≡ journal.old.capacity }
-    ensures answers { answers.new.items ≡ remove_entry (nat_eq run) answers.old.items }
-    ensures capacity_of_answers { vec_capacity answers.new ≡ vec_capacity answers.old }
+pub fn take_run(book: &mut Book, lane: u32, run: u32) -> Answer
+    requires waits { IsSome (lookup (nat_eq run) book.old.answers) }
+    requires fit { IsFit (past_in book.old) (What.Take run) }
+    ensures answer { lookup (nat_eq run) book.old.answers ≡ Some result }
+    ensures items { book.new.items ≡ book.old.items ++ with_lane lane (What.Take run) ∷ [] }
+    ensures answers { book.new.answers ≡ remove_entry (nat_eq run) book.old.answers }
 {
-    let answer = take_answer(answers, run);
-    journal.push_reserved(Entry {
+    let answer = book.take(run);
+    book.push(Entry {
         lane,
         what: What::Take { run },
     });

@@ -17,7 +17,7 @@ impl<R: Runner> Core<R> {
     pub fn waiting(&self) -> u32
         ensures { result ≡ length (runs.waiting (past_of self.now)) }
     {
-        self.kept.journal.waiting() as u32
+        self.kept.book.journal().waiting() as u32
     }
 
     /// How many runs of pages wait. From 1,024 on no job is admitted.
@@ -25,7 +25,7 @@ impl<R: Runner> Core<R> {
     pub fn waiting_pages(&self) -> u32
         ensures { result ≡ length (turns.waiting_pages (past_of self.now)) }
     {
-        self.kept.journal.waiting_pages() as u32
+        self.kept.book.journal().waiting_pages() as u32
     }
 
     /// How many jobs came, those that were refused under a number too.
@@ -33,14 +33,14 @@ impl<R: Runner> Core<R> {
     pub fn admitted(&self) -> u32
         ensures { result ≡ spec.admitted (past_of self.now) }
     {
-        self.kept.journal.jobs() as u32
+        self.kept.book.journal().jobs() as u32
     }
 
     /// How the first run ended, once it has.
     pub fn start_kind(&self) -> Option<EndKind>
         ensures { result ≡ spec.end_kind (past_of self.now) 1 }
     {
-        self.kept.journal.end_kind(1)
+        self.kept.book.journal().end_kind(1)
     }
 
     /// Why the first run failed, once it has ended by itself.

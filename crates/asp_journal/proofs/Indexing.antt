@@ -15,8 +15,8 @@ use Rattle.asp_job.specs.Turns.{is_last_work}
 use Rattle.asp_job.specs.declared.entry.Entry.{Entry}
 use Rattle.asp_job.specs.declared.entry.What.{What}
 use Rattle.asp_job.specs.declared.entry.What.TheVariants.{Admit, App, Begin, End, Halt, Queue, Refuse, Stop, Take, Tick}
-use Rattle.asp_journal.specs.Rows.{IsNumberedFor, changed, found_at, marked, no_row, row_after, row_at, row_of}
-use Rattle.asp_journal.specs.Rows.{rows_after, with_found, with_row}
+use Rattle.asp_journal.specs.Rows.{IsNumberedFor, changed, marked, no_row, row_after, row_at, row_of, rows_after}
+use Rattle.asp_journal.specs.Rows.{with_row}
 use Rattle.asp_journal.specs.Telling.{admitted}
 use Rattle.asp_journal.specs.Tables.{tally_after, tally_of}
 use Rattle.asp_journal.specs.declared.rows.Row.{Row}
@@ -40,47 +40,39 @@ get_other [] x d (suc i) n = refl
 get_other (y ∷ xs) x d zero n = refl
 get_other (y ∷ xs) x d (suc i) n = get_other xs x d i (λ e. n (omega arith))
 
-pub above : (r : ℕ) → (r == 0) ≡ false → 0 < r
+above : (r : ℕ) → (r == 0) ≡ false → 0 < r
 above r e = grind arith
 
 differs : (run r : ℕ) → (run == r) ≡ false → run ≡ r → ⊥
 differs run r e same = grind arith
 
--- ---- something is put into a table whose first place is that of number 1
-
-pub found_push : {A : Type 0} → (none : A) (table : List A) (number : ℕ) (new : A) → number ≡ length table + 1
-    → found_at none (table ++ new ∷ []) ≡ with_found none number new (found_at none table)
-found_push none table number new e = fun_ext (λ r. elim (cases_Bool (r == 0)) [
-  | inl nought ↦ rw nought refl
-  | inr some ↦ elim (cases_Bool (number == r)) [
-    | inl own ↦ (let is : number ≡ r = eqb-true number r own in
-        let found = get_last table new none (r - 1) (omega arith) in rw (some, own) found)
-    | inr other ↦ (let low = above r some in let apart = differs number r other in
-        let found = get_other table new none (r - 1) (λ same. apart (omega arith)) in rw (some, other) found)
-  ]
-])
-
-pub found_set : {A : Type 0} → (none : A) (table : List A) (number : ℕ) (new : A) → 0 < number → number ≤ length table
-    → found_at none (slice_set table (number - 1) new) ≡ with_found none number new (found_at none table)
-found_set none table number new low high = fun_ext (λ r. elim (cases_Bool (r == 0)) [
-  | inl nought ↦ rw nought refl
-  | inr some ↦ elim (cases_Bool (number == r)) [
-    | inl own ↦ (let is : number ≡ r = eqb-true number r own in
-        let found : get_or (slice_set table (number - 1) new) (r - 1) none ≡ new =
-        get_or-set_at table (number - 1) (r - 1) new none (omega arith) (omega arith) in rw (some, own) found)
-    | inr other ↦ (let positive = above r some in let apart = differs number r other in
-        let found : get_or (slice_set table (number - 1) new) (r - 1) none ≡ get_or table (r - 1) none =
-        get_or-set_other table (number - 1) (r - 1) new none (λ same. apart (omega arith)) in rw (some, other) found)
-  ]
-])
+-- ---- a row is put into its place
 
 pub row_push : (rows : List Row) (run : ℕ) (row : Row) → run ≡ length rows + 1
     → row_at (rows ++ row ∷ []) ≡ with_row run row (row_at rows)
-row_push rows run row e = found_push no_row rows run row e
+row_push rows run row e = fun_ext (λ r. elim (cases_Bool (r == 0)) [
+  | inl nought ↦ rw nought refl
+  | inr some ↦ elim (cases_Bool (run == r)) [
+    | inl own ↦ (let is : run ≡ r = eqb-true run r own in
+        let found = get_last rows row no_row (r - 1) (omega arith) in rw (some, own) found)
+    | inr other ↦ (let low = above r some in let apart = differs run r other in
+        let found = get_other rows row no_row (r - 1) (λ same. apart (omega arith)) in rw (some, other) found)
+  ]
+])
 
 pub row_set : (rows : List Row) (run : ℕ) (row : Row) → 0 < run → run ≤ length rows
     → row_at (slice_set rows (run - 1) row) ≡ with_row run row (row_at rows)
-row_set rows run row low high = found_set no_row rows run row low high
+row_set rows run row low high = fun_ext (λ r. elim (cases_Bool (r == 0)) [
+  | inl nought ↦ rw nought refl
+  | inr some ↦ elim (cases_Bool (run == r)) [
+    | inl own ↦ (let is : run ≡ r = eqb-true run r own in
+        let found : get_or (slice_set rows (run - 1) row) (r - 1) no_row ≡ row =
+        get_or-set_at rows (run - 1) (r - 1) row no_row (omega arith) (omega arith) in rw (some, own) found)
+    | inr other ↦ (let positive = above r some in let apart = differs run r other in
+        let found : get_or (slice_set rows (run - 1) row) (r - 1) no_row ≡ get_or rows (r - 1) no_row =
+        get_or-set_other rows (run - 1) (r - 1) row no_row (λ same. apart (omega arith)) in rw (some, other) found)
+  ]
+])
 
 zero_apart : (r : ℕ) → (r == 0) ≡ false → (0 == r) ≡ false
 zero_apart r e = grind arith

@@ -6,6 +6,4 @@ pub mod Passing
 pub mod Indexing
 pub mod Placing
 pub mod Open
-pub mod Busy
-pub mod Keying
 pub mod Entering

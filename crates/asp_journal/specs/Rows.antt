@@ -30,21 +30,13 @@ no_row = record {
   place = None;
 }
 
--- what a table whose first place is that of number 1 has for a number
-abbrev pub found_at : {A : Type 0} → A → List A → ℕ → A
-found_at none table n = if n == 0 then none else slice_index_or table (n - 1) none
-
--- a number has this, and each other number what it had
-abbrev pub with_found : {A : Type 0} → A → ℕ → A → (ℕ → A) → ℕ → A
-with_found none number new found n = if n == 0 then none else (if number == n then new else found n)
-
 -- the row of a run
 abbrev pub row_at : List Row → ℕ → Row
-row_at rows r = found_at no_row rows r
+row_at rows r = if r == 0 then no_row else slice_index_or rows (r - 1) no_row
 
 -- a run has this row, and each other run the row that it had
 abbrev pub with_row : ℕ → Row → (ℕ → Row) → ℕ → Row
-with_row run row rows r = with_found no_row run row rows r
+with_row run row rows r = if r == 0 then no_row else (if run == r then row else rows r)
 
 -- where the entry that drew a run stands in the journal
 abbrev pub place_in : ℕ → ℕ → What → Option ℕ

@@ -9,10 +9,8 @@ use Rattle.asp_job.specs.Keys.{made as made_in, makes_key}
 use Rattle.asp_job.specs.declared.entry.What.TheVariants.{Queue, Admit, Begin, End}
 use Rattle.asp_job.specs.Runs.{drawn, is_halt, is_halted, is_open, is_stop, is_stopping, moment_in, moment_of}
 use Rattle.asp_job.specs.Runs.{numbers}
-use Rattle.asp_journal.specs.Keyed.{IsKeyedFor, key_at, key_row_of}
 use Rattle.asp_journal.specs.Rows.{IsNumberedFor, row_at, row_of}
 use Rattle.asp_journal.specs.Telling.{admitted, is_job}
-use Rattle.asp_journal.specs.declared.keyed.KeyRow.{KeyRow}
 use Rattle.asp_journal.specs.declared.rows.Row.{Row}
 use Rattle.asp_journal.specs.declared.tally.Tally.{Tally}
 
@@ -57,10 +55,9 @@ IsTimely past (Begin run serial) = is_open past run ≡ true
 IsTimely past (End run kind status size made finished) = is_open past run ≡ true
 IsTimely past _ = Unit {0}
 
--- The entry may be added: its run and its key have the right numbers, and a run that begins or ends was open.
+-- The entry may be added: its run has the right number, and one that begins or ends was open.
 pub record IsFit (past : List Entry) (what : What) : Type 0 where
   pub numbered : IsNumberedFor (drawn past) what
-  pub keyed : IsKeyedFor (made_in past) what
   pub timely : IsTimely past what
 
 -- these entries may be added, one after another
@@ -69,19 +66,15 @@ AreFit past [] = Unit {0}
 AreFit past (entry ∷ entries) = IsFit past entry.what × AreFit (entry ∷ past) entries
 
 -- the tables say what the journal says
-pub record IsIndexed (past : List Entry) (rows : List Row) (keyless : KeyRow) (keys : List KeyRow) (tally : Tally)
-    (listed : List ℕ) : Type 0 where
+pub record IsIndexed (past : List Entry) (rows : List Row) (tally : Tally) (listed : List ℕ) : Type 0 where
   pub rows_are : row_at rows ≡ row_of past
   pub drawn_is : length rows ≡ drawn past
-  pub keys_are : (k : ℕ) → key_at keyless keys k ≡ key_row_of past k
-  pub made_is : length keys ≡ made_in past
   pub tally_is : tally ≡ tally_of past
   pub open_are : listed ≡ open_runs past
 
 -- There may be so many entries, and as many rows more as entries more, before any table takes more memory.
-pub record HasSpare (entries rows keys listed capacity : ℕ) (in_journal in_rows in_keys in_list : ℕ) : Type 0 where
+pub record HasSpare (entries rows listed capacity : ℕ) (in_journal in_rows in_list : ℕ) : Type 0 where
   pub within : entries ≤ capacity
   pub of_journal : capacity ≤ in_journal
   pub of_rows : rows + capacity ≤ in_rows + entries
-  pub of_keys : keys + capacity ≤ in_keys + entries
   pub of_list : listed + capacity ≤ in_list + entries

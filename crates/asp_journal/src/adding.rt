@@ -6,9 +6,8 @@ ghost use Rattle.std.specs.Prelude.{OnOk, OnErr};
 ghost use Rattle.asp_journal.specs.Tables as spec;
 
 use crate::journal::Journal;
-use crate::keyed::mark_key;
 use crate::listing::list;
-use crate::rows::{look_up, mark, marked};
+use crate::rows::mark;
 use crate::tally::tallied;
 use asp_job::Entry;
 use vb_value::{List, Memory};
@@ -26,9 +25,6 @@ impl Journal {
         if self.rows.reserve(more).is_err() {
             return Err(Memory);
         }
-        if self.keys.reserve(more).is_err() {
-            return Err(Memory);
-        }
         if self.listed.reserve(more).is_err() {
             return Err(Memory);
         }
@@ -43,8 +39,6 @@ impl Journal {
         ensures items { self.new.items ≡ self.old.items ++ entry ∷ [] }
         ensures capacity { self.new.capacity ≡ self.old.capacity }
     {
-        let own = look_up(self.rows.as_slice(), marked(&entry.what) as u64).key;
-        self.keyless = mark_key(self.keyless, &mut self.keys, own, &entry.what);
         mark(&mut self.rows, self.journal.len(), &entry);
         self.tally = tallied(self.tally, &entry.what);
         list(&mut self.listed, &entry.what);

@@ -10,11 +10,9 @@ ghost use Rattle.asp_job.specs.Running as running;
 ghost use Rattle.asp_job.specs.Runs as runs;
 ghost use Rattle.asp_job.specs.Turns as turns;
 ghost use Rattle.asp_journal.specs.Tables as spec;
-ghost use Rattle.asp_journal.specs.Keyed as keyed;
 ghost use Rattle.asp_journal.specs.Rows as rows;
 ghost use Rattle.asp_journal.specs.Telling as telling;
 
-use crate::keyed::{KeyRow, look_up_key, no_key};
 use crate::rows::{Row, look_up};
 use crate::tally::Tally;
 use crate::told::{job_in, queued};
@@ -28,9 +26,6 @@ use vb_value::Memory;
 pub struct Journal {
     pub(crate) journal: Vec<Entry>,
     pub(crate) rows: Vec<Row>,
-    /// The row of the runs with no key.
-    pub(crate) keyless: KeyRow,
-    pub(crate) keys: Vec<KeyRow>,
     pub(crate) tally: Tally,
     /// The runs that wait or are unfinished, in order.
     pub(crate) listed: Vec<u32>,
@@ -52,9 +47,9 @@ impl Model for Journal {
     ghost view = { λ j. record { items = j.journal.items; capacity = j.capacity } };
 
     ghost invariant = { λ j.
-        IsIndexed (reverse j.journal.items) j.rows.items j.keyless j.keys.items j.tally j.listed.items
-        × HasSpare (vec_len j.journal) (vec_len j.rows) (vec_len j.keys) (vec_len j.listed) j.capacity
-        (vec_capacity j.journal) (vec_capacity j.rows) (vec_capacity j.keys) (vec_capacity j.listed) };
+        IsIndexed (reverse j.journal.items) j.rows.items j.tally j.listed.items
+        × HasSpare (vec_len j.journal) (vec_len j.rows) (vec_len j.listed) j.capacity
+        (vec_capacity j.journal) (vec_capacity j.rows) (vec_capacity j.listed) };
 }
 
 /// The job of the run that was drawn by the entry at the place; of no run a Start.
@@ -79,8 +74,6 @@ impl Journal {
         Journal {
             journal: Vec::new(alloc),
             rows: Vec::new(alloc),
-            keyless: no_key(),
-            keys: Vec::new(alloc),
             tally: Tally {
                 made: 0,
                 jobs: 0,
@@ -126,12 +119,6 @@ impl Journal {
         ensures { result ≡ rows.row_of (reverse self.now.items) run }
     {
         look_up(self.rows.as_slice(), run)
-    }
-
-    fn key_row_of(&self, key: u64) -> KeyRow
-        ensures { result ≡ keyed.key_row_of (reverse self.now.items) key }
-    {
-        look_up_key(self.keyless, self.keys.as_slice(), key)
     }
 
     #[tactic(auto, using(crate::proofs::Indexing::tally_few))]
@@ -276,27 +263,5 @@ impl Journal {
         ensures { result ≡ runs.is_halted (reverse self.now.items) }
     {
         self.tally_of().halted
-    }
-
-    /// Whether a run of a key waits or is unfinished.
-    #[tactic(auto, using(crate::proofs::Busy::busy_is))]
-    pub fn is_busy(&self, key: u64) -> bool
-        ensures { result ≡ keys.is_busy (reverse self.now.items) key }
-    {
-        self.key_row_of(key).busy != 0
-    }
-
-    /// The moment of the last job that was admitted for a key.
-    pub fn last_asked(&self, key: u64) -> u64
-        ensures { result ≡ keys.last_asked (reverse self.now.items) key }
-    {
-        self.key_row_of(key).asked
-    }
-
-    /// Whether a run for the end of a key's session was queued.
-    pub fn is_closing(&self, key: u64) -> bool
-        ensures { result ≡ keys.is_closing (reverse self.now.items) key }
-    {
-        self.key_row_of(key).closing
     }
 }

@@ -3,7 +3,6 @@
 
 mod adding;
 mod journal;
-mod keyed;
 mod listing;
 mod next;
 mod rows;

@@ -1,13 +1,13 @@
-use Rattle.std.proofs.Common.{◌≡◌, ◌∷◌, reverse, Some, None, Err, ap, sym, subst, ◌∙◌}
-use Rattle.std.proofs.Common.{length, rules}
+use Rattle.std.proofs.Common.{◌≡◌, ◌∷◌, Some, None, Err, ap, sym, subst, ◌∙◌}
 use Rattle.asp_job.specs.Application.{apply, blocker_of}
 use Rattle.asp_job.specs.Calls.{IsReply}
 use Rattle.asp_job.specs.History.{with_lane}
 use Rattle.asp_job.specs.declared.entry.What.TheVariants.{App}
+use Rattle.asp_core.specs.Book.{past_in}
 use Rattle.asp_core.specs.Calling.{blocker_by}
 use Rattle.asp_core.specs.Kernel.{IsTooMuch, wanted_by}
 use Rattle.asp_core.proofs.Called.{blocked_exact, blocker_known, done_exact, full_told, has_called, no_call}
-use Rattle.asp_core.proofs.Called.{room_one, unblocked_exact}
+use Rattle.asp_core.proofs.Called.{unblocked_exact}
 use Rattle.asp_core.proofs.calls.make_call.Goals as goal
 
 pub unreachable-requires : goal.unreachable-requires
@@ -47,7 +47,7 @@ returns-in-Err-clause-full g c entries weight e =
       wanted = sym c.in-Some.ensures.wanted;
       free = subst (λ n. blocker_of c.args.application.now n call ≡ None) c.number-number.ensures free;
       much = subst (λ n. IsTooMuch (with_lane c.args.lane (App n call (apply c.args.application.now n call).1)
-          ∷ reverse c.args.journal.now.items) entries weight) c.number-number.ensures much;
+          ∷ past_in c.args.book.now) entries weight) c.number-number.ensures much;
     }
 
 pub take_reply-requires-clause-reply : goal.take_reply-requires-clause-reply
@@ -58,25 +58,14 @@ pub unreachable-requires-in_default-take_reply : goal.unreachable-requires-in_de
 unreachable-requires-in_default-take_reply g c =
     no_call (wanted_by c.args.run.now.progress) c.requires (sym c.in_default-take_reply.ensures.call)
 
-pub push_reserved-requires : goal.push_reserved-requires
-push_reserved-requires g c =
-    let ok = c.in-Ok.ensures.ok in
-    let entry = with_lane c.args.lane (App c.number-number.result c.in-Some.call.now c.in-Ok.replies.0) in
-    let few = room_one c.args.journal.now.items c.replies_to.new.journal.items entry (length c.args.answers.now)
-    c.replies_to.new.journal.capacity ok.room c.replies_to.ensures.items in
-    search rules
-
 pub returns-clause-ok : goal.returns-clause-ok
 returns-clause-ok g c =
     let took = c.in-Some-take_reply.ensures in
-    has_called (g.R.Runner.stands c.args.runner.now) c.args.lane c.args.journal.now.items
-    c.replies_to.new.journal.items c.push_reserved.new.self.items c.args.application.now
-    c.replies_to.new.application (length c.args.answers.now) c.args.run.now c.take_reply.new.self
-    c.number-number.result c.in-Some.call.now c.in-Some-take_reply.call c.in-Ok.replies
-    c.replies_to.new.journal.capacity c.push_reserved.new.self.capacity
-    (sym c.in-Some.ensures.wanted) took.call c.number-number.ensures c.in-Some.ensures.call c.in-Ok.ensures.ok
-    c.replies_to.ensures.items
-    c.push_reserved.ensures.items c.push_reserved.ensures.capacity took.number took.stand_ins took.going took.stands
+    has_called (g.R.Runner.stands c.args.runner.now) c.args.lane c.args.book.now c.replies_to.new.book c.push.new.self
+    c.args.application.now c.replies_to.new.application c.args.run.now c.take_reply.new.self c.number-number.result
+    c.in-Some.call.now c.in-Some-take_reply.call c.in-Ok.replies (sym c.in-Some.ensures.wanted) took.call
+    c.number-number.ensures c.in-Some.ensures.call c.in-Ok.ensures.ok c.replies_to.ensures.stays c.push.ensures.adds
+    took.number took.stand_ins took.going took.stands
 
 pub returns-clause-blocked : goal.returns-clause-blocked
 returns-clause-blocked g c holder =

@@ -1,7 +1,8 @@
-use Rattle.std.proofs.Common.{◌≡◌, ◌++◌, ◌-◌, ◌^◌, ap, arith, length, min, reverse, sum_by, vec_capacity, ◌∙◌}
+use Rattle.std.proofs.Common.{◌≡◌, ◌++◌, ◌-◌, ◌^◌, ap, arith, length, min, sum_by, ◌∙◌}
 use Rattle.std.proofs.lemmas.Grind.{common_steps}
+use Rattle.asp_core.specs.Book.{past_in}
 use Rattle.asp_core.specs.Calm.{entry_weight}
-use Rattle.asp_core.proofs.Calm.{calm_answers, calm_much, calm_room, calm_within}
+use Rattle.asp_core.proofs.Calm.{calm_much, calm_within}
 use Rattle.asp_core.proofs.room.add_calm.Goals as goal
 
 pub returns-in-Err-clause-full : goal.returns-in-Err-clause-full
@@ -9,31 +10,18 @@ returns-in-Err-clause-full c entries weight e =
     let count : c.len.result ≡ length c.args.more = grind (arith, common_steps) in
     let weighs : c.entries_weight-weight.result ≡ min (sum_by entry_weight c.args.more) (2 ^ 64 - 1) =
     grind (arith, common_steps) in
-    calm_much (reverse c.args.journal.now.items) c.args.more c.len.result c.entries_weight-weight.result entries weight
+    calm_much (past_in c.args.book.now) c.args.more c.len.result c.entries_weight-weight.result entries weight
     c.requires.fit c.requires.calm count weighs (c.in-Err.ensures.full entries weight e)
 
-pub returns-clause-within : goal.returns-clause-within
-returns-clause-within c =
+pub returns-clause-ok : goal.returns-clause-ok
+returns-clause-ok c =
     let count : c.len.result ≡ length c.args.more = grind (arith, common_steps) in
     let weighs : c.entries_weight-weight.result ≡ min (sum_by entry_weight c.args.more) (2 ^ 64 - 1) =
     grind (arith, common_steps) in
-    calm_within c.args.journal.now.items c.append_reserved.new.self.items c.args.more c.len.result
-    c.entries_weight-weight.result
-    (c.append_reserved.ensures.items ∙ ap (λ items. items ++ c.args.more) c.in_default.ensures.items)
-    c.requires.fit c.requires.calm count weighs c.in_default.ensures.within
-
-pub returns-clause-room : goal.returns-clause-room
-returns-clause-room c =
-    let count : c.len.result ≡ length c.args.more = grind (arith, common_steps) in
-    let room = c.in_default.ensures.room in
-    calm_room c.args.journal.now.items c.append_reserved.new.self.items c.args.more c.len.result
-    (length c.args.answers.now.items) c.append_reserved.new.self.capacity
-    (c.append_reserved.ensures.items ∙ ap (λ items. items ++ c.args.more) c.in_default.ensures.items)
-    c.requires.fit c.requires.calm count (grind (arith, common_steps, c.append_reserved.ensures.capacity, room))
-
-pub returns-clause-answer_room : goal.returns-clause-answer_room
-returns-clause-answer_room c =
-    calm_answers c.args.journal.now.items c.append_reserved.new.self.items c.args.more
-    (length c.args.answers.now.items) (vec_capacity c.room_for.new.answers)
-    (c.append_reserved.ensures.items ∙ ap (λ items. items ++ c.args.more) c.in_default.ensures.items)
-    c.requires.fit c.requires.calm c.in_default.ensures.answer_room
+    let stays = c.room_for.ensures.stays in
+    let adds = c.add.ensures.adds in
+    let items = adds.0 ∙ ap (λ items. items ++ c.args.more) stays.0 in (
+      (items, adds.1 ∙ stays.1),
+      calm_within c.args.book.now.items c.add.new.self.items c.args.more c.len.result c.entries_weight-weight.result
+          items c.requires.fit c.requires.calm count weighs c.in_default.ensures.ok.0,
+    )

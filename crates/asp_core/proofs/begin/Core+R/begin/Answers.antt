@@ -1,7 +1,8 @@
-use Rattle.std.proofs.Common.{◌≡◌, ◌∷◌, ◌↔◌, ◌≤◌, [], ℕ, reverse, ap, sym, subst, ◌∙◌, vec_capacity}
+use Rattle.std.proofs.Common.{◌≡◌, ◌∷◌, ◌↔◌, ◌≤◌, [], ℕ, ap, sym, subst, ◌∙◌}
 use Rattle.std.proofs.Common.{List, IfErr, OnOk, refl}
 use Rattle.asp_core.specs.Kernel.{CoreView, IsBeginTooMuch, IsIdle, NextFits}
 use Rattle.asp_core.specs.Kernel.{rules_by, rules_of, past_of, grown}
+use Rattle.asp_core.specs.Book.{past_in}
 use Rattle.asp_core.specs.Opening.{IsIdleWith}
 use Rattle.asp_core.specs.Ready.{HasBodyRoom, bodies_with_one}
 use Rattle.asp_core.specs.declared.ready.TheConstants.{MOST_BODIES}
@@ -10,9 +11,8 @@ use Rattle.asp_job.specs.Journal.{begin_entry}
 use Rattle.asp_job.specs.Rules.{Rules}
 use Rattle.asp_job.specs.Turns.{IsBegin, serial_of}
 use Rattle.asp_job.specs.declared.answer.Answer.{Answer}
-use Rattle.asp_core.proofs.Beginning.{begun_run, kept_either_begun, on_each_ok, rules_same}
-use Rattle.asp_core.proofs.Failing.{fail_either, fail_push}
-use Rattle.asp_core.proofs.Same.{on_each, on_err, view_of}
+use Rattle.asp_core.proofs.Beginning.{begun_run, on_each_ok, rules_same, sound_begun}
+use Rattle.asp_core.proofs.Same.{on_each, on_err, sound_either, view_of}
 use Rattle.asp_core.proofs.begin.Core+R.begin.Goals as goal
 
 pub begin_run-requires : goal.begin_run-requires
@@ -23,12 +23,7 @@ begin_run-requires g c =
     c.requires.host.runner_is ∙ sym (ap (λ v. v.runner) c.self.view_is) in
     let site : c.args.site.now ≡ house.site.value =
     c.requires.host.site_is ∙ sym (ap (λ v. v.site) c.self.view_is) in
-    rw (runner, site) (record {
-      held = core.application;
-      kept = c.self.invariant.0;
-      within = c.self.invariant.1;
-      room = c.self.invariant.2;
-    })
+    rw (runner, site) (record { held = core.application; kept = c.self.invariant.0; within = c.self.invariant.1 })
 
 pub invariant_of-self : goal.invariant_of-self
 invariant_of-self g c =
@@ -40,25 +35,14 @@ invariant_of-self g c =
     let site : c.args.site.now ≡ house.site.value =
     c.requires.host.site_is ∙ sym (ap (λ v. v.site) c.self.view_is) in
     let ok = rw (runner, site) at c.begin_run.ensures.ok in
-    let all = kept_either_begun c.begin_run.result m (g.R.Runner.stands house.runner.value house.site.value) c.args.lane
-    core.journal.items c.begin_run.new.journal.items core.sessions.account c.begin_run.new.sessions.account
-    core.application core.answers.items c.begin_run.new.answers.items
-    core.journal.capacity c.begin_run.new.journal.capacity
-    (vec_capacity core.answers) (vec_capacity c.begin_run.new.answers)
-    c.self.invariant.0 c.self.invariant.1 c.self.invariant.2 c.self.invariant.3
-    ok c.begin_run.ensures.err c.begin_run.ensures.capacity c.begin_run.ensures.capacity_of_answers
-    c.begin_run.ensures.answers in
-    let same = on_each_ok c.begin_run.result _ _ (λ run has. fail_push m core.journal.items
-    c.begin_run.new.journal.items (begin_entry m (reverse core.journal.items) c.args.lane run.number) has.journal_is
-    refl) ok in
-    let still = on_err c.begin_run.result _ _ (λ both. both.0) c.begin_run.ensures.err in (
-      all.0,
-      all.1,
-      all.2,
-      all.3,
-      fail_either c.begin_run.result m core.journal.items c.begin_run.new.journal.items
-          core.start_fail c.self.invariant.4 same still,
-    )
+    let account = core.sessions.account in
+    let then_account = c.begin_run.new.sessions.account in
+    sound_either c.begin_run.result m core.book c.begin_run.new.book account then_account core.application
+    core.application core.start_fail c.self.invariant
+    (on_each_ok c.begin_run.result _ _ (λ run has. sound_begun m (g.R.Runner.stands house.runner.value house.site.value)
+    c.args.lane core.book c.begin_run.new.book account then_account core.application core.start_fail run c.self.invariant
+    has) ok)
+    (on_err c.begin_run.result _ _ (λ same. (same.0, same.1, refl)) c.begin_run.ensures.err)
 
 pub returns-clause-next : goal.returns-clause-next
 returns-clause-next g c =
@@ -72,14 +56,14 @@ returns-clause-next g c =
     on_each c.begin_run.result _ _ (λ run has.
     subst (λ (v : CoreView g.row.R.Denot g.row.R-Site.Denot). IsBegin (rules_of g.R.Runner.meaning v) (past_of v)
     run.number (serial_of (rules_of g.R.Runner.meaning v) (past_of v) run.number)) c.self.view_is
-    (record { next = has.is_next; few = has.few; going = has.going; session = refl })) ok
+    (record { next = has.next.first; few = has.next.few; going = has.next.going; session = refl })) ok
 
 pub returns-clause-light : goal.returns-clause-light
 returns-clause-light g c =
     let core = c.self.inside.kept in
     let house = c.self.inside.house in
     let m = rules_by (g.R.Runner.meaning house.runner.value house.site.value) house.setting in
-    let past = reverse core.journal.items in
+    let past = past_in core.book in
     let runner : c.args.runner.now ≡ house.runner.value =
     c.requires.host.runner_is ∙ sym (ap (λ v. v.runner) c.self.view_is) in
     let site : c.args.site.now ≡ house.site.value =
@@ -101,7 +85,7 @@ returns-clause-begun g c =
     c.requires.host.site_is ∙ sym (ap (λ v. v.site) c.self.view_is) in
     let ok = rw (runner, site) at c.begin_run.ensures.ok in
     on_each c.begin_run.result _ _ (λ run has.
-    ap (λ items. view_of house.runner.value house.site.value house.setting items) has.journal_is
+    ap (view_of house.runner.value house.site.value house.setting) has.grows.0.0
     ∙ ap (λ (v : CoreView g.row.R.Denot g.row.R-Site.Denot). grown v
     (begin_entry (rules_of g.R.Runner.meaning v) (past_of v) c.args.lane run.number ∷ [])) c.self.view_is) ok
 
@@ -115,14 +99,13 @@ returns-clause-run g c =
     c.requires.host.site_is ∙ sym (ap (λ v. v.site) c.self.view_is) in
     let ok = rw (runner, site) at c.begin_run.ensures.ok in
     on_each c.begin_run.result _ _ (λ run has. begun_run g.R.Runner.meaning g.R.Runner.stands house.runner.value
-    house.site.value house.setting c.args.lane core.journal.items c.begin_run.new.journal.items core.sessions.account
-    c.begin_run.new.sessions.account core.answers.items
-    c.begin_run.new.journal.capacity (vec_capacity c.begin_run.new.answers) run has) ok
+    house.site.value house.setting c.args.lane core.book c.begin_run.new.book core.sessions.account
+    c.begin_run.new.sessions.account run has) ok
 
 pub returns-clause-idle : goal.returns-clause-idle
 returns-clause-idle g c =
     let core = c.self.inside.kept in
-    let past = reverse core.journal.items in
+    let past = past_in core.book in
     subst (λ (v : CoreView g.row.R.Denot g.row.R-Site.Denot). IfErr c.begin_run.result
     (λ stop. stop.1 ≡ begin.Idle ↔ IsIdle (rules_of g.R.Runner.meaning v) (past_of v))) c.self.view_is
     (subst (λ (answers : List (ℕ × Answer)). IfErr c.begin_run.result
@@ -133,7 +116,7 @@ pub returns-clause-full : goal.returns-clause-full
 returns-clause-full g c entries weight =
     let core = c.self.inside.kept in
     let house = c.self.inside.house in
-    let past = reverse core.journal.items in
+    let past = past_in core.book in
     let runner : c.args.runner.now ≡ house.runner.value =
     c.requires.host.runner_is ∙ sym (ap (λ v. v.runner) c.self.view_is) in
     let site : c.args.site.now ≡ house.site.value =
@@ -151,7 +134,7 @@ pub returns-clause-fits : goal.returns-clause-fits
 returns-clause-fits g c =
     let core = c.self.inside.kept in
     let house = c.self.inside.house in
-    let past = reverse core.journal.items in
+    let past = past_in core.book in
     let runner : c.args.runner.now ≡ house.runner.value =
     c.requires.host.runner_is ∙ sym (ap (λ v. v.runner) c.self.view_is) in
     let site : c.args.site.now ≡ house.site.value =

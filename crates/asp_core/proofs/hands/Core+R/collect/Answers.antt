@@ -1,59 +1,47 @@
-use Rattle.std.proofs.Common.{◌≡◌, reverse, nat_eq, None, Some, IsSome, ap, refl, sym}
-use Rattle.std.proofs.Common.{subst, ◌∙◌, arith, vec_capacity}
+use Rattle.std.proofs.Common.{◌≡◌, reverse, nat_eq, None, Some, IsSome, ap, sym}
+use Rattle.std.proofs.Common.{subst, ◌∙◌, arith}
 use Rattle.std.specs.Map.{lookup}
 use Rattle.std.proofs.lemmas.Grind.{common_steps}
 use Rattle.asp_core.specs.Kernel.{CoreView, past_of, rules_by, rules_of}
 use Rattle.asp_core.specs.Ready.{collect_stop}
-use Rattle.asp_job.specs.History.{with_lane}
 use Rattle.asp_job.specs.Output.{answer_of_run}
-use Rattle.asp_job.specs.declared.entry.What.TheVariants.{Take}
-use Rattle.asp_core.proofs.Failing.{fail_push}
 use Rattle.asp_core.proofs.Fits.{take_fit}
-use Rattle.asp_core.proofs.Handing.{can_take, kept_after_take, take_room}
+use Rattle.asp_core.proofs.Handing.{can_take, sound_take}
 use Rattle.asp_core.proofs.hands.Core+R.collect.Goals as goal
 
 pub take_run-requires : goal.take_run-requires
 take_run-requires g c =
     let core = c.self.inside.kept in
     let house = c.self.inside.house in
-    let past = reverse core.journal.items in
+    let past = reverse core.book.items in
     let rules = rules_by (g.R.Runner.meaning house.runner.value house.site.value) house.setting in
     let none : collect_stop past c.args.lane c.args.run ≡ None = grind (arith, common_steps) in
     let can = can_take rules past c.args.lane c.args.run c.self.invariant.0.sessions.journal.entries c.self.invariant.0.answered
     none in
-    let some : IsSome (lookup (nat_eq c.args.run) core.answers.items) =
+    let some : IsSome (lookup (nat_eq c.args.run) core.book.answers) =
     subst (λ list. IsSome (lookup (nat_eq c.args.run) list)) (sym c.self.invariant.0.answers_are) can.some in
-    let room = take_room core.journal.items core.answers.items c.args.run core.journal.capacity c.self.invariant.2
-    some in
     record {
       waits = some;
       fit = take_fit rules past c.args.lane c.args.run c.self.invariant.0.sessions.journal.entries can;
-      room = room;
     }
 
 pub invariant_of-self : goal.invariant_of-self
 invariant_of-self g c =
     let core = c.self.inside.kept in
     let house = c.self.inside.house in
-    let past = reverse core.journal.items in
+    let past = reverse core.book.items in
     let rules = rules_by (g.R.Runner.meaning house.runner.value house.site.value) house.setting in
     let none : collect_stop past c.args.lane c.args.run ≡ None = grind (arith, common_steps) in
     let can = can_take rules past c.args.lane c.args.run c.self.invariant.0.sessions.journal.entries c.self.invariant.0.answered
     none in
-    let all = kept_after_take rules core.journal.items c.take_run.new.journal.items core.sessions.account
-    core.application core.answers.items c.args.lane c.args.run core.journal.capacity
-    (vec_capacity core.answers)
-    c.self.invariant.0 c.self.invariant.1 c.self.invariant.2 c.self.invariant.3 can c.take_run.ensures.journal in
-    let same = fail_push rules core.journal.items c.take_run.new.journal.items
-    (with_lane c.args.lane (Take c.args.run)) c.take_run.ensures.journal refl in
-    rw (c.take_run.ensures.answers, c.take_run.ensures.capacity, c.take_run.ensures.capacity_of_answers)
-    (all.0, all.1, all.2, all.3, c.self.invariant.4 ∙ sym same)
+    sound_take rules core.book c.take_run.new.book core.sessions.account core.application core.start_fail c.args.lane
+    c.args.run c.self.invariant can c.take_run.ensures.items c.take_run.ensures.answers
 
 pub returns-clause-answer : goal.returns-clause-answer
 returns-clause-answer g c =
     let core = c.self.inside.kept in
     let house = c.self.inside.house in
-    let past = reverse core.journal.items in
+    let past = reverse core.book.items in
     let rules = rules_by (g.R.Runner.meaning house.runner.value house.site.value) house.setting in
     let none : collect_stop past c.args.lane c.args.run ≡ None = grind (arith, common_steps) in
     let can = can_take rules past c.args.lane c.args.run c.self.invariant.0.sessions.journal.entries c.self.invariant.0.answered

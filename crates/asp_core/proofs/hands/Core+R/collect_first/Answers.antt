@@ -1,68 +1,57 @@
-use Rattle.std.proofs.Common.{◌≡◌, reverse, nat_eq, Some, IsSome, ap, refl, sym}
-use Rattle.std.proofs.Common.{subst, ◌∙◌, arith, vec_capacity}
+use Rattle.std.proofs.Common.{◌≡◌, reverse, nat_eq, Some, IsSome, ap, sym}
+use Rattle.std.proofs.Common.{subst, ◌∙◌, arith}
 use Rattle.std.specs.Map.{lookup}
 use Rattle.std.proofs.lemmas.Grind.{common_steps}
-use Rattle.asp_job.specs.History.{with_lane}
 use Rattle.asp_job.specs.Output.{answer_of_run}
-use Rattle.asp_job.specs.declared.entry.What.TheVariants.{Take}
 use Rattle.asp_core.specs.Kernel.{CoreView, past_of, rules_by, rules_of}
 use Rattle.asp_core.specs.Ready.{first_for, ready}
-use Rattle.asp_core.proofs.Failing.{fail_push}
 use Rattle.asp_core.proofs.Fits.{take_fit}
-use Rattle.asp_core.proofs.Handing.{IsFirst, can_take_run, first_is, kept_after_take, take_room}
+use Rattle.asp_core.proofs.Handing.{IsFirst, can_take_run, first_is, sound_take}
 use Rattle.asp_core.proofs.hands.Core+R.collect_first.Goals as goal
 
 pub take_run-answer-requires : goal.take_run-answer-requires
 take_run-answer-requires g c =
     let core = c.self.inside.kept in
     let house = c.self.inside.house in
-    let past = reverse core.journal.items in
+    let past = reverse core.book.items in
     let rules = rules_by (g.R.Runner.meaning house.runner.value house.site.value) house.setting in
     let run = c.in-Some.run' in
     let kept = c.self.invariant.0 in
-    let first : IsFirst past c.args.lane core.answers.items run = grind (arith, common_steps) in
-    let can = can_take_run rules past c.args.lane run core.answers.items kept.sessions.journal.entries kept.answered
+    let first : IsFirst past c.args.lane core.book.answers run = grind (arith, common_steps) in
+    let can = can_take_run rules past c.args.lane run core.book.answers kept.sessions.journal.entries kept.answered
     kept.answers_are first in
-    let some : IsSome (lookup (nat_eq run) core.answers.items) =
+    let some : IsSome (lookup (nat_eq run) core.book.answers) =
     subst (λ list. IsSome (lookup (nat_eq run) list)) (sym kept.answers_are) can.some in
-    let room = take_room core.journal.items core.answers.items run core.journal.capacity c.self.invariant.2
-    some in
     record {
       waits = some;
       fit = take_fit rules past c.args.lane run c.self.invariant.0.sessions.journal.entries can;
-      room = room;
     }
 
 pub invariant_of-self : goal.invariant_of-self
 invariant_of-self g c =
     let core = c.self.inside.kept in
     let house = c.self.inside.house in
-    let past = reverse core.journal.items in
+    let past = reverse core.book.items in
     let rules = rules_by (g.R.Runner.meaning house.runner.value house.site.value) house.setting in
     let run = c.in-Some.run' in
     let kept = c.self.invariant.0 in
-    let first : IsFirst past c.args.lane core.answers.items run = grind (arith, common_steps) in
-    let can = can_take_run rules past c.args.lane run core.answers.items kept.sessions.journal.entries kept.answered
+    let first : IsFirst past c.args.lane core.book.answers run = grind (arith, common_steps) in
+    let can = can_take_run rules past c.args.lane run core.book.answers kept.sessions.journal.entries kept.answered
     kept.answers_are first in
     let taken = c.take_run-answer in
-    let all = kept_after_take rules core.journal.items taken.new.journal.items core.sessions.account
-    core.application core.answers.items c.args.lane run core.journal.capacity (vec_capacity core.answers)
-    kept c.self.invariant.1 c.self.invariant.2 c.self.invariant.3 can taken.ensures.journal in
-    let same = fail_push rules core.journal.items taken.new.journal.items (with_lane c.args.lane (Take run))
-    taken.ensures.journal refl in
-    rw (taken.ensures.answers, taken.ensures.capacity, taken.ensures.capacity_of_answers)
-    (all.0, all.1, all.2, all.3, c.self.invariant.4 ∙ sym same)
+    sound_take rules core.book taken.new.book core.sessions.account core.application core.start_fail c.args.lane run
+    c.self.invariant can taken.ensures.items taken.ensures.answers
 
 pub returns-clause-first : goal.returns-clause-first
 returns-clause-first g c =
     let core = c.self.inside.kept in
     let house = c.self.inside.house in
-    let past = reverse core.journal.items in
+    let past = reverse core.book.items in
     let rules = rules_by (g.R.Runner.meaning house.runner.value house.site.value) house.setting in
     let run = c.in-Some.run' in
     let kept = c.self.invariant.0 in
-    let first : IsFirst past c.args.lane core.answers.items run = grind (arith, common_steps) in
-    let is = first_is rules past c.args.lane run c.take_run-answer.result core.answers.items kept.sessions.journal.entries
+    let first : IsFirst past c.args.lane core.book.answers run = grind (arith, common_steps) in
+    let is = first_is rules past c.args.lane run c.take_run-answer.result core.book.answers kept.sessions.journal.entries
     kept.answered kept.answers_are first c.take_run-answer.ensures.answer in
     subst (λ (v : CoreView g.row.R.Denot g.row.R-Site.Denot). Some (run, c.take_run-answer.result)
     ≡ first_for (past_of v) c.args.lane (ready (rules_of g.R.Runner.meaning v) (past_of v))) c.self.view_is is
@@ -71,12 +60,12 @@ pub returns-clause-answer : goal.returns-clause-answer
 returns-clause-answer g c =
     let core = c.self.inside.kept in
     let house = c.self.inside.house in
-    let past = reverse core.journal.items in
+    let past = reverse core.book.items in
     let rules = rules_by (g.R.Runner.meaning house.runner.value house.site.value) house.setting in
     let run = c.in-Some.run' in
     let kept = c.self.invariant.0 in
-    let first : IsFirst past c.args.lane core.answers.items run = grind (arith, common_steps) in
-    let can = can_take_run rules past c.args.lane run core.answers.items kept.sessions.journal.entries kept.answered
+    let first : IsFirst past c.args.lane core.book.answers run = grind (arith, common_steps) in
+    let can = can_take_run rules past c.args.lane run core.book.answers kept.sessions.journal.entries kept.answered
     kept.answers_are first in
     let given = sym can.found ∙ ap (lookup (nat_eq run)) (sym kept.answers_are) ∙ c.take_run-answer.ensures.answer in
     subst (λ (v : CoreView g.row.R.Denot g.row.R-Site.Denot). answer_of_run (rules_of g.R.Runner.meaning v) (past_of v)
