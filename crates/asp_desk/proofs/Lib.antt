@@ -7,6 +7,7 @@ pub mod Turning
 pub mod Rounds
 pub mod Slicing
 pub mod Working
+pub mod Ending
 pub mod Zipping
 pub mod Moved
 pub mod Shared
