@@ -6,6 +6,8 @@ pub mod Stepping
 pub mod Turning
 pub mod Rounds
 pub mod Slicing
+pub mod Working
+pub mod Ending
 pub mod Zipping
 pub mod Moved
 pub mod Shared

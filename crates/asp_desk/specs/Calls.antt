@@ -55,6 +55,17 @@ pub record AddsEvents (lane : ℕ) (before after : List Entry) : Type 0 where
   pub of_lane : AreOfLane lane entries
   pub events : AreEvents entries
 
+-- the entry begins a run, is its call or ends it
+abbrev pub IsWork : What → Type 0
+IsWork (Begin run serial) = Unit {0}
+IsWork (App run call reply) = Unit {0}
+IsWork (End run kind status size made finished) = Unit {0}
+IsWork _ = ⊥
+
+abbrev pub AreWork : List Entry → Type 0
+AreWork [] = Unit {0}
+AreWork (entry ∷ entries) = IsWork entry.what × AreWork entries
+
 module _ (rules : Rules) (lane : ℕ) where
   -- A tick: its entries, and of how many keys the sessions end. Or nothing, where the moment is greater and they are
   -- too many or too heavy, or memory ran out.

@@ -4,5 +4,6 @@ pub mod Opening
 pub mod Steps
 pub mod Slices
 pub mod Loops
+pub mod Working
 pub mod Crews
 pub mod Turns

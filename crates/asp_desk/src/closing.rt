@@ -6,6 +6,7 @@ ghost use Rattle.std.specs.Prelude.{length, map, reverse, vec_capacity};
 ghost use Rattle.turn_desk.specs.Histories.{AreOfLanes};
 ghost use Rattle.turn_desk.specs.Shown.{LaneFits};
 ghost use Rattle.asp_job.specs.Journal.{IsValidJournal};
+ghost use Rattle.asp_job.specs.Runs.{unfinished};
 ghost use Rattle.asp_desk.specs.Hands.{IsHandOf, core_at, rules_at};
 
 use crate::hand::{Hand, HandOf};
@@ -61,6 +62,7 @@ impl<R: Runner> HostOf<Placed<R>, R, R::Site> {
             All (λ hand. LaneFits (λ entry. entry.lane) back.0.journal hand.lane) hands) }
         ensures of_lanes { IfOk result (λ back. AreOfLanes (λ entry. entry.lane) self.desk.lanes back.0.journal) }
         ensures valid { IfOk result (λ back. IsValidJournal (rules_at R.meaning self) (reverse back.0.journal)) }
+        ensures ended { IfOk result (λ back. unfinished (reverse back.0.journal) ≡ []) }
 
         ensures missing { OnErr result (length hands ≡ self.desk.lanes → All (λ hand. hand.run ≡ None) hands → ⊥) }
         ensures refused { IfErr result (λ back. (back.0 ≡ self) × (back.1 ≡ hands)) }

@@ -4,6 +4,7 @@
 ghost use Rattle.std.specs.Prelude.{◌≡◌, ℕ, IfNone, IfSome};
 ghost use Rattle.asp_desk.specs.Hands.{IsHandOf};
 ghost use Rattle.asp_desk.specs.Loops as spec;
+ghost use Rattle.asp_desk.specs.Working.{AddsWork};
 
 use crate::gate::Gate;
 use crate::hand::Hand;
@@ -79,6 +80,7 @@ impl<R: Runner> HostOf<Placed<R>, R, R::Site> {
         ensures hand { IsHandOf R.meaning R.stands self.now hand.new }
         ensures slices { spec.HasLooped R.pace R.meaning R.stands self.now (G.may_hold gate.now)
             hand.old result hand.new }
+        ensures work { AddsWork hand.old.lane hand.new.lane }
     {
         for _ in rt.forever() {
             if let Some(came_to) = self.round(rt, hand, gate) {

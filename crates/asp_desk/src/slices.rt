@@ -8,6 +8,7 @@ ghost use Rattle.asp_desk.specs.Calls.{IsTurn};
 ghost use Rattle.asp_desk.specs.Hands.{Holds, IsHandOf, IsUnderWay, core_at, held_number, load_run, rules_at};
 ghost use Rattle.asp_desk.specs.Slices as spec;
 ghost use Rattle.asp_desk.specs.Steps as steps;
+ghost use Rattle.asp_desk.specs.Working.{AddsWork};
 
 use crate::gate::{Gate, Verdict};
 use crate::hand::{Hand, Load, put};
@@ -228,6 +229,7 @@ impl<R: Runner> HostOf<Placed<R>, R, R::Site> {
         ensures hand { IsHandOf R.meaning R.stands self.now hand.new }
         ensures slice { spec.IsSlice R.pace R.meaning R.stands self.now (G.may_hold gate.now)
             hand.old result hand.new }
+        ensures work { AddsWork hand.old.lane hand.new.lane }
     {
         match self.make_ready(rt, hand) {
             Ok(number) => self.work(rt, hand, gate, number),

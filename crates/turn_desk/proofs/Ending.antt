@@ -1,5 +1,5 @@
 -- At the end the state is at home.
-use Rattle.std.proofs.Common.{◌≡◌, ℕ, List, [], ◌∷◌, sym, ap, ◌∙◌, subst, arith, Option, ◌≢◌, ◌<◌, Some, length}
+use Rattle.std.proofs.Common.{◌≡◌, ℕ, List, [], ◌∷◌, sym, ap, ◌∙◌, subst, arith, Option, ◌≢◌, ◌<◌, ◌≤◌, Some, length}
 use Rattle.std.proofs.Common.{⊎_elim}
 use lib.ListN.{get_elem?}
 use mathlib.Core.Option.{some, none, some-injective}
@@ -7,11 +7,17 @@ use Rattle.atomic_table.specs.Table.{Me, State, Final, Seen}
 use Rattle.turn_desk.specs.declared.view.Known.{Known}
 use Rattle.turn_desk.specs.declared.view.Stage.TheVariants.{Idle}
 use Rattle.turn_desk.specs.declared.view.View.{View}
-use Rattle.turn_desk.specs.Histories.{Every, AreOfLanes}
-use Rattle.turn_desk.specs.Rule.{IsServing, view, KnownFits, IsOrderly}
+use Rattle.turn_desk.specs.Histories.{total, Every, AreOfLanes}
+use Rattle.turn_desk.specs.Rule.{IsServing, one_where, times_seated, view, KnownFits, IsOrderly}
 use Rattle.turn_desk.specs.Steps.{IsAtRest}
+use Rattle.turn_desk.proofs.Parts.{one_below-yes, one_where_le}
 use Rattle.turn_desk.proofs.Stages.{Some_is, serving_lane}
-use Rattle.turn_desk.proofs.Totals.{terms_le}
+use Rattle.turn_desk.proofs.Totals.{terms_le, total-of_one}
+
+seated_few : {E : Type 0} (number : ℕ) (lanes : List (Known E))
+    → total (λ (l : Known E). one_where l.number number) lanes ≤ length lanes
+seated_few number [] = omega arith
+seated_few number (l ∷ ls) = omega (arith, one_where_le l.number number, seated_few number ls)
 
 module _ {S E F : Type 0} (lane_of : E → ℕ) (entries : S → List E) (fixed : S → F) (count : ℕ) (part : F) where
   abbrev Rule : State (Option S) (View E F) → Type 0
@@ -70,3 +76,14 @@ module _ {S E F : Type 0} (lane_of : E → ℕ) (entries : S → List E) (fixed 
   pub end_is : (lanes : List (Known E)) (out : Option S) (result : S)
       → (state : S) × (out ≡ Some state) × Home lanes state → out ≡ Some result → Home lanes result
   end_is lanes out result t is = subst (Home lanes) (Some_is (sym t.1 ∙ is)) t.2
+
+  -- and has the lane of each number
+  pub seats_each : (id : ℕ) (m : Me (Option S) (View E F)) (ws : List ℕ) (xs : List (Option S))
+      → length m.0.lanes ≡ count → Final (Seen Rule id m.0) ws xs → (number : ℕ) → number < count
+      → times_seated number m.0 ≡ 1
+  seats_each id m ws xs all final number low =
+      let s = final.0 in
+      let o = final.1.0 in
+      let one = total-of_one (times_seated number) (λ (u : View E F). length u.lanes) s.views id m.0 final.1.1
+      (o.lanes ∙ sym all) (λ u. seated_few number u.lanes) in
+      sym one ∙ o.once number ∙ one_below-yes number count low

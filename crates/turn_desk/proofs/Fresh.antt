@@ -1,5 +1,5 @@
 -- The lanes of a new desk.
-use Rattle.std.proofs.Common.{◌≡◌, refl, ℕ, List, All}
+use Rattle.std.proofs.Common.{refl, ℕ, List, All}
 use Rattle.std.proofs.lemmas.List.Elements.{All-map}
 use Rattle.turn_desk.specs.Shown.{DeskView, IsLaneOf, lane_view, new_lanes}
 use Rattle.turn_desk.specs.Steps.{fresh_lanes}

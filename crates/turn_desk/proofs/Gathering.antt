@@ -1,15 +1,16 @@
 -- A join keeps the rule, and lanes are gathered one after another, from the last.
 use Rattle.std.proofs.Common.{◌≡◌, ℕ, zero, suc, List, [], ◌∷◌, ◌++◌, map, refl, sym, ap, ◌∙◌, subst, arith, Option}
-use Rattle.std.proofs.Common.{append_assoc, All, ◌<◌, ◌+◌, length, set, length-append}
+use Rattle.std.proofs.Common.{append_assoc, All, Any, ◌==◌, ◌<◌, ◌+◌, cond, inl, inr, length, set, length-append}
+use Rattle.std.proofs.lemmas.Bool.{cases_Bool, eqb-true}
 use Rattle.atomic_table.proofs.Lists.{set_else}
 use Rattle.atomic_table.specs.Table.{Me, rest, State, Joins}
 use Rattle.turn_desk.specs.declared.view.Known.{Known}
 use Rattle.turn_desk.specs.declared.view.Stage.TheVariants.{Idle}
 use Rattle.turn_desk.specs.declared.view.View.{View}
-use Rattle.turn_desk.specs.Histories.{total, Every}
+use Rattle.turn_desk.specs.Histories.{total, Every, own_part}
 use Rattle.turn_desk.specs.Rule.{one_where, tickets, times_held, known, view, times_seated, KnownFits, SeatFits}
 use Rattle.turn_desk.specs.Rule.{IsOrderly}
-use Rattle.turn_desk.specs.Shown.{DeskView, LaneView, IsLaneOf, LaneFits, lane_view}
+use Rattle.turn_desk.specs.Shown.{DeskView, LaneView, HasOwn, IsLaneOf, LaneFits, lane_view}
 use Rattle.turn_desk.specs.Steps.{idle, IsAtRest, joined, blank}
 use Rattle.turn_desk.proofs.Kept.{still_there}
 use Rattle.turn_desk.proofs.Parts.{Every-append}
@@ -133,3 +134,38 @@ module _ {S E F : Type 0} where
   all_end lane_of entries fixed d history (l ∷ ls) h zero e lt = h.0
   all_end lane_of entries fixed d history (l ∷ ls) h (suc k) e lt =
       all_end lane_of entries fixed d history ls h.1 k e (omega arith)
+
+module _ {E F : Type 0} where
+  -- the same of what is a lane's own
+  pub all_own : (lane_of : E → ℕ) (d : DeskView F) (lanes : List (Known E))
+      → Every (λ (l : Known E). l.own ≡ own_part lane_of l.number l.seen) lanes
+      → All (HasOwn lane_of) (map (lane_view d) lanes)
+  all_own lane_of d [] h k e lt = absurd (omega arith)
+  all_own lane_of d (l ∷ ls) h zero e lt = h.0
+  all_own lane_of d (l ∷ ls) h (suc k) e lt = all_own lane_of d ls h.1 k e (omega arith)
+
+  -- a lane of a number that a seat has is among them
+  pub any_end : (d : DeskView F) (number : ℕ) (lanes : List (Known E))
+      → 0 < total (λ (l : Known E). one_where l.number number) lanes
+      → Any (λ (l : LaneView E F). l.number ≡ number) (map (lane_view d) lanes)
+  any_end d number [] some = absurd (omega (arith, some))
+  any_end d number (l ∷ ls) some = elim (cases_Bool (l.number == number)) [
+    | inl own ↦ (0, lane_view d l, omega arith, refl, eqb-true l.number number own)
+    | inr other ↦ (let none : one_where l.number number ≡ 0 = ap (λ b. cond b 1 0) other in
+        let rest = any_end d number ls (omega (arith, some, none)) in
+        (suc rest.0, rest.1, omega (arith, rest.2), rest.3, rest.4))
+  ]
+
+module _ {S E F : Type 0} (lane_of : E → ℕ) where
+  abbrev pub OwnAll : Me (Option S) (View E F) → Type 0
+  OwnAll m = Every (λ (k : Known E). k.own ≡ own_part lane_of k.number k.seen) m.0.lanes
+
+  -- the own entries of the first lane that is gathered, and of one more
+  pub own_first : (l : LaneView E F) (m : Me (Option S) (View E F))
+      → m ≡ idle (known l.number l.seen l.own) l.fixed → HasOwn lane_of l → OwnAll m
+  own_first l m is own = subst OwnAll (sym is) (own, tt)
+
+  pub own_more : (l : LaneView E F) (m n : Me (Option S) (View E F))
+      → n ≡ (view (known l.number l.seen l.own ∷ m.0.lanes) Idle m.0.fixed, []) → HasOwn lane_of l → OwnAll m
+      → OwnAll n
+  own_more l m n is own all = subst OwnAll (sym is) (own, all)

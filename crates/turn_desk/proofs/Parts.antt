@@ -15,6 +15,13 @@ one_where-apart x y n = ap (λ b. cond b 1 0) (ne_eqb x y n)
 pub one_where_zero : (x y : ℕ) → one_where x y ≡ 0 → x ≢ y
 one_where_zero x y z e = absurd (omega (arith, one_where-same x y e))
 
+pub one_where_le : (x y : ℕ) → one_where x y ≤ 1
+one_where_le x y = at (eqb x y)
+  where
+    at : (b : Bool) → cond b 1 0 ≤ 1
+    at true = omega arith
+    at false = omega arith
+
 pub one_below-no : (k count : ℕ) → count ≤ k → one_below k count ≡ 0
 one_below-no k count h = ap (λ b. cond b 1 0) (le-ltb k count h)
 

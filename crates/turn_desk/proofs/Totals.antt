@@ -38,3 +38,15 @@ module _ {A : Type 0} (g : A → ℕ) where
       → total g l ≤ total f l
   total-le f [] h = omega arith
   total-le f (x ∷ xs) h = omega (arith, h 0 x refl, total-le f xs (λ j v e. h (suc j) v e))
+
+-- where one item counts for all of a sum, it does so for each that counts no more
+pub total-of_one : {A : Type 0} (g f : A → ℕ) (l : List A) (j : ℕ) (v : A) → get_elem? l j ≡ some v
+    → total f l ≡ f v → ((u : A) → g u ≤ f u) → total g l ≡ g v
+total-of_one g f [] j v e one less = absurd (some-ne-none v (sym e))
+total-of_one g f (x ∷ xs) zero v e one less =
+    let same = some-injective x v e in
+    omega (arith, ap g same, ap f same, one, total-le g f xs (λ j u at. less u))
+total-of_one g f (x ∷ xs) (suc j) v e one less =
+    let part = term_le f xs j v e in
+    let rest : total f xs ≡ f v = omega (arith, part, one) in
+    omega (arith, one, rest, less x, total-of_one g f xs j v e rest less)

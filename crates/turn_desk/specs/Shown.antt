@@ -1,5 +1,5 @@
 -- What contracts see of a desk, a lane and a turn.
-use Rattle.std.specs.Prelude.{◌≡◌, ℕ, ◌%◌, List, map, Option, Some, None}
+use Rattle.std.specs.Prelude.{◌≡◌, ℕ, ◌%◌, ◌<◌, Any, List, map, Option, Some, None}
 use Rattle.atomic_table.specs.Seated.{TableId}
 use Rattle.atomic_table.specs.Table.{Me}
 use Rattle.turn_desk.specs.declared.view.View.{View}
@@ -47,6 +47,14 @@ module _ {E F : Type 0} where
   -- a history begins with all that the lane has seen, and has of the lane just its own entries
   abbrev pub LaneFits : (E → ℕ) → List E → LaneView E F → Type 0
   LaneFits lane_of history lane = Agrees lane_of history lane.number lane.seen lane.own
+
+  -- a lane's own entries are those with its number in what it has seen
+  abbrev pub HasOwn : (E → ℕ) → LaneView E F → Type 0
+  HasOwn lane_of lane = lane.own ≡ own_part lane_of lane.number lane.seen
+
+  -- each of so many lanes, which are numbered from 0, is among these
+  abbrev pub AreAll : ℕ → List (LaneView E F) → Type 0
+  AreAll count lanes = (number : ℕ) → number < count → Any (λ lane. lane.number ≡ number) lanes
 
   -- a desk's lane that knows this
   abbrev pub lane_view : DeskView F → Known E → LaneView E F

@@ -1,10 +1,10 @@
 //! How a desk ends.
-ghost use Rattle.std.specs.Prelude.{◌≡◌, ◌≢◌, ◌<◌, ◌∷◌, length, map, IfOk, IfErr, All, []};
+ghost use Rattle.std.specs.Prelude.{◌≡◌, ◌≢◌, ℕ, ◌<◌, ◌∷◌, length, map, IfOk, IfErr, All, []};
 ghost use Rattle.turn_desk.specs.declared.view.Stage.TheVariants.{Idle};
-ghost use Rattle.turn_desk.specs.Histories.{AreOfLanes, Every};
-ghost use Rattle.turn_desk.specs.Rule.{known, view, KnownFits};
+ghost use Rattle.turn_desk.specs.Histories.{AreOfLanes, Every, own_part};
+ghost use Rattle.turn_desk.specs.Rule.{known, times_seated, view, KnownFits};
 ghost use Rattle.turn_desk.specs.Steps.{IsAtRest};
-ghost use Rattle.turn_desk.specs.Shown.{IsLaneOf, LaneFits, lane_view};
+ghost use Rattle.turn_desk.specs.Shown.{AreAll, HasOwn, IsLaneOf, LaneFits, lane_view};
 
 use crate::desk::Desk;
 use crate::lane::Lane;
@@ -19,6 +19,8 @@ impl<S: Stands> Desk<S> {
         requires { All (λ lane. IsLaneOf self lane) lanes }
         ensures all { IfOk result (λ _. length lanes ≡ self.lanes) }
         ensures fits { IfOk result (λ state. All (LaneFits S.lane_of (S.entries state)) lanes) }
+        ensures numbers { IfOk result (λ _. AreAll self.lanes lanes) }
+        ensures own { IfOk result (λ _. All (HasOwn S.lane_of) lanes) }
         ensures of_lanes { IfOk result (λ state. AreOfLanes S.lane_of self.lanes (S.entries state)) }
         ensures fixed { IfOk result (λ state. S.fixed state ≡ self.fixed) }
 
@@ -39,17 +41,20 @@ impl<S: Stands> Desk<S> {
         ensures desk { seat.new.table_id ≡ seat.old.table_id }
         ensures lanes { seat.new.me
             ≡ (view (known lane.number lane.seen lane.own ∷ seat.old.me.0.lanes) Idle seat.old.me.0.fixed, []) }
+        ensures own { HasOwn S.lane_of lane }
     {
         let other = lane.into_seat();
         self.table.shared.join_seat::<Gather>(seat, other);
     }
 
     // One seat with all of the lanes.
+    #[tactic(auto, using(crate::proofs::Gathering::own_first))]
     fn gather(&self, mut lanes: Vec<Lane<S>>) -> LaneSeat<S>
         requires { All (λ lane. IsLaneOf self.now lane) lanes.items × (0 < length lanes.items) }
         ensures desk { result.table_id ≡ self.now.id }
         ensures seat { IsAtRest result.me }
         ensures lanes { map (lane_view self.now) result.me.0.lanes ≡ lanes.items }
+        ensures own { Every (λ lane. lane.own ≡ own_part S.lane_of lane.number lane.seen) result.me.0.lanes }
     {
         let Some(last) = lanes.pop() else {
             unreachable!()
@@ -67,6 +72,7 @@ impl<S: Stands> Desk<S> {
         requires desk { seat.table_id ≡ self.id }
         requires seat { IsAtRest seat.me × (length seat.me.0.lanes ≡ self.lanes) }
         ensures lanes { Every (KnownFits S.lane_of S.entries S.fixed (S.entries result)) seat.me.0.lanes }
+        ensures numbers { (number : ℕ) → number < self.lanes → times_seated number seat.me.0 ≡ 1 }
         ensures state { AreOfLanes S.lane_of self.lanes (S.entries result) × (S.fixed result ≡ self.fixed) }
     {
         let Desk { table, .. } = self;

@@ -44,6 +44,7 @@ impl<S: Stands> Lane<S> {
     pub(crate) fn into_seat(self) -> LaneSeat<S>
         ensures desk { result.table_id ≡ self.desk }
         ensures seat { result.me ≡ idle (known self.number self.seen self.own) self.fixed }
+        ensures own { self.own ≡ own_part S.lane_of self.number self.seen }
     {
         let Lane { number: _, seat } = self;
         seat

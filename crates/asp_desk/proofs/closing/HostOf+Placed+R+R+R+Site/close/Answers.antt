@@ -1,8 +1,9 @@
 use Rattle.std.proofs.Common.{◌≡◌, ◌∙◌, All, None, ap, map, subst, sym}
 use Rattle.turn_desk.specs.Histories.{AreOfLanes}
-use Rattle.turn_desk.specs.Shown.{IsLaneOf, LaneFits}
+use Rattle.turn_desk.specs.Shown.{AreAll, HasOwn, IsLaneOf, LaneFits}
 use Rattle.asp_job.specs.declared.entry.Entry.{Entry}
 use Rattle.asp_desk.specs.Hands.{HandView, HostView}
+use Rattle.asp_desk.proofs.Ending.{all_ended}
 use Rattle.asp_desk.proofs.Turning.{each_hand, lanes_are}
 use Rattle.asp_desk.proofs.closing.HostOf+Placed+R+R+R+Site.close.Goals as goal
 
@@ -31,3 +32,17 @@ pub returns-clause-free : goal.returns-clause-free
 returns-clause-free g c =
     let are = (c.are_free.ensures).0 c.if-not-are_free.false in
     subst (λ hands. All (λ (hand : HandView _ _ _). hand.run ≡ None) hands) c.as_slice.ensures are
+
+pub returns-clause-ended : goal.returns-clause-ended
+returns-clause-ended g c =
+    let is = c.from_vec.ensures ∙ c.lanes_of-lanes.ensures ∙ ap (map (λ (hand : HandView _ _ _). hand.lane))
+    c.into_vec.ensures in
+    let journal = c.in-Ok.placed.core.journal in
+    let free = (c.are_free.ensures).0 c.if-not-are_free.false in
+    all_ended g.R.Runner.meaning g.R.Runner.stands c.args.self journal c.args.hands c.self.inside.desk.lanes c.requires
+    (subst (λ hands. All (λ (hand : HandView _ _ _). hand.run ≡ None) hands) c.as_slice.ensures free)
+    (each_hand (HasOwn (λ (entry : Entry). entry.lane)) c.args.hands
+    (subst (λ lanes. All (HasOwn (λ (entry : Entry). entry.lane)) lanes) is c.in-Ok.ensures.own))
+    (each_hand (LaneFits (λ (entry : Entry). entry.lane) journal) c.args.hands
+    (subst (λ lanes. All (LaneFits (λ (entry : Entry). entry.lane) journal) lanes) is c.in-Ok.ensures.fits))
+    (subst (λ lanes. AreAll c.self.inside.desk.lanes lanes) is c.in-Ok.ensures.numbers) c.in-Ok.ensures.of_lanes

@@ -1,6 +1,6 @@
-use Rattle.std.proofs.Common.{sym, ap, ◌∙◌, subst, rules}
+use Rattle.std.proofs.Common.{sym, ap, ◌∙◌, ◌<◌, subst, rules}
 use Rattle.turn_desk.specs.Histories.{AreOfLanes}
-use Rattle.turn_desk.proofs.Ending.{ends_as, end_is}
+use Rattle.turn_desk.proofs.Ending.{ends_as, end_is, seats_each}
 use Rattle.turn_desk.proofs.desk.Desk.end.Goals as goal
 
 pub unwrap-requires : goal.unwrap-requires
@@ -36,3 +36,11 @@ returns-clause-state g c =
       home.3
           ∙ ap (λ d. d.fixed) c.self.view_is,
     )
+
+pub returns-clause-numbers : goal.returns-clause-numbers
+returns-clause-numbers g c =
+    let S = g.S.Stands in
+    let key = c.self.inside.table.shared.key in
+    let lanes = sym (ap (λ d. d.lanes) c.self.view_is) ∙ sym c.self.invariant.2 in
+    λ number low. seats_each S.lane_of S.entries S.fixed key.lanes (S.fixed key.state.value) _ c.args.seat.me _ _
+    (c.requires.seat.1 ∙ lanes) c.close_with-closed.ensures.values.2 number (subst (λ n. number < n) lanes low)
