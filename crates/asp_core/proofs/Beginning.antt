@@ -3,6 +3,7 @@ use Rattle.std.proofs.Common.{◌≡◌, ℕ, ◌+◌, ◌<◌, ◌≤◌, ◌==
 use Rattle.std.proofs.Common.{◌↔◌, if◌then◌else◌, List, [], ◌∷◌, ◌++◌, reverse}
 use Rattle.std.proofs.Common.{Option, Result, Ok, Err, IfOk, OnOk, refl, ap, sym, ◌∙◌, subst, arith}
 use Rattle.std.proofs.Common.{inl, inr}
+use Rattle.asp_journal.specs.declared.full.Full.{Full}
 use Rattle.asp_core.specs.Book.{Adds, BookView, IsSound, past_in}
 use Rattle.asp_core.specs.Calm.{HasLoad, IsOver}
 use Rattle.asp_core.specs.Kernel.{IsBeginTooMuch, IsKept, IsRunOf}
@@ -129,19 +130,19 @@ not_idle past answers run next light (inr heavy) = omega arith
 pub refused_busy : (past : List Entry) (answers : List (ℕ × Answer)) (run : ℕ) (why : EventStop) (stop : BeginStop) →
     IsNext past run → bodies_with_one answers past ≤ MOST_BODIES → stop ≡ begin_stop why →
     stop ≡ stops.Idle ↔ IsIdleWith answers past
-refused_busy past answers run (event.JournalFull entries weight) stop next light e =
+refused_busy past answers run (event.JournalFull full) stop next light e =
     (λ idle. absurd cc, λ idle. absurd (not_idle past answers run next light idle))
 refused_busy past answers run event.Memory stop next light e =
     (λ idle. absurd cc, λ idle. absurd (not_idle past answers run next light idle))
 
 -- why it does not
-pub full_over : (past : List Entry) (run entries weight : ℕ) (why : EventStop) (stop : BeginStop) →
-    IsNext past run → ((total most : ℕ) → why ≡ event.JournalFull total most → IsOver past 2 128 total most) →
-    stop ≡ begin_stop why → stop ≡ stops.JournalFull entries weight → IsNextOver past entries weight
-full_over past run entries weight (event.JournalFull total most) stop next over e full =
-    let same : event.JournalFull total most ≡ event.JournalFull entries weight = cc in
-    record { run = run; next = next; over = over entries weight same }
-full_over past run entries weight event.Memory stop next over e full = absurd cc
+pub full_over : (past : List Entry) (run : ℕ) (full : Full) (why : EventStop) (stop : BeginStop) →
+    IsNext past run → ((most : Full) → why ≡ event.JournalFull most → IsOver past 2 128 most) →
+    stop ≡ begin_stop why → stop ≡ stops.JournalFull full → IsNextOver past full
+full_over past run full (event.JournalFull most) stop next over e is =
+    let same : event.JournalFull most ≡ event.JournalFull full = cc in
+    record { run = run; next = next; over = over full same }
+full_over past run full event.Memory stop next over e is = absurd cc
 
 -- ---- the Begin
 
@@ -237,13 +238,13 @@ begun_run meaning stands runner site setting lane old new account then_account r
 -- ---- a Begin that does not fit, and one that does
 
 pub begin_too_much : (m : Rules) (past : List Entry) (account : Account)
-    (answers : List (ℕ × Answer)) (lane entries weight : ℕ) → CanBegin m past account answers →
-    IsNextOver past entries weight → IsBeginTooMuch m past lane entries weight
-begin_too_much m past account answers lane entries weight can is =
+    (answers : List (ℕ × Answer)) (lane : ℕ) (full : Full) → CanBegin m past account answers →
+    IsNextOver past full → IsBeginTooMuch m past lane full
+begin_too_much m past account answers lane full can is =
     let next = is.next in (
       is.run,
       record { next = next.first; few = next.few; going = next.going; session = refl },
-      begin_much m past lane is.run (serial_of m past is.run) entries weight can.kept.sessions.journal.entries
+      begin_much m past lane is.run (serial_of m past is.run) full can.kept.sessions.journal.entries
           next.first.begins is.over,
     )
 
@@ -262,7 +263,7 @@ on_each_ok (Err stop) P Q f p = tt
 -- a run that did not begin for want of memory was refused so
 pub memory_back : (why : EventStop) (stop : BeginStop) → stop ≡ begin_stop why → stop ≡ stops.Memory →
     why ≡ event.Memory
-memory_back (event.JournalFull entries weight) stop e out = absurd cc
+memory_back (event.JournalFull full) stop e out = absurd cc
 memory_back event.Memory stop e out = refl
 
 -- the rules of the runner and the site that a core was given

@@ -13,6 +13,7 @@ use Rattle.asp_job.specs.Runs.{is_unfinished, is_waiting, stage_of, unfinished}
 use Rattle.asp_job.specs.Turns.{may_begin}
 use Rattle.asp_journal.specs.Tables.{IsFit}
 use Rattle.asp_journal.proofs.Open.{waiting_open}
+use Rattle.asp_journal.specs.declared.full.Full.{Full}
 use Rattle.asp_core.specs.Calm.{HasLoad, IsOver}
 use Rattle.asp_core.specs.Book.{BookView, HasRoomFor, IsRoomy, past_in}
 use Rattle.asp_core.specs.Kernel.{IsTooMuch, IsWithin}
@@ -58,17 +59,17 @@ begin_within m past lane run serial right may has =
     let light = bounded (weight_load past + 128) (2 ^ 64 - 1) MOST_WEIGHT has.light (omega arith) in
     record { few = omega arith; light = omega arith }
 
-pub begin_much : (m : Rules) (past : List Entry) (lane run serial entries total : ℕ) → AreRight m past
-    → may_begin past run ≡ true → IsOver past 2 128 entries total
-    → IsTooMuch (with_lane lane (Begin run serial) ∷ past) entries total
-begin_much m past lane run serial entries total right may over =
+pub begin_much : (m : Rules) (past : List Entry) (lane run serial : ℕ) (full : Full) → AreRight m past
+    → may_begin past run ≡ true → IsOver past 2 128 full
+    → IsTooMuch (with_lane lane (Begin run serial) ∷ past) full
+begin_much m past lane run serial full right may over =
     let new = with_lane lane (Begin run serial) ∷ past in
     let one = one_unfinished m past lane run serial right may in
     let loads : load past + 2 ≡ load new = omega arith in
     let weighs : weight_load past + 128 ≡ weight_load new = omega arith in
     record {
       entries_are = over.entries_are ∙ loads;
-      weight_is = over.total_is ∙ ap (λ w. min w (2 ^ 64 - 1)) weighs;
+      weight_is = over.weight_is ∙ ap (λ w. min w (2 ^ 64 - 1)) weighs;
       much = over.much;
     }
 

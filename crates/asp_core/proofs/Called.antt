@@ -2,6 +2,7 @@
 use Rattle.std.proofs.Common.{◌≡◌, ◌↔◌, ℕ}
 use Rattle.std.proofs.Common.{List, [], ◌∷◌, ◌++◌, reverse, Option, Some, None, IsSome, Result}
 use Rattle.std.proofs.Common.{Ok, Err, refl, ap, sym, ◌∙◌, subst}
+use Rattle.asp_journal.specs.declared.full.Full.{Full}
 use Rattle.asp_core.specs.Calling.{HasCalled, IsCallTooMuch, IsReplied, blocker_by}
 use Rattle.asp_core.specs.Book.{Adds, BookView, Stays, past_in}
 use Rattle.asp_core.specs.Kernel.{CoreView, IsKept, IsRunOf, IsTooMuch, RunView}
@@ -70,13 +71,13 @@ free_called stands lane old held run new then_held then_run has =
 -- its entry does not fit
 pub full_called : {R Site State : Type 0} → (m : Rules) (core : CoreView R Site)
     (account : Account) (held : AppState) (answers : List (ℕ × Answer)) (lane : ℕ)
-    (run : RunView State) (entries weight : ℕ) → IsKept m (past_of core) account held answers →
-    IsCallTooMuch (past_of core) lane held run entries weight →
-    IsTooMuch (past_after (past_of core) (called core lane run)) entries weight × HasNotFitFor (past_of core) lane run
-full_called m core account held answers lane run entries weight kept is =
+    (run : RunView State) (full : Full) → IsKept m (past_of core) account held answers →
+    IsCallTooMuch (past_of core) lane held run full →
+    IsTooMuch (past_after (past_of core) (called core lane run)) full × HasNotFitFor (past_of core) lane run
+full_called m core account held answers lane run full kept is =
     let past = past_of core in
-    let both = not_fit m past account held answers lane run.number entries weight is.call kept is.free is.much in (
-      subst (λ es. IsTooMuch (past_after past es) entries weight)
+    let both = not_fit m past account held answers lane run.number full is.call kept is.free is.much in (
+      subst (λ es. IsTooMuch (past_after past es) full)
           (sym (called_is core lane run is.call is.wanted)) both.0,
       (is.call, is.wanted, both.1),
     )
@@ -107,7 +108,7 @@ blocked_exact b mine holder is = (
 )
 
 no_block : (stop : EventStop) (holder : ℕ) → app_stop stop ≡ step.Blocked holder → ⊥
-no_block (event.JournalFull entries weight) holder e = cc
+no_block (event.JournalFull full) holder e = cc
 no_block event.Memory holder e = cc
 
 pub unblocked_exact : (b : Option ℕ) (stop : EventStop) (told_stop : AppStepStop) (holder : ℕ) → b ≡ None →
@@ -121,15 +122,15 @@ pub done_exact : (b : Option ℕ) (holder : ℕ) → b ≡ None →
     (done ≡ stopped (step.Blocked holder)) ↔ (b ≡ Some holder)
 done_exact b holder none = (λ e. absurd cc, λ e. absurd cc)
 
-full_back : (stop : EventStop) (entries weight : ℕ) → app_stop stop ≡ step.JournalFull entries weight →
-    stop ≡ event.JournalFull entries weight
-full_back (event.JournalFull most heaviest) entries weight e = cc
-full_back event.Memory entries weight e = absurd cc
+full_back : (stop : EventStop) (full : Full) → app_stop stop ≡ step.JournalFull full →
+    stop ≡ event.JournalFull full
+full_back (event.JournalFull most) full e = cc
+full_back event.Memory full e = absurd cc
 
-pub full_told : (stop : EventStop) (told_stop : AppStepStop) (entries weight : ℕ) → told_stop ≡ app_stop stop →
-    stopped told_stop ≡ stopped (step.JournalFull entries weight) → stop ≡ event.JournalFull entries weight
-full_told stop told_stop entries weight is e =
-    let same : told_stop ≡ step.JournalFull entries weight = cc in full_back stop entries weight (sym is ∙ same)
+pub full_told : (stop : EventStop) (told_stop : AppStepStop) (full : Full) → told_stop ≡ app_stop stop →
+    stopped told_stop ≡ stopped (step.JournalFull full) → stop ≡ event.JournalFull full
+full_told stop told_stop full is e =
+    let same : told_stop ≡ step.JournalFull full = cc in full_back stop full (sym is ∙ same)
 
 -- what was made of the call
 pub has_called : {Site State : Type 0} → (stands : Site → State → Told → ℕ → Type 0) (lane : ℕ)

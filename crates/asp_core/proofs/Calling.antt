@@ -2,6 +2,7 @@
 use Rattle.std.proofs.Common.{◌≡◌, ℕ, ◌-◌, ◌^◌, ◌<◌, ◌⊎◌, min, Bool, true, false}
 use Rattle.std.proofs.Common.{if◌then◌else◌, List, [], ◌∷◌, ◌++◌, reverse, Option, Some, None}
 use Rattle.std.proofs.Common.{refl, ap, sym, ◌∙◌, subst, arith, inl, inr}
+use Rattle.asp_journal.specs.declared.full.Full.{Full}
 use Rattle.asp_core.specs.Calling.{HasCalled, IsShort, is_read}
 use Rattle.asp_core.specs.Book.{BookView, IsSound, past_in}
 use Rattle.asp_core.specs.Kernel.{CoreView, IsKept, IsRunOf, IsTooMuch, IsWithin, RunView}
@@ -103,10 +104,10 @@ short_within past lane run c r short within =
     let light = within.light in
     record { few = few; light = rw same light }
 
-pub short_much : (past : List Entry) (lane run entries weight : ℕ) (c : AppCall) (r : AppReply) → IsShort r →
-    IsTooMuch (with_lane lane (App run c reply.Done) ∷ past) entries weight →
-    IsTooMuch (with_lane lane (App run c r) ∷ past) entries weight
-short_much past lane run entries weight c r short much =
+pub short_much : (past : List Entry) (lane run : ℕ) (full : Full) (c : AppCall) (r : AppReply) → IsShort r →
+    IsTooMuch (with_lane lane (App run c reply.Done) ∷ past) full →
+    IsTooMuch (with_lane lane (App run c r) ∷ past) full
+short_much past lane run full c r short much =
     let same = same_load past lane run c r short in
     record {
       entries_are = much.entries_are;
@@ -246,24 +247,24 @@ not_fit_now : (past : List Entry) (lane run : ℕ) (c : AppCall) → HasNoRoom p
 not_fit_now [] lane run c h = h
 not_fit_now (entry ∷ past) lane run c h = inl h
 
-too_much : (past : List Entry) (entries weight : ℕ) → IsTooMuch past entries weight →
+too_much : (past : List Entry) (full : Full) → IsTooMuch past full →
     (MOST_ENTRIES < load past) ⊎ (MOST_WEIGHT < weight_load past)
-too_much past entries weight is = elim is.much [
+too_much past full is = elim is.much [
   | inl many ↦ (let same = is.entries_are in inl (omega arith))
   | inr heavy ↦ (let same = is.weight_is in inr (omega arith))
 ]
 
 pub not_fit : (m : Rules) (past : List Entry) (account : Account) (held : AppState)
-    (answers : List (ℕ × Answer)) (lane run entries weight : ℕ) (c : AppCall) →
+    (answers : List (ℕ × Answer)) (lane run : ℕ) (full : Full) (c : AppCall) →
     IsKept m past account held answers → blocker_of held run c ≡ None →
-    IsTooMuch (with_lane lane (App run c (apply held run c).1) ∷ past) entries weight →
-    IsTooMuch (call_entry past lane run c ∷ past) entries weight × HasNotFit past lane run c
-not_fit m past account held answers lane run entries weight c kept free much =
-    let here : IsTooMuch (call_entry past lane run c ∷ past) entries weight =
-    subst (λ h. IsTooMuch (with_lane lane (App run c (apply h run c).1) ∷ past) entries weight) kept.held_is much in (
+    IsTooMuch (with_lane lane (App run c (apply held run c).1) ∷ past) full →
+    IsTooMuch (call_entry past lane run c ∷ past) full × HasNotFit past lane run c
+not_fit m past account held answers lane run full c kept free much =
+    let here : IsTooMuch (call_entry past lane run c ∷ past) full =
+    subst (λ h. IsTooMuch (with_lane lane (App run c (apply h run c).1) ∷ past) full) kept.held_is much in (
       here,
       not_fit_now past lane run c (record {
         free = ap (λ h. blocker_of h run c) (sym kept.held_is) ∙ free;
-        overfull = too_much (call_entry past lane run c ∷ past) entries weight here;
+        overfull = too_much (call_entry past lane run c ∷ past) full here;
       }),
     )

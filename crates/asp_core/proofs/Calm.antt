@@ -13,6 +13,7 @@ use Rattle.asp_job.specs.Journal.{past_after}
 use Rattle.asp_job.specs.Runs.{drawn, is_stage_unfinished, is_unfinished, numbers, stage_of, unfinished}
 use Rattle.asp_journal.specs.Rows.{IsNumberedFor}
 use Rattle.asp_journal.specs.Tables.{AreFit}
+use Rattle.asp_journal.specs.declared.full.Full.{Full}
 use Rattle.asp_core.specs.Book.{owed}
 use Rattle.asp_core.specs.Calm.{AreCalm, HasLoad, IsCalm, IsOver, entry_weight}
 use Rattle.asp_core.specs.Kernel.{IsTooMuch, IsWithin, halts_to_come}
@@ -163,14 +164,14 @@ pub calm_within : (journal next more : List Entry) (count weight : ℕ) → next
 calm_within journal next more count weight e fit calm c w has =
     rw (grown_past journal next more e) (within_after (reverse journal) more count weight fit calm c w has)
 
-pub calm_much : (past more : List Entry) (count weight entries total : ℕ) → AreFit past more → AreCalm more
+pub calm_much : (past more : List Entry) (count weight : ℕ) (full : Full) → AreFit past more → AreCalm more
     → count ≡ length more → weight ≡ min (sum_by entry_weight more) (2 ^ 64 - 1)
-    → IsOver past count weight entries total → IsTooMuch (past_after past more) entries total
-calm_much past more count weight entries total fit calm c w over =
+    → IsOver past count weight full → IsTooMuch (past_after past more) full
+calm_much past more count weight full fit calm c w over =
     let loads = calm_load past more fit calm in
     record {
       entries_are = over.entries_are ∙ ap (λ n. load past + n) c ∙ sym loads.0;
-      weight_is = over.total_is ∙ ap (λ x. min (weight_load past + x) (2 ^ 64 - 1)) w
+      weight_is = over.weight_is ∙ ap (λ x. min (weight_load past + x) (2 ^ 64 - 1)) w
           ∙ twice_bounded (weight_load past) (sum_by entry_weight more) (2 ^ 64 - 1)
           ∙ ap (λ x. min x (2 ^ 64 - 1)) (sym loads.1);
       much = over.much;

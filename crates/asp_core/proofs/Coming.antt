@@ -8,6 +8,7 @@ use Rattle.asp_job.specs.declared.session.SessionState.{SessionState}
 use Rattle.asp_job.specs.History.{with_lane, work_weight}
 use Rattle.asp_job.specs.Journal.{past_after}
 use Rattle.asp_job.specs.Rules.{Rules}
+use Rattle.asp_journal.specs.declared.full.Full.{Full}
 use Rattle.asp_core.specs.Book.{BookView, HasRoomFor, LeavesRoom, past_in}
 use Rattle.asp_core.specs.Calm.{HasLoad, IsCalm, IsOver, entry_weight}
 use Rattle.asp_core.specs.Drawing.{drawn_by, entries_by, tick_before}
@@ -44,12 +45,12 @@ job_within rules sessions journal next more lane job count weight tick e c w has
     (weight_is rules sessions past more lane job weight tick w) has
 
 pub job_much : (rules : Rules) (sessions : ℕ → Option SessionState) (past more : List Entry) (lane : ℕ) (job : Job)
-    (count weight entries total : ℕ) → more ≡ tick_before sessions past lane job → count ≡ length more
+    (count weight : ℕ) (full : Full) → more ≡ tick_before sessions past lane job → count ≡ length more
     → weight ≡ min (sum_by entry_weight more + (64 + work_weight job.work)) (2 ^ 64 - 1)
-    → IsOver past (count + 1) weight entries total
-    → IsTooMuch (past_after past (entries_by rules sessions past lane job)) entries total
-job_much rules sessions past more lane job count weight entries total tick c w over =
-    calm_much past (entries_by rules sessions past lane job) (count + 1) weight entries total
+    → IsOver past (count + 1) weight full
+    → IsTooMuch (past_after past (entries_by rules sessions past lane job)) full
+job_much rules sessions past more lane job count weight full tick c w over =
+    calm_much past (entries_by rules sessions past lane job) (count + 1) weight full
     (job_fit rules sessions past lane job) (job_calm rules sessions past lane job)
     (count_is rules sessions past more lane job count tick c)
     (weight_is rules sessions past more lane job weight tick w) over

@@ -1,6 +1,7 @@
 -- Why a job is not taken.
 use Rattle.std.proofs.Common.{◌≡◌, ℕ, ◌<◌, Bool, true, false, if◌then◌else◌, List, length, Some}
 use Rattle.std.proofs.Common.{None, refl, arith, nat_le}
+use Rattle.asp_journal.specs.declared.full.Full.{Full}
 use Rattle.asp_core.specs.Stops.{admit_stop}
 use Rattle.asp_core.specs.Taking.{refused_before}
 use Rattle.asp_core.specs.declared.stop.AdmitStop.TheVariants.{Stopping, WaitingFull, JournalFull}
@@ -27,7 +28,7 @@ none_before past e =
     (both.0, not_most (length (waiting_pages past)) MOST_WAITING both.1)
 
 -- a journal that is full was told so
-pub full_back : (stop : EventStop) (entries weight : ℕ) → admit_stop stop ≡ JournalFull entries weight
-    → stop ≡ event.JournalFull entries weight
-full_back (event.JournalFull most heaviest) entries weight e = cc
-full_back event.Memory entries weight e = absurd cc
+pub full_back : (stop : EventStop) (full : Full) → admit_stop stop ≡ JournalFull full
+    → stop ≡ event.JournalFull full
+full_back (event.JournalFull most) full e = cc
+full_back event.Memory full e = absurd cc

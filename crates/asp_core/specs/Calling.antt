@@ -10,6 +10,7 @@ use Rattle.asp_job.specs.Application.{AppState, apply, blocker_of}
 use Rattle.asp_job.specs.Calls.{IsAppCall, IsReply}
 use Rattle.asp_job.specs.History.{with_lane}
 use Rattle.asp_job.specs.Told.{Told, heard}
+use Rattle.asp_journal.specs.declared.full.Full.{Full}
 use Rattle.asp_core.specs.declared.run.Progress.TheVariants as progress
 use Rattle.asp_core.specs.Book.{BookView, Grows, past_in}
 use Rattle.asp_core.specs.Kernel.{RunView, IsWithin, IsTooMuch, wanted_by}
@@ -65,9 +66,9 @@ pub record HasCalled {Site State : Type 0} (stands : Site → State → Told →
 
 -- the call that the run wants is let through, and with its entry there would be too much
 pub record IsCallTooMuch {State : Type 0} (past : List Entry) (lane : ℕ) (held : AppState) (run : RunView State)
-    (entries weight : ℕ) : Type 0 where
+    (full : Full) : Type 0 where
   pub call : AppCall
   pub wanted : wanted_by run.progress ≡ Some call
   pub free : blocker_of held run.number call ≡ None
   pub much :
-      IsTooMuch (with_lane lane (App run.number call (apply held run.number call).1) ∷ past) entries weight
+      IsTooMuch (with_lane lane (App run.number call (apply held run.number call).1) ∷ past) full

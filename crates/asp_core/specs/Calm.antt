@@ -5,6 +5,7 @@ use Rattle.asp_job.specs.declared.entry.TheConstants.{MOST_ENTRIES, MOST_WEIGHT}
 use Rattle.asp_job.specs.declared.entry.What.{What}
 use Rattle.asp_job.specs.declared.entry.What.TheVariants.{Queue, Admit, Refuse, Tick, Stop}
 use Rattle.asp_job.specs.History.{load, weight_load, what_weight}
+use Rattle.asp_journal.specs.declared.full.Full.{Full}
 
 -- it begins and ends no run, and counts
 abbrev pub IsCalm : What → Type 0
@@ -27,8 +28,8 @@ pub record HasLoad (past : List Entry) (count weight : ℕ) : Type 0 where
   pub few : load past + count ≤ MOST_ENTRIES
   pub light : min (weight_load past + weight) (2 ^ 64 - 1) ≤ MOST_WEIGHT
 
--- there would be so many entries of that weight with so many more, too many or too heavy
-pub record IsOver (past : List Entry) (count weight entries total : ℕ) : Type 0 where
-  pub entries_are : entries ≡ load past + count
-  pub total_is : total ≡ min (weight_load past + weight) (2 ^ 64 - 1)
-  pub much : (MOST_ENTRIES < entries) ⊎ (MOST_WEIGHT < total)
+-- it would be so full with so many entries more, of that weight: too many or too heavy
+pub record IsOver (past : List Entry) (count weight : ℕ) (full : Full) : Type 0 where
+  pub entries_are : full.entries ≡ load past + count
+  pub weight_is : full.weight ≡ min (weight_load past + weight) (2 ^ 64 - 1)
+  pub much : (MOST_ENTRIES < full.entries) ⊎ (MOST_WEIGHT < full.weight)

@@ -30,6 +30,7 @@ use Rattle.asp_job.specs.Session.{IsSession}
 use Rattle.asp_job.specs.Size.{IsSmall}
 use Rattle.asp_job.specs.Told.{Told, Outcome, Wants, Ends, Meaning}
 use Rattle.asp_job.specs.Turns.{IsRunning, IsNextRun, IsBegin, may_begin, serial_of, closing_runs}
+use Rattle.asp_journal.specs.declared.full.Full.{Full}
 use Rattle.asp_response.specs.declared.fixed.Unavailable.TheVariants as cause
 use Rattle.asp_response.specs.Fixed.{unavailable_of}
 use Rattle.asp_session.specs.Account.{Account}
@@ -138,11 +139,11 @@ HasRoom past answers capacity = length past + to_come past answers ≤ capacity
 abbrev pub HasAnswerRoom : List Entry → ℕ → ℕ → Type 0
 HasAnswerRoom past answers capacity = answers + length (unfinished past) ≤ capacity
 
--- there would be so many entries of that weight, too many or too heavy; 2^64 - 1 stands for a greater weight
-pub record IsTooMuch (past : List Entry) (entries weight : ℕ) : Type 0 where
-  pub entries_are : entries ≡ load past
-  pub weight_is : weight ≡ min (weight_load past) (2 ^ 64 - 1)
-  pub much : (MOST_ENTRIES < entries) ⊎ (MOST_WEIGHT < weight)
+-- it would be so full: too many entries or too heavy; 2^64 - 1 stands for a greater weight
+pub record IsTooMuch (past : List Entry) (full : Full) : Type 0 where
+  pub entries_are : full.entries ≡ load past
+  pub weight_is : full.weight ≡ min (weight_load past) (2 ^ 64 - 1)
+  pub much : (MOST_ENTRIES < full.entries) ⊎ (MOST_WEIGHT < full.weight)
 
 -- a Halt stands, as many are unfinished as may be, or no run may begin
 abbrev pub NoneIsNext : List Entry → Type 0
@@ -154,10 +155,10 @@ abbrev pub IsIdle : Rules → List Entry → Type 0
 IsIdle rules past = NoneIsNext past ⊎ (MOST_BODIES < bodies_with_one (ready rules past) past)
 
 -- there would be too much with the Begin of the next run
-abbrev pub IsBeginTooMuch : Rules → List Entry → ℕ → ℕ → ℕ → Type 0
-IsBeginTooMuch rules past lane entries weight =
+abbrev pub IsBeginTooMuch : Rules → List Entry → ℕ → Full → Type 0
+IsBeginTooMuch rules past lane full =
     (run : ℕ) × IsBegin rules past run (serial_of rules past run)
-    × IsTooMuch (begin_entry rules past lane run ∷ past) entries weight
+    × IsTooMuch (begin_entry rules past lane run ∷ past) full
 
 -- there is room for the Begin of the next run
 abbrev pub NextFits : Rules → List Entry → ℕ → Type 0

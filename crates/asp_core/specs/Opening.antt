@@ -14,6 +14,7 @@ use Rattle.asp_job.specs.Session.{IsSession}
 use Rattle.asp_job.specs.Size.{IsSmall}
 use Rattle.asp_job.specs.Told.{Told, begun}
 use Rattle.asp_job.specs.Turns.{IsNextRun}
+use Rattle.asp_journal.specs.declared.full.Full.{Full}
 use Rattle.asp_session.specs.Account.{Account}
 use Rattle.asp_session.specs.Letters.{letters_of}
 use Rattle.asp_core.specs.declared.opening.Opening.{Opening}
@@ -97,11 +98,11 @@ pub record IsNextWith (past : List Entry) (account : Account) (answers : List (�
   pub light : bodies_with_one answers past ≤ MOST_BODIES
   pub load : HasLoad past 2 128
 
--- there would be so many entries of that weight with the Begin of the run that is next, too many or too heavy
-pub record IsNextOver (past : List Entry) (entries weight : ℕ) : Type 0 where
+-- it would be so full with the Begin of the run that is next: too many entries or too heavy
+pub record IsNextOver (past : List Entry) (full : Full) : Type 0 where
   pub run : ℕ
   pub next : IsNext past run
-  pub over : IsOver past 2 128 entries weight
+  pub over : IsOver past 2 128 full
 
 -- what the Begin of a run leaves of a book and of the account of the session keys, and the run
 pub record HasBegun {State : Type 0} (rules : Rules) (stands : State → Told → ℕ → Type 0) (lane : ℕ) (old : BookView)

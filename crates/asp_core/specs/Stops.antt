@@ -9,13 +9,13 @@ use Rattle.asp_core.specs.declared.stop.EventStop.{EventStop}
 use Rattle.asp_core.specs.declared.stop.EventStop.TheVariants as event
 
 abbrev pub admit_stop : EventStop → AdmitStop
-admit_stop (event.JournalFull entries weight) = admit.JournalFull entries weight
+admit_stop (event.JournalFull full) = admit.JournalFull full
 admit_stop event.Memory = admit.Memory
 
 abbrev pub begin_stop : EventStop → BeginStop
-begin_stop (event.JournalFull entries weight) = begin.JournalFull entries weight
+begin_stop (event.JournalFull full) = begin.JournalFull full
 begin_stop event.Memory = begin.Memory
 
 abbrev pub app_stop : EventStop → AppStepStop
-app_stop (event.JournalFull entries weight) = step.JournalFull entries weight
+app_stop (event.JournalFull full) = step.JournalFull full
 app_stop event.Memory = step.Memory

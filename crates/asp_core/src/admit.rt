@@ -1,7 +1,7 @@
 //! The call of the core that takes a job.
 #![tactic(auto)]
 
-ghost use Rattle.std.specs.Prelude.{◌≡◌, ◌↔◌, ◌≤◌, ℕ, length, true, false, Err, OnOk, OnErr, IfOk};
+ghost use Rattle.std.specs.Prelude.{◌≡◌, ◌↔◌, ◌≤◌, length, true, false, Err, OnOk, OnErr, IfOk};
 ghost use Rattle.asp_job.specs.History as history;
 ghost use Rattle.asp_job.specs.Journal as journals;
 ghost use Rattle.asp_job.specs.Runs as runs;
@@ -9,6 +9,7 @@ ghost use Rattle.asp_job.specs.Running.{is_page};
 ghost use Rattle.asp_job.specs.Size.{IsSmall};
 ghost use Rattle.asp_job.specs.Turns as turns;
 ghost use Rattle.asp_job.specs.declared.entry.TheConstants.{MOST_ENTRIES, MOST_WAITING};
+ghost use Rattle.asp_journal.specs.declared.full.Full.{Full};
 ghost use Rattle.asp_core.specs.Book.{Stays, past_by, past_in};
 ghost use Rattle.asp_core.specs.Drawing as drawing;
 ghost use Rattle.asp_core.specs.Kernel as kernel;
@@ -20,7 +21,7 @@ use crate::book::Book;
 use crate::events::with_job;
 use crate::house::Lent;
 use crate::kernel::Core;
-use crate::stop::{AdmitStop, EventStop, admit_stop};
+use crate::stop::{AdmitStop, EventStop};
 use asp_job::{Job, MOST_WAITING, Runner};
 use asp_journal::Journal;
 use asp_session::Sessions;
@@ -56,16 +57,12 @@ pub(crate) fn take_job<R: Runner>(
         (kernel.rules_by (R.meaning lent.now.runner.now lent.now.site.now) lent.now.setting)
         (past_in book.old) lane job.now).what) }
     ensures err { OnErr result (Stays book.old book.new × (sessions.new.account ≡ sessions.old.account)) }
-    ensures full { (entries weight : ℕ) → result ≡ Err (EventStop.JournalFull entries weight) →
+    ensures full { (full : Full) → result ≡ Err (EventStop.JournalFull full) →
         kernel.IsTooMuch (journals.past_after (past_in book.old) (journals.admit_entries
         (kernel.rules_by (R.meaning lent.now.runner.now lent.now.site.now) lent.now.setting)
-        (past_in book.old) lane job.now))
-        entries weight }
+        (past_in book.old) lane job.now)) full }
 {
-    let drawn = match with_job(lent, book, sessions, lane, job) {
-        Ok(drawn) => drawn,
-        Err(stop) => return Err(stop),
-    };
+    let drawn = with_job(lent, book, sessions, lane, job)?;
     book.put(drawn.told.run, drawn.answer);
     Ok(drawn.told)
 }
@@ -91,9 +88,9 @@ impl<R: Runner> Core<R> {
         ensures stopping { result ≡ Err AdmitStop.Stopping ↔ (runs.is_stopping (kernel.past_of self.old) ≡ true) }
         ensures waiting { result ≡ Err AdmitStop.WaitingFull ↔ ((runs.is_stopping (kernel.past_of self.old) ≡ false)
             × (MOST_WAITING ≤ length (turns.waiting_pages (kernel.past_of self.old)))) }
-        ensures full { (entries weight : ℕ) → result ≡ Err (AdmitStop.JournalFull entries weight) →
+        ensures full { (full : Full) → result ≡ Err (AdmitStop.JournalFull full) →
             kernel.IsTooMuch (journals.past_after (kernel.past_of self.old) (journals.admit_entries
-            (kernel.rules_of R.meaning self.old) (kernel.past_of self.old) lane job.now)) entries weight }
+            (kernel.rules_of R.meaning self.old) (kernel.past_of self.old) lane job.now)) full }
         ensures err { OnErr result (self.new ≡ self.old) }
     {
         if let Some(stop) = refused_before(self.kept.book.journal()) {
@@ -113,7 +110,7 @@ impl<R: Runner> Core<R> {
         );
         match made {
             Ok(told) => Ok(told),
-            Err(stop) => Err(admit_stop(stop)),
+            Err(stop) => Err(AdmitStop::from(stop)),
         }
     }
 }

@@ -9,6 +9,7 @@ ghost use Rattle.asp_job.specs.Runs as runs;
 ghost use Rattle.asp_job.specs.Turns as turns;
 ghost use Rattle.asp_job.specs.declared.entry.TheConstants.{MOST_ENTRIES, MOST_UNFINISHED};
 ghost use Rattle.asp_journal.specs.Tables.{IsFit};
+ghost use Rattle.asp_journal.specs.declared.full.Full.{Full};
 ghost use Rattle.asp_core.specs.Book.{Adds, HasRoomFor, IsRoomy, Stays, past_by, past_in};
 ghost use Rattle.asp_core.specs.Calm.{HasLoad};
 ghost use Rattle.asp_core.specs.Kernel as kernel;
@@ -26,7 +27,7 @@ use crate::opening::{Opening, SessionNumber, open_run, session_number};
 use crate::ready::has_body_room;
 use crate::room::room_for;
 use crate::run::{Progress, Run};
-use crate::stop::{BeginStop, begin_stop};
+use crate::stop::BeginStop;
 use asp_job::{Entry, Runner, What};
 use asp_journal::Journal;
 use asp_session::Sessions;
@@ -60,17 +61,15 @@ fn next_with_room(book: &mut Book, sessions: &Sessions) -> Result<(u32, SessionN
     ensures room { OnOk result (IsRoomy book.new 2) }
     ensures idle { IfErr result (λ stop. stop ≡ BeginStop.Idle ↔
         spec.IsIdleWith book.old.answers (past_in book.old)) }
-    ensures full { (entries weight : ℕ) → result ≡ Err (BeginStop.JournalFull entries weight) →
-        spec.IsNextOver (past_in book.old) entries weight }
+    ensures full { (full : Full) → result ≡ Err (BeginStop.JournalFull full) →
+        spec.IsNextOver (past_in book.old) full }
     ensures fits { result ≡ Err BeginStop.Memory → HasLoad (past_in book.old) 2 128 }
 {
     let Some(next) = next_to_begin(book) else {
         return Err(BeginStop::Idle);
     };
     let number = session_number(book.journal(), sessions, next);
-    if let Err(stop) = room_for(book, 2, 128) {
-        return Err(begin_stop(stop));
-    }
+    room_for(book, 2, 128)?;
     Ok((next as u32, number))
 }
 
@@ -147,9 +146,9 @@ fn begin_run<R: Runner>(
     ensures err { OnErr result (Stays book.old book.new × (sessions.new.account ≡ sessions.old.account)) }
     ensures idle { IfErr result (λ stop. stop.1 ≡ BeginStop.Idle ↔
         spec.IsIdleWith book.old.answers (past_in book.old)) }
-    ensures full { (entries weight : ℕ) → IfErr result (λ stop. stop.1 ≡ BeginStop.JournalFull entries weight →
+    ensures full { (full : Full) → IfErr result (λ stop. stop.1 ≡ BeginStop.JournalFull full →
         kernel.IsBeginTooMuch (kernel.rules_by (R.meaning lent.now.runner.now lent.now.site.now) lent.now.setting)
-        (past_in book.old) lane entries weight) }
+        (past_in book.old) lane full) }
     ensures fits { IfErr result (λ stop. stop.1 ≡ BeginStop.Memory →
         kernel.NextFits (kernel.rules_by (R.meaning lent.now.runner.now lent.now.site.now) lent.now.setting)
         (past_in book.old) lane) }
@@ -192,8 +191,8 @@ impl<R: Runner> Core<R> {
             kernel.IsIdle (kernel.rules_of R.meaning self.old) (kernel.past_of self.old)) }
 
         // JournalFull where the Begin of the next run does not fit, and Memory only where it does.
-        ensures full { (entries weight : ℕ) → IfErr result (λ stop. stop.1 ≡ BeginStop.JournalFull entries weight →
-            kernel.IsBeginTooMuch (kernel.rules_of R.meaning self.old) (kernel.past_of self.old) lane entries weight) }
+        ensures full { (full : Full) → IfErr result (λ stop. stop.1 ≡ BeginStop.JournalFull full →
+            kernel.IsBeginTooMuch (kernel.rules_of R.meaning self.old) (kernel.past_of self.old) lane full) }
         ensures fits { IfErr result (λ stop. stop.1 ≡ BeginStop.Memory →
             kernel.NextFits (kernel.rules_of R.meaning self.old) (kernel.past_of self.old) lane) }
         ensures err { OnErr result (self.new ≡ self.old) }

@@ -16,10 +16,10 @@ ghost use Rattle.asp_core.specs.Stops as stops;
 use crate::book::Book;
 use crate::kernel::Core;
 use crate::run::{Progress, Run};
-use crate::stop::{AppStepStop, EventStop, app_stop};
+use crate::stop::{AppStepStop, EventStop};
 use asp_app::Application;
 use asp_job::{Entry, MOST_ENTRIES, MOST_WEIGHT, Runner, What, copy_reply};
-use asp_journal::{call_weight, reply_weight};
+use asp_journal::{Full, call_weight, reply_weight};
 use vb_value::{AppCall, AppReply};
 
 /// Makes room for the entry of a call and for all that is to come for sure, if the entry fits.
@@ -33,18 +33,20 @@ fn room_for_call(
     ensures stays { Stays book.old book.new }
     ensures ok { OnOk result (kernel.IsWithin
         (history.with_lane lane (What.App run call.now reply.now) ∷ past_in book.old) × (0 < book.new.room)) }
-    ensures full { (entries weight : ℕ) → result ≡ Err (EventStop.JournalFull entries weight) → kernel.IsTooMuch
-        (history.with_lane lane (What.App run call.now reply.now) ∷ past_in book.old) entries weight }
+    ensures full { (full : Full) → result ≡ Err (EventStop.JournalFull full) → kernel.IsTooMuch
+        (history.with_lane lane (What.App run call.now reply.now) ∷ past_in book.old) full }
 {
     let journal = book.journal();
-    let entries = journal.entries_in() + journal.unfinished() + 1;
-    let weight = journal
-        .weight_load()
-        .saturating_add(call_weight(call))
-        .saturating_add(reply_weight(reply))
-        .saturating_add(64);
-    if entries > MOST_ENTRIES || weight > MOST_WEIGHT {
-        return Err(EventStop::JournalFull { entries, weight });
+    let full = Full {
+        entries: journal.entries_in() + journal.unfinished() + 1,
+        weight: journal
+            .weight_load()
+            .saturating_add(call_weight(call))
+            .saturating_add(reply_weight(reply))
+            .saturating_add(64),
+    };
+    if full.entries > MOST_ENTRIES || full.weight > MOST_WEIGHT {
+        return Err(EventStop::JournalFull(full));
     }
     if book.make_room(0).is_err() {
         return Err(EventStop::Memory);
@@ -86,9 +88,9 @@ fn read_reply(
     ensures ok { IfOk result (spec.IsReplied book.new lane run call.now application.old application.new) }
     ensures stays { Stays book.old book.new }
     ensures err { OnErr result (application.new ≡ application.old) }
-    ensures full { (entries weight : ℕ) → result ≡ Err (EventStop.JournalFull entries weight) → kernel.IsTooMuch
+    ensures full { (full : Full) → result ≡ Err (EventStop.JournalFull full) → kernel.IsTooMuch
         (history.with_lane lane (What.App run call.now (object.apply application.old run call.now).1)
-        ∷ past_in book.old) entries weight }
+        ∷ past_in book.old) full }
 {
     let reply = match application.call(run, call) {
         Ok(reply) => reply,
@@ -116,9 +118,9 @@ fn write_reply(
     ensures ok { IfOk result (spec.IsReplied book.new lane run call.now application.old application.new) }
     ensures stays { Stays book.old book.new }
     ensures err { OnErr result (application.new ≡ application.old) }
-    ensures full { (entries weight : ℕ) → result ≡ Err (EventStop.JournalFull entries weight) → kernel.IsTooMuch
+    ensures full { (full : Full) → result ≡ Err (EventStop.JournalFull full) → kernel.IsTooMuch
         (history.with_lane lane (What.App run call.now (object.apply application.old run call.now).1)
-        ∷ past_in book.old) entries weight }
+        ∷ past_in book.old) full }
 {
     room_for_call(book, lane, run, call, &AppReply::Done)?;
     match application.call(run, call) {
@@ -143,9 +145,9 @@ fn replies_to(
     ensures ok { IfOk result (spec.IsReplied book.new lane run call.now application.old application.new) }
     ensures stays { Stays book.old book.new }
     ensures err { OnErr result (application.new ≡ application.old) }
-    ensures full { (entries weight : ℕ) → result ≡ Err (EventStop.JournalFull entries weight) → kernel.IsTooMuch
+    ensures full { (full : Full) → result ≡ Err (EventStop.JournalFull full) → kernel.IsTooMuch
         (history.with_lane lane (What.App run call.now (object.apply application.old run call.now).1)
-        ∷ past_in book.old) entries weight }
+        ∷ past_in book.old) full }
 {
     if is_read(call) {
         read_reply(book, application, lane, run, call)
@@ -169,8 +171,8 @@ fn make_call<R: Runner>(
         × (run.new ≡ run.old)) }
     ensures blocked { (holder : ℕ) → result ≡ Err (AppStepStop.Blocked holder) ↔
         (spec.blocker_by application.old run.old ≡ Some holder) }
-    ensures full { (entries weight : ℕ) → result ≡ Err (AppStepStop.JournalFull entries weight) →
-        spec.IsCallTooMuch (past_in book.old) lane application.old run.old entries weight }
+    ensures full { (full : Full) → result ≡ Err (AppStepStop.JournalFull full) →
+        spec.IsCallTooMuch (past_in book.old) lane application.old run.old full }
 {
     let number = run.number();
     let Some(call) = run.wanted() else {
@@ -179,10 +181,7 @@ fn make_call<R: Runner>(
     if let Some(holder) = application.blocker(number, call) {
         return Err(AppStepStop::Blocked { holder });
     }
-    let (reply, copy) = match replies_to(book, application, lane, number, call) {
-        Ok(replies) => replies,
-        Err(stop) => return Err(app_stop(stop)),
-    };
+    let (reply, copy) = replies_to(book, application, lane, number, call)?;
     let Some(call) = run.take_reply(runner, copy) else {
         unreachable!()
     };
@@ -210,10 +209,10 @@ impl<R: Runner> Core<R> {
         ensures free { OnOk result (kernel.blocker self.old run.old ≡ None) }
         ensures blocked { (holder : ℕ) → result ≡ Err (AppStepStop.Blocked holder) ↔
             (kernel.blocker self.old run.old ≡ Some holder) }
-        ensures full { (entries weight : ℕ) → result ≡ Err (AppStepStop.JournalFull entries weight) →
+        ensures full { (full : Full) → result ≡ Err (AppStepStop.JournalFull full) →
             kernel.IsTooMuch (journals.past_after (kernel.past_of self.old) (kernel.called self.old lane run.old))
-            entries weight }
-        ensures not_fit { (entries weight : ℕ) → result ≡ Err (AppStepStop.JournalFull entries weight) →
+            full }
+        ensures not_fit { (full : Full) → result ≡ Err (AppStepStop.JournalFull full) →
             kernel.HasNotFitFor (kernel.past_of self.old) lane run.old }
         ensures err { OnErr result ((self.new ≡ self.old) × (run.new ≡ run.old)) }
     {

@@ -1,13 +1,14 @@
 //! The entries that a job adds to a journal.
 #![tactic(auto)]
 
-ghost use Rattle.std.specs.Prelude.{◌≡◌, ◌+◌, ◌-◌, ◌<◌, ◌≤◌, ◌^◌, ◌++◌, ◌∷◌, [], ℕ, min, length, sum_by, true};
+ghost use Rattle.std.specs.Prelude.{◌≡◌, ◌+◌, ◌-◌, ◌<◌, ◌≤◌, ◌^◌, ◌++◌, ◌∷◌, [], min, length, sum_by, true};
 ghost use Rattle.std.specs.Prelude.{OnOk, OnErr, IfOk, Err};
 ghost use Rattle.asp_job.specs.History as history;
 ghost use Rattle.asp_job.specs.Journal as journals;
 ghost use Rattle.asp_job.specs.Keys as keys;
 ghost use Rattle.asp_job.specs.Size.{IsSmall};
 ghost use Rattle.asp_job.specs.declared.entry.TheConstants.{MOST_ENTRIES};
+ghost use Rattle.asp_journal.specs.declared.full.Full.{Full};
 ghost use Rattle.asp_core.specs.Book.{Adds, Grows, Stays, past_by, past_in};
 ghost use Rattle.asp_core.specs.Calm as calm;
 ghost use Rattle.asp_core.specs.Drawing as drawing;
@@ -237,19 +238,15 @@ pub(crate) fn add_job<R: Runner>(
         (sessions_in sessions.old.account) (past_in book.old) lane coming.job) sessions.old.account) }
     ensures place { OnOk result ((0 < book.new.room) × (0 < book.new.places)) }
     ensures err { OnErr result (Stays book.old book.new × (sessions.new.account ≡ sessions.old.account)) }
-    ensures full { (entries weight : ℕ) → result ≡ Err (EventStop.JournalFull entries weight) →
+    ensures full { (full : Full) → result ≡ Err (EventStop.JournalFull full) →
         kernel.IsTooMuch (journals.past_after (past_in book.old) (drawing.entries_by
         (kernel.rules_by (R.meaning lent.now.runner.now lent.now.site.now) lent.now.setting)
         (sessions_in sessions.old.account)
-        (past_in book.old) lane coming.job)) entries weight }
+        (past_in book.old) lane coming.job)) full }
 {
     let count = coming.more.len() + 1;
     let weight = job_weight(coming.more.as_slice(), &coming.job);
-    if let Err(stop) = room_for(book, count, weight) {
-        return Err(stop);
-    }
-    if let Err(stop) = make_key_room(sessions, 1, count) {
-        return Err(stop);
-    }
+    room_for(book, count, weight)?;
+    make_key_room(sessions, 1, count)?;
     Ok(add_ticked(lent, book, sessions, lane, coming))
 }

@@ -1,12 +1,13 @@
 //! The book after an event.
 #![tactic(auto)]
 
-ghost use Rattle.std.specs.Prelude.{◌≡◌, ◌+◌, ◌-◌, ◌<◌, ◌≤◌, ◌++◌, ℕ, length};
+ghost use Rattle.std.specs.Prelude.{◌≡◌, ◌+◌, ◌-◌, ◌<◌, ◌≤◌, ◌++◌, length};
 ghost use Rattle.std.specs.Prelude.{OnOk, OnErr, IfOk, Err};
 ghost use Rattle.asp_job.specs.History as history;
 ghost use Rattle.asp_job.specs.Journal as journals;
 ghost use Rattle.asp_job.specs.declared.entry.TheConstants.{MOST_ENTRIES};
 ghost use Rattle.asp_job.specs.Size.{IsSmall};
+ghost use Rattle.asp_journal.specs.declared.full.Full.{Full};
 ghost use Rattle.asp_core.specs.Book.{Grows, Stays, past_by, past_in};
 ghost use Rattle.asp_core.specs.Drawing as drawing;
 ghost use Rattle.asp_core.specs.Kernel as kernel;
@@ -70,20 +71,18 @@ pub fn with_tick<R: Runner>(
         (journals.tick_entries (kernel.rules_by (R.meaning house.now.runner.value house.now.site.value)
         house.now.setting) (past_in book.old) lane moment) sessions.old.account) }
     ensures err { OnErr result (Stays book.old book.new × (sessions.new.account ≡ sessions.old.account)) }
-    ensures full { (entries weight : ℕ) → result ≡ Err (EventStop.JournalFull entries weight) →
+    ensures full { (full : Full) → result ≡ Err (EventStop.JournalFull full) →
         kernel.IsTooMuch (journals.past_after (past_in book.old) (journals.tick_entries
         (kernel.rules_by (R.meaning house.now.runner.value house.now.site.value) house.now.setting)
-        (past_in book.old) lane moment)) entries weight }
+        (past_in book.old) lane moment)) full }
 {
     let alloc = book.journal().alloc();
     let (more, expired) = match ticked(alloc, book.journal(), sessions, lane, moment) {
         Ok(made) => made,
         Err(_) => return Err(EventStop::Memory),
     };
-    match add_calm(book, sessions, more) {
-        Ok(()) => Ok(expired),
-        Err(stop) => Err(stop),
-    }
+    add_calm(book, sessions, more)?;
+    Ok(expired)
 }
 
 /// The book and the session keys after a Stop. A refusal leaves them.
@@ -106,10 +105,10 @@ pub fn with_stop<R: Runner>(
         (journals.stop_entries (kernel.rules_by (R.meaning house.now.runner.value house.now.site.value)
         house.now.setting) (past_in book.old) lane) sessions.old.account) }
     ensures err { OnErr result (Stays book.old book.new × (sessions.new.account ≡ sessions.old.account)) }
-    ensures full { (entries weight : ℕ) → result ≡ Err (EventStop.JournalFull entries weight) →
+    ensures full { (full : Full) → result ≡ Err (EventStop.JournalFull full) →
         kernel.IsTooMuch (journals.past_after (past_in book.old) (journals.stop_entries
         (kernel.rules_by (R.meaning house.now.runner.value house.now.site.value) house.now.setting)
-        (past_in book.old) lane)) entries weight }
+        (past_in book.old) lane)) full }
 {
     let alloc = book.journal().alloc();
     match stop_entries(alloc, book.journal(), sessions, lane) {
@@ -143,11 +142,10 @@ pub(crate) fn with_job<R: Runner>(
         (past_in book.old) lane job.now) sessions.old.account) }
     ensures place { OnOk result ((0 < book.new.room) × (0 < book.new.places)) }
     ensures err { OnErr result (Stays book.old book.new × (sessions.new.account ≡ sessions.old.account)) }
-    ensures full { (entries weight : ℕ) → result ≡ Err (EventStop.JournalFull entries weight) →
+    ensures full { (full : Full) → result ≡ Err (EventStop.JournalFull full) →
         kernel.IsTooMuch (journals.past_after (past_in book.old) (journals.admit_entries
         (kernel.rules_by (R.meaning lent.now.runner.now lent.now.site.now) lent.now.setting)
-        (past_in book.old) lane job.now))
-        entries weight }
+        (past_in book.old) lane job.now)) full }
 {
     let alloc = book.journal().alloc();
     let more = match tick_entries(alloc, book.journal(), sessions, lane, job.moment) {

@@ -1,12 +1,13 @@
 //! The core: it keeps the journal, and what the journal says.
 #![tactic(auto)]
 
-ghost use Rattle.std.specs.Prelude.{◌≡◌, ◌+◌, ◌-◌, ◌^◌, ◌<◌, ◌≤◌, ◌++◌, ◌∷◌, [], ℕ, List as Items, reverse, length, OnOk};
+ghost use Rattle.std.specs.Prelude.{◌≡◌, ◌+◌, ◌-◌, ◌^◌, ◌<◌, ◌≤◌, ◌++◌, ◌∷◌, [], List as Items, reverse, length, OnOk};
 ghost use Rattle.std.specs.Prelude.{OnErr, IfOk, IfErr, IsOk};
 ghost use Rattle.std.specs.Prelude.{Some, None, Err, true, false, ◌↔◌, ◌≢◌, IsSome};
 ghost use Rattle.asp_job.specs.History as history;
 ghost use Rattle.asp_job.specs.Journal as journals;
 ghost use Rattle.asp_job.specs.Runs as runs;
+ghost use Rattle.asp_journal.specs.declared.full.Full.{Full};
 ghost use Rattle.asp_core.specs.Kernel.{CoreView, RunView, past_of, rules_of, grown};
 ghost use Rattle.asp_core.specs.Kernel.{AreWellFormed, IsHostOf, IsTooMuch, IsWithin};
 ghost use Rattle.asp_core.specs.Kernel.{IsRunOf, expired, setting_of};
@@ -148,9 +149,9 @@ impl<R: Runner> Core<R> {
             (journals.tick_entries (rules_of R.meaning self.old) (past_of self.old) lane moment)) }
         ensures count { IfOk result (λ count. count
             ≡ expired (rules_of R.meaning self.old) (past_of self.old) moment) }
-        ensures full { (entries weight : ℕ) → result ≡ Err (EventStop.JournalFull entries weight) →
+        ensures full { (full : Full) → result ≡ Err (EventStop.JournalFull full) →
             IsTooMuch (journals.past_after (past_of self.old)
-            (journals.tick_entries (rules_of R.meaning self.old) (past_of self.old) lane moment)) entries weight }
+            (journals.tick_entries (rules_of R.meaning self.old) (past_of self.old) lane moment)) full }
         ensures early { moment ≤ runs.moment_of (past_of self.old) → IsOk result }
         ensures err { OnErr result (self.new ≡ self.old) }
     {
@@ -172,9 +173,9 @@ impl<R: Runner> Core<R> {
         ensures ok { OnOk result (runs.is_stopping (past_of self.old) ≡ false → self.new ≡ grown self.old
             (journals.stop_entries (rules_of R.meaning self.old) (past_of self.old) lane)) }
         ensures again { runs.is_stopping (past_of self.old) ≡ true → IsOk result × (self.new ≡ self.old) }
-        ensures full { (entries weight : ℕ) → result ≡ Err (EventStop.JournalFull entries weight) →
+        ensures full { (full : Full) → result ≡ Err (EventStop.JournalFull full) →
             IsTooMuch (journals.past_after (past_of self.old)
-            (journals.stop_entries (rules_of R.meaning self.old) (past_of self.old) lane)) entries weight }
+            (journals.stop_entries (rules_of R.meaning self.old) (past_of self.old) lane)) full }
         ensures err { OnErr result (self.new ≡ self.old) }
     {
         if self.kept.book.journal().is_stopping() {

@@ -1,8 +1,8 @@
 //! Room in a journal.
 #![tactic(auto)]
 
-ghost use Rattle.std.specs.Prelude.{◌≡◌, ◌+◌, ◌-◌, ◌*◌, ◌<◌, ◌≤◌, ◌^◌, ◌++◌, ℕ, min, length, sum_by};
-ghost use Rattle.std.specs.Prelude.{OnOk, OnErr, IfNone, IfSome, Err};
+ghost use Rattle.std.specs.Prelude.{◌≡◌, ◌+◌, ◌-◌, ◌*◌, ◌<◌, ◌≤◌, ◌^◌, ◌++◌, min, length, sum_by};
+ghost use Rattle.std.specs.Prelude.{OnOk, OnErr, IfErr, Err};
 ghost use Rattle.asp_job.specs.History as history;
 ghost use Rattle.asp_job.specs.Journal as journals;
 ghost use Rattle.asp_job.specs.declared.entry.TheConstants.{MOST_ENTRIES};
@@ -16,7 +16,7 @@ use crate::account::queue_runs;
 use crate::book::Book;
 use crate::stop::EventStop;
 use asp_job::{Entry, MOST_ENTRIES, MOST_WEIGHT};
-use asp_journal::{Journal, what_weight};
+use asp_journal::{Full, Journal, what_weight};
 use asp_session::Sessions;
 use vb_value::List;
 
@@ -32,21 +32,21 @@ pub fn entries_weight(entries: &[Entry]) -> u64
     total
 }
 
-/// How long and how heavy the journal would be with so many entries more, of that weight, and one end for each
-/// unfinished run, where that is too much.
-fn overfull(journal: &Journal, count: u64, weight: u64) -> Option<(u64, u64)>
+/// Looks whether so many entries of that weight fit, with one end for each unfinished run.
+fn check_load(journal: &Journal, count: u64, weight: u64) -> Result<(), Full>
     requires few { history.entries_in (past_by journal.now) ≤ MOST_ENTRIES }
     requires count { count < 2 ^ 62 }
-    ensures none { IfNone result (spec.HasLoad (past_by journal.now) count weight) }
-    ensures some { IfSome result (λ much. spec.IsOver (past_by journal.now) count weight much.0 much.1) }
+    ensures ok { OnOk result (spec.HasLoad (past_by journal.now) count weight) }
+    ensures full { IfErr result (spec.IsOver (past_by journal.now) count weight) }
 {
-    let entries = journal.entries_in() + journal.unfinished() + count;
-    let weight = journal.weight_load().saturating_add(weight);
-    if entries > MOST_ENTRIES || weight > MOST_WEIGHT {
-        Some((entries, weight))
-    } else {
-        None
+    let full = Full {
+        entries: journal.entries_in() + journal.unfinished() + count,
+        weight: journal.weight_load().saturating_add(weight),
+    };
+    if full.entries > MOST_ENTRIES || full.weight > MOST_WEIGHT {
+        return Err(full);
     }
+    Ok(())
 }
 
 /// Looks whether so many entries of that weight fit, and makes room for them and for all that is to come for sure.
@@ -55,13 +55,11 @@ pub fn room_for(book: &mut Book, count: usize, weight: u64) -> Result<(), EventS
     requires count { count < 2 ^ 62 }
     ensures stays { Stays book.old book.new }
     ensures ok { OnOk result (spec.HasLoad (past_in book.old) count weight × IsRoomy book.new count) }
-    ensures full { (entries total : ℕ) → result ≡ Err (EventStop.JournalFull entries total) →
-        spec.IsOver (past_in book.old) count weight entries total }
+    ensures full { (full : Full) → result ≡ Err (EventStop.JournalFull full) →
+        spec.IsOver (past_in book.old) count weight full }
     ensures fits { result ≡ Err EventStop.Memory → spec.HasLoad (past_in book.old) count weight }
 {
-    if let Some((entries, weight)) = overfull(book.journal(), count as u64, weight) {
-        return Err(EventStop::JournalFull { entries, weight });
-    }
+    check_load(book.journal(), count as u64, weight)?;
     if book.make_room(count).is_err() {
         return Err(EventStop::Memory);
     }
@@ -95,16 +93,12 @@ pub fn add_calm(
     ensures ok { OnOk result (Grows book.old more book.new) }
     ensures account { OnOk result (sessions.new.account ≡ account_closed more sessions.old.account) }
     ensures err { OnErr result (Stays book.old book.new × (sessions.new.account ≡ sessions.old.account)) }
-    ensures full { (entries weight : ℕ) → result ≡ Err (EventStop.JournalFull entries weight) →
-        kernel.IsTooMuch (journals.past_after (past_in book.old) more) entries weight }
+    ensures full { (full : Full) → result ≡ Err (EventStop.JournalFull full) →
+        kernel.IsTooMuch (journals.past_after (past_in book.old) more) full }
 {
     let weight = entries_weight(more.as_slice());
-    if let Err(stop) = room_for(book, more.len(), weight) {
-        return Err(stop);
-    }
-    if let Err(stop) = make_key_room(sessions, 0, more.len()) {
-        return Err(stop);
-    }
+    room_for(book, more.len(), weight)?;
+    make_key_room(sessions, 0, more.len())?;
     queue_runs(sessions, more.as_slice());
     book.add(more);
     Ok(())

@@ -1,7 +1,7 @@
 //! Why calls of the core are refused.
 ghost use Rattle.std.specs.Prelude.{◌≡◌};
-ghost use Rattle.asp_core.specs.Stops as spec;
 
+use asp_journal::Full;
 use std::error::Error;
 use std::fmt;
 use vb_value::Memory;
@@ -10,12 +10,7 @@ use vb_value::Memory;
 #[derive(Clone, Copy, Debug, PartialEq, Eq)]
 pub enum EventStop {
     /// The journal would be too long or too heavy.
-    JournalFull {
-        /// How many entries it would have, with one end for each unfinished run.
-        entries: u64,
-        /// What they would weigh; 2^64 - 1 stands for a greater weight.
-        weight: u64,
-    },
+    JournalFull(Full),
     /// Memory ran out.
     Memory,
 }
@@ -28,12 +23,7 @@ pub enum AdmitStop {
     /// As many runs of pages wait as may.
     WaitingFull,
     /// The journal would be too long or too heavy.
-    JournalFull {
-        /// How many entries it would have, with one end for each unfinished run.
-        entries: u64,
-        /// What they would weigh; 2^64 - 1 stands for a greater weight.
-        weight: u64,
-    },
+    JournalFull(Full),
     /// Memory ran out.
     Memory,
 }
@@ -44,12 +34,7 @@ pub enum BeginStop {
     /// None may begin, as many are unfinished as may be, or a Halt stands.
     Idle,
     /// The journal would be too long or too heavy.
-    JournalFull {
-        /// How many entries it would have, with one end for each unfinished run.
-        entries: u64,
-        /// What they would weigh; 2^64 - 1 stands for a greater weight.
-        weight: u64,
-    },
+    JournalFull(Full),
     /// Memory ran out.
     Memory,
 }
@@ -58,51 +43,67 @@ pub enum BeginStop {
 #[derive(Clone, Copy, Debug, PartialEq, Eq)]
 pub enum AppStepStop {
     /// The lock of this run keeps the call out.
-    Blocked {
-        holder: u32,
-    },
+    Blocked { holder: u32 },
     /// The journal would be too long or too heavy.
-    JournalFull {
-        /// How many entries it would have, with one end for each unfinished run.
-        entries: u64,
-        /// What they would weigh; 2^64 - 1 stands for a greater weight.
-        weight: u64,
-    },
+    JournalFull(Full),
     /// Memory ran out.
     Memory,
 }
 
-/// The same for a job.
-pub(crate) fn admit_stop(stop: EventStop) -> AdmitStop
-    ensures { result ≡ spec.admit_stop stop }
-{
-    match stop {
-        EventStop::JournalFull { entries, weight } => AdmitStop::JournalFull { entries, weight },
-        EventStop::Memory => AdmitStop::Memory,
+impl From<Full> for EventStop {
+    ghost use Rattle.asp_core.specs.declared.stop.EventStop.TheVariants.{JournalFull};
+
+    ghost from_gives = { λ full stop. stop ≡ JournalFull full };
+
+    fn from(full: Full) -> EventStop {
+        EventStop::JournalFull(full)
     }
 }
 
-/// The same for a run that would begin.
-pub(crate) fn begin_stop(stop: EventStop) -> BeginStop
-    ensures { result ≡ spec.begin_stop stop }
-{
-    match stop {
-        EventStop::JournalFull { entries, weight } => BeginStop::JournalFull { entries, weight },
-        EventStop::Memory => BeginStop::Memory,
+impl From<EventStop> for AdmitStop {
+    ghost use Rattle.asp_core.specs.Stops.{admit_stop};
+
+    ghost from_gives = { λ stop given. given ≡ admit_stop stop };
+
+    fn from(stop: EventStop) -> AdmitStop {
+        match stop {
+            EventStop::JournalFull(full) => AdmitStop::JournalFull(full),
+            EventStop::Memory => AdmitStop::Memory,
+        }
     }
 }
 
-/// The same for a call of the Application object.
-pub(crate) fn app_stop(stop: EventStop) -> AppStepStop
-    ensures { result ≡ spec.app_stop stop }
-{
-    match stop {
-        EventStop::JournalFull { entries, weight } => AppStepStop::JournalFull { entries, weight },
-        EventStop::Memory => AppStepStop::Memory,
+impl From<EventStop> for BeginStop {
+    ghost use Rattle.asp_core.specs.Stops.{begin_stop};
+
+    ghost from_gives = { λ stop given. given ≡ begin_stop stop };
+
+    fn from(stop: EventStop) -> BeginStop {
+        match stop {
+            EventStop::JournalFull(full) => BeginStop::JournalFull(full),
+            EventStop::Memory => BeginStop::Memory,
+        }
+    }
+}
+
+impl From<EventStop> for AppStepStop {
+    ghost use Rattle.asp_core.specs.Stops.{app_stop};
+
+    ghost from_gives = { λ stop given. given ≡ app_stop stop };
+
+    fn from(stop: EventStop) -> AppStepStop {
+        match stop {
+            EventStop::JournalFull(full) => AppStepStop::JournalFull(full),
+            EventStop::Memory => AppStepStop::Memory,
+        }
     }
 }
 
 impl From<Memory> for EventStop {
+    ghost use Rattle.asp_core.specs.declared.stop.EventStop.TheVariants.{Memory as OutOfMemory};
+
+    ghost from_gives = { λ _ stop. stop ≡ OutOfMemory };
+
     fn from(_: Memory) -> EventStop {
         EventStop::Memory
     }
@@ -124,9 +125,7 @@ pub enum CollectStop {
 impl fmt::Display for EventStop {
     fn fmt<W: fmt::Write>(&self, f: &mut fmt::Formatter<W>) -> fmt::Result {
         match self {
-            EventStop::JournalFull { entries, weight } => {
-                write!(f, "journal full: {entries} entries, {weight} bytes")
-            }
+            EventStop::JournalFull(full) => write!(f, "{full}"),
             EventStop::Memory => write!(f, "{}", Memory),
         }
     }
@@ -139,9 +138,7 @@ impl fmt::Display for AdmitStop {
         match self {
             AdmitStop::Stopping => write!(f, "the host stops"),
             AdmitStop::WaitingFull => write!(f, "too many pages wait"),
-            AdmitStop::JournalFull { entries, weight } => {
-                write!(f, "journal full: {entries} entries, {weight} bytes")
-            }
+            AdmitStop::JournalFull(full) => write!(f, "{full}"),
             AdmitStop::Memory => write!(f, "{}", Memory),
         }
     }
@@ -153,9 +150,7 @@ impl fmt::Display for BeginStop {
     fn fmt<W: fmt::Write>(&self, f: &mut fmt::Formatter<W>) -> fmt::Result {
         match self {
             BeginStop::Idle => write!(f, "no run may begin"),
-            BeginStop::JournalFull { entries, weight } => {
-                write!(f, "journal full: {entries} entries, {weight} bytes")
-            }
+            BeginStop::JournalFull(full) => write!(f, "{full}"),
             BeginStop::Memory => write!(f, "{}", Memory),
         }
     }
@@ -167,9 +162,7 @@ impl fmt::Display for AppStepStop {
     fn fmt<W: fmt::Write>(&self, f: &mut fmt::Formatter<W>) -> fmt::Result {
         match self {
             AppStepStop::Blocked { holder } => write!(f, "run {holder} has the lock"),
-            AppStepStop::JournalFull { entries, weight } => {
-                write!(f, "journal full: {entries} entries, {weight} bytes")
-            }
+            AppStepStop::JournalFull(full) => write!(f, "{full}"),
             AppStepStop::Memory => write!(f, "{}", Memory),
         }
     }

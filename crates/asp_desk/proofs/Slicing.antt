@@ -131,7 +131,7 @@ leaves_rest rules lane run before after step.Ended held steps leaves =
 leaves_rest rules lane run before after (step.Blocked holder) held steps leaves =
     subst (λ h. IfSome h (λ (one : RunView _). IsUnderWay one.progress)) (sym leaves)
     (waits_still run.progress steps.0 steps.1.0)
-leaves_rest rules lane run before after (step.JournalFull entries weight) held steps leaves =
+leaves_rest rules lane run before after (step.JournalFull full) held steps leaves =
     subst (λ h. IfSome h (λ (one : RunView _). IsUnderWay one.progress)) (sym leaves) tt
 
 -- ---- a run that begins

@@ -14,6 +14,7 @@ use Rattle.asp_job.specs.Rules.{Rules}
 use Rattle.asp_job.specs.Told.{Meaning, Told}
 use Rattle.asp_job.specs.Turns.{IsBegin, IsRunning, serial_of}
 use Rattle.turn_desk.specs.Histories.{GrowsBy}
+use Rattle.asp_journal.specs.declared.full.Full.{Full}
 use Rattle.asp_core.specs.declared.run.Progress.{Progress}
 use Rattle.asp_core.specs.declared.run.Progress.TheVariants as progress
 use Rattle.asp_core.specs.declared.stop.AppStepStop.{AppStepStop}
@@ -43,15 +44,15 @@ module _ {R Site : Type 0} (lane : ℕ) (old new : CoreView R Site) where
       → OnOk result (HasBodyRoom rules (past_of old))
       → IfOk result (λ run. new ≡ grown old (begin_entry rules (past_of old) lane run.number ∷ []))
       → IfErr result (λ refused. refused.1 ≡ stop.Idle ↔ IsIdle rules (past_of old))
-      → ((entries weight : ℕ) → IfErr result (λ refused. refused.1 ≡ stop.JournalFull entries weight →
-      IsBeginTooMuch rules (past_of old) lane entries weight))
+      → ((full : Full) → IfErr result (λ refused. refused.1 ≡ stop.JournalFull full →
+      IsBeginTooMuch rules (past_of old) lane full))
       → IfErr result (λ refused. refused.1 ≡ stop.Memory → NextFits rules (past_of old) lane)
       → OnErr result (new ≡ old) → Begins rules lane old.journal (begun_of result) new.journal
-  begins_turn rules (Ok run) next light begun idle full fits err = (next, light, journal_is (grown old _) begun)
-  begins_turn rules (Err (store, stop.Idle)) next light begun idle full fits err = (journal_is old err, idle.0 refl)
-  begins_turn rules (Err (store, stop.JournalFull entries weight)) next light begun idle full fits err =
-      (journal_is old err, full entries weight refl)
-  begins_turn rules (Err (store, stop.Memory)) next light begun idle full fits err = (journal_is old err, fits refl)
+  begins_turn rules (Ok run) next light begun idle much fits err = (next, light, journal_is (grown old _) begun)
+  begins_turn rules (Err (store, stop.Idle)) next light begun idle much fits err = (journal_is old err, idle.0 refl)
+  begins_turn rules (Err (store, stop.JournalFull full)) next light begun idle much fits err =
+      (journal_is old err, much full refl)
+  begins_turn rules (Err (store, stop.Memory)) next light begun idle much fits err = (journal_is old err, fits refl)
 
   pub begins_grow : {State Store : Type 0} (rules : Rules) (result : Result (RunView State) (Store × BeginStop))
       → Begins rules lane old.journal (begun_of result) new.journal
@@ -59,7 +60,7 @@ module _ {R Site : Type 0} (lane : ℕ) (old new : CoreView R Site) where
   begins_grow rules (Ok run) begins = (_, begins.2, one_of lane _ refl)
   begins_grow rules (Err (store, stop.Idle)) begins =
       ([], begins.0 ∙ sym (append-nil old.journal), none_of lane)
-  begins_grow rules (Err (store, stop.JournalFull entries weight)) begins =
+  begins_grow rules (Err (store, stop.JournalFull full)) begins =
       ([], begins.0 ∙ sym (append-nil old.journal), none_of lane)
   begins_grow rules (Err (store, stop.Memory)) begins =
       ([], begins.0 ∙ sym (append-nil old.journal), none_of lane)
@@ -73,7 +74,7 @@ module _ {R Site : Type 0} (lane : ℕ) (old new : CoreView R Site) where
   steps_grow rules run step.Ended steps = (_, steps, one_of lane _ refl)
   steps_grow rules run (step.Blocked holder) steps =
       ([], steps.2 ∙ sym (append-nil old.journal), none_of lane)
-  steps_grow rules run (step.JournalFull entries weight) steps = (_, steps.3, one_of lane _ refl)
+  steps_grow rules run (step.JournalFull full) steps = (_, steps.3, one_of lane _ refl)
 
 -- ---- the call that a run wants
 
@@ -91,8 +92,8 @@ dead_end (progress.Wants call) wants = refl
 dead_end progress.Ended wants = absurd cc
 dead_end progress.Dead wants = refl
 
-abbrev full_of : {A : Type 0} → ℕ → ℕ → Result A AppStepStop
-full_of entries weight = Err (app.JournalFull entries weight)
+abbrev full_of : {A : Type 0} → Full → Result A AppStepStop
+full_of full = Err (app.JournalFull full)
 
 abbrev blocked_of : {A : Type 0} → ℕ → Result A AppStepStop
 blocked_of holder = Err (app.Blocked holder)
@@ -130,25 +131,25 @@ module _ {R Site State : Type 0} (rules : Rules) (lane : ℕ) (old new : CoreVie
   call_blocked holder new_is held =
       (the_call, (is_wanted, sym holder_is ∙ held), ap (λ (core : CoreView R Site). core.journal) new_is)
 
-  pub call_too_much : {A : Type 0} (result : Result A AppStepStop) (entries weight : ℕ)
+  pub call_too_much : {A : Type 0} (result : Result A AppStepStop) (full : Full)
       → ((holder : ℕ) → result ≡ Err (app.Blocked holder) ↔ (blocker old run ≡ Some holder))
-      → result ≡ Err (app.JournalFull entries weight)
-      → IsTooMuch (past_after (past_of old) (called old lane run)) entries weight
+      → result ≡ Err (app.JournalFull full)
+      → IsTooMuch (past_after (past_of old) (called old lane run)) full
       → new ≡ grown old (end_entry rules (past_of old) lane run.number kind.JournalFull ∷ [])
-      → Steps rules lane run old.journal (step.JournalFull entries weight) new.journal
-  call_too_much {A = A} result entries weight blocked full much new_is = (
+      → Steps rules lane run old.journal (step.JournalFull full) new.journal
+  call_too_much {A = A} result full blocked is much new_is = (
     the_call,
     (
       is_wanted,
       sym holder_is
           ∙ no_holder (blocker old run) (λ holder held. let other = (blocked holder).1 held in
-          not_both holder (sym full ∙ other)),
+          not_both holder (sym is ∙ other)),
     ),
-    subst (λ list. IsTooMuch (past_after (past_of old) list) entries weight) entries_are much,
+    subst (λ list. IsTooMuch (past_after (past_of old) list) full) entries_are much,
     ap (λ (core : CoreView R Site). core.journal) new_is,
   )
     where
-      not_both : (holder : ℕ) → full_of {A = A} entries weight ≡ blocked_of holder → ⊥
+      not_both : (holder : ℕ) → full_of {A = A} full ≡ blocked_of holder → ⊥
       not_both holder e = cc
 
   pub call_dead : new ≡ grown old (end_entry rules (past_of old) lane run.number kind.Memory ∷ [])
@@ -223,7 +224,7 @@ module _ {R Site State : Type 0} (meaning : R → Site → Meaning) (stands : R 
     alone = λ r running. ap held_number leaves ∙ holds.alone r
         (subst (λ past. IsRunning past lane r) (ap reverse steps.2) running);
   }
-  step_holds rules run (step.JournalFull entries weight) held steps leaves is_of valid holds =
+  step_holds rules run (step.JournalFull full) held steps leaves is_of valid holds =
       ended rules run kind.JournalFull held leaves steps.3 valid holds
 
 -- the end of a run that a refused call has left as it was

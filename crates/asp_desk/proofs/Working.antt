@@ -69,7 +69,7 @@ module _ {F : Type 0} where
 begins_none : (rules : Rules) (lane : ℕ) (before after : List Entry) (why : BeginStop)
     → Begins rules lane before (Err why) after → after ≡ before
 begins_none rules lane before after stop.Idle does = does.0
-begins_none rules lane before after (stop.JournalFull entries weight) does = does.0
+begins_none rules lane before after (stop.JournalFull full) does = does.0
 begins_none rules lane before after stop.Memory does = does.0
 
 step_adds : {State : Type 0} (rules : Rules) (lane : ℕ) (run : RunView State) (before after : List Entry)
@@ -78,7 +78,7 @@ step_adds : {State : Type 0} (rules : Rules) (lane : ℕ) (run : RunView State) 
 step_adds rules lane run before after step.Called does = (_, does.2, (tt, tt))
 step_adds rules lane run before after step.Ended does = (_, does, (tt, tt))
 step_adds rules lane run before after (step.Blocked holder) does = ([], does.2 ∙ sym (append-nil before), tt)
-step_adds rules lane run before after (step.JournalFull entries weight) does = (_, does.3, (tt, tt))
+step_adds rules lane run before after (step.JournalFull full) does = (_, does.3, (tt, tt))
 
 module _ {R Site State : Type 0} (pace : R → Pace) (meaning : R → Site → Meaning)
     (stands : R → Site → State → Told → ℕ → Type 0) (host : HostView R Site) (may_hold : ℕ → Type 0) where

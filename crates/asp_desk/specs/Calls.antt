@@ -73,9 +73,9 @@ module _ (rules : Rules) (lane : ℕ) where
   Ticks moment before (Ok count) after =
       (after ≡ before ++ tick_entries rules (reverse before) lane moment)
       × (count ≡ expired rules (reverse before) moment)
-  Ticks moment before (Err (event.JournalFull entries weight)) after =
+  Ticks moment before (Err (event.JournalFull full)) after =
       (after ≡ before) × (moment_of (reverse before) < moment)
-      × IsTooMuch (past_after (reverse before) (tick_entries rules (reverse before) lane moment)) entries weight
+      × IsTooMuch (past_after (reverse before) (tick_entries rules (reverse before) lane moment)) full
   Ticks moment before (Err event.Memory) after = (after ≡ before) × (moment_of (reverse before) < moment)
 
   -- An admission: the entries of the job, a Tick first where its moment is greater, and what the job is told. Or
@@ -90,9 +90,9 @@ module _ (rules : Rules) (lane : ℕ) where
   Admits job before (Err admit.WaitingFull) after =
       (after ≡ before) × (is_stopping (reverse before) ≡ false)
       × (MOST_WAITING ≤ length (waiting_pages (reverse before)))
-  Admits job before (Err (admit.JournalFull entries weight)) after =
+  Admits job before (Err (admit.JournalFull full)) after =
       (after ≡ before) × (is_stopping (reverse before) ≡ false)
-      × IsTooMuch (past_after (reverse before) (admit_entries rules (reverse before) lane job)) entries weight
+      × IsTooMuch (past_after (reverse before) (admit_entries rules (reverse before) lane job)) full
   Admits job before (Err admit.Memory) after = (after ≡ before) × (is_stopping (reverse before) ≡ false)
 
   -- A stop: its entries where no Stop stands, and else nothing. Or nothing, where none stands and they are too many or
@@ -101,9 +101,9 @@ module _ (rules : Rules) (lane : ℕ) where
   Stops before (Ok done) after =
       (is_stopping (reverse before) ≡ false → after ≡ before ++ stop_entries rules (reverse before) lane)
       × (is_stopping (reverse before) ≡ true → after ≡ before)
-  Stops before (Err (event.JournalFull entries weight)) after =
+  Stops before (Err (event.JournalFull full)) after =
       (after ≡ before) × (is_stopping (reverse before) ≡ false)
-      × IsTooMuch (past_after (reverse before) (stop_entries rules (reverse before) lane)) entries weight
+      × IsTooMuch (past_after (reverse before) (stop_entries rules (reverse before) lane)) full
   Stops before (Err event.Memory) after = (after ≡ before) × (is_stopping (reverse before) ≡ false)
 
   -- a hand-out: its entry, and the answer of the run; or nothing, with the first cause that holds

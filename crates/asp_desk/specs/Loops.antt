@@ -17,7 +17,7 @@ is_over looked = (looked.stopping && looked.waiting == 0 || looked.halted) && lo
 
 -- more slices do not help: an entry did not fit, or memory ran out
 abbrev pub is_last : Slice → Bool
-is_last (slice.JournalFull entries weight) = true
+is_last (slice.JournalFull full) = true
 is_last slice.Memory = true
 is_last _ = false
 

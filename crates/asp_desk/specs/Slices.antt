@@ -28,7 +28,7 @@ use Rattle.asp_desk.specs.Steps.{Begins, Leaves, Steps}
 -- where no run begins
 abbrev pub stopped : BeginStop → Slice
 stopped stop.Idle = slice.Idle
-stopped (stop.JournalFull entries weight) = slice.JournalFull entries weight
+stopped (stop.JournalFull full) = slice.JournalFull full
 stopped stop.Memory = slice.Memory
 
 -- where a run has paused
@@ -36,7 +36,7 @@ abbrev pub slice_of : Stepped → Slice
 slice_of step.Called = slice.Worked
 slice_of step.Ended = slice.Worked
 slice_of (step.Blocked holder) = slice.Blocked holder
-slice_of (step.JournalFull entries weight) = slice.JournalFull entries weight
+slice_of (step.JournalFull full) = slice.JournalFull full
 
 -- the run has more to do
 abbrev pub is_more : Result Step Memory → Bool

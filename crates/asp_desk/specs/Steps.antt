@@ -36,8 +36,8 @@ Begins rules lane before (Ok run) after =
     IsBegin rules (reverse before) run (serial_of rules (reverse before) run)
     × HasBodyRoom rules (reverse before) × (after ≡ before ++ begin_entry rules (reverse before) lane run ∷ [])
 Begins rules lane before (Err stop.Idle) after = (after ≡ before) × IsIdle rules (reverse before)
-Begins rules lane before (Err (stop.JournalFull entries weight)) after =
-    (after ≡ before) × IsBeginTooMuch rules (reverse before) lane entries weight
+Begins rules lane before (Err (stop.JournalFull full)) after =
+    (after ≡ before) × IsBeginTooMuch rules (reverse before) lane full
 Begins rules lane before (Err stop.Memory) after = (after ≡ before) × NextFits rules (reverse before) lane
 
 -- ---- how it goes on
@@ -62,9 +62,9 @@ Steps rules lane run before step.Ended after =
     after ≡ before ++ end_entry rules (reverse before) lane run.number (end_at run.progress) ∷ []
 Steps rules lane run before (step.Blocked holder) after =
     (call : AppCall) × WantsFrom (reverse before) run call (Some holder) × (after ≡ before)
-Steps rules lane run before (step.JournalFull entries weight) after =
+Steps rules lane run before (step.JournalFull full) after =
     (call : AppCall) × WantsFrom (reverse before) run call None
-    × IsTooMuch (call_entry (reverse before) lane run.number call ∷ reverse before) entries weight
+    × IsTooMuch (call_entry (reverse before) lane run.number call ∷ reverse before) full
     × (after ≡ before ++ end_entry rules (reverse before) lane run.number kind.JournalFull ∷ [])
 
 -- what is then in hand: after its call the run, which may go on; where it is kept out the run as it was; else none

@@ -66,7 +66,7 @@ impl<R: Runner> HostOf<Placed<R>, R, R::Site> {
                     None
                 }
             }
-            Slice::JournalFull { entries, weight } => Some(Slice::JournalFull { entries, weight }),
+            Slice::JournalFull(full) => Some(Slice::JournalFull(full)),
             Slice::Memory => Some(Slice::Memory),
         }
     }

@@ -17,6 +17,7 @@ use crate::stands::Placed;
 use crate::steps::Stepped;
 use asp_core::{BeginStop, Progress, Run};
 use asp_job::{Runner, Step};
+use asp_journal::Full;
 use std::sync::Wait;
 use vb_value::AppCall;
 
@@ -31,18 +32,11 @@ pub enum Slice {
     /// No run may begin.
     Idle,
     /// The lock of this run keeps the call of the run in hand out.
-    Blocked {
-        holder: u32,
-    },
+    Blocked { holder: u32 },
     /// The gate holds the run in hand back.
     Held,
     /// An entry did not fit. The run in hand, if there was one, has ended.
-    JournalFull {
-        /// How many entries there would be, with one end for each unfinished run.
-        entries: u64,
-        /// What they would weigh; 2^64 - 1 stands for a greater weight.
-        weight: u64,
-    },
+    JournalFull(Full),
     /// Memory ran out before a run began.
     Memory,
 }
@@ -52,7 +46,7 @@ fn stopped(stop: BeginStop) -> Slice
 {
     match stop {
         BeginStop::Idle => Slice::Idle,
-        BeginStop::JournalFull { entries, weight } => Slice::JournalFull { entries, weight },
+        BeginStop::JournalFull(full) => Slice::JournalFull(full),
         BeginStop::Memory => Slice::Memory,
     }
 }
@@ -63,7 +57,7 @@ fn slice_of(stepped: Stepped) -> Slice
     match stepped {
         Stepped::Called | Stepped::Ended => Slice::Worked,
         Stepped::Blocked { holder } => Slice::Blocked { holder },
-        Stepped::JournalFull { entries, weight } => Slice::JournalFull { entries, weight },
+        Stepped::JournalFull(full) => Slice::JournalFull(full),
     }
 }
 
@@ -72,7 +66,7 @@ fn lets_go(unlocks: bool, stepped: Stepped) -> bool {
     match stepped {
         Stepped::Called => unlocks,
         Stepped::Blocked { .. } => false,
-        Stepped::Ended | Stepped::JournalFull { .. } => true,
+        Stepped::Ended | Stepped::JournalFull(_) => true,
     }
 }
 

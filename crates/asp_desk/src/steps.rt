@@ -11,6 +11,7 @@ use crate::hand::Load;
 use crate::stands::Placed;
 use asp_core::{AppStepStop, BeginStop, Progress, Run};
 use asp_job::{EndKind, Runner};
+use asp_journal::Full;
 
 /// What a run came to that had paused.
 #[derive(Clone, Copy, Debug, PartialEq, Eq)]
@@ -20,16 +21,9 @@ pub enum Stepped {
     /// It has ended.
     Ended,
     /// The lock of this run keeps its call out.
-    Blocked {
-        holder: u32,
-    },
+    Blocked { holder: u32 },
     /// Its call did not fit, and it has ended.
-    JournalFull {
-        /// How many entries there would be, with one end for each unfinished run.
-        entries: u64,
-        /// What they would weigh; 2^64 - 1 stands for a greater weight.
-        weight: u64,
-    },
+    JournalFull(Full),
 }
 
 impl<R: Runner> Placed<R> {
@@ -70,9 +64,9 @@ impl<R: Runner> Placed<R> {
         match self.core.app_step(lane, runner, &mut run) {
             Ok(()) => (Load::Runs(run), Stepped::Called),
             Err(AppStepStop::Blocked { holder }) => (Load::Runs(run), Stepped::Blocked { holder }),
-            Err(AppStepStop::JournalFull { entries, weight }) => {
+            Err(AppStepStop::JournalFull(full)) => {
                 let store = self.core.end(lane, runner, run, EndKind::JournalFull);
-                (Load::Free(store), Stepped::JournalFull { entries, weight })
+                (Load::Free(store), Stepped::JournalFull(full))
             }
             Err(AppStepStop::Memory) => {
                 let store = self.core.end(lane, runner, run, EndKind::Memory);

@@ -2,6 +2,7 @@
 use Rattle.std.proofs.Common.{◌≡◌, ◌==◌, ℕ, Bool, true, false, List, [], refl, ap, sym, ◌∙◌, subst, Option, Some, None}
 use Rattle.std.proofs.Common.{Result, Ok, Err, IfErr, IfOk, ◌++◌, ◌∷◌}
 use Rattle.std.proofs.lemmas.Bool.{eqb-true}
+use Rattle.asp_journal.specs.declared.full.Full.{Full}
 use Rattle.asp_core.proofs.Calm.{calm_unfinished}
 use Rattle.asp_core.proofs.Fits.{job_calm, job_fit}
 use Rattle.asp_core.proofs.Kept.{past_of_more, quiet_tick}
@@ -36,7 +37,7 @@ use Rattle.asp_lane.specs.Underway.{Grows, IsRunStop}
 
 pub first_stop : (m : Rules) (job : Job) (ended : RunStop) → IsRunStop m 0 (first_past 0) ended
     → IsGetStop m job (run_stop ended)
-first_stop m job (lane.JournalFull entries weight) is = OfFirst is
+first_stop m job (lane.JournalFull full) is = OfFirst is
 first_stop m job lane.Memory is = tt
 
 pub failed_so : (m : Rules) (past : List Entry) (came : Option Fail) (fail : Fail) → came ≡ Some fail
@@ -104,7 +105,7 @@ module _ {R Site : Type 0} (meaning : R → Site → Meaning) (old mid : CoreVie
 
   page_so : (ended : RunStop) → IsReadyFor m job (past_of old) → IsRunStop m 0 (with_job m (past_of old) job) ended
       → IsGetStop m job (run_stop ended)
-  page_so (lane.JournalFull entries weight) for is = OfPage (past_of old) for is
+  page_so (lane.JournalFull full) for is = OfPage (past_of old) for is
   page_so lane.Memory for is = tt
 
   page_stop : (ended : RunStop) → IsWithin (past_of mid) → IsRunStop (rules_of meaning mid) 0 (past_of mid) ended
@@ -142,10 +143,10 @@ module _ {R Site : Type 0} (meaning : R → Site → Meaning) (old mid : CoreVie
 -- ---- what is handed back
 
 pub admit_get : (m : Rules) (past : List Entry) (job : Job) (ended : AdmitStop) → IsReady m past
-    → ((entries weight : ℕ) → ended ≡ admit.JournalFull entries weight
-    → IsTooMuch (with_job m past job) entries weight)
+    → ((full : Full) → ended ≡ admit.JournalFull full
+    → IsTooMuch (with_job m past job) full)
     → IsGetStop m job (admit_stop ended)
-admit_get m past job (admit.JournalFull entries weight) ready full = OfJob past ready.begun (full entries weight refl)
+admit_get m past job (admit.JournalFull full) ready much = OfJob past ready.begun (much full refl)
 admit_get m past job admit.Memory ready full = tt
 admit_get m past job admit.Stopping ready full = tt
 admit_get m past job admit.WaitingFull ready full = tt

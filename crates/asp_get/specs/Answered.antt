@@ -1,5 +1,6 @@
 -- What it means that one request was answered, and why one was not. All of it is the product's own.
 use Rattle.std.specs.Prelude.{◌≡◌, ⊤, ℕ, List, Some, None}
+use Rattle.asp_journal.specs.declared.full.Full.{Full}
 use Rattle.asp_core.specs.Drawing.{entry_then, told_of}
 use Rattle.asp_core.specs.Kernel.{IsTooMuch, IsWithin}
 use Rattle.asp_job.specs.declared.answer.Answer.{Answer}
@@ -47,17 +48,17 @@ pub record HasAnswered (rules : Rules) (job : Job) (answer : Answer) : Type 0 wh
 abbrev pub HasFailed : Rules → Fail → Type 0
 HasFailed rules fail = (past : List Entry) × HasBegun rules 0 (Some fail) past
 
--- At some point of that history there would be so many entries of that weight with what comes next: an entry of the
--- first run, the job, or an entry of its run.
-pub data WasTooMuch (rules : Rules) (job : Job) (entries weight : ℕ) : Type 0 where
-  OfFirst : IsRunTooMuch rules 0 (first_past 0) entries weight → WasTooMuch rules job entries weight
-  OfJob : (past : List Entry) → HasBegun rules 0 None past → IsTooMuch (with_job rules past job) entries weight
-      → WasTooMuch rules job entries weight
+-- At some point of that history it would be so full with what comes next: an entry of the first run, the job, or an
+-- entry of its run.
+pub data WasTooMuch (rules : Rules) (job : Job) (full : Full) : Type 0 where
+  OfFirst : IsRunTooMuch rules 0 (first_past 0) full → WasTooMuch rules job full
+  OfJob : (past : List Entry) → HasBegun rules 0 None past → IsTooMuch (with_job rules past job) full
+      → WasTooMuch rules job full
   OfPage : (past : List Entry) → IsReadyFor rules job past
-      → IsRunTooMuch rules 0 (with_job rules past job) entries weight → WasTooMuch rules job entries weight
+      → IsRunTooMuch rules 0 (with_job rules past job) full → WasTooMuch rules job full
 
 -- Why the job was not answered. Nothing is said where memory ran out.
 abbrev pub IsGetStop : Rules → Job → GetStop → Type 0
 IsGetStop rules job (stop.StartFailed fail) = HasFailed rules fail
-IsGetStop rules job (stop.JournalFull entries weight) = WasTooMuch rules job entries weight
+IsGetStop rules job (stop.JournalFull full) = WasTooMuch rules job full
 IsGetStop rules job stop.Memory = ⊤

@@ -19,14 +19,14 @@ use Rattle.asp_get.specs.Answered.{IsReadyFor, run_for, with_job}
 
 -- why a job was not admitted
 abbrev pub admit_stop : AdmitStop → GetStop
-admit_stop (admit.JournalFull entries weight) = stop.JournalFull entries weight
+admit_stop (admit.JournalFull full) = stop.JournalFull full
 admit_stop admit.Memory = stop.Memory
 admit_stop admit.Stopping = stop.Memory
 admit_stop admit.WaitingFull = stop.Memory
 
 -- why a run did not go through
 abbrev pub run_stop : RunStop → GetStop
-run_stop (lane.JournalFull entries weight) = stop.JournalFull entries weight
+run_stop (lane.JournalFull full) = stop.JournalFull full
 run_stop lane.Memory = stop.Memory
 
 -- ---- the job

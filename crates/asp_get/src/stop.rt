@@ -5,6 +5,7 @@ ghost use Rattle.std.specs.Prelude.{◌≡◌};
 
 use asp_core::AdmitStop;
 use asp_job::Fail;
+use asp_journal::Full;
 use asp_lane::RunStop;
 use std::error::Error;
 use std::fmt;
@@ -16,12 +17,7 @@ pub enum GetStop {
     /// The first run failed, that of `Application_OnStart`.
     StartFailed(Fail),
     /// The journal would be too long or too heavy.
-    JournalFull {
-        /// How many entries it would have, with one end for each unfinished run.
-        entries: u64,
-        /// What they would weigh; 2^64 - 1 stands for a greater weight.
-        weight: u64,
-    },
+    JournalFull(Full),
     /// Memory ran out.
     Memory,
 }
@@ -30,9 +26,7 @@ impl fmt::Display for GetStop {
     fn fmt<W: fmt::Write>(&self, f: &mut fmt::Formatter<W>) -> fmt::Result {
         match self {
             GetStop::StartFailed(_) => write!(f, "Application_OnStart failed"),
-            GetStop::JournalFull { entries, weight } => {
-                write!(f, "journal full: {entries} entries, {weight} bytes")
-            }
+            GetStop::JournalFull(full) => write!(f, "{full}"),
             GetStop::Memory => write!(f, "{}", Memory),
         }
     }
@@ -48,7 +42,7 @@ impl From<AdmitStop> for GetStop {
 
     fn from(stop: AdmitStop) -> GetStop {
         match stop {
-            AdmitStop::JournalFull { entries, weight } => GetStop::JournalFull { entries, weight },
+            AdmitStop::JournalFull(full) => GetStop::JournalFull(full),
             AdmitStop::Memory | AdmitStop::Stopping | AdmitStop::WaitingFull => GetStop::Memory,
         }
     }
@@ -61,7 +55,7 @@ impl From<RunStop> for GetStop {
 
     fn from(stop: RunStop) -> GetStop {
         match stop {
-            RunStop::JournalFull { entries, weight } => GetStop::JournalFull { entries, weight },
+            RunStop::JournalFull(full) => GetStop::JournalFull(full),
             RunStop::Memory => GetStop::Memory,
         }
     }

@@ -30,7 +30,7 @@ made_stopped : (count : ℕ) (journal : Bool) (site : Site) (sink : Change) (sto
     → GenWrites count journal sink (feed_status_of stop)
 made_stopped count journal site sink (feed.StartFailed fail) accepted stopped =
     (record { site = site; accepted = accepted; failed = stopped.0 }, stopped.1)
-made_stopped count journal site sink (feed.JournalFull entries weight) accepted stopped =
+made_stopped count journal site sink (feed.JournalFull full) accepted stopped =
     (record { site = site; accepted = accepted; filled = stopped.0 }, stopped.1)
 made_stopped count journal site sink feed.WriteFault accepted part =
     (part.0, record { site = site; accepted = accepted; summed = part.1 }, part.2)

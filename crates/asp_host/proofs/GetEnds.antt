@@ -28,6 +28,6 @@ pub nothing_answered : (path query : List ℕ) (files : Option (List SiteFile)) 
     → GetWrites path query files (record { before = held; after = held }) (get_status_of stop)
 nothing_answered path query files site held (get.StartFailed fail) accepted failed =
     (record { site = site; accepted = accepted; failed = failed }, refl)
-nothing_answered path query files site held (get.JournalFull entries weight) accepted much =
+nothing_answered path query files site held (get.JournalFull full) accepted much =
     (record { site = site; accepted = accepted; much = much }, refl)
 nothing_answered path query files site held get.Memory accepted stops = refl

@@ -18,7 +18,7 @@ pub text_then : {T : Type 0} (result : Result T FeedStop) (before middle after :
     → WritesText (first ++ second) result before after
 text_then (Ok given) before middle after first second was wrote = wrote_more before middle after first second was wrote
 text_then (Err (stop.StartFailed fail)) before middle after first second was none = none
-text_then (Err (stop.JournalFull entries weight)) before middle after first second was none = none
+text_then (Err (stop.JournalFull full)) before middle after first second was none = none
 text_then (Err stop.WriteFault) before middle after first second was part =
     part_more before middle after first second was part
 text_then (Err stop.Memory) before middle after first second was part =
@@ -28,7 +28,7 @@ text_then (Err stop.Memory) before middle after first second was part =
 begun_so : (S T : Type 0) (ended : FeedStop) (before after : Option (List ℕ)) (first second : List ℕ)
     → WritesText {T = S} first (Err ended) before after → WritesText {T = T} (first ++ second) (Err ended) before after
 begun_so S T (stop.StartFailed fail) before after first second none = none
-begun_so S T (stop.JournalFull entries weight) before after first second none = none
+begun_so S T (stop.JournalFull full) before after first second none = none
 begun_so S T stop.WriteFault before after first second part = part_longer before after first second part
 begun_so S T stop.Memory before after first second part = part_longer before after first second part
 

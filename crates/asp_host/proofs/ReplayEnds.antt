@@ -51,7 +51,7 @@ pub replay_stopped : (journal : Bool) (files : Option (List SiteFile)) (site : S
     → ReplayWrites journal files source sink (feed_status_of stop)
 replay_stopped journal files site source sink recording (feed.StartFailed fail) is_for stopped =
     record { site = site; recording = recording; is_for = is_for; failed = stopped }
-replay_stopped journal files site source sink recording (feed.JournalFull entries weight) is_for stopped =
+replay_stopped journal files site source sink recording (feed.JournalFull full) is_for stopped =
     record { site = site; recording = recording; is_for = is_for; filled = stopped }
 replay_stopped journal files site source sink recording feed.WriteFault is_for stopped =
     record { site = site; recording = recording; is_for = is_for; replayed = stopped }

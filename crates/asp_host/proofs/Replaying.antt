@@ -79,8 +79,8 @@ pub feed_stopped : (rules : Rules) (items : List Item) (journal : Bool) (before 
 feed_stopped rules items journal before after (stop.StartFailed fail) (inl none) = absurd (let e = none.0 in cc)
 feed_stopped rules items journal before after (stop.StartFailed fail) (inr part) =
     not_started rules items part.0 fail before after part.1
-feed_stopped rules items journal before after (stop.JournalFull entries weight) (inl none) = absurd (let e = none.0 in cc)
-feed_stopped rules items journal before after (stop.JournalFull entries weight) (inr part) = part
+feed_stopped rules items journal before after (stop.JournalFull full) (inl none) = absurd (let e = none.0 in cc)
+feed_stopped rules items journal before after (stop.JournalFull full) (inr part) = part
 feed_stopped rules items journal before after stop.WriteFault (inl none) = absurd (let e = none.0 in cc)
 feed_stopped rules items journal before after stop.WriteFault (inr part) =
     part_of rules items journal part.0 stop.WriteFault before after part.1
@@ -163,7 +163,7 @@ module _ {R Site : Type 0} (meaning : R → Site → Meaning) where
   replay_err core runner site setting items journal before held after (Ok given) of valid fed wrote = tt
   replay_err core runner site setting items journal before held after (Err (stop.StartFailed fail)) of valid fed wrote =
       absurd wrote
-  replay_err core runner site setting items journal before held after (Err (stop.JournalFull entries weight)) of valid
+  replay_err core runner site setting items journal before held after (Err (stop.JournalFull full)) of valid
       fed
       wrote = absurd wrote
   replay_err core runner site setting items journal before held after (Err stop.WriteFault) of valid fed wrote =

@@ -27,7 +27,7 @@ pub serve_stopped : (fails : Type 0) (requests : ℕ) (files : Option (List Site
     → IsStop fails (rules_from site seed) why → ServeMeets requests files seed ends (serve_status_of why)
 serve_stopped fails requests files site seed ends (stop.StartFailed fail) accepted failed =
     record { site = site; accepted = accepted; failed = failed }
-serve_stopped fails requests files site seed ends (stop.JournalFull entries weight) accepted filled =
+serve_stopped fails requests files site seed ends (stop.JournalFull full) accepted filled =
     record { site = site; accepted = accepted; filled = filled }
 serve_stopped fails requests files site seed ends stop.AcceptFault accepted failed = (site, accepted)
 serve_stopped fails requests files site seed ends stop.Memory accepted stopped = tt
@@ -36,6 +36,6 @@ serve_stopped fails requests files site seed ends stop.Memory accepted stopped =
 pub accept_failed : (fails : Type 0) (rules : Rules) (why : ServeStop) → IsStop fails rules why
     → serve_status_of why ≡ status.AcceptFault → fails
 accept_failed fails rules (stop.StartFailed fail) stopped is = absurd cc
-accept_failed fails rules (stop.JournalFull entries weight) stopped is = absurd cc
+accept_failed fails rules (stop.JournalFull full) stopped is = absurd cc
 accept_failed fails rules stop.AcceptFault stopped is = stopped
 accept_failed fails rules stop.Memory stopped is = absurd cc

@@ -41,9 +41,9 @@ sum_stopped rules items count journal held fed (stop.StartFailed fail) cause was
     absurd (let e = none.0 in cc)
 sum_stopped rules items count journal held fed (stop.StartFailed fail) cause was (inr part) =
     (not_started rules items part.0 fail None None part.1, refl)
-sum_stopped rules items count journal held fed (stop.JournalFull entries weight) cause was (inl none) =
+sum_stopped rules items count journal held fed (stop.JournalFull full) cause was (inl none) =
     absurd (let e = none.0 in cc)
-sum_stopped rules items count journal held fed (stop.JournalFull entries weight) cause was (inr part) = (part, refl)
+sum_stopped rules items count journal held fed (stop.JournalFull full) cause was (inr part) = (part, refl)
 sum_stopped rules items count journal held fed stop.WriteFault cause was stops =
     absurd (no_fault fed stop.WriteFault cause was refl)
 sum_stopped rules items count journal held fed stop.Memory cause was stops = inl refl
@@ -111,7 +111,7 @@ module _ {R Site : Type 0} (meaning : R → Site → Meaning) where
   sum_err core runner site setting items count journal held after (Ok given) of valid whole wrote = tt
   sum_err core runner site setting items count journal held after (Err (stop.StartFailed fail)) of valid whole wrote =
       absurd wrote
-  sum_err core runner site setting items count journal held after (Err (stop.JournalFull entries weight)) of valid whole
+  sum_err core runner site setting items count journal held after (Err (stop.JournalFull full)) of valid whole
       wrote = absurd wrote
   sum_err core runner site setting items count journal held after (Err stop.WriteFault) of valid whole part =
       (all_lines count journal (past_of core), summed core runner site setting items count journal of valid whole, part)

@@ -31,7 +31,7 @@ CheckWrites files sink ReadFault = IsLeft sink
 CheckWrites files sink Memory = IsLeft sink
 CheckWrites files sink Usage = ⊥
 CheckWrites files sink (RecordRefused offset) = ⊥
-CheckWrites files sink (JournalFull entries weight) = ⊥
+CheckWrites files sink (JournalFull full) = ⊥
 CheckWrites files sink (StartFailed fail) = ⊥
 CheckWrites files sink AcceptFault = ⊥
 

@@ -6,6 +6,7 @@ use Rattle.asp_job.specs.declared.answer.Fail.{Fail}
 use Rattle.asp_job.specs.declared.entry.Entry.{Entry}
 use Rattle.asp_job.specs.Journal.{IsValidJournal}
 use Rattle.asp_job.specs.Rules.{Rules}
+use Rattle.asp_journal.specs.declared.full.Full.{Full}
 use Rattle.asp_record.specs.declared.recording.Item.{Item}
 use Rattle.asp_record.specs.EntryLines.{lines_in}
 use Rattle.asp_record.specs.Generated.{count_files, generated}
@@ -50,8 +51,7 @@ pub record HasSummedAll (rules : Rules) (items : List Item) (count : ℕ) (journ
 -- why they were not, or their summary was not written whole. The answers go to a sink that tells nothing.
 abbrev pub IsSumStop : Rules → List Item → ℕ → Bool → Change → FeedStop → Type 0
 IsSumStop rules items count journal sink (feed.StartFailed fail) = HasNotStarted rules fail None None × IsLeft sink
-IsSumStop rules items count journal sink (feed.JournalFull entries weight) =
-    HasFilled rules items entries weight None None × IsLeft sink
+IsSumStop rules items count journal sink (feed.JournalFull full) = HasFilled rules items full None None × IsLeft sink
 IsSumStop rules items count journal sink feed.WriteFault = HasSummedPart rules items count journal sink
 IsSumStop rules items count journal sink feed.Memory = IsLeft sink ⊎ HasSummedPart rules items count journal sink
 
@@ -76,10 +76,10 @@ pub record FailsGenerated (count : ℕ) (fail : Fail) : Type 0 where
   pub failed : HasNotStarted (rules_for site (generated count)) fail None None
 
 -- they were fed in part, until the journal was full
-pub record FillsGenerated (count entries weight : ℕ) : Type 0 where
+pub record FillsGenerated (count : ℕ) (full : Full) : Type 0 where
   pub site : Site
   pub accepted : IsAccepted count_files site
-  pub filled : HasFilled (rules_for site (generated count)) (generated count).items entries weight None None
+  pub filled : HasFilled (rules_for site (generated count)) (generated count).items full None None
 
 -- the requests were fed, and a first part of what belongs to them was written
 abbrev pub GeneratesPart : ℕ → Bool → Change → Type 0
@@ -91,7 +91,7 @@ abbrev pub GenWrites : ℕ → Bool → Change → Status → Type 0
 GenWrites count journal sink Ok = GeneratesAll count journal sink
 GenWrites count journal sink WriteFault = GeneratesPart count journal sink
 GenWrites count journal sink Memory = IsLeft sink ⊎ GeneratesPart count journal sink
-GenWrites count journal sink (JournalFull entries weight) = FillsGenerated count entries weight × IsLeft sink
+GenWrites count journal sink (JournalFull full) = FillsGenerated count full × IsLeft sink
 GenWrites count journal sink (StartFailed fail) = FailsGenerated count fail × IsLeft sink
 GenWrites count journal sink (SiteRefused fault) = ⊥
 GenWrites count journal sink ReadFault = ⊥

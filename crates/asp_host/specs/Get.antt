@@ -1,6 +1,7 @@
 -- How `get` ends, by its status, and what it then leaves in the sink.
 use Rattle.std.specs.Prelude.{◌≡◌, ℕ, IfSome, List, Option, false, replicate}
 use Rattle.vb_value.specs.declared.site_file.SiteFile.{SiteFile}
+use Rattle.asp_journal.specs.declared.full.Full.{Full}
 use Rattle.asp_core.specs.Kernel.{rules_by, setting_of}
 use Rattle.asp_get.specs.Answered.{HasAnswered, HasFailed, WasTooMuch}
 use Rattle.asp_io.specs.Copying.{AddsPart}
@@ -37,11 +38,11 @@ pub record FailsToBegin (files : Option (List SiteFile)) (fail : Fail) : Type 0 
   pub accepted : IfSome files (λ all. IsAccepted all site)
   pub failed : HasFailed (site_rules site) fail
 
--- they are a site, and with the request there would be so many entries of that weight
-pub record IsFull (path query : List ℕ) (files : Option (List SiteFile)) (entries weight : ℕ) : Type 0 where
+-- they are a site, and with the request the journal would be so full
+pub record IsFull (path query : List ℕ) (files : Option (List SiteFile)) (full : Full) : Type 0 where
   pub site : Site
   pub accepted : IfSome files (λ all. IsAccepted all site)
-  pub much : WasTooMuch (site_rules site) (job_of path query) entries weight
+  pub much : WasTooMuch (site_rules site) (job_of path query) full
 
 -- what `get` ran and wrote, by its status
 abbrev pub GetWrites : List ℕ → List ℕ → Option (List SiteFile) → Change → Status → Type 0
@@ -51,8 +52,7 @@ GetWrites path query files sink WriteFault =
     (answer : Answer) × IsAnswer path query files answer × AddsPart sink.before sink.after answer.body
 GetWrites path query files sink (SiteRefused fault) = IfSome files (λ all. IsFolderFault all fault) × IsLeft sink
 GetWrites path query files sink (StartFailed fail) = FailsToBegin files fail × IsLeft sink
-GetWrites path query files sink (JournalFull entries weight) =
-    IsFull path query files entries weight × IsLeft sink
+GetWrites path query files sink (JournalFull full) = IsFull path query files full × IsLeft sink
 GetWrites path query files sink ReadFault = IsLeft sink
 GetWrites path query files sink Memory = IsLeft sink
 GetWrites path query files sink Usage = ⊥

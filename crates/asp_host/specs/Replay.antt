@@ -1,6 +1,7 @@
 -- How `replay` ends, by its status, and what it then leaves in the sink.
 use Rattle.std.specs.Prelude.{◌⊎◌, ℕ, Bool, IfSome, List, Option, false}
 use Rattle.vb_value.specs.declared.site_file.SiteFile.{SiteFile}
+use Rattle.asp_journal.specs.declared.full.Full.{Full}
 use Rattle.asp_core.specs.Kernel.{rules_by, setting_of}
 use Rattle.asp_job.specs.declared.answer.Fail.{Fail}
 use Rattle.asp_job.specs.Rules.{Rules}
@@ -40,11 +41,11 @@ pub record ReplaysPart (journal : Bool) (ended : FeedStop) (files : Option (List
   pub is_for : IsFor files source site recording
   pub replayed : HasReplayedPart (rules_for site recording) recording.items journal ended sink.before sink.after
 
-pub record Fills (files : Option (List SiteFile)) (source sink : Change) (entries weight : ℕ) : Type 0 where
+pub record Fills (files : Option (List SiteFile)) (source sink : Change) (full : Full) : Type 0 where
   pub site : Site
   pub recording : Recording
   pub is_for : IsFor files source site recording
-  pub filled : HasFilled (rules_for site recording) recording.items entries weight sink.before sink.after
+  pub filled : HasFilled (rules_for site recording) recording.items full sink.before sink.after
 
 -- the source is refused there, where the files that are told are a site
 pub record HasRefused (files : Option (List SiteFile)) (source : Change) (offset : ℕ) : Type 0 where
@@ -62,7 +63,7 @@ pub record FailsToBegin (files : Option (List SiteFile)) (source sink : Change) 
 -- what `replay` ran and wrote, by its status
 abbrev pub ReplayWrites : Bool → Option (List SiteFile) → Change → Change → Status → Type 0
 ReplayWrites journal files source sink Ok = ReplaysAll journal files source sink
-ReplayWrites journal files source sink (JournalFull entries weight) = Fills files source sink entries weight
+ReplayWrites journal files source sink (JournalFull full) = Fills files source sink full
 ReplayWrites journal files source sink WriteFault = ReplaysPart journal stop.WriteFault files source sink
 ReplayWrites journal files source sink Memory = IsLeft sink ⊎ ReplaysPart journal stop.Memory files source sink
 ReplayWrites journal files source sink (RecordRefused offset) = HasRefused files source offset × IsLeft sink

@@ -6,6 +6,7 @@ use Rattle.asp_job.specs.declared.answer.Fail.{Fail}
 use Rattle.asp_job.specs.declared.entry.Entry.{Entry}
 use Rattle.asp_job.specs.Journal.{IsValidJournal}
 use Rattle.asp_job.specs.Rules.{Rules}
+use Rattle.asp_journal.specs.declared.full.Full.{Full}
 use Rattle.asp_record.specs.declared.recording.Item.{Item}
 use Rattle.asp_record.specs.EntryLines.{lines_in}
 use Rattle.asp_record.specs.Journal.{AreLines}
@@ -40,9 +41,9 @@ pub record HasReplayedPart (rules : Rules) (items : List Item) (journal : Bool) 
   pub wrote : AddsPart before after bytes
 
 -- the journal of a replay that ends because it would be too long or too heavy
-abbrev pub HasFilled : Rules → List Item → ℕ → ℕ → Option (List ℕ) → Option (List ℕ) → Type 0
-HasFilled rules items entries weight before after =
-    (past : List Entry) × HasFedPart rules items past (stop.JournalFull entries weight) before after
+abbrev pub HasFilled : Rules → List Item → Full → Option (List ℕ) → Option (List ℕ) → Type 0
+HasFilled rules items full before after =
+    (past : List Entry) × HasFedPart rules items past (stop.JournalFull full) before after
 
 -- the journal of a replay whose first run fails so; nothing came to it, and nothing was written
 pub record HasNotStarted (rules : Rules) (fail : Fail) (before after : Option (List ℕ)) : Type 0 where
@@ -54,6 +55,5 @@ pub record HasNotStarted (rules : Rules) (fail : Fail) (before after : Option (L
 -- how a replay stopped
 abbrev pub HasStopped : Rules → List Item → Bool → Option (List ℕ) → Option (List ℕ) → FeedStop → Type 0
 HasStopped rules items journal before after (stop.StartFailed fail) = HasNotStarted rules fail before after
-HasStopped rules items journal before after (stop.JournalFull entries weight) =
-    HasFilled rules items entries weight before after
+HasStopped rules items journal before after (stop.JournalFull full) = HasFilled rules items full before after
 HasStopped rules items journal before after ended = HasReplayedPart rules items journal ended before after

@@ -1,6 +1,7 @@
 -- How `serve` ends, by its status. What it writes goes to connections, and nothing to the sink.
 use Rattle.std.specs.Prelude.{ℕ, Bool, IfSome, List, Option, false}
 use Rattle.vb_value.specs.declared.site_file.SiteFile.{SiteFile}
+use Rattle.asp_journal.specs.declared.full.Full.{Full}
 use Rattle.asp_acts.specs.Running.{meaning_of}
 use Rattle.asp_core.specs.Kernel.{rules_by, setting_of}
 use Rattle.asp_job.specs.declared.answer.Fail.{Fail}
@@ -31,10 +32,10 @@ pub record FailsToBegin (files : Option (List SiteFile)) (seed : List ℕ) (fail
   pub failed : HasFailedToStart (rules_from site seed) fail
 
 -- they are a site whose application began, and at some point of its journal something did not fit
-pub record Fills (files : Option (List SiteFile)) (seed : List ℕ) (entries weight : ℕ) : Type 0 where
+pub record Fills (files : Option (List SiteFile)) (seed : List ℕ) (full : Full) : Type 0 where
   pub site : Site
   pub accepted : IfSome files (λ all. IsAccepted all site)
-  pub filled : HasFilled (rules_from site seed) entries weight
+  pub filled : HasFilled (rules_from site seed) full
 
 -- they are a site
 abbrev pub AreSite : Option (List SiteFile) → Type 0
@@ -44,7 +45,7 @@ AreSite files = (site : Site) × IfSome files (λ all. IsAccepted all site)
 abbrev pub ServeMeets : ℕ → Option (List SiteFile) → List ℕ → Bool → Status → Type 0
 ServeMeets requests files seed ends Ok = ServesAll requests files seed ends
 ServeMeets requests files seed ends (StartFailed fail) = FailsToBegin files seed fail
-ServeMeets requests files seed ends (JournalFull entries weight) = Fills files seed entries weight
+ServeMeets requests files seed ends (JournalFull full) = Fills files seed full
 ServeMeets requests files seed ends AcceptFault = AreSite files
 ServeMeets requests files seed ends (SiteRefused fault) = IfSome files (λ all. IsFolderFault all fault)
 ServeMeets requests files seed ends ReadFault = Unit {0}

@@ -4,6 +4,7 @@ use Rattle.std.specs.Fmt.{decimal}
 use Rattle.vb_value.specs.declared.site_file.SiteFault.{SiteFault}
 use Rattle.vb_value.specs.declared.site_file.FaultKind.{FaultKind}
 use Rattle.vb_value.specs.declared.site_file.FaultKind.TheVariants as fault
+use Rattle.asp_journal.specs.declared.full.Full.{Full}
 use Rattle.asp_get.specs.declared.stop.GetStop.{GetStop}
 use Rattle.asp_get.specs.declared.stop.GetStop.TheVariants as get
 use Rattle.asp_job.specs.declared.answer.Fail.{Fail}
@@ -30,7 +31,7 @@ status_of NoMemory = Memory
 -- how a command ends where a request was not answered
 abbrev pub get_status_of : GetStop → Status
 get_status_of (get.StartFailed fail) = StartFailed fail
-get_status_of (get.JournalFull entries weight) = JournalFull entries weight
+get_status_of (get.JournalFull full) = JournalFull full
 get_status_of get.Memory = Memory
 
 -- how a command ends where no recording was read
@@ -42,14 +43,14 @@ recording_status_of recording.Memory = Memory
 -- how a command ends where a recording was not replayed to its end
 abbrev pub feed_status_of : FeedStop → Status
 feed_status_of (feed.StartFailed fail) = StartFailed fail
-feed_status_of (feed.JournalFull entries weight) = JournalFull entries weight
+feed_status_of (feed.JournalFull full) = JournalFull full
 feed_status_of feed.WriteFault = WriteFault
 feed_status_of feed.Memory = Memory
 
 -- how a command ends where a host did not serve to its end
 abbrev pub serve_status_of : ServeStop → Status
 serve_status_of (serve.StartFailed fail) = StartFailed fail
-serve_status_of (serve.JournalFull entries weight) = JournalFull entries weight
+serve_status_of (serve.JournalFull full) = JournalFull full
 serve_status_of serve.AcceptFault = AcceptFault
 serve_status_of serve.Memory = Memory
 
@@ -68,7 +69,7 @@ code_of (SiteRefused fault) = 3
 code_of ReadFault = 4
 code_of WriteFault = 5
 code_of (RecordRefused offset) = 6
-code_of (JournalFull entries weight) = 7
+code_of (JournalFull full) = 7
 code_of (StartFailed fail) = 8
 code_of AcceptFault = 9
 
@@ -125,9 +126,9 @@ cause_text (fail.Limit kind line) = codes "limit " ++ limit_name kind ++ codes "
 abbrev pub refused_text_of : ℕ → List ℕ
 refused_text_of offset = codes "recording refused at byte " ++ decimal offset
 
-abbrev pub full_text_of : ℕ → ℕ → List ℕ
-full_text_of entries weight =
-    codes "journal full: " ++ decimal entries ++ codes " entries, " ++ decimal weight ++ codes " bytes"
+abbrev pub full_text_of : Full → List ℕ
+full_text_of full =
+    codes "journal full: " ++ decimal full.entries ++ codes " entries, " ++ decimal full.weight ++ codes " bytes"
 
 -- what the program says of the end, without a line end
 abbrev pub text_of : Status → List ℕ
@@ -137,7 +138,7 @@ text_of Usage = codes "usage: get SITE PATH, check SITE, replay SITE, serve SITE
 text_of (SiteRefused fault) = fault_text_of fault
 text_of (StartFailed fail) = codes "Application_OnStart failed: " ++ cause_text fail
 text_of (RecordRefused offset) = refused_text_of offset
-text_of (JournalFull entries weight) = full_text_of entries weight
+text_of (JournalFull full) = full_text_of full
 text_of ReadFault = codes "read fault"
 text_of WriteFault = codes "write fault"
 text_of AcceptFault = codes "accept fault"

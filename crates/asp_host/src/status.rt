@@ -9,6 +9,7 @@ use crate::recording::RecordingStop;
 use crate::replay_text::{full_text, refused_text};
 use asp_get::GetStop;
 use asp_job::Fail;
+use asp_journal::Full;
 use asp_replay::FeedStop;
 use asp_serve::ServeStop;
 use site_load::LoadStop;
@@ -41,12 +42,7 @@ pub enum Status {
         offset: u64,
     },
     /// The journal would be too long or too heavy.
-    JournalFull {
-        /// How many entries it would have, with one end for each unfinished run.
-        entries: u64,
-        /// What they would weigh; 2^64 - 1 stands for a greater weight.
-        weight: u64,
-    },
+    JournalFull(Full),
     /// The wire failed.
     AcceptFault,
 }
@@ -73,7 +69,7 @@ impl From<GetStop> for Status {
     fn from(stop: GetStop) -> Status {
         match stop {
             GetStop::StartFailed(fail) => Status::StartFailed(fail),
-            GetStop::JournalFull { entries, weight } => Status::JournalFull { entries, weight },
+            GetStop::JournalFull(full) => Status::JournalFull(full),
             GetStop::Memory => Status::Memory,
         }
     }
@@ -101,7 +97,7 @@ impl From<FeedStop> for Status {
     fn from(stop: FeedStop) -> Status {
         match stop {
             FeedStop::StartFailed(fail) => Status::StartFailed(fail),
-            FeedStop::JournalFull { entries, weight } => Status::JournalFull { entries, weight },
+            FeedStop::JournalFull(full) => Status::JournalFull(full),
             FeedStop::WriteFault => Status::WriteFault,
             FeedStop::Memory => Status::Memory,
         }
@@ -116,7 +112,7 @@ impl From<ServeStop> for Status {
     fn from(stop: ServeStop) -> Status {
         match stop {
             ServeStop::StartFailed(fail) => Status::StartFailed(fail),
-            ServeStop::JournalFull { entries, weight } => Status::JournalFull { entries, weight },
+            ServeStop::JournalFull(full) => Status::JournalFull(full),
             ServeStop::AcceptFault => Status::AcceptFault,
             ServeStop::Memory => Status::Memory,
         }
@@ -135,7 +131,7 @@ pub fn status_code(status: &Status) -> u8
         Status::ReadFault => 4,
         Status::WriteFault => 5,
         Status::RecordRefused { .. } => 6,
-        Status::JournalFull { .. } => 7,
+        Status::JournalFull(_) => 7,
         Status::StartFailed(_) => 8,
         Status::AcceptFault => 9,
     }
@@ -150,7 +146,7 @@ pub fn status_text(alloc: Global, status: &Status) -> Result<Text, Memory>
         Status::SiteRefused(fault) => fault_text(alloc, fault),
         Status::StartFailed(fail) => fail_text(alloc, *fail),
         Status::RecordRefused { offset } => refused_text(alloc, *offset),
-        Status::JournalFull { entries, weight } => full_text(alloc, *entries, *weight),
+        Status::JournalFull(full) => full_text(alloc, *full),
         Status::Memory => Text::from_str(alloc, "out of memory"),
         Status::Usage => Text::from_str(alloc, USAGE),
         Status::ReadFault => Text::from_str(alloc, "read fault"),

@@ -2,6 +2,7 @@
 #![tactic(auto)]
 
 mod adding;
+mod full;
 mod journal;
 mod listing;
 mod next;
@@ -10,5 +11,6 @@ mod tally;
 mod told;
 mod weighing;
 
+pub use full::Full;
 pub use journal::Journal;
 pub use weighing::{call_weight, reply_weight, what_weight, work_weight};

@@ -2,6 +2,7 @@
 use Rattle.std.proofs.Common.{◌≡◌, ℕ, zero, suc, true, false, List, [], ◌∷◌, refl, ap, sym, ◌∙◌, subst}
 use Rattle.std.proofs.Common.{inl, inr, Option, Some, None}
 use Rattle.vb_value.specs.declared.application.AppCall.{AppCall}
+use Rattle.asp_journal.specs.declared.full.Full.{Full}
 use Rattle.asp_core.specs.Kernel.{CoreView, IsWithin, RunView, past_of, rules_of}
 use Rattle.asp_lane.proofs.Growing.{past_one, same_core}
 use Rattle.asp_lane.specs.Course.{Calls}
@@ -144,7 +145,7 @@ module _ {R Site State : Type 0} (meaning : R → Site → Meaning) (stands : R 
       subst (λ core. HasCalled m lane from begun (past_of core)) (sym (same_core old new is.entries is.new_is is.adds))
       called
   turn_calls (Some held) then_held turn.Idle fits is e within = absurd is.adds
-  turn_calls (Some held) then_held (turn.JournalFull count weight) fits is e within = absurd cc
+  turn_calls (Some held) then_held (turn.JournalFull full) fits is e within = absurd cc
   turn_calls (Some held) then_held turn.Memory fits is e within = absurd is.adds
 
   pub turn_ends : (in_hand : Option (RunView State)) (t : TurnEnd) → Fits meaning stands old lane in_hand
@@ -159,20 +160,20 @@ module _ {R Site State : Type 0} (meaning : R → Site → Meaning) (stands : R 
       let same = same_core old new is.entries is.new_is is.adds in
       absurd (not_both (past_of old) begun (ap (λ core. unfinished (past_of core)) (sym same) ∙ is.fits) called.alone)
   turn_ends (Some held) turn.Idle fits is e ended = absurd is.adds
-  turn_ends (Some held) (turn.JournalFull count weight) fits is e ended = absurd cc
+  turn_ends (Some held) (turn.JournalFull full) fits is e ended = absurd cc
   turn_ends (Some held) turn.Memory fits is e ended = absurd is.adds
 
-  turn_full : (in_hand then_in_hand : Option (RunView State)) (entries weight : ℕ)
+  turn_full : (in_hand then_in_hand : Option (RunView State)) (full : Full)
       → Fits meaning stands old lane in_hand
-      → IsTurn meaning stands lane old in_hand new then_in_hand (turn.JournalFull entries weight)
-      → IsValidJournal m (past_of old) → IsNextTooMuch m lane from begun entries weight
-  turn_full None then_in_hand entries weight fits is valid = absurd (not_both (past_of old) begun fits called.alone)
-  turn_full (Some held) then_in_hand entries weight fits is valid = record {
+      → IsTurn meaning stands lane old in_hand new then_in_hand (turn.JournalFull full)
+      → IsValidJournal m (past_of old) → IsNextTooMuch m lane from begun full
+  turn_full None then_in_hand full fits is valid = absurd (not_both (past_of old) begun fits called.alone)
+  turn_full (Some held) then_in_hand full fits is valid = record {
     mid = past_of old;
     count = called.count;
     calls = called.calls;
     valid = valid;
-    much = subst (λ n. IsCallTooMuch m (past_of old) lane n entries weight) (number_is held fits) is.adds.0;
+    much = subst (λ n. IsCallTooMuch m (past_of old) lane n full) (number_is held fits) is.adds.0;
   }
 
   pub turn_stops : (in_hand then_in_hand : Option (RunView State)) (t : TurnEnd) (ended : RunStop)
@@ -182,8 +183,8 @@ module _ {R Site State : Type 0} (meaning : R → Site → Meaning) (stands : R 
   turn_stops in_hand then_in_hand turn.More ended fits is valid e = absurd cc
   turn_stops in_hand then_in_hand turn.Idle ended fits is valid e =
       let same : stop.Memory ≡ ended = cc in subst (IsGoingStop m lane from begun) same tt
-  turn_stops in_hand then_in_hand (turn.JournalFull entries weight) ended fits is valid e =
-      let same : stop.JournalFull entries weight ≡ ended = cc in
-      subst (IsGoingStop m lane from begun) same (turn_full in_hand then_in_hand entries weight fits is valid)
+  turn_stops in_hand then_in_hand (turn.JournalFull full) ended fits is valid e =
+      let same : stop.JournalFull full ≡ ended = cc in
+      subst (IsGoingStop m lane from begun) same (turn_full in_hand then_in_hand full fits is valid)
   turn_stops in_hand then_in_hand turn.Memory ended fits is valid e =
       let same : stop.Memory ≡ ended = cc in subst (IsGoingStop m lane from begun) same tt

@@ -28,7 +28,7 @@ within_turn : (pace : Pace) (spent needed : ℕ) (came_to : TurnEnd) → (came_t
 within_turn pace spent needed turn.Done other within = within
 within_turn pace spent needed turn.More other within = absurd (other refl)
 within_turn pace spent needed turn.Idle other within = within
-within_turn pace spent needed (turn.JournalFull entries weight) other within = within
+within_turn pace spent needed (turn.JournalFull full) other within = within
 within_turn pace spent needed turn.Memory other within = within
 
 module _ {R Site State : Type 0} (pace : R → Pace) (meaning : R → Site → Meaning)

@@ -1,5 +1,6 @@
 -- How a run begins, and how it goes through.
 use Rattle.std.proofs.Common.{◌≡◌, ℕ, List, [], ◌∷◌, refl, subst, Some}
+use Rattle.asp_journal.specs.declared.full.Full.{Full}
 use Rattle.asp_core.specs.declared.run.Progress.TheVariants as progress
 use Rattle.asp_core.specs.declared.stop.BeginStop.{BeginStop}
 use Rattle.asp_core.specs.declared.stop.BeginStop.TheVariants as begin
@@ -49,11 +50,11 @@ module _ {R Site State : Type 0} (meaning : R → Site → Meaning) (stands : R 
       (begun_turn meaning stands lane old new run valid.entries free begins new_is is_of going).fits
 
   pub not_begun : (ended : BeginStop)
-      → ((entries weight : ℕ) → ended ≡ begin.JournalFull entries weight
-      → IsBeginTooMuch m (past_of old) lane entries weight)
+      → ((full : Full) → ended ≡ begin.JournalFull full
+      → IsBeginTooMuch m (past_of old) lane full)
       → IsRunStop m lane (past_of old) (begin_stop ended)
   not_begun begin.Idle full = tt
-  not_begun (begin.JournalFull entries weight) full = OfBegin valid (full entries weight refl)
+  not_begun (begin.JournalFull full) much = OfBegin valid (much full refl)
   not_begun begin.Memory full = tt
 
 -- ---- the whole course
@@ -71,14 +72,14 @@ module _ (rules : Rules) (lane : ℕ) (from mid : List Entry) (begun : ℕ) (jus
           to_is = on.to_is;
         }
 
-    too_much : (entries weight : ℕ) → IsNextTooMuch rules lane mid begun entries weight
-        → IsRunTooMuch rules lane from entries weight
-    too_much entries weight is =
-        let much : IsNextTooMuch rules lane (begin_entry rules from lane begun ∷ from) begun entries weight =
-        subst (λ some. IsNextTooMuch rules lane some begun entries weight) just.new_is is in
+    too_much : (full : Full) → IsNextTooMuch rules lane mid begun full
+        → IsRunTooMuch rules lane from full
+    too_much full is =
+        let much : IsNextTooMuch rules lane (begin_entry rules from lane begun ∷ from) begun full =
+        subst (λ some. IsNextTooMuch rules lane some begun full) just.new_is is in
         OfCall begun much.mid (record { begins = just.begins; count = much.count; calls = much.calls }) much.valid
         much.much
 
     pub stop_so : (ended : RunStop) → IsGoingStop rules lane mid begun ended → IsRunStop rules lane from ended
-    stop_so (stop.JournalFull entries weight) is = too_much entries weight is
+    stop_so (stop.JournalFull full) is = too_much full is
     stop_so stop.Memory is = tt

@@ -14,6 +14,7 @@ use Rattle.asp_job.specs.Rules.{Rules}
 use Rattle.asp_job.specs.Runs.{unfinished}
 use Rattle.asp_job.specs.Told.{Meaning, Told, Wants}
 use Rattle.asp_job.specs.Turns.{IsBegin, serial_of}
+use Rattle.asp_journal.specs.declared.full.Full.{Full}
 use Rattle.asp_core.specs.declared.run.Progress.{Progress}
 use Rattle.asp_core.specs.declared.run.Progress.TheVariants as progress
 use Rattle.asp_core.specs.declared.stop.BeginStop.{BeginStop}
@@ -121,13 +122,13 @@ module _ {R Site State : Type 0} (meaning : R → Site → Meaning) (stands : R 
   -- no run has begun
   pub stopped_turn : (lane : ℕ) (old new : CoreView R Site) (stop : BeginStop) → unfinished (past_of old) ≡ []
       → new ≡ old → (stop ≡ begin.Idle → IsIdle (rules_of meaning old) (past_of old))
-      → ((entries weight : ℕ) → stop ≡ begin.JournalFull entries weight
-      → IsBeginTooMuch (rules_of meaning old) (past_of old) lane entries weight)
+      → ((full : Full) → stop ≡ begin.JournalFull full
+      → IsBeginTooMuch (rules_of meaning old) (past_of old) lane full)
       → IsTurn meaning stands lane old None new None (turn_of stop)
   stopped_turn lane old new begin.Idle none same idle full =
       none_turn lane old new turn.Idle none same (idle refl, refl)
-  stopped_turn lane old new (begin.JournalFull entries weight) none same idle full =
-      none_turn lane old new (turn.JournalFull entries weight) none same (full entries weight refl, refl)
+  stopped_turn lane old new (begin.JournalFull full) none same idle much =
+      none_turn lane old new (turn.JournalFull full) none same (much full refl, refl)
   stopped_turn lane old new begin.Memory none same idle full = none_turn lane old new turn.Memory none same refl
 
   -- ---- turns with a run in hand
@@ -228,19 +229,19 @@ module _ {R Site State : Type 0} (meaning : R → Site → Meaning) (stands : R 
       (end_entry (rules_of meaning old) (past_of old) lane run.number kind.Memory, inr (inr refl), refl)
 
   -- because its call does not fit
-  pub full_turn : (lane : ℕ) (old new : CoreView R Site) (run : RunView State) (call : AppCall) (entries weight : ℕ)
+  pub full_turn : (lane : ℕ) (old new : CoreView R Site) (run : RunView State) (call : AppCall) (full : Full)
       → AreRight (rules_of meaning old) (past_of old) → IsAlone meaning stands old lane run
       → wanted_by run.progress ≡ Some call
-      → IsTooMuch (past_after (past_of old) (called old lane run)) entries weight
+      → IsTooMuch (past_after (past_of old) (called old lane run)) full
       → new ≡ grown old (end_entry (rules_of meaning old) (past_of old) lane run.number kind.JournalFull ∷ [])
-      → IsTurn meaning stands lane old (Some run) new None (turn.JournalFull entries weight)
-  full_turn lane old new run call entries weight right alone wanted much new_is =
+      → IsTurn meaning stands lane old (Some run) new None (turn.JournalFull full)
+  full_turn lane old new run call full right alone wanted much new_is =
       let entry = call_entry (past_of old) lane run.number call in
       let made : called old lane run ≡ entry ∷ [] =
       one_call old lane run.number (wanted_by run.progress) call wanted in
-      let too : IsTooMuch (entry ∷ past_of old) entries weight =
-      subst (λ (list : List Entry). IsTooMuch (past_after (past_of old) list) entries weight) made much in
-      ended_turn lane old new run kind.JournalFull (turn.JournalFull entries weight) right alone new_is (
+      let too : IsTooMuch (entry ∷ past_of old) full =
+      subst (λ (list : List Entry). IsTooMuch (past_after (past_of old) list) full) made much in
+      ended_turn lane old new run kind.JournalFull (turn.JournalFull full) right alone new_is (
         record {
           running = alone.is_of.running;
           call = call;

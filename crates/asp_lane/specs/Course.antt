@@ -1,6 +1,7 @@
 -- The course of a run that one lane takes to its end, and how it comes to be too much. All of it is the product's own.
 use Rattle.std.specs.Prelude.{◌≡◌, ℕ, zero, suc, List, [], ◌∷◌}
 use Rattle.vb_value.specs.declared.application.AppCall.{AppCall}
+use Rattle.asp_journal.specs.declared.full.Full.{Full}
 use Rattle.asp_core.specs.Kernel.{IsBeginTooMuch, IsWithin}
 use Rattle.asp_job.specs.declared.entry.EndKind.TheVariants as kind
 use Rattle.asp_job.specs.declared.entry.Entry.{Entry}
@@ -43,10 +44,9 @@ pub record GoesThrough (rules : Rules) (lane : ℕ) (from : List Entry) (run : �
 
 -- ---- too much
 
--- with the Begin of the next run, or with the next call of a run that is under way, there would be so many entries of
--- that weight, too many or too heavy
-pub data IsRunTooMuch (rules : Rules) (lane : ℕ) (from : List Entry) (entries weight : ℕ) : Type 0 where
-  OfBegin : IsValidJournal rules from → IsBeginTooMuch rules from lane entries weight
-      → IsRunTooMuch rules lane from entries weight
+-- with the Begin of the next run, or with the next call of a run that is under way, it would be so full: too many
+-- entries or too heavy
+pub data IsRunTooMuch (rules : Rules) (lane : ℕ) (from : List Entry) (full : Full) : Type 0 where
+  OfBegin : IsValidJournal rules from → IsBeginTooMuch rules from lane full → IsRunTooMuch rules lane from full
   OfCall : (run : ℕ) (mid : List Entry) → IsUnderWay rules lane from run mid → IsValidJournal rules mid
-      → IsCallTooMuch rules mid lane run entries weight → IsRunTooMuch rules lane from entries weight
+      → IsCallTooMuch rules mid lane run full → IsRunTooMuch rules lane from full

@@ -11,6 +11,7 @@ use Rattle.asp_job.specs.Rules.{Rules}
 use Rattle.asp_job.specs.Runs.{unfinished}
 use Rattle.asp_job.specs.Told.{Meaning, Told, Wants}
 use Rattle.asp_job.specs.Turns.{IsBegin, IsRunning, serial_of}
+use Rattle.asp_journal.specs.declared.full.Full.{Full}
 use Rattle.asp_core.specs.declared.run.Progress.TheVariants as progress
 use Rattle.asp_core.specs.declared.stop.BeginStop.{BeginStop}
 use Rattle.asp_core.specs.declared.stop.BeginStop.TheVariants as stop
@@ -46,17 +47,17 @@ Fits meaning stands core lane (Some run) = IsAlone meaning stands core lane run 
 -- what a turn comes to where no run begins
 abbrev pub turn_of : BeginStop → TurnEnd
 turn_of stop.Idle = turn.Idle
-turn_of (stop.JournalFull entries weight) = turn.JournalFull entries weight
+turn_of (stop.JournalFull full) = turn.JournalFull full
 turn_of stop.Memory = turn.Memory
 
--- The run is unfinished, and has begun on this lane. With the call that its meaning wants, which no lock keeps out, there
--- would be so many entries of that weight, too many or too heavy.
-pub record IsCallTooMuch (rules : Rules) (past : List Entry) (lane run entries weight : ℕ) : Type 0 where
+-- The run is unfinished, and has begun on this lane. With the call that its meaning wants, which no lock keeps out, it
+-- would be so full: too many entries or too heavy.
+pub record IsCallTooMuch (rules : Rules) (past : List Entry) (lane run : ℕ) (full : Full) : Type 0 where
   pub running : IsRunning past lane run
   pub call : AppCall
   pub wants : rules.meaning.does (told rules past run) ≡ Wants call
   pub free : blocker_of (held_by past) run call ≡ None
-  pub much : IsTooMuch (call_entry past lane run call ∷ past) entries weight
+  pub much : IsTooMuch (call_entry past lane run call ∷ past) full
 
 -- Where no run is in hand: the Begin of the next run; or nothing, where none is next, where that Begin does not fit, or
 -- for want of memory.
@@ -65,8 +66,8 @@ AddsBegin rules past lane entries turn.Done =
     (run : ℕ) × IsBegin rules past run (serial_of rules past run) × (entries ≡ begin_entry rules past lane run ∷ [])
 AddsBegin rules past lane entries turn.More = ⊥
 AddsBegin rules past lane entries turn.Idle = IsIdle rules past × (entries ≡ [])
-AddsBegin rules past lane entries (turn.JournalFull count weight) =
-    IsBeginTooMuch rules past lane count weight × (entries ≡ [])
+AddsBegin rules past lane entries (turn.JournalFull full) =
+    IsBeginTooMuch rules past lane full × (entries ≡ [])
 AddsBegin rules past lane entries turn.Memory = entries ≡ []
 
 -- the entry is the call that the run's meaning wants, the End that the meaning has, or an End for want of memory
@@ -84,8 +85,8 @@ AddsStep rules past lane run entries turn.Done =
     (entry : Entry) × IsStep rules past lane run entry × (entries ≡ entry ∷ [])
 AddsStep rules past lane run entries turn.More = entries ≡ []
 AddsStep rules past lane run entries turn.Idle = ⊥
-AddsStep rules past lane run entries (turn.JournalFull count weight) =
-    IsCallTooMuch rules past lane run count weight × (entries ≡ end_entry rules past lane run kind.JournalFull ∷ [])
+AddsStep rules past lane run entries (turn.JournalFull full) =
+    IsCallTooMuch rules past lane run full × (entries ≡ end_entry rules past lane run kind.JournalFull ∷ [])
 AddsStep rules past lane run entries turn.Memory = ⊥
 
 -- the entries of a turn, oldest first, where this run is in hand

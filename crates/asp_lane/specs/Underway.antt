@@ -1,5 +1,6 @@
 -- Where the course of a run stands. It is the crate's own, for its parts.
 use Rattle.std.specs.Prelude.{◌≡◌, ⊤, ℕ, ◌==◌, Bool, false, List, [], ◌∷◌, Option, Some, None}
+use Rattle.asp_journal.specs.declared.full.Full.{Full}
 use Rattle.asp_core.specs.declared.stop.BeginStop.{BeginStop}
 use Rattle.asp_core.specs.declared.stop.BeginStop.TheVariants as begin
 use Rattle.asp_core.specs.Kernel.{CoreView, grown}
@@ -23,13 +24,13 @@ abbrev pub turn_stop : TurnEnd → Option RunStop
 turn_stop turn.Done = None
 turn_stop turn.More = None
 turn_stop turn.Idle = Some stop.Memory
-turn_stop (turn.JournalFull entries weight) = Some (stop.JournalFull entries weight)
+turn_stop (turn.JournalFull full) = Some (stop.JournalFull full)
 turn_stop turn.Memory = Some stop.Memory
 
 -- why a run did not begin
 abbrev pub begin_stop : BeginStop → RunStop
 begin_stop begin.Idle = stop.Memory
-begin_stop (begin.JournalFull entries weight) = stop.JournalFull entries weight
+begin_stop (begin.JournalFull full) = stop.JournalFull full
 begin_stop begin.Memory = stop.Memory
 
 -- the core has some entries more
@@ -57,19 +58,19 @@ pub record GoesOn (rules : Rules) (lane : ℕ) (from : List Entry) (run : ℕ) (
   pub to_is : to ≡ end_entry rules mid lane run kind.Done ∷ mid
 
 -- after some calls of the run its next one would be too much
-pub record IsNextTooMuch (rules : Rules) (lane : ℕ) (from : List Entry) (run entries weight : ℕ) : Type 0 where
+pub record IsNextTooMuch (rules : Rules) (lane : ℕ) (from : List Entry) (run : ℕ) (full : Full) : Type 0 where
   pub mid : List Entry
   pub count : ℕ
   pub calls : Calls rules lane run count from mid
   pub valid : IsValidJournal rules mid
-  pub much : IsCallTooMuch rules mid lane run entries weight
+  pub much : IsCallTooMuch rules mid lane run full
 
 -- why a run that is under way did not end by itself
 abbrev pub IsGoingStop : Rules → ℕ → List Entry → ℕ → RunStop → Type 0
-IsGoingStop rules lane from run (stop.JournalFull entries weight) = IsNextTooMuch rules lane from run entries weight
+IsGoingStop rules lane from run (stop.JournalFull full) = IsNextTooMuch rules lane from run full
 IsGoingStop rules lane from run stop.Memory = ⊤
 
 -- why a run did not go through
 abbrev pub IsRunStop : Rules → ℕ → List Entry → RunStop → Type 0
-IsRunStop rules lane from (stop.JournalFull entries weight) = IsRunTooMuch rules lane from entries weight
+IsRunStop rules lane from (stop.JournalFull full) = IsRunTooMuch rules lane from full
 IsRunStop rules lane from stop.Memory = ⊤

@@ -8,7 +8,7 @@ ghost use Rattle.asp_lane.specs.Course.{GoesThrough};
 ghost use Rattle.asp_lane.specs.Turns.{Fits};
 ghost use Rattle.asp_lane.specs.Underway as spec;
 
-use crate::stop::{RunStop, begin_stop, turn_stop};
+use crate::stop::{RunStop, turn_stop};
 use crate::turn::{Load, let_go, take_turn};
 use asp_core::{Core, Run};
 use asp_job::{EndKind, Runner, What};
@@ -122,14 +122,11 @@ where
             // And within its bounds.
             let _ = core.journal();
             let number = run.number();
-            match finish(core, runner, site, lane, run) {
-                Ok(store) => Ok((number, store)),
-                Err(stop) => Err(stop),
-            }
+            Ok((number, finish(core, runner, site, lane, run)?))
         }
         Err((store, stop)) => {
             let_go::<R>(Load::Free(store));
-            Err(begin_stop(stop))
+            Err(RunStop::from(stop))
         }
     }
 }

@@ -6,6 +6,7 @@ ghost use Rattle.asp_lane.specs.Underway as spec;
 
 use crate::turn::TurnEnd;
 use asp_core::BeginStop;
+use asp_journal::Full;
 use std::error::Error;
 use std::fmt;
 use vb_value::Memory;
@@ -14,12 +15,7 @@ use vb_value::Memory;
 #[derive(Clone, Copy, Debug, PartialEq, Eq)]
 pub enum RunStop {
     /// The journal would be too long or too heavy.
-    JournalFull {
-        /// How many entries it would have, with one end for each unfinished run.
-        entries: u64,
-        /// What they would weigh; 2^64 - 1 stands for a greater weight.
-        weight: u64,
-    },
+    JournalFull(Full),
     /// Memory ran out.
     Memory,
 }
@@ -27,9 +23,7 @@ pub enum RunStop {
 impl fmt::Display for RunStop {
     fn fmt<W: fmt::Write>(&self, f: &mut fmt::Formatter<W>) -> fmt::Result {
         match self {
-            RunStop::JournalFull { entries, weight } => {
-                write!(f, "journal full: {entries} entries, {weight} bytes")
-            }
+            RunStop::JournalFull(full) => write!(f, "{full}"),
             RunStop::Memory => write!(f, "{}", Memory),
         }
     }
@@ -37,13 +31,17 @@ impl fmt::Display for RunStop {
 
 impl Error for RunStop {}
 
-/// Why a run did not begin. One that waits alone is not idle.
-pub(crate) fn begin_stop(stop: BeginStop) -> RunStop
-    ensures { result ≡ spec.begin_stop stop }
-{
-    match stop {
-        BeginStop::JournalFull { entries, weight } => RunStop::JournalFull { entries, weight },
-        BeginStop::Idle | BeginStop::Memory => RunStop::Memory,
+/// A run that waits alone is not idle.
+impl From<BeginStop> for RunStop {
+    ghost use Rattle.asp_lane.specs.Underway.{begin_stop};
+
+    ghost from_gives = { λ stop given. given ≡ begin_stop stop };
+
+    fn from(stop: BeginStop) -> RunStop {
+        match stop {
+            BeginStop::JournalFull(full) => RunStop::JournalFull(full),
+            BeginStop::Idle | BeginStop::Memory => RunStop::Memory,
+        }
     }
 }
 
@@ -53,7 +51,7 @@ pub(crate) fn turn_stop(came_to: TurnEnd) -> Option<RunStop>
 {
     match came_to {
         TurnEnd::Done | TurnEnd::More => None,
-        TurnEnd::JournalFull { entries, weight } => Some(RunStop::JournalFull { entries, weight }),
+        TurnEnd::JournalFull(full) => Some(RunStop::JournalFull(full)),
         TurnEnd::Idle | TurnEnd::Memory => Some(RunStop::Memory),
     }
 }

@@ -11,6 +11,7 @@ ghost use Rattle.asp_lane.specs.Turns as spec;
 
 use asp_core::{AppStepStop, BeginStop, Core, Run};
 use asp_job::{EndKind, Runner, Step};
+use asp_journal::Full;
 
 /// How many ticks a run spends in a turn, at most.
 pub const QUANTUM: u32 = 10_000;
@@ -42,12 +43,7 @@ pub enum TurnEnd {
     /// No run may begin.
     Idle,
     /// An entry did not fit. The run in hand, if there was one, has ended.
-    JournalFull {
-        /// How many entries there would be, with one end for each unfinished run.
-        entries: u64,
-        /// What they would weigh; 2^64 - 1 stands for a greater weight.
-        weight: u64,
-    },
+    JournalFull(Full),
     /// Memory ran out before a run began.
     Memory,
 }
@@ -58,7 +54,7 @@ fn turn_of(stop: BeginStop) -> TurnEnd
 {
     match stop {
         BeginStop::Idle => TurnEnd::Idle,
-        BeginStop::JournalFull { entries, weight } => TurnEnd::JournalFull { entries, weight },
+        BeginStop::JournalFull(full) => TurnEnd::JournalFull(full),
         BeginStop::Memory => TurnEnd::Memory,
     }
 }
@@ -94,9 +90,9 @@ fn call<R: Runner>(core: &mut Core<R>, runner: &R, lane: u32, mut run: Run<R>) -
     match core.app_step(lane, runner, &mut run) {
         Ok(()) => (Load::Runs(run), TurnEnd::Done),
         Err(AppStepStop::Blocked { holder: _ }) => unreachable!(),
-        Err(AppStepStop::JournalFull { entries, weight }) => {
+        Err(AppStepStop::JournalFull(full)) => {
             let store = core.end(lane, runner, run, EndKind::JournalFull);
-            (Load::Free(store), TurnEnd::JournalFull { entries, weight })
+            (Load::Free(store), TurnEnd::JournalFull(full))
         }
         Err(AppStepStop::Memory) => {
             let store = core.end(lane, runner, run, EndKind::Memory);

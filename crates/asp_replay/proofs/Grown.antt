@@ -89,7 +89,7 @@ fed_part items past clients left (inr fed) = inl fed.fed
 writing_cause : (m : Rules) (items : List Item) (past : List Entry) (ended : FeedStop)
     → IsOfWriting {T = Unit {0}} (Err ended) → HasCause m items past ended
 writing_cause m items past (stop.StartFailed fail) of = absurd of
-writing_cause m items past (stop.JournalFull entries weight) of = absurd of
+writing_cause m items past (stop.JournalFull full) of = absurd of
 writing_cause m items past stop.WriteFault of = tt
 writing_cause m items past stop.Memory of = tt
 

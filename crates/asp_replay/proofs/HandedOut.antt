@@ -69,7 +69,7 @@ part_records meaning old new before now after first shown stop.Memory one shown_
       are_records = one.are_records;
       wrote = part_whole before after one.bytes (same ∙ one.wrote);
     }
-part_records meaning old new before now after first shown (stop.JournalFull entries weight) one shown_is none =
+part_records meaning old new before now after first shown (stop.JournalFull full) one shown_is none =
     absurd none
 part_records meaning old new before now after first shown (stop.StartFailed fail) one shown_is none = absurd none
 

@@ -90,7 +90,7 @@ pub stopped_part : (ended : FeedStop) (old new : Option (List ℕ)) (piece : Lis
 stopped_part stop.WriteFault old new piece wrote = wrote
 stopped_part stop.Memory old new piece same =
     record { count = 0; within = omega arith; added = same ∙ sym (with_none old) }
-stopped_part (stop.JournalFull entries weight) old new piece none = absurd none
+stopped_part (stop.JournalFull full) old new piece none = absurd none
 stopped_part (stop.StartFailed fail) old new piece none = absurd none
 
 pub stopped_text : (ended : FeedStop) (before old new : Option (List ℕ)) (piece text : List ℕ)
@@ -98,5 +98,5 @@ pub stopped_text : (ended : FeedStop) (before old new : Option (List ℕ)) (piec
     → WritesText {T = Unit {0}} text (Err ended) before new
 stopped_text stop.WriteFault before old new piece text wrote part = part
 stopped_text stop.Memory before old new piece text same part = part
-stopped_text (stop.JournalFull entries weight) before old new piece text none part = none
+stopped_text (stop.JournalFull full) before old new piece text none part = none
 stopped_text (stop.StartFailed fail) before old new piece text none part = none

@@ -54,7 +54,7 @@ starting_busy past (next ∷ left) e = let none = (starting_parts past e).0 in r
 start_cause : (m : Rules) (items : List Item) (past : List Entry) (ended : FeedStop) → events_of past ≡ []
     → IsStartStop m past ended → feed.HasCause m items past ended
 start_cause m items past (stop.StartFailed fail) none is = record { none_came = none; failed = is }
-start_cause m items past (stop.JournalFull entries weight) none is = absurd is
+start_cause m items past (stop.JournalFull full) none is = absurd is
 start_cause m items past stop.WriteFault none is = absurd is
 start_cause m items past stop.Memory none is = tt
 
@@ -91,7 +91,7 @@ none_still old new same none = same ∙ none
 
 no_fault : (m : Rules) (past : List Entry) (ended : FeedStop) → IsStartStop m past ended → ended ≡ stop.WriteFault → ⊥
 no_fault m past (stop.StartFailed fail) is e = absurd cc
-no_fault m past (stop.JournalFull entries weight) is e = absurd is
+no_fault m past (stop.JournalFull full) is e = absurd is
 no_fault m past stop.WriteFault is e = absurd is
 no_fault m past stop.Memory is e = absurd cc
 

@@ -36,11 +36,11 @@ stop_quiet : (m : Rules) (past entries : List Entry) (t : TurnEnd) (ended : Feed
 stop_quiet m past entries turn.Done ended e works = absurd cc
 stop_quiet m past entries turn.More ended e works = absurd works
 stop_quiet m past entries turn.Idle ended e works = absurd works
-stop_quiet m past entries (turn.JournalFull count weight) ended e (inl begin) = rw begin.1 (as_before past)
-stop_quiet m past entries (turn.JournalFull count weight) ended e (inr full) =
-    rw full.entries_are (as_before_both past full.mid (end_entry m full.mid 0 full.run kind.JournalFull ∷ full.mid)
-    (hand_quiet m past full.mid full.run full.in_hand)
-    (quiet_one full.mid (end_entry m full.mid 0 full.run kind.JournalFull) refl))
+stop_quiet m past entries (turn.JournalFull full) ended e (inl begin) = rw begin.1 (as_before past)
+stop_quiet m past entries (turn.JournalFull full) ended e (inr ends) =
+    rw ends.entries_are (as_before_both past ends.mid (end_entry m ends.mid 0 ends.run kind.JournalFull ∷ ends.mid)
+    (hand_quiet m past ends.mid ends.run ends.in_hand)
+    (quiet_one ends.mid (end_entry m ends.mid 0 ends.run kind.JournalFull) refl))
 stop_quiet m past entries turn.Memory ended e (inl none) = rw none (as_before past)
 stop_quiet m past entries turn.Memory ended e (inr begun) =
     rw begun.3 (hand_quiet m past begun.0 begun.1 begun.2)
@@ -52,17 +52,17 @@ stop_cause : (m : Rules) (items : List Item) (past entries : List Entry) (client
 stop_cause m items past entries clients left turn.Done ended e stands works = absurd cc
 stop_cause m items past entries clients left turn.More ended e stands works = absurd works
 stop_cause m items past entries clients left turn.Idle ended e stands works = absurd works
-stop_cause m items past entries clients left (turn.JournalFull count weight) ended e stands (inl begin) =
-    let is = stop_is (stop.JournalFull count weight) ended e in
+stop_cause m items past entries clients left (turn.JournalFull full) ended e stands (inl begin) =
+    let is = stop_is (stop.JournalFull full) ended e in
     let fed = fed_part items past clients left stands in
     rw begin.1 (subst (HasCause m items past) is (past, [], refl, OfBegin fed begin.0))
-stop_cause m items past entries clients left (turn.JournalFull count weight) ended e stands (inr full) =
-    let is = stop_is (stop.JournalFull count weight) ended e in
-    let last = end_entry m full.mid 0 full.run kind.JournalFull in
-    let fed = fed_part items full.mid clients left (stands_same items past full.mid clients left
-    (hand_quiet m past full.mid full.run full.in_hand) stands) in
-    rw full.entries_are (subst (HasCause m items (last ∷ full.mid)) is
-    (full.mid, last ∷ [], refl, OfCall fed full.run full.much))
+stop_cause m items past entries clients left (turn.JournalFull full) ended e stands (inr ends) =
+    let is = stop_is (stop.JournalFull full) ended e in
+    let last = end_entry m ends.mid 0 ends.run kind.JournalFull in
+    let fed = fed_part items ends.mid clients left (stands_same items past ends.mid clients left
+    (hand_quiet m past ends.mid ends.run ends.in_hand) stands) in
+    rw ends.entries_are (subst (HasCause m items (last ∷ ends.mid)) is
+    (ends.mid, last ∷ [], refl, OfCall fed ends.run ends.much))
 stop_cause m items past entries clients left turn.Memory ended e stands works =
     subst (HasCause m items (past_after past entries)) (stop_is stop.Memory ended e) tt
 
@@ -130,8 +130,8 @@ pub stop_no_fault : (t : TurnEnd) (ended : FeedStop) → turn_stop t ≡ Some en
 stop_no_fault turn.Done ended e fault = absurd cc
 stop_no_fault turn.More ended e fault = absurd cc
 stop_no_fault turn.Idle ended e fault = absurd cc
-stop_no_fault (turn.JournalFull count weight) ended e fault =
-    absurd (let is = stop_is (stop.JournalFull count weight) ended e in cc)
+stop_no_fault (turn.JournalFull full) ended e fault =
+    absurd (let is = stop_is (stop.JournalFull full) ended e in cc)
 stop_no_fault turn.Memory ended e fault = absurd (let is = stop_is stop.Memory ended e in cc)
 
 pub not_err : {T E : Type 0} → (result : Result T E) (ended : E) → IsOk result → result ≡ Err ended → ⊥

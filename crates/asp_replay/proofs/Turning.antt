@@ -1,6 +1,7 @@
 -- What turns leave of a core: its journal grows, and then the answers that wait are handed out.
 use Rattle.std.proofs.Common.{◌≡◌, ℕ, true, false, List, [], ◌∷◌, ◌++◌, append_assoc, refl, ap, sym, ◌∙◌, subst}
 use Rattle.std.proofs.Common.{inl, inr, Option, Some, Result, Ok, Err}
+use Rattle.asp_journal.specs.declared.full.Full.{Full}
 use Rattle.asp_core.specs.Kernel.{CoreView, IsTooMuch, RunView, grown, past_of, rules_of}
 use Rattle.asp_core.specs.Ready.{IsAnswered, ready}
 use Rattle.asp_core.proofs.Kept.{past_of_more}
@@ -160,22 +161,22 @@ module _ {R Site : Type 0} (meaning : R → Site → Meaning) where
 
   item_cause : (m : Rules) (items : List Item) (past : List Entry) (clients : Clients) (next : Item)
       (ended : FeedStop) → HasStarted m past → IsNext items past clients next
-      → ((entries weight : ℕ) → ended ≡ stop.JournalFull entries weight
-      → IsItemTooMuch m past clients next entries weight) → ((fail : Fail) → ended ≡ stop.StartFailed fail → ⊥)
+      → ((full : Full) → ended ≡ stop.JournalFull full
+      → IsItemTooMuch m past clients next full) → ((fail : Fail) → ended ≡ stop.StartFailed fail → ⊥)
       → HasCause m items past ended
-  item_cause m items past clients next (stop.StartFailed fail) started is full not = absurd (not fail refl)
-  item_cause m items past clients next (stop.JournalFull entries weight) started is full not =
-      let much = full entries weight refl in
+  item_cause m items past clients next (stop.StartFailed fail) started is so not = absurd (not fail refl)
+  item_cause m items past clients next (stop.JournalFull full) started is so not =
+      let much = so full refl in
       (past, [], refl, OfItem clients much.1 next much.0 started is much.2 much.3)
-  item_cause m items past clients next stop.WriteFault started is full not = tt
-  item_cause m items past clients next stop.Memory started is full not = tt
+  item_cause m items past clients next stop.WriteFault started is so not = tt
+  item_cause m items past clients next stop.Memory started is so not = tt
 
   -- an item did not come
   pub come_ends : (old mid : CoreView R Site) (items left : List Item) (clients : Clients) (next : Item)
       (before held : Option (List ℕ)) (ended : FeedStop) → mid ≡ old
       → may_come (past_of old) (recorded.moment_of next) ≡ true → HasStarted (rules_of meaning old) (past_of old)
-      → ((entries weight : ℕ) → ended ≡ stop.JournalFull entries weight
-      → IsItemTooMuch (rules_of meaning old) (past_of old) clients next entries weight)
+      → ((full : Full) → ended ≡ stop.JournalFull full
+      → IsItemTooMuch (rules_of meaning old) (past_of old) clients next full)
       → ((fail : Fail) → ended ≡ stop.StartFailed fail → ⊥)
       → IsUnderWay (rules_of meaning old) items (past_of old) clients (next ∷ left) before held
       → EndsSo (rules_of meaning old) items (past_of mid) ended before held
@@ -212,21 +213,21 @@ module _ {R Site : Type 0} (meaning : R → Site → Meaning) where
 
   stop_cause : (m : Rules) (items : List Item) (past : List Entry) (ended : FeedStop) → HasStarted m past
       → HasAllCome items past
-      → ((entries weight : ℕ) → ended ≡ stop.JournalFull entries weight
-      → IsTooMuch (past_after past (stop_entries m past 0)) entries weight)
+      → ((full : Full) → ended ≡ stop.JournalFull full
+      → IsTooMuch (past_after past (stop_entries m past 0)) full)
       → ((fail : Fail) → ended ≡ stop.StartFailed fail → ⊥) → HasCause m items past ended
-  stop_cause m items past (stop.StartFailed fail) started is full not = absurd (not fail refl)
-  stop_cause m items past (stop.JournalFull entries weight) started is full not =
-      (past, [], refl, OfStop started is (full entries weight refl))
-  stop_cause m items past stop.WriteFault started is full not = tt
-  stop_cause m items past stop.Memory started is full not = tt
+  stop_cause m items past (stop.StartFailed fail) started is so not = absurd (not fail refl)
+  stop_cause m items past (stop.JournalFull full) started is so not =
+      (past, [], refl, OfStop started is (so full refl))
+  stop_cause m items past stop.WriteFault started is so not = tt
+  stop_cause m items past stop.Memory started is so not = tt
 
   -- the host did not stop
   pub stop_ends : (old mid : CoreView R Site) (items : List Item) (clients : Clients) (before held : Option (List ℕ))
       (ended : FeedStop) → mid ≡ old → is_calm (past_of old) ≡ true → is_stopping (past_of old) ≡ false
       → HasStarted (rules_of meaning old) (past_of old)
-      → ((entries weight : ℕ) → ended ≡ stop.JournalFull entries weight
-      → IsTooMuch (past_after (past_of old) (stop_entries (rules_of meaning old) (past_of old) 0)) entries weight)
+      → ((full : Full) → ended ≡ stop.JournalFull full
+      → IsTooMuch (past_after (past_of old) (stop_entries (rules_of meaning old) (past_of old) 0)) full)
       → ((fail : Fail) → ended ≡ stop.StartFailed fail → ⊥)
       → IsUnderWay (rules_of meaning old) items (past_of old) clients [] before held
       → EndsSo (rules_of meaning old) items (past_of mid) ended before held
@@ -247,8 +248,7 @@ module _ {R Site : Type 0} (meaning : R → Site → Meaning) where
   work_adds m past entries turn.Done none works = works
   work_adds m past entries turn.More none works = absurd works
   work_adds m past entries turn.Idle none works = absurd works
-  work_adds m past entries (turn.JournalFull count weight) none works = absurd (none (stop.JournalFull count weight)
-      refl)
+  work_adds m past entries (turn.JournalFull full) none works = absurd (none (stop.JournalFull full) refl)
   work_adds m past entries turn.Memory none works = absurd (none stop.Memory refl)
 
   pub work_lanes : (old mid : CoreView R Site) (entries : List Entry) → mid ≡ grown old entries

@@ -2,6 +2,7 @@
 use Rattle.std.proofs.Common.{◌≡◌, ◌≢◌, ◌⊎◌, ℕ, zero, suc, ◌||◌, Bool, true, false, List, [], ◌∷◌, ◌++◌}
 use Rattle.std.proofs.Common.{reverse, refl, ap, sym, ◌∙◌, subst, append_assoc, inl, inr, Option, Some, None, Err}
 use Rattle.std.proofs.lemmas.Bool.{cases_Bool}
+use Rattle.asp_journal.specs.declared.full.Full.{Full}
 use Rattle.asp_core.specs.Kernel.{CoreView, RunView, grown, past_of, rules_of}
 use Rattle.asp_core.specs.Laws.{NoneIs}
 use Rattle.asp_core.proofs.Kept.{past_of_more}
@@ -67,20 +68,20 @@ adds_quiet : {State : Type 0} → (m : Rules) (past : List Entry) (lane : ℕ) (
 adds_quiet m past lane None entries turn.Done adds = rw adds.2 (refl, tt)
 adds_quiet m past lane None entries turn.More adds = absurd adds
 adds_quiet m past lane None entries turn.Idle adds = rw adds.1 tt
-adds_quiet m past lane None entries (turn.JournalFull count weight) adds = rw adds.1 tt
+adds_quiet m past lane None entries (turn.JournalFull full) adds = rw adds.1 tt
 adds_quiet m past lane None entries turn.Memory adds = rw adds tt
 adds_quiet m past lane (Some run) entries turn.Done adds =
     rw adds.2 (step_quiet m past lane run.number adds.0 adds.1)
 adds_quiet m past lane (Some run) entries turn.More adds = rw adds tt
 adds_quiet m past lane (Some run) entries turn.Idle adds = absurd adds
-adds_quiet m past lane (Some run) entries (turn.JournalFull count weight) adds = rw adds.1 (refl, tt)
+adds_quiet m past lane (Some run) entries (turn.JournalFull full) adds = rw adds.1 (refl, tt)
 adds_quiet m past lane (Some run) entries turn.Memory adds = absurd adds
 
 -- ---- a Halt
 
 wound_is : (past : List Entry) (ended : FeedStop) → HasWoundUp past → IsWoundUp past ended
 wound_is past (stop.StartFailed fail) wound = tt
-wound_is past (stop.JournalFull entries weight) wound = wound
+wound_is past (stop.JournalFull full) wound = wound
 wound_is past stop.WriteFault wound = wound
 wound_is past stop.Memory wound = tt
 
@@ -177,9 +178,9 @@ fed_then items old new same (inl fed) = inl (fed_as_before items old new same fe
 fed_then items old new same (inr part) =
     inr (part.0, part.1, part.2, part.3, come_as_before (reverse part.0) old new part.2 same part.4)
 
-much_then : (m : Rules) (items : List Item) (past more : List Entry) (entries weight : ℕ)
-    → WasTooMuch m items past entries weight → WasTooMuch m items (more ++ past) entries weight
-much_then m items past more entries weight much = (
+much_then : (m : Rules) (items : List Item) (past more : List Entry) (full : Full)
+    → WasTooMuch m items past full → WasTooMuch m items (more ++ past) full
+much_then m items past more full much = (
   much.0,
   more ++ much.1,
   ap (λ some. more ++ some) much.2 ∙ sym (append_assoc more much.1 much.0),
@@ -191,9 +192,9 @@ cause_then : (m : Rules) (items : List Item) (past new more : List Entry) (ended
     → HasCause m items new ended
 cause_then m items past new more (stop.StartFailed fail) is same cause =
     subst (λ some. HasFailed m some fail) (sym (same fail refl)) cause
-cause_then m items past new more (stop.JournalFull entries weight) is same cause =
-    subst (λ some. WasTooMuch m items some entries weight) (sym is)
-    (much_then m items past more entries weight cause)
+cause_then m items past new more (stop.JournalFull full) is same cause =
+    subst (λ some. WasTooMuch m items some full) (sym is)
+    (much_then m items past more full cause)
 cause_then m items past new more stop.WriteFault is same cause = tt
 cause_then m items past new more stop.Memory is same cause = tt
 

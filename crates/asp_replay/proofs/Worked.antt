@@ -37,7 +37,7 @@ module _ {R Site State : Type 0} (meaning : R → Site → Meaning) (stands : R 
   step_adds old run entries turn.Done e adds = adds
   step_adds old run entries turn.More e adds = absurd cc
   step_adds old run entries turn.Idle e adds = absurd adds
-  step_adds old run entries (turn.JournalFull count weight) e adds = adds
+  step_adds old run entries (turn.JournalFull full) e adds = adds
   step_adds old run entries turn.Memory e adds = absurd adds
 
   -- a turn of the run in hand that came to an end is a step
@@ -63,7 +63,7 @@ module _ {R Site State : Type 0} (meaning : R → Site → Meaning) (stands : R 
       is.new_is ∙ ap (λ entries. grown old entries) is.adds ∙ grown_none old
   more_stays old new in_hand then_in_hand turn.Done is e = absurd cc
   more_stays old new in_hand then_in_hand turn.Idle is e = absurd cc
-  more_stays old new in_hand then_in_hand (turn.JournalFull count weight) is e = absurd cc
+  more_stays old new in_hand then_in_hand (turn.JournalFull full) is e = absurd cc
   more_stays old new in_hand then_in_hand turn.Memory is e = absurd cc
 
   -- nothing was done
@@ -87,7 +87,7 @@ module _ {R Site State : Type 0} (meaning : R → Site → Meaning) (stands : R 
   }
   in_hand_works old run entries turn.More one steps = absurd steps
   in_hand_works old run entries turn.Idle one steps = absurd steps
-  in_hand_works old run entries (turn.JournalFull count weight) one steps = inr (record {
+  in_hand_works old run entries (turn.JournalFull full) one steps = inr (record {
     mid = past_of old;
     run = run;
     in_hand = inl (one, refl);
@@ -121,7 +121,7 @@ module _ {R Site State : Type 0} (meaning : R → Site → Meaning) (stands : R 
   }
   begun_works old run entry entries turn.More in_hand steps = absurd steps
   begun_works old run entry entries turn.Idle in_hand steps = absurd steps
-  begun_works old run entry entries (turn.JournalFull count weight) in_hand steps = inr (record {
+  begun_works old run entry entries (turn.JournalFull full) in_hand steps = inr (record {
     mid = entry ∷ past_of old;
     run = run;
     in_hand = in_hand;
@@ -161,7 +161,7 @@ module _ {R Site State : Type 0} (meaning : R → Site → Meaning) (stands : R 
       }
   worked_begun old mid new in_hand then_in_hand turn.More t right none is e stepped = absurd cc
   worked_begun old mid new in_hand then_in_hand turn.Idle t right none is e stepped = absurd cc
-  worked_begun old mid new in_hand then_in_hand (turn.JournalFull count weight) t right none is e stepped = absurd cc
+  worked_begun old mid new in_hand then_in_hand (turn.JournalFull full) t right none is e stepped = absurd cc
   worked_begun old mid new in_hand then_in_hand turn.Memory t right none is e stepped = absurd cc
 
   both_none : (xs ys : List ℕ) → xs ≡ [] → ys ≡ [] → (length xs == 0) && (length ys == 0) ≡ true
@@ -173,7 +173,7 @@ module _ {R Site State : Type 0} (meaning : R → Site → Meaning) (stands : R 
   begin_works old entries turn.Done e some adds = absurd cc
   begin_works old entries turn.More e some adds = absurd adds
   begin_works old entries turn.Idle e some adds = absurd (some refl)
-  begin_works old entries (turn.JournalFull count weight) e some adds = inl adds
+  begin_works old entries (turn.JournalFull full) e some adds = inl adds
   begin_works old entries turn.Memory e some adds = inl adds
 
   -- a turn without a run in hand that came to idle added nothing

@@ -1,5 +1,6 @@
 -- What a recording leaves that was fed to a host, and what one leaves that was not fed to its end.
 use Rattle.std.specs.Prelude.{◌≡◌, ◌≢◌, ◌⊎◌, ℕ, Bool, true, false, ⊤, List, [], ◌∷◌, ◌++◌, reverse, Option, Some}
+use Rattle.asp_journal.specs.declared.full.Full.{Full}
 use Rattle.asp_core.specs.Kernel.{IsBeginTooMuch, IsTooMuch}
 use Rattle.asp_core.specs.Laws.{NoneIs}
 use Rattle.asp_core.specs.Ready.{IsAnswered}
@@ -79,24 +80,22 @@ pub record HasAllCome (items : List Item) (past : List Entry) : Type 0 where
   pub came : HasCome (reverse items) past clients
   pub calm : is_calm past ≡ true
 
--- With what comes next there would be so many entries of that weight, too many or too heavy: with the next item or the
--- Stop, once the first run has ended well; with a Begin; or with the call that an unfinished run wants.
-pub data IsTooMuchNext (rules : Rules) (items : List Item) (past : List Entry) (entries weight : ℕ) : Type 0 where
+-- With what comes next it would be so full, too many entries or too heavy: with the next item or the Stop, once the
+-- first run has ended well; with a Begin; or with the call that an unfinished run wants.
+pub data IsTooMuchNext (rules : Rules) (items : List Item) (past : List Entry) (full : Full) : Type 0 where
   OfItem : (clients then_clients : Clients) (next : Item) (added : List Entry) → HasStarted rules past
       → IsNext items past clients next → AddsItem rules past clients next added then_clients
-      → IsTooMuch (past_after past added) entries weight → IsTooMuchNext rules items past entries weight
+      → IsTooMuch (past_after past added) full → IsTooMuchNext rules items past full
   OfStop : HasStarted rules past → HasAllCome items past
-      → IsTooMuch (past_after past (stop_entries rules past 0)) entries weight
-      → IsTooMuchNext rules items past entries weight
-  OfBegin : IsFedPart items past → IsBeginTooMuch rules past 0 entries weight
-      → IsTooMuchNext rules items past entries weight
-  OfCall : IsFedPart items past → (run : ℕ) → IsCallTooMuch rules past 0 run entries weight
-      → IsTooMuchNext rules items past entries weight
+      → IsTooMuch (past_after past (stop_entries rules past 0)) full → IsTooMuchNext rules items past full
+  OfBegin : IsFedPart items past → IsBeginTooMuch rules past 0 full → IsTooMuchNext rules items past full
+  OfCall : IsFedPart items past → (run : ℕ) → IsCallTooMuch rules past 0 run full
+      → IsTooMuchNext rules items past full
 
 -- at some point of the journal it was so
-abbrev pub WasTooMuch : Rules → List Item → List Entry → ℕ → ℕ → Type 0
-WasTooMuch rules items past entries weight = (earlier later : List Entry) × (past ≡ later ++ earlier)
-    × IsTooMuchNext rules items earlier entries weight
+abbrev pub WasTooMuch : Rules → List Item → List Entry → Full → Type 0
+WasTooMuch rules items past full = (earlier later : List Entry) × (past ≡ later ++ earlier)
+    × IsTooMuchNext rules items earlier full
 
 -- the first run has ended well, or nothing came from outside and the sink was not the cause
 abbrev pub IsPassed : Rules → List Entry → FeedStop → Type 0
@@ -110,7 +109,7 @@ pub record HasFailed (rules : Rules) (past : List Entry) (fail : Fail) : Type 0 
 -- the journal of a feed that came to this stop
 abbrev pub HasCause : Rules → List Item → List Entry → FeedStop → Type 0
 HasCause rules items past (stop.StartFailed fail) = HasFailed rules past fail
-HasCause rules items past (stop.JournalFull entries weight) = WasTooMuch rules items past entries weight
+HasCause rules items past (stop.JournalFull full) = WasTooMuch rules items past full
 HasCause rules items past stop.WriteFault = ⊤
 HasCause rules items past stop.Memory = ⊤
 
@@ -122,7 +121,7 @@ pub record HasWoundUp (past : List Entry) : Type 0 where
 -- the journal of a feed that came to this stop was wound up
 abbrev pub IsWoundUp : List Entry → FeedStop → Type 0
 IsWoundUp past (stop.StartFailed fail) = ⊤
-IsWoundUp past (stop.JournalFull entries weight) = HasWoundUp past
+IsWoundUp past (stop.JournalFull full) = HasWoundUp past
 IsWoundUp past stop.WriteFault = HasWoundUp past
 IsWoundUp past stop.Memory = ⊤
 

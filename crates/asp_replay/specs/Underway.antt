@@ -2,6 +2,7 @@
 use Rattle.std.specs.Prelude.{◌≡◌, ◌⊎◌, ◌&&◌, ℕ, Bool, true, false, not, is_some, ⊤, List, [], ◌∷◌, ◌++◌, All, map}
 use Rattle.std.specs.Prelude.{reverse, Option, Some, None, Result, Ok, Err}
 use Rattle.std.specs.Borrow.{Bor}
+use Rattle.asp_journal.specs.declared.full.Full.{Full}
 use Rattle.asp_core.specs.declared.stop.AdmitStop.{AdmitStop}
 use Rattle.asp_core.specs.declared.stop.AdmitStop.TheVariants as admit
 use Rattle.asp_core.specs.declared.stop.EventStop.{EventStop}
@@ -37,24 +38,24 @@ use Rattle.asp_core.specs.declared.setting.Setting.{Setting}
 -- ---- stops
 
 abbrev pub event_stop : EventStop → FeedStop
-event_stop (event.JournalFull entries weight) = stop.JournalFull entries weight
+event_stop (event.JournalFull full) = stop.JournalFull full
 event_stop event.Memory = stop.Memory
 
 -- a job that comes where it may is not refused as too many, nor after a Stop
 abbrev pub admit_stop : AdmitStop → FeedStop
-admit_stop (admit.JournalFull entries weight) = stop.JournalFull entries weight
+admit_stop (admit.JournalFull full) = stop.JournalFull full
 admit_stop _ = stop.Memory
 
 -- why nothing comes after a first run that failed or has not ended by itself
 abbrev pub IsStartStop : Rules → List Entry → FeedStop → Type 0
 IsStartStop rules past (stop.StartFailed fail) = start_fail rules past ≡ Some fail
-IsStartStop rules past (stop.JournalFull entries weight) = ⊥
+IsStartStop rules past (stop.JournalFull full) = ⊥
 IsStartStop rules past stop.WriteFault = ⊥
 IsStartStop rules past stop.Memory = ⊤
 
 -- why nothing goes on after work that came to this
 abbrev pub turn_stop : TurnEnd → Option FeedStop
-turn_stop (turn.JournalFull entries weight) = Some (stop.JournalFull entries weight)
+turn_stop (turn.JournalFull full) = Some (stop.JournalFull full)
 turn_stop turn.Memory = Some stop.Memory
 turn_stop _ = None
 
@@ -67,9 +68,9 @@ HasGrown meaning old clients item new then_clients = (entries : List Entry)
     × AddsItem (rules_of meaning old) (past_of old) clients item entries then_clients × (new ≡ grown old entries)
 
 -- the entries that an item would add are too many or too heavy
-abbrev pub IsItemTooMuch : Rules → List Entry → Clients → Item → ℕ → ℕ → Type 0
-IsItemTooMuch rules past clients item entries weight = (added : List Entry) × (then_clients : Clients)
-    × AddsItem rules past clients item added then_clients × IsTooMuch (past_after past added) entries weight
+abbrev pub IsItemTooMuch : Rules → List Entry → Clients → Item → Full → Type 0
+IsItemTooMuch rules past clients item full = (added : List Entry) × (then_clients : Clients)
+    × AddsItem rules past clients item added then_clients × IsTooMuch (past_after past added) full
 
 -- ---- what a step adds
 
@@ -87,8 +88,8 @@ is_done _ = false
 abbrev pub Steps : Rules → List Entry → ℕ → List Entry → TurnEnd → Type 0
 Steps rules past run entries turn.Done =
     (entry : Entry) × IsStep rules past 0 run entry × (entries ≡ entry ∷ [])
-Steps rules past run entries (turn.JournalFull count weight) =
-    IsCallTooMuch rules past 0 run count weight × (entries ≡ end_entry rules past 0 run kind.JournalFull ∷ [])
+Steps rules past run entries (turn.JournalFull full) =
+    IsCallTooMuch rules past 0 run full × (entries ≡ end_entry rules past 0 run kind.JournalFull ∷ [])
 Steps rules past run entries turn.Memory = entries ≡ []
 Steps rules past run entries turn.More = ⊥
 Steps rules past run entries turn.Idle = ⊥
@@ -114,16 +115,16 @@ pub record WorkAdds (rules : Rules) (past entries : List Entry) : Type 0 where
   pub entries_are : past_after past entries ≡ entry ∷ mid
 
 -- the Begin of the next run is too much, or the next call of the run, which then ends
-pub record EndsFull (rules : Rules) (past entries : List Entry) (count weight : ℕ) : Type 0 where
+pub record EndsFull (rules : Rules) (past entries : List Entry) (full : Full) : Type 0 where
   pub mid : List Entry
   pub run : ℕ
   pub in_hand : HasInHand rules past mid run
-  pub much : IsCallTooMuch rules mid 0 run count weight
+  pub much : IsCallTooMuch rules mid 0 run full
   pub entries_are : past_after past entries ≡ end_entry rules mid 0 run kind.JournalFull ∷ mid
 
-abbrev pub WorkIsTooMuch : Rules → List Entry → List Entry → ℕ → ℕ → Type 0
-WorkIsTooMuch rules past entries count weight =
-    (IsBeginTooMuch rules past 0 count weight × (entries ≡ [])) ⊎ EndsFull rules past entries count weight
+abbrev pub WorkIsTooMuch : Rules → List Entry → List Entry → Full → Type 0
+WorkIsTooMuch rules past entries full =
+    (IsBeginTooMuch rules past 0 full × (entries ≡ [])) ⊎ EndsFull rules past entries full
 
 -- a run begins, or nothing comes
 abbrev pub OnlyBegins : Rules → List Entry → List Entry → Type 0
@@ -133,7 +134,7 @@ OnlyBegins rules past entries =
 -- the entries of work that came to this
 abbrev pub Works : Rules → List Entry → List Entry → TurnEnd → Type 0
 Works rules past entries turn.Done = WorkAdds rules past entries
-Works rules past entries (turn.JournalFull count weight) = WorkIsTooMuch rules past entries count weight
+Works rules past entries (turn.JournalFull full) = WorkIsTooMuch rules past entries full
 Works rules past entries turn.Memory = OnlyBegins rules past entries
 Works rules past entries turn.More = ⊥
 Works rules past entries turn.Idle = ⊥
@@ -154,19 +155,19 @@ abbrev pub HasWritten : {T : Type 0} → Result T FeedStop → Option (List ℕ)
 HasWritten (Ok given) old new piece = new ≡ with_bytes old piece
 HasWritten (Err stop.WriteFault) old new piece = AddsPart old new piece
 HasWritten (Err stop.Memory) old new piece = new ≡ old
-HasWritten (Err (stop.JournalFull entries weight)) old new piece = ⊥
+HasWritten (Err (stop.JournalFull full)) old new piece = ⊥
 HasWritten (Err (stop.StartFailed fail)) old new piece = ⊥
 
 -- a write stops by a fault of the sink or for want of memory
 abbrev pub IsOfWriting : {T : Type 0} → Result T FeedStop → Type 0
-IsOfWriting (Err (stop.JournalFull entries weight)) = ⊥
+IsOfWriting (Err (stop.JournalFull full)) = ⊥
 IsOfWriting (Err (stop.StartFailed fail)) = ⊥
 IsOfWriting _ = ⊤
 
 -- a text was written whole, or a first part of it
 abbrev pub WritesText : {T : Type 0} → List ℕ → Result T FeedStop → Option (List ℕ) → Option (List ℕ) → Type 0
 WritesText text (Ok given) old new = new ≡ with_bytes old text
-WritesText text (Err (stop.JournalFull entries weight)) old new = ⊥
+WritesText text (Err (stop.JournalFull full)) old new = ⊥
 WritesText text (Err (stop.StartFailed fail)) old new = ⊥
 WritesText text (Err _) old new = AddsPart old new text
 
@@ -175,7 +176,7 @@ abbrev pub WritesRecord : {T : Type 0} → Shown → Result T FeedStop → Optio
 WritesRecord shown (Ok given) old new = (bytes : List ℕ) × IsRecord shown bytes × (new ≡ with_bytes old bytes)
 WritesRecord shown (Err stop.WriteFault) old new = (bytes : List ℕ) × IsRecord shown bytes × AddsPart old new bytes
 WritesRecord shown (Err stop.Memory) old new = new ≡ old
-WritesRecord shown (Err (stop.JournalFull entries weight)) old new = ⊥
+WritesRecord shown (Err (stop.JournalFull full)) old new = ⊥
 WritesRecord shown (Err (stop.StartFailed fail)) old new = ⊥
 
 -- the answers that wait, whose jobs came at the journal's moment

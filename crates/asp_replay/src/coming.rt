@@ -1,12 +1,13 @@
 //! What comes to a host from outside: the items of a recording, and the Stop.
 #![tactic(auto)]
 
-ghost use Rattle.std.specs.Prelude.{◌≡◌, is_some, ◌<◌, ℕ, Err, true, false, OnOk, OnErr};
+ghost use Rattle.std.specs.Prelude.{◌≡◌, is_some, ◌<◌, Err, true, false, OnOk, OnErr};
 ghost use Rattle.indexmap.specs.IndexMap.{spare};
 ghost use Rattle.asp_job.specs.declared.answer.Fail.{Fail};
 ghost use Rattle.asp_job.specs.declared.entry.What.{What};
 ghost use Rattle.asp_job.specs.Journal.{stop_entries, past_after};
 ghost use Rattle.asp_job.specs.Runs.{is_stopping};
+ghost use Rattle.asp_journal.specs.declared.full.Full.{Full};
 ghost use Rattle.asp_core.specs.Drawing as drawing;
 ghost use Rattle.asp_journal.specs.Telling.{end_kind};
 ghost use Rattle.asp_core.specs.Kernel.{IsHostOf, IsTooMuch, grown, past_of, rules_of};
@@ -76,9 +77,9 @@ fn come_request<R: Runner>(
     requires one { recorded.IsOneRequest bytes.now }
     ensures ok { OnOk result (way.HasGrown R.meaning core.old clients.old.entries
         (Item.Request client moment bytes.now) core.new clients.new.entries) }
-    ensures full { (entries weight : ℕ) → result ≡ Err (FeedStop.JournalFull entries weight) →
+    ensures full { (full : Full) → result ≡ Err (FeedStop.JournalFull full) →
         way.IsItemTooMuch (rules_of R.meaning core.old) (past_of core.old) clients.old.entries
-        (Item.Request client moment bytes.now) entries weight }
+        (Item.Request client moment bytes.now) full }
     ensures err { OnErr result (core.new ≡ core.old) }
     ensures no_fault { result ≡ Err FeedStop.WriteFault → ⊥ }
     ensures no_start { (fail : Fail) → result ≡ Err (FeedStop.StartFailed fail) → ⊥ }
@@ -105,8 +106,8 @@ pub fn come<R: Runner>(
     requires held { recorded.IsHeld item.now }
     ensures ok { OnOk result (way.HasGrown R.meaning core.old clients.old.entries item.now
         core.new clients.new.entries) }
-    ensures full { (entries weight : ℕ) → result ≡ Err (FeedStop.JournalFull entries weight) →
-        way.IsItemTooMuch (rules_of R.meaning core.old) (past_of core.old) clients.old.entries item.now entries weight }
+    ensures full { (full : Full) → result ≡ Err (FeedStop.JournalFull full) →
+        way.IsItemTooMuch (rules_of R.meaning core.old) (past_of core.old) clients.old.entries item.now full }
     ensures err { OnErr result (core.new ≡ core.old) }
     ensures no_fault { result ≡ Err FeedStop.WriteFault → ⊥ }
     ensures no_start { (fail : Fail) → result ≡ Err (FeedStop.StartFailed fail) → ⊥ }
@@ -138,9 +139,9 @@ pub fn stop<R: Runner>(core: &mut Core<R>) -> Result<(), FeedStop>
     requires once { is_stopping (past_of core.old) ≡ false }
     ensures ok { OnOk result (core.new ≡ grown core.old
         (stop_entries (rules_of R.meaning core.old) (past_of core.old) 0)) }
-    ensures full { (entries weight : ℕ) → result ≡ Err (FeedStop.JournalFull entries weight) →
+    ensures full { (full : Full) → result ≡ Err (FeedStop.JournalFull full) →
         IsTooMuch (past_after (past_of core.old) (stop_entries (rules_of R.meaning core.old) (past_of core.old) 0))
-        entries weight }
+        full }
     ensures err { OnErr result (core.new ≡ core.old) }
     ensures no_fault { result ≡ Err FeedStop.WriteFault → ⊥ }
     ensures no_start { (fail : Fail) → result ≡ Err (FeedStop.StartFailed fail) → ⊥ }

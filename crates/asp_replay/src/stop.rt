@@ -3,6 +3,7 @@ ghost use Rattle.std.specs.Prelude.{◌≡◌};
 
 use asp_core::{AdmitStop, EventStop};
 use asp_job::Fail;
+use asp_journal::Full;
 use std::error::Error;
 use std::fmt;
 use vb_value::Memory;
@@ -13,12 +14,7 @@ pub enum FeedStop {
     /// The first run failed, that of `Application_OnStart`. Nothing came.
     StartFailed(Fail),
     /// The journal would be too long or too heavy.
-    JournalFull {
-        /// How many entries it would have, with one end for each unfinished run.
-        entries: u64,
-        /// What they would weigh; 2^64 - 1 stands for a greater weight.
-        weight: u64,
-    },
+    JournalFull(Full),
     /// The sink failed.
     WriteFault,
     /// Memory ran out.
@@ -29,9 +25,7 @@ impl fmt::Display for FeedStop {
     fn fmt<W: fmt::Write>(&self, f: &mut fmt::Formatter<W>) -> fmt::Result {
         match self {
             FeedStop::StartFailed(_) => write!(f, "Application_OnStart failed"),
-            FeedStop::JournalFull { entries, weight } => {
-                write!(f, "journal full: {entries} entries, {weight} bytes")
-            }
+            FeedStop::JournalFull(full) => write!(f, "{full}"),
             FeedStop::WriteFault => write!(f, "the sink failed"),
             FeedStop::Memory => write!(f, "{}", Memory),
         }
@@ -47,7 +41,7 @@ impl From<EventStop> for FeedStop {
 
     fn from(stop: EventStop) -> FeedStop {
         match stop {
-            EventStop::JournalFull { entries, weight } => FeedStop::JournalFull { entries, weight },
+            EventStop::JournalFull(full) => FeedStop::JournalFull(full),
             EventStop::Memory => FeedStop::Memory,
         }
     }
@@ -60,7 +54,7 @@ impl From<AdmitStop> for FeedStop {
 
     fn from(stop: AdmitStop) -> FeedStop {
         match stop {
-            AdmitStop::JournalFull { entries, weight } => FeedStop::JournalFull { entries, weight },
+            AdmitStop::JournalFull(full) => FeedStop::JournalFull(full),
             AdmitStop::Memory | AdmitStop::Stopping | AdmitStop::WaitingFull => FeedStop::Memory,
         }
     }

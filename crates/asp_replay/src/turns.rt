@@ -31,7 +31,7 @@ fn turn_stop(turn: TurnEnd) -> Option<FeedStop>
     ensures { result ≡ spec.turn_stop turn }
 {
     match turn {
-        TurnEnd::JournalFull { entries, weight } => Some(FeedStop::JournalFull { entries, weight }),
+        TurnEnd::JournalFull(full) => Some(FeedStop::JournalFull(full)),
         TurnEnd::Memory => Some(FeedStop::Memory),
         _ => None,
     }

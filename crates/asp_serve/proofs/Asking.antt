@@ -17,6 +17,7 @@ use Rattle.asp_job.specs.Keys.{session_of}
 use Rattle.asp_job.specs.Rules.{Rules}
 use Rattle.asp_job.specs.Runs.{drawn, is_stopping, moment_of}
 use Rattle.asp_job.specs.Turns.{key_asked_by, key_for, needs_key, owed}
+use Rattle.asp_journal.specs.declared.full.Full.{Full}
 use Rattle.asp_core.specs.declared.admitted.Admitted.{Admitted}
 use Rattle.asp_core.specs.declared.stop.AdmitStop.TheVariants as admit
 use Rattle.asp_core.specs.Drawing.{entry_then, told_of}
@@ -228,28 +229,28 @@ module _ {F : Type 0} where
 
   -- ---- what hinders
 
-  pub full_then : (m : Rules) (asked : Request → Type 0) (a b c : Lane F) (entries weight : ℕ) → BeginsWith b.seen a.seen
-      → b.number ≡ a.number → IsFull m asked b c entries weight → IsFull m asked a c entries weight
-  full_then m asked a b c entries weight seen number x = record {
+  pub full_then : (m : Rules) (asked : Request → Type 0) (a b c : Lane F) (full : Full) → BeginsWith b.seen a.seen
+      → b.number ≡ a.number → IsFull m asked b c full → IsFull m asked a c full
+  full_then m asked a b c full seen number x = record {
     before = x.before;
     later = begins_then a.seen b.seen x.before seen x.later;
     earlier = x.earlier;
-    full = subst (λ n. JobIsTooMuch m asked n (reverse x.before) entries weight
-        ⊎ (IsBeginTooMuch m (reverse x.before) n entries weight ⊎ CallIsTooMuch n (reverse x.before) entries weight))
-        number x.full;
+    much = subst (λ n. JobIsTooMuch m asked n (reverse x.before) full
+        ⊎ (IsBeginTooMuch m (reverse x.before) n full ⊎ CallIsTooMuch n (reverse x.before) full))
+        number x.much;
   }
 
-  pub full_more : (m : Rules) (P Q : Request → Type 0) → ((r : Request) → P r → Q r) → (a b : Lane F) (entries weight : ℕ)
-      → IsFull m P a b entries weight → IsFull m Q a b entries weight
-  full_more m P Q more a b entries weight x =
-      record { before = x.before; later = x.later; earlier = x.earlier; full = at x.full }
+  pub full_more : (m : Rules) (P Q : Request → Type 0) → ((r : Request) → P r → Q r) → (a b : Lane F) (full : Full)
+      → IsFull m P a b full → IsFull m Q a b full
+  full_more m P Q more a b full x =
+      record { before = x.before; later = x.later; earlier = x.earlier; much = at x.much }
     where
-      at : JobIsTooMuch m P a.number (reverse x.before) entries weight
-          ⊎ (IsBeginTooMuch m (reverse x.before) a.number entries weight
-          ⊎ CallIsTooMuch a.number (reverse x.before) entries weight)
-          → JobIsTooMuch m Q a.number (reverse x.before) entries weight
-          ⊎ (IsBeginTooMuch m (reverse x.before) a.number entries weight
-          ⊎ CallIsTooMuch a.number (reverse x.before) entries weight)
+      at : JobIsTooMuch m P a.number (reverse x.before) full
+          ⊎ (IsBeginTooMuch m (reverse x.before) a.number full
+          ⊎ CallIsTooMuch a.number (reverse x.before) full)
+          → JobIsTooMuch m Q a.number (reverse x.before) full
+          ⊎ (IsBeginTooMuch m (reverse x.before) a.number full
+          ⊎ CallIsTooMuch a.number (reverse x.before) full)
       at (inl job) = inl (job.0, job.1, more job.0 job.2, job.3)
       at (inr rest) = inr rest
 
@@ -264,7 +265,7 @@ module _ {F : Type 0} where
       at (end.Refused status) y = y
       at end.ReadFault y = y
       at end.WriteFault y = y
-      at (end.JournalFull entries weight) y = full_then m asked a b c entries weight before.seen before.number y
+      at (end.JournalFull full) y = full_then m asked a b c full before.seen before.number y
       at end.Memory y = y
 
   -- what hinders at all hinders where a request is due
@@ -279,7 +280,7 @@ module _ {F : Type 0} where
       at (end.Refused status) y = y
       at end.ReadFault y = y
       at end.WriteFault y = y
-      at (end.JournalFull entries weight) y = full_more m (λ request. ⊥) asked (λ r no. absurd no) a b entries weight y
+      at (end.JournalFull full) y = full_more m (λ request. ⊥) asked (λ r no. absurd no) a b full y
       at end.Memory y = y
 
   -- turns in which the job of a request did not come
@@ -301,17 +302,17 @@ module _ {F : Type 0} where
     why = tt;
   }
 
-  pub fills_it : (m : Rules) (request : Request) (second : ℕ) (a b : Lane F) (entries weight : ℕ)
-      → IsTurn (Admits m a.number (job_for request second)) a (Err (admit.JournalFull entries weight)) b
-      → IsHindered m (λ asked. asked ≡ request) true a b (end.JournalFull entries weight)
-  fills_it m request second a b entries weight turn = record {
-    works = turn_rests (Admits m a.number (job_for request second)) a b (Err (admit.JournalFull entries weight)) turn
+  pub fills_it : (m : Rules) (request : Request) (second : ℕ) (a b : Lane F) (full : Full)
+      → IsTurn (Admits m a.number (job_for request second)) a (Err (admit.JournalFull full)) b
+      → IsHindered m (λ asked. asked ≡ request) true a b (end.JournalFull full)
+  fills_it m request second a b full turn = record {
+    works = turn_rests (Admits m a.number (job_for request second)) a b (Err (admit.JournalFull full)) turn
         turn.done.0;
     why = record {
       before = turn.before;
       later = turn.fits.0;
       earlier = (turn.grows.0, turn.grows.1);
-      full = inl (request, second, refl, turn.done.2);
+      much = inl (request, second, refl, turn.done.2);
     };
   }
 

@@ -186,8 +186,8 @@ module _ {F : Type 0} (m : Rules) (may_give : ℕ → Type 0) where
       (x.0, x.1, risen_then la.faults lb.faults lc.faults later x.2)
   ends_then a b c la lb lc xs served end.WriteFault seen number later goes x =
       (x.0, risen_then la.faults lb.faults lc.faults later x.1)
-  ends_then a b c la lb lc xs served (end.JournalFull entries weight) seen number later goes x =
-      (x.0, full_then m (IsNextOf served.rest) a b c entries weight seen number x.1)
+  ends_then a b c la lb lc xs served (end.JournalFull full) seen number later goes x =
+      (x.0, full_then m (IsNextOf served.rest) a b c full seen number x.1)
   ends_then a b c la lb lc xs served end.Memory seen number later goes x = x
 
   -- more requests behind those that were answered

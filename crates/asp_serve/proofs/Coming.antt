@@ -39,7 +39,7 @@ free_after (Some end.Drained) run free = tt
 free_after (Some (end.Refused status)) run free = free
 free_after (Some end.ReadFault) run free = free
 free_after (Some end.WriteFault) run free = free
-free_after (Some (end.JournalFull entries weight)) run free = tt
+free_after (Some (end.JournalFull full)) run free = tt
 free_after (Some end.Memory) run free = tt
 
 pub hinders_free : {F Run : Type 0} (m : Rules) (asked : Request → Type 0) (due : Bool) (a b : Lane F)
@@ -49,7 +49,7 @@ hinders_free m asked due a b end.Drained run why = tt
 hinders_free m asked due a b (end.Refused status) run why = absurd why
 hinders_free m asked due a b end.ReadFault run why = absurd why
 hinders_free m asked due a b end.WriteFault run why = absurd why
-hinders_free m asked due a b (end.JournalFull entries weight) run why = tt
+hinders_free m asked due a b (end.JournalFull full) run why = tt
 hinders_free m asked due a b end.Memory run why = tt
 
 -- ---- the last request

@@ -103,14 +103,14 @@ module _ (fails : Type 0) (rules : Rules) where
 
   pub early_stops : (past : List Entry) → IsValidJournal rules past → start_fail rules past ≡ None → (one : Early)
       → IsEarly fails rules past one → IsStop fails rules (stop_of one)
-  early_stops past valid started (early.JournalFull entries weight) is =
+  early_stops past valid started (early.JournalFull full) is =
       record { past = past; account = valid; started = started; much = is }
   early_stops past valid started early.AcceptFault is = is
   early_stops past valid started early.Memory is = tt
 
   pub stop_any : (why : ServeStop) → IsStop ⊥ rules why → IsStop fails rules why
   stop_any (stop.StartFailed fail) is = is
-  stop_any (stop.JournalFull entries weight) is = is
+  stop_any (stop.JournalFull full) is = is
   stop_any stop.AcceptFault is = absurd is
   stop_any stop.Memory is = tt
 

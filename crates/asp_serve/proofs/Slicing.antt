@@ -7,6 +7,7 @@ use Rattle.asp_job.specs.Journal.{begin_entry}
 use Rattle.asp_job.specs.Rules.{Rules}
 use Rattle.asp_job.specs.Running.{Pace}
 use Rattle.asp_job.specs.Told.{Meaning, Told}
+use Rattle.asp_journal.specs.declared.full.Full.{Full}
 use Rattle.asp_core.specs.declared.stop.BeginStop.{BeginStop}
 use Rattle.asp_core.specs.declared.stop.BeginStop.TheVariants as stop
 use Rattle.asp_core.specs.Kernel.{IsBeginTooMuch, RunView}
@@ -26,19 +27,16 @@ use Rattle.asp_serve.proofs.Lanes.{begins_then, turn_rests, turn_works, works_no
 begins_none : (rules : Rules) (lane : ℕ) (before after : List Entry) (why : BeginStop)
     → Begins rules lane before (Err why) after → after ≡ before
 begins_none rules lane before after stop.Idle does = does.0
-begins_none rules lane before after (stop.JournalFull entries weight) does = does.0
+begins_none rules lane before after (stop.JournalFull full) does = does.0
 begins_none rules lane before after stop.Memory does = does.0
 
-begins_full : (rules : Rules) (lane : ℕ) (before after : List Entry) (why : BeginStop) (entries weight : ℕ)
-    → slice.JournalFull entries weight ≡ stopped why → Begins rules lane before (Err why) after
-    → IsBeginTooMuch rules (reverse before) lane entries weight
-begins_full rules lane before after stop.Idle entries weight is does = absurd cc
-begins_full rules lane before after (stop.JournalFull e w) entries weight is does =
-    let same : e ≡ entries = cc in
-    let also : w ≡ weight = cc in
-    subst (λ n. IsBeginTooMuch rules (reverse before) lane n weight) same
-    (subst (IsBeginTooMuch rules (reverse before) lane e) also does.1)
-begins_full rules lane before after stop.Memory entries weight is does = absurd cc
+begins_full : (rules : Rules) (lane : ℕ) (before after : List Entry) (why : BeginStop) (full : Full)
+    → slice.JournalFull full ≡ stopped why → Begins rules lane before (Err why) after
+    → IsBeginTooMuch rules (reverse before) lane full
+begins_full rules lane before after stop.Idle full is does = absurd cc
+begins_full rules lane before after (stop.JournalFull most) full is does =
+    let same : most ≡ full = cc in subst (IsBeginTooMuch rules (reverse before) lane) same does.1
+begins_full rules lane before after stop.Memory full is does = absurd cc
 
 step_adds : {State : Type 0} (rules : Rules) (lane : ℕ) (run : RunView State) (before after : List Entry)
     (stepped : Stepped) → Steps rules lane run before stepped after
@@ -46,19 +44,17 @@ step_adds : {State : Type 0} (rules : Rules) (lane : ℕ) (run : RunView State) 
 step_adds rules lane run before after step.Called does = (_, does.2, (tt, tt))
 step_adds rules lane run before after step.Ended does = (_, does, (tt, tt))
 step_adds rules lane run before after (step.Blocked holder) does = ([], does.2 ∙ sym (append-nil before), tt)
-step_adds rules lane run before after (step.JournalFull entries weight) does = (_, does.3, (tt, tt))
+step_adds rules lane run before after (step.JournalFull full) does = (_, does.3, (tt, tt))
 
 step_full : {State : Type 0} (rules : Rules) (lane : ℕ) (run : RunView State) (before after : List Entry)
-    (stepped : Stepped) (entries weight : ℕ) → slice.JournalFull entries weight ≡ slice_of stepped
-    → Steps rules lane run before stepped after → CallIsTooMuch lane (reverse before) entries weight
-step_full rules lane run before after step.Called entries weight is does = absurd cc
-step_full rules lane run before after step.Ended entries weight is does = absurd cc
-step_full rules lane run before after (step.Blocked holder) entries weight is does = absurd cc
-step_full rules lane run before after (step.JournalFull e w) entries weight is does =
-    let same : e ≡ entries = cc in
-    let also : w ≡ weight = cc in
-    subst (λ n. CallIsTooMuch lane (reverse before) n weight) same
-    (subst (CallIsTooMuch lane (reverse before) e) also (run.number, does.0, does.2))
+    (stepped : Stepped) (full : Full) → slice.JournalFull full ≡ slice_of stepped
+    → Steps rules lane run before stepped after → CallIsTooMuch lane (reverse before) full
+step_full rules lane run before after step.Called full is does = absurd cc
+step_full rules lane run before after step.Ended full is does = absurd cc
+step_full rules lane run before after (step.Blocked holder) full is does = absurd cc
+step_full rules lane run before after (step.JournalFull most) full is does =
+    let same : most ≡ full = cc in
+    subst (CallIsTooMuch lane (reverse before)) same (run.number, does.0, does.2)
 
 module _ {R Site State : Type 0} (pace : R → Pace) (meaning : R → Site → Meaning)
     (stands : R → Site → State → Told → ℕ → Type 0) (host : HostView R Site) (may_hold : ℕ → Type 0) where
@@ -102,39 +98,39 @@ module _ {R Site State : Type 0} (pace : R → Pace) (meaning : R → Site → M
   slice_works a b came_to (inr (ready, is, works)) =
       works_then a.lane ready.lane b.lane (ready_works a ready is) (rest_works ready b came_to works)
 
-  stepped_full : (asked : Request → Type 0) (a ready paused b : Hand) (stepped : Stepped) (entries weight : ℕ)
+  stepped_full : (asked : Request → Type 0) (a ready paused b : Hand) (stepped : Stepped) (full : Full)
       → serve.Works a.lane ready.lane → HasGoneOn pace meaning stands host ready false paused
-      → HasStepped pace meaning stands host paused stepped b → slice.JournalFull entries weight ≡ slice_of stepped
-      → IsFull (rules_at meaning host) asked a.lane b.lane entries weight
-  stepped_full asked a ready paused b stepped entries weight before gone has is =
+      → HasStepped pace meaning stands host paused stepped b → slice.JournalFull full ≡ slice_of stepped
+      → IsFull (rules_at meaning host) asked a.lane b.lane full
+  stepped_full asked a ready paused b stepped full before gone has is =
       let way = works_then a.lane ready.lane paused.lane before (works_none ready.lane paused.lane gone.lane) in
       record {
         before = has.turn.before;
         later = begins_then a.lane.seen paused.lane.seen has.turn.before way.seen has.turn.fits.0;
         earlier = (has.turn.grows.0, has.turn.grows.1);
-        full = inr (inr (subst (λ n. CallIsTooMuch n (reverse has.turn.before) entries weight) way.number
-            (step_full (rules_at meaning host) paused.lane.number has.run has.turn.before b.lane.seen stepped entries
-            weight is has.turn.done.0)));
+        much = inr (inr (subst (λ n. CallIsTooMuch n (reverse has.turn.before) full) way.number
+            (step_full (rules_at meaning host) paused.lane.number has.run has.turn.before b.lane.seen stepped full is
+            has.turn.done.0)));
       }
 
-  rest_full : (asked : Request → Type 0) (a ready b : Hand) (entries weight : ℕ) → serve.Works a.lane ready.lane
-      → Works pace meaning stands host may_hold ready (slice.JournalFull entries weight) b
-      → IsFull (rules_at meaning host) asked a.lane b.lane entries weight
-  rest_full asked a ready b entries weight before (inl held) = absurd (let is = held.1 in cc)
-  rest_full asked a ready b entries weight before (inr (inl more)) = absurd (let is = more.1 in cc)
-  rest_full asked a ready b entries weight before (inr (inr (paused, stepped, gone, has, is))) =
-      stepped_full asked a ready paused b stepped entries weight before gone has is
+  rest_full : (asked : Request → Type 0) (a ready b : Hand) (full : Full) → serve.Works a.lane ready.lane
+      → Works pace meaning stands host may_hold ready (slice.JournalFull full) b
+      → IsFull (rules_at meaning host) asked a.lane b.lane full
+  rest_full asked a ready b full before (inl held) = absurd (let is = held.1 in cc)
+  rest_full asked a ready b full before (inr (inl more)) = absurd (let is = more.1 in cc)
+  rest_full asked a ready b full before (inr (inr (paused, stepped, gone, has, is))) =
+      stepped_full asked a ready paused b stepped full before gone has is
 
   -- what did not fit in a slice
-  pub slice_full : (asked : Request → Type 0) (a b : Hand) (entries weight : ℕ)
-      → IsSlice pace meaning stands host may_hold a (slice.JournalFull entries weight) b
-      → IsFull (rules_at meaning host) asked a.lane b.lane entries weight
-  slice_full asked a b entries weight (inl (why, refused, is)) = record {
+  pub slice_full : (asked : Request → Type 0) (a b : Hand) (full : Full)
+      → IsSlice pace meaning stands host may_hold a (slice.JournalFull full) b
+      → IsFull (rules_at meaning host) asked a.lane b.lane full
+  slice_full asked a b full (inl (why, refused, is)) = record {
     before = refused.turn.before;
     later = refused.turn.fits.0;
     earlier = (refused.turn.grows.0, refused.turn.grows.1);
-    full = inr (inl (begins_full (rules_at meaning host) a.lane.number refused.turn.before b.lane.seen why entries
-        weight is refused.turn.done));
+    much = inr (inl (begins_full (rules_at meaning host) a.lane.number refused.turn.before b.lane.seen why full is
+        refused.turn.done));
   }
-  slice_full asked a b entries weight (inr (ready, is, works)) =
-      rest_full asked a ready b entries weight (ready_works a ready is) works
+  slice_full asked a b full (inr (ready, is, works)) =
+      rest_full asked a ready b full (ready_works a ready is) works

@@ -208,9 +208,9 @@ module _ {F : Type 0} (m : Rules) (may_give : ℕ → Type 0) where
   hinders_none count bytes read a b link (end.Refused status) asked gives works why = absurd why
   hinders_none count bytes read a b link end.ReadFault asked gives works why = absurd why
   hinders_none count bytes read a b link end.WriteFault asked gives works why = absurd why
-  hinders_none count bytes read a b link (end.JournalFull entries weight) asked gives works why =
-      from_here count bytes [] a b link link (none bytes []) (end.JournalFull entries weight) (moves_none link)
-      (none_left count a b bytes [] works) (refl, full_more m asked (IsNextOf bytes) gives a b entries weight why)
+  hinders_none count bytes read a b link (end.JournalFull full) asked gives works why =
+      from_here count bytes [] a b link link (none bytes []) (end.JournalFull full) (moves_none link)
+      (none_left count a b bytes [] works) (refl, full_more m asked (IsNextOf bytes) gives a b full why)
   hinders_none count bytes read a b link end.Memory asked gives works why =
       from_here count bytes [] a b link link (none bytes []) end.Memory (moves_none link)
       (none_left count a b bytes [] works) refl
@@ -239,12 +239,12 @@ module _ {F : Type 0} (m : Rules) (may_give : ℕ → Type 0) where
   hinders_one count bytes rest read a b c asking link (end.Refused status) x seen number why = absurd why
   hinders_one count bytes rest read a b c asking link end.ReadFault x seen number why = absurd why
   hinders_one count bytes rest read a b c asking link end.WriteFault x seen number why = absurd why
-  hinders_one count bytes rest read a b c asking link (end.JournalFull entries weight) x seen number why =
-      from_here count bytes [] a c link link (left asking rest []) (end.JournalFull entries weight) (moves_none link)
+  hinders_one count bytes rest read a b c asking link (end.JournalFull full) x seen number why =
+      from_here count bytes [] a c link link (left asking rest []) (end.JournalFull full) (moves_none link)
       (one_left count bytes rest [] read a c asking x) (
         refl,
-        full_then m (IsNextOf rest) a b c entries weight seen number
-            (full_more m (λ request. ⊥) (IsNextOf rest) (λ r no. absurd no) b c entries weight why),
+        full_then m (IsNextOf rest) a b c full seen number
+            (full_more m (λ request. ⊥) (IsNextOf rest) (λ r no. absurd no) b c full why),
       )
   hinders_one count bytes rest read a b c asking link end.Memory x seen number why =
       from_here count bytes [] a c link link (left asking rest []) end.Memory (moves_none link)

@@ -5,6 +5,7 @@ use Rattle.std.proofs.Common.{unwrap_or}
 use Rattle.std.proofs.lemmas.List.{reverse-append}
 use Rattle.turn_desk.specs.Histories.{BeginsWith}
 use Rattle.turn_desk.specs.Shown.{LaneView}
+use Rattle.asp_journal.specs.declared.full.Full.{Full}
 use Rattle.asp_core.specs.declared.stop.EventStop.{EventStop}
 use Rattle.asp_core.specs.declared.stop.EventStop.TheVariants as event
 use Rattle.asp_core.specs.Kernel.{IsBeginTooMuch, RunView}
@@ -32,23 +33,23 @@ use Rattle.asp_serve.proofs.Lanes.{begins_itself, begins_then}
 use Rattle.asp_serve.proofs.Slicing.{slice_full, slice_works}
 
 -- what did not fit on a connection
-full_here : (rules : Rules) (asked : Request → Type 0) (lane : ℕ) (past : List Entry) (entries weight : ℕ)
-    → JobIsTooMuch rules asked lane past entries weight
-    ⊎ (IsBeginTooMuch rules past lane entries weight ⊎ CallIsTooMuch lane past entries weight)
-    → IsTooMuchHere rules past entries weight
-full_here rules asked lane past entries weight (inl (request, second, is, much)) =
+full_here : (rules : Rules) (asked : Request → Type 0) (lane : ℕ) (past : List Entry) (full : Full)
+    → JobIsTooMuch rules asked lane past full
+    ⊎ (IsBeginTooMuch rules past lane full ⊎ CallIsTooMuch lane past full)
+    → IsTooMuchHere rules past full
+full_here rules asked lane past full (inl (request, second, is, much)) =
     IsTooMuchHere.OfJob lane (job_for request second) much
-full_here rules asked lane past entries weight (inr (inl much)) = IsTooMuchHere.OfBegin lane much
-full_here rules asked lane past entries weight (inr (inr (run, call, much))) = IsTooMuchHere.OfCall lane run call much
+full_here rules asked lane past full (inr (inl much)) = IsTooMuchHere.OfBegin lane much
+full_here rules asked lane past full (inr (inr (run, call, much))) = IsTooMuchHere.OfCall lane run call much
 
 -- ---- what was too much stays so
 
 past_later : (a b : List Entry) (begins : BeginsWith b a) → reverse b ≡ reverse begins.0 ++ reverse a
 past_later a b begins = ap reverse begins.1 ∙ reverse-append a begins.0
 
-pub here_was : (rules : Rules) (seen before : List Entry) (entries weight : ℕ) → BeginsWith seen before
-    → IsTooMuchHere rules (reverse before) entries weight → WasTooMuch rules (reverse seen) entries weight
-here_was rules seen before entries weight begins here =
+pub here_was : (rules : Rules) (seen before : List Entry) (full : Full) → BeginsWith seen before
+    → IsTooMuchHere rules (reverse before) full → WasTooMuch rules (reverse seen) full
+here_was rules seen before full begins here =
     (reverse begins.0, reverse before, past_later before seen begins, here)
 
 -- ---- later moments
@@ -78,9 +79,9 @@ module _ {F : Type 0} where
 
   -- ---- what was too much stays so
 
-  was_later : (rules : Rules) (a b : LaneView Entry F) (entries weight : ℕ) → IsLater a b
-      → WasTooMuch rules (reverse a.seen) entries weight → WasTooMuch rules (reverse b.seen) entries weight
-  was_later rules a b entries weight later was = (
+  was_later : (rules : Rules) (a b : LaneView Entry F) (full : Full) → IsLater a b
+      → WasTooMuch rules (reverse a.seen) full → WasTooMuch rules (reverse b.seen) full
+  was_later rules a b full later was = (
     reverse later.seen.0 ++ was.0,
     was.1,
     past_later a.seen b.seen later.seen
@@ -92,8 +93,8 @@ module _ {F : Type 0} where
   pub early_later : (fails : Type 0) (rules : Rules) (a b : LaneView Entry F) (made : Option Early) → IsLater a b
       → IfSome made (IsEarly fails rules (reverse a.seen)) → IfSome made (IsEarly fails rules (reverse b.seen))
   early_later fails rules a b None later is = tt
-  early_later fails rules a b (Some (early.JournalFull entries weight)) later is =
-      was_later rules a b entries weight later is
+  early_later fails rules a b (Some (early.JournalFull full)) later is =
+      was_later rules a b full later is
   early_later fails rules a b (Some early.Memory) later is = tt
   early_later fails rules a b (Some early.AcceptFault) later is = is
 
@@ -111,10 +112,10 @@ module _ {F : Type 0} where
 
   -- ---- parts
 
-  pub full_was : (rules : Rules) (asked : Request → Type 0) (a b : LaneView Entry F) (entries weight : ℕ)
-      → IsFull rules asked a b entries weight → WasTooMuch rules (reverse b.seen) entries weight
-  full_was rules asked a b entries weight full =
-      here_was rules b.seen full.before entries weight full.earlier (full_here rules asked a.number (reverse full.before) entries weight full.full)
+  pub full_was : (rules : Rules) (asked : Request → Type 0) (a b : LaneView Entry F) (full : Full)
+      → IsFull rules asked a b full → WasTooMuch rules (reverse b.seen) full
+  full_was rules asked a b full is =
+      here_was rules b.seen is.before full is.earlier (full_here rules asked a.number (reverse is.before) full is.much)
 
   -- a connection
   link_later : (rules : Rules) (may_give : ℕ → Type 0) (a b : LaneView Entry F) (wire after : LinkView) (ended : LinkEnd)
@@ -124,9 +125,9 @@ module _ {F : Type 0} where
 
   pub link_comes : (fails : Type 0) (rules : Rules) (may_give : ℕ → Type 0) (a b : LaneView Entry F) (wire after : LinkView)
       (ended : LinkEnd) → IsServed rules may_give a b wire after ended → Comes fails rules a (link_end ended) b
-  link_comes fails rules may_give a b wire after (link.JournalFull entries weight) served = record {
-    later = link_later rules may_give a b wire after (link.JournalFull entries weight) served;
-    cause = full_was rules _ a b entries weight served.ends.1;
+  link_comes fails rules may_give a b wire after (link.JournalFull full) served = record {
+    later = link_later rules may_give a b wire after (link.JournalFull full) served;
+    cause = full_was rules _ a b full served.ends.1;
   }
   link_comes fails rules may_give a b wire after link.Memory served =
       record { later = link_later rules may_give a b wire after link.Memory served; cause = tt }
@@ -145,8 +146,8 @@ module _ {F : Type 0} where
 pub stop_cause : (A : Type 0) (fails : Type 0) (rules : Rules) (lane : ℕ) (before seen : List Entry) (why : EventStop)
     → BeginsWith seen before → Stops rules lane {A = A} before (Err why) seen
     → IsEarly fails rules (reverse seen) (early_stop why)
-stop_cause A fails rules lane before seen (event.JournalFull entries weight) begins does =
-    here_was rules seen before entries weight begins (IsTooMuchHere.OfStop lane does.2)
+stop_cause A fails rules lane before seen (event.JournalFull full) begins does =
+    here_was rules seen before full begins (IsTooMuchHere.OfStop lane does.2)
 stop_cause A fails rules lane before seen event.Memory begins does = tt
 
 module _ {R Site State : Type 0} (pace : R → Pace) (meaning : R → Site → Meaning)
@@ -158,8 +159,8 @@ module _ {R Site State : Type 0} (pace : R → Pace) (meaning : R → Site → M
   -- a slice
   slice_cause : (a b : Hand) (came_to : Slice) → IsSlice pace meaning stands host may_hold a came_to b
       → IfSome (early_slice came_to) (IsEarly fails (rules_at meaning host) (reverse b.lane.seen))
-  slice_cause a b (slice.JournalFull entries weight) is = full_was (rules_at meaning host) (λ _. ⊥) a.lane b.lane entries
-      weight (slice_full pace meaning stands host may_hold (λ _. ⊥) a b entries weight is)
+  slice_cause a b (slice.JournalFull full) is = full_was (rules_at meaning host) (λ _. ⊥) a.lane b.lane full
+      (slice_full pace meaning stands host may_hold (λ _. ⊥) a b full is)
   slice_cause a b slice.Memory is = tt
   slice_cause a b slice.Worked is = tt
   slice_cause a b slice.Idle is = tt

@@ -1,6 +1,7 @@
 -- How a host ends that serves a site. All of it is the product's own.
 use Rattle.std.specs.Prelude.{◌≡◌, ℕ, ◌≤◌, Bool, true, false, IsTrue, List, [], ◌∷◌, Option, Some, None, IfSome, reverse}
 use Rattle.std.specs.Prelude.{Result, Ok, Err}
+use Rattle.asp_journal.specs.declared.full.Full.{Full}
 use Rattle.asp_core.specs.Kernel.{RunView}
 use Rattle.asp_core.specs.Start.{start_fail}
 use Rattle.asp_desk.specs.Hands.{Fixed, HandView, HostView, rules_at}
@@ -49,16 +50,16 @@ pub record HasFailedToStart (rules : Rules) (fail : Fail) : Type 0 where
   pub failed : start_fail rules past ≡ Some fail
 
 -- there is one in which the first run did not fail, and at some point something did not fit
-pub record HasFilled (rules : Rules) (entries weight : ℕ) : Type 0 where
+pub record HasFilled (rules : Rules) (full : Full) : Type 0 where
   pub past : List Entry
   pub account : IsValidJournal rules past
   pub started : start_fail rules past ≡ None
-  pub much : WasTooMuch rules past entries weight
+  pub much : WasTooMuch rules past full
 
 -- why a host did not serve to its end, where this is why a wire may fail
 abbrev pub IsStop : Type 0 → Rules → ServeStop → Type 0
 IsStop fails rules (stop.StartFailed fail) = HasFailedToStart rules fail
-IsStop fails rules (stop.JournalFull entries weight) = HasFilled rules entries weight
+IsStop fails rules (stop.JournalFull full) = HasFilled rules full
 IsStop fails rules stop.AcceptFault = fails
 IsStop fails rules stop.Memory = Unit {0}
 
@@ -77,7 +78,7 @@ HasStarted free found (Err stop.Memory) = Unit {0}
 HasStarted free found (Err _) = ⊥
 
 abbrev pub stop_of : Early → ServeStop
-stop_of (early.JournalFull entries weight) = stop.JournalFull entries weight
+stop_of (early.JournalFull full) = stop.JournalFull full
 stop_of early.AcceptFault = stop.AcceptFault
 stop_of early.Memory = stop.Memory
 

@@ -14,6 +14,7 @@ use Rattle.asp_job.specs.History.{call_entry}
 use Rattle.asp_job.specs.Journal.{admit_entries, past_after}
 use Rattle.asp_job.specs.Rules.{Rules}
 use Rattle.asp_job.specs.Runs.{is_halted, is_stopping}
+use Rattle.asp_journal.specs.declared.full.Full.{Full}
 use Rattle.http_front.specs.Front.{IsFront, Taken, Takes}
 use Rattle.http_front.specs.Front as front
 use Rattle.http_front.specs.Reader.{AreRequests, Wants}
@@ -59,25 +60,25 @@ pub record Grows {F : Type 0} (may_give : ℕ → Type 0) (old new : Lane F) (jo
 -- ---- what did not fit
 
 -- the job of such a request would have been too much; a call would have been
-abbrev pub JobIsTooMuch : Rules → (Request → Type 0) → ℕ → List Entry → ℕ → ℕ → Type 0
-JobIsTooMuch rules asked lane past entries weight =
+abbrev pub JobIsTooMuch : Rules → (Request → Type 0) → ℕ → List Entry → Full → Type 0
+JobIsTooMuch rules asked lane past full =
     (request : Request) × (second : ℕ) × asked request
-    × IsTooMuch (past_after past (admit_entries rules past lane (job_for request second))) entries weight
+    × IsTooMuch (past_after past (admit_entries rules past lane (job_for request second))) full
 
-abbrev pub CallIsTooMuch : ℕ → List Entry → ℕ → ℕ → Type 0
-CallIsTooMuch lane past entries weight =
-    (run : ℕ) × (call : AppCall) × IsTooMuch (call_entry past lane run call ∷ past) entries weight
+abbrev pub CallIsTooMuch : ℕ → List Entry → Full → Type 0
+CallIsTooMuch lane past full =
+    (run : ℕ) × (call : AppCall) × IsTooMuch (call_entry past lane run call ∷ past) full
 
--- At a turn between these two moments of a lane, which found the journal `before`, so many entries of that weight would
--- have been too much: with the job of such a request, with a Begin, or with a call.
+-- At a turn between these two moments of a lane, which found the journal `before`, it would have been so full: with the
+-- job of such a request, with a Begin, or with a call.
 pub record IsFull {F : Type 0} (rules : Rules) (asked : Request → Type 0) (old new : Lane F)
-    (entries weight : ℕ) : Type 0 where
+    (full : Full) : Type 0 where
   pub before : List Entry
   pub later : BeginsWith before old.seen
   pub earlier : BeginsWith new.seen before
-  pub full : JobIsTooMuch rules asked old.number (reverse before) entries weight
-      ⊎ (IsBeginTooMuch rules (reverse before) old.number entries weight
-      ⊎ CallIsTooMuch old.number (reverse before) entries weight)
+  pub much : JobIsTooMuch rules asked old.number (reverse before) full
+      ⊎ (IsBeginTooMuch rules (reverse before) old.number full
+      ⊎ CallIsTooMuch old.number (reverse before) full)
 
 -- the request is the one that these bytes give first, maybe as the last of its connection
 abbrev pub IsNextOf : List ℕ → Request → Type 0
@@ -160,8 +161,8 @@ module _ {F : Type 0} (rules : Rules) (may_give : ℕ → Type 0) where
       IsWhole served × Wants served.rest × HasRisen link.faults after.faults
   Ends old new link after served end.WriteFault =
       (CutsAnswer new served ⊎ CutsFixed may_give served) × HasRisen link.faults after.faults
-  Ends old new link after served (end.JournalFull entries weight) =
-      (served.tail ≡ []) × IsFull rules (IsNextOf served.rest) old new entries weight
+  Ends old new link after served (end.JournalFull full) =
+      (served.tail ≡ []) × IsFull rules (IsNextOf served.rest) old new full
   Ends old new link after served end.Memory = served.tail ≡ []
 
   -- What was served until this end, of bytes that begin with `first`, which came before, on a connection that has taken so

@@ -86,7 +86,7 @@ module _ {F : Type 0} where
   abbrev pub Hinders : Rules → (Request → Type 0) → Bool → Lane F → Lane F → LinkEnd → Type 0
   Hinders rules asked due old new end.Drained =
       ((due ≡ true) × (is_stopping (reverse new.seen) ≡ true)) ⊎ (is_halted (reverse new.seen) ≡ true)
-  Hinders rules asked due old new (end.JournalFull entries weight) = IsFull rules asked old new entries weight
+  Hinders rules asked due old new (end.JournalFull full) = IsFull rules asked old new full
   Hinders rules asked due old new end.Memory = Unit {0}
   Hinders rules asked due old new _ = ⊥
 
@@ -157,7 +157,7 @@ closed_if false rest = None
 -- the hand holds no run where a connection ended by itself, and not by the host
 abbrev pub IsFree : {Run : Type 0} → LinkEnd → Option Run → Type 0
 IsFree end.Drained run = Unit {0}
-IsFree (end.JournalFull entries weight) run = Unit {0}
+IsFree (end.JournalFull full) run = Unit {0}
 IsFree end.Memory run = Unit {0}
 IsFree _ run = run ≡ None
 

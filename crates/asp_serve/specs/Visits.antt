@@ -3,6 +3,7 @@ use Rattle.std.specs.Prelude.{◌≡◌, ℕ, List, ◌∷◌, ◌++◌, reverse
 use Rattle.turn_desk.specs.Histories.{BeginsWith}
 use Rattle.turn_desk.specs.Shown.{LaneView}
 use Rattle.vb_value.specs.declared.application.AppCall.{AppCall}
+use Rattle.asp_journal.specs.declared.full.Full.{Full}
 use Rattle.asp_core.specs.declared.stop.EventStop.{EventStop}
 use Rattle.asp_core.specs.declared.stop.EventStop.TheVariants as event
 use Rattle.asp_core.specs.Kernel.{IsBeginTooMuch, IsTooMuch, RunView}
@@ -25,21 +26,19 @@ use Rattle.asp_serve.specs.declared.visits.Next.TheVariants as next
 
 -- ---- what did not fit
 
--- With the entries of a job, of the Stop, of a Begin or of a call there would be so many of that weight, too many or too
--- heavy.
-pub data IsTooMuchHere (rules : Rules) (past : List Entry) (entries weight : ℕ) : Type 0 where
-  OfJob : (lane : ℕ) (job : Job) → IsTooMuch (past_after past (admit_entries rules past lane job)) entries weight
-      → IsTooMuchHere rules past entries weight
-  OfStop : (lane : ℕ) → IsTooMuch (past_after past (stop_entries rules past lane)) entries weight
-      → IsTooMuchHere rules past entries weight
-  OfBegin : (lane : ℕ) → IsBeginTooMuch rules past lane entries weight → IsTooMuchHere rules past entries weight
-  OfCall : (lane run : ℕ) (call : AppCall) → IsTooMuch (call_entry past lane run call ∷ past) entries weight
-      → IsTooMuchHere rules past entries weight
+-- With the entries of a job, of the Stop, of a Begin or of a call it would be so full: too many or too heavy.
+pub data IsTooMuchHere (rules : Rules) (past : List Entry) (full : Full) : Type 0 where
+  OfJob : (lane : ℕ) (job : Job) → IsTooMuch (past_after past (admit_entries rules past lane job)) full
+      → IsTooMuchHere rules past full
+  OfStop : (lane : ℕ) → IsTooMuch (past_after past (stop_entries rules past lane)) full → IsTooMuchHere rules past full
+  OfBegin : (lane : ℕ) → IsBeginTooMuch rules past lane full → IsTooMuchHere rules past full
+  OfCall : (lane run : ℕ) (call : AppCall) → IsTooMuch (call_entry past lane run call ∷ past) full
+      → IsTooMuchHere rules past full
 
 -- at some point of the journal it was so
-abbrev pub WasTooMuch : Rules → List Entry → ℕ → ℕ → Type 0
-WasTooMuch rules past entries weight =
-    (later : List Entry) × (earlier : List Entry) × (past ≡ later ++ earlier) × IsTooMuchHere rules earlier entries weight
+abbrev pub WasTooMuch : Rules → List Entry → Full → Type 0
+WasTooMuch rules past full =
+    (later : List Entry) × (earlier : List Entry) × (past ≡ later ++ earlier) × IsTooMuchHere rules earlier full
 
 -- ---- a worker
 
@@ -50,7 +49,7 @@ pub record IsLater {F : Type 0} (old new : LaneView Entry F) : Type 0 where
 
 -- why a worker ended early: something did not fit into the journal that it has seen, memory ran out, or the wire failed
 abbrev pub IsEarly : Type 0 → Rules → List Entry → Early → Type 0
-IsEarly fails rules past (early.JournalFull entries weight) = WasTooMuch rules past entries weight
+IsEarly fails rules past (early.JournalFull full) = WasTooMuch rules past full
 IsEarly fails rules past early.Memory = Unit {0}
 IsEarly fails rules past early.AcceptFault = fails
 
@@ -77,18 +76,18 @@ Comes fails rules old (Some early) new = Ends fails rules old early new
 -- whether it ends where its connection ended so, and then why, if early; where its slices came to this; where the host
 -- could not be stopped
 abbrev pub link_end : LinkEnd → Option (Option Early)
-link_end (link.JournalFull entries weight) = Some (Some (early.JournalFull entries weight))
+link_end (link.JournalFull full) = Some (Some (early.JournalFull full))
 link_end link.Memory = Some (Some early.Memory)
 link_end link.Drained = Some None
 link_end _ = None
 
 abbrev pub early_slice : Slice → Option Early
-early_slice (slice.JournalFull entries weight) = Some (early.JournalFull entries weight)
+early_slice (slice.JournalFull full) = Some (early.JournalFull full)
 early_slice slice.Memory = Some early.Memory
 early_slice _ = None
 
 abbrev pub early_stop : EventStop → Early
-early_stop (event.JournalFull entries weight) = early.JournalFull entries weight
+early_stop (event.JournalFull full) = early.JournalFull full
 early_stop event.Memory = early.Memory
 
 module _ {R Site State : Type 0} (meaning : R → Site → Meaning) (stands : R → Site → State → Told → ℕ → Type 0)

@@ -59,9 +59,7 @@ fn ask<Rt: Wait, R: Runner>(
         Ok(told) => Some(Ok(told)),
         Err(AdmitStop::WaitingFull) => None,
         Err(AdmitStop::Stopping) => Some(Err(LinkEnd::Drained)),
-        Err(AdmitStop::JournalFull { entries, weight }) => {
-            Some(Err(LinkEnd::JournalFull { entries, weight }))
-        }
+        Err(AdmitStop::JournalFull(full)) => Some(Err(LinkEnd::JournalFull(full))),
         Err(AdmitStop::Memory) => Some(Err(LinkEnd::Memory)),
     }
 }

@@ -1,5 +1,7 @@
 //! How a connection ends.
 
+use asp_journal::Full;
+
 /// How a connection ended.
 #[derive(Clone, Copy, Debug, PartialEq, Eq)]
 pub enum LinkEnd {
@@ -17,12 +19,7 @@ pub enum LinkEnd {
     /// A write failed.
     WriteFault,
     /// An entry did not fit into the journal.
-    JournalFull {
-        /// How many entries there would be, with one end for each unfinished run.
-        entries: u64,
-        /// What they would weigh; 2^64 - 1 stands for a greater weight.
-        weight: u64,
-    },
+    JournalFull(Full),
     /// Memory ran out.
     Memory,
 }

@@ -17,6 +17,7 @@ use asp_core::Core;
 use asp_desk::{Crew, Gate, Hand, Host};
 use asp_io::{Clock, Wire};
 use asp_job::{Fail, Runner};
+use asp_journal::Full;
 use std::alloc::Global;
 use std::sync::{Mutex, Wait};
 use std::thread::Threads;
@@ -39,12 +40,7 @@ pub enum ServeStop {
     /// Application_OnStart failed, for this cause. No connection was taken.
     StartFailed(Fail),
     /// An entry did not fit into the journal.
-    JournalFull {
-        /// How many entries there would be, with one end for each unfinished run.
-        entries: u64,
-        /// What they would weigh; 2^64 - 1 stands for a greater weight.
-        weight: u64,
-    },
+    JournalFull(Full),
     /// The wire failed.
     AcceptFault,
     /// Memory ran out.
@@ -52,13 +48,17 @@ pub enum ServeStop {
 }
 
 /// What the host ended for where a worker ended so.
-fn stop_of(early: Early) -> ServeStop
-    ensures { result ≡ spec.stop_of early }
-{
-    match early {
-        Early::JournalFull { entries, weight } => ServeStop::JournalFull { entries, weight },
-        Early::AcceptFault => ServeStop::AcceptFault,
-        Early::Memory => ServeStop::Memory,
+impl From<Early> for ServeStop {
+    ghost use Rattle.asp_serve.specs.Hosts.{stop_of};
+
+    ghost from_gives = { λ early stop. stop ≡ stop_of early };
+
+    fn from(early: Early) -> ServeStop {
+        match early {
+            Early::JournalFull(full) => ServeStop::JournalFull(full),
+            Early::AcceptFault => ServeStop::AcceptFault,
+            Early::Memory => ServeStop::Memory,
+        }
     }
 }
 
@@ -106,7 +106,7 @@ fn ended_well<W: Wire, R: Runner>(
     ensures { spec.HasServed (MayFail W.faults) (rules_of R.meaning core.now) W.ENDS requests result }
 {
     match first_early(made) {
-        Some(early) => Err(stop_of(early)),
+        Some(early) => Err(ServeStop::from(early)),
         None => ended_late::<W, R>(core, requests),
     }
 }

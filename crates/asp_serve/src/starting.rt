@@ -9,6 +9,7 @@ ghost use Rattle.asp_serve.specs.Visits.{IsFreeHand, WasTooMuch};
 use crate::hosting::ServeStop;
 use asp_desk::{Gate, Hand, Host, Looked, Slice};
 use asp_job::{EndKind, Runner};
+use asp_journal::Full;
 use std::sync::Wait;
 use std::thread::yield_now;
 
@@ -27,21 +28,15 @@ fn started(looked: &Looked, free: bool) -> Option<Result<(), ServeStop>>
 }
 
 /// What the host ends for where something did not fit, unless the first run failed.
-fn full<Rt: Wait, R: Runner>(
-    rt: &Rt,
-    host: &Host<R>,
-    hand: &mut Hand<R>,
-    entries: u64,
-    weight: u64,
-) -> ServeStop
+fn filled<Rt: Wait, R: Runner>(rt: &Rt, host: &Host<R>, hand: &mut Hand<R>, full: Full) -> ServeStop
     requires hand { IsHandOf R.meaning R.stands host.now hand.old }
-    requires was { WasTooMuch (rules_at R.meaning host.now) (reverse hand.old.lane.seen) entries weight }
+    requires was { WasTooMuch (rules_at R.meaning host.now) (reverse hand.old.lane.seen) full }
     ensures hand { IsHandOf R.meaning R.stands host.now hand.new }
     ensures stop { spec.IsStop ⊥ (rules_at R.meaning host.now) result }
 {
     match host.look(rt, hand).start_fail {
         Some(fail) => ServeStop::StartFailed(fail),
-        None => ServeStop::JournalFull { entries, weight },
+        None => ServeStop::JournalFull(full),
     }
 }
 
@@ -57,7 +52,7 @@ fn slice<Rt: Wait, R: Runner, G: Gate>(
     ensures stop { IfSome result (spec.IsStop ⊥ (rules_at R.meaning host.now)) }
 {
     match host.work_slice(rt, hand, gate) {
-        Slice::JournalFull { entries, weight } => Some(full(rt, host, hand, entries, weight)),
+        Slice::JournalFull(full) => Some(filled(rt, host, hand, full)),
         Slice::Memory => Some(ServeStop::Memory),
         Slice::Held => {
             yield_now();

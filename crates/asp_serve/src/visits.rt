@@ -12,6 +12,7 @@ use asp_core::EventStop;
 use asp_desk::{Gate, Hand, Host, Slice, Task, Worker};
 use asp_io::{Clock, Wire};
 use asp_job::Runner;
+use asp_journal::Full;
 use std::alloc::Global;
 use std::sync::{Mutex, Wait};
 
@@ -19,12 +20,7 @@ use std::sync::{Mutex, Wait};
 #[derive(Clone, Copy, Debug, PartialEq, Eq)]
 pub enum Early {
     /// An entry did not fit into the journal.
-    JournalFull {
-        /// How many entries there would be, with one end for each unfinished run.
-        entries: u64,
-        /// What they would weigh; 2^64 - 1 stands for a greater weight.
-        weight: u64,
-    },
+    JournalFull(Full),
     /// Memory ran out.
     Memory,
     /// The wire failed.
@@ -59,9 +55,7 @@ fn link_end(ended: LinkEnd) -> Option<Option<Early>>
     ensures { result ≡ spec.link_end ended }
 {
     match ended {
-        LinkEnd::JournalFull { entries, weight } => {
-            Some(Some(Early::JournalFull { entries, weight }))
-        }
+        LinkEnd::JournalFull(full) => Some(Some(Early::JournalFull(full))),
         LinkEnd::Memory => Some(Some(Early::Memory)),
         LinkEnd::Drained => Some(None),
         _ => None,
@@ -73,19 +67,23 @@ pub fn early_slice(came_to: Slice) -> Option<Early>
     ensures { result ≡ spec.early_slice came_to }
 {
     match came_to {
-        Slice::JournalFull { entries, weight } => Some(Early::JournalFull { entries, weight }),
+        Slice::JournalFull(full) => Some(Early::JournalFull(full)),
         Slice::Memory => Some(Early::Memory),
         _ => None,
     }
 }
 
 /// What ended early where the host could not be stopped.
-fn early_stop(stop: EventStop) -> Early
-    ensures { result ≡ spec.early_stop stop }
-{
-    match stop {
-        EventStop::JournalFull { entries, weight } => Early::JournalFull { entries, weight },
-        EventStop::Memory => Early::Memory,
+impl From<EventStop> for Early {
+    ghost use Rattle.asp_serve.specs.Visits.{early_stop};
+
+    ghost from_gives = { λ stop given. given ≡ early_stop stop };
+
+    fn from(stop: EventStop) -> Early {
+        match stop {
+            EventStop::JournalFull(full) => Early::JournalFull(full),
+            EventStop::Memory => Early::Memory,
+        }
     }
 }
 
@@ -130,7 +128,7 @@ impl<'a, W: Wire, C: Clock, G: Gate> Visits<'a, W, C, G> {
             Ok(()) => early,
             Err(stop) => {
                 host.halt(rt, hand);
-                Some(early.unwrap_or(early_stop(stop)))
+                Some(early.unwrap_or(Early::from(stop)))
             }
         }
     }

@@ -43,7 +43,7 @@ pub fn work<Rt: Wait, R: Runner, G: Gate>(
         }
         Slice::Blocked { holder: _ } => Ok(Idle::Blocked),
         Slice::Idle => Ok(Idle::Free),
-        Slice::JournalFull { entries, weight } => Err(LinkEnd::JournalFull { entries, weight }),
+        Slice::JournalFull(full) => Err(LinkEnd::JournalFull(full)),
         Slice::Memory => Err(LinkEnd::Memory),
     }
 }

@@ -5,14 +5,13 @@ ghost use Rattle.asp_job.specs.Size.{IsSmall};
 
 use crate::desk::Desk;
 use crate::jobs::read_job;
-use crate::reading::{next, next_moment, next_number};
-use crate::runner::{AllWords, WordRunner};
 use crate::said::line_of;
 use crate::shown;
 use asp_core::Core;
 use asp_job::{Entry, Job};
 use case_files::{Answer, CaseStop, Subject, read_text};
 use std::str::Split;
+use word_runs::{AllWords, WordRunner, next, next_moment, next_number};
 
 /// Calls of a new core with a seed of noughts, with `; ` between them.
 pub struct Calls;

@@ -251,10 +251,10 @@ where
         let told = self.core.app_step(lane, &self.runner, &mut run);
         let _ = self.core.journal();
         match told {
-            Err(AppStepStop::JournalFull { entries, weight }) => {
+            Err(AppStepStop::JournalFull(full)) => {
                 let _ = self.core.end(lane, &self.runner, run, EndKind::JournalFull);
                 let _ = self.core.journal();
-                Ok(Err(AppStepStop::JournalFull { entries, weight }))
+                Ok(Err(AppStepStop::JournalFull(full)))
             }
             told => {
                 put_run(&mut self.runs, lane, run);

@@ -1,12 +1,12 @@
 //! Entries of a journal: those that cases write in words, and those that lines tell of.
 
-use crate::reading::{bytes, next, next_moment, next_number, number, text};
 use crate::shared_values::{read_call, read_reply};
 use asp_job::{Asked, EndKind, Entry, Header, Job, Request, Verb, What, Work};
 use asp_record::{Line, LineWhat};
 use case_files::{Answer, CaseStop};
 use std::str::Split;
 use vb_value::{Bytes, List};
+use word_runs::{bytes, next, next_moment, next_number, number, text};
 
 /// A request that has nothing but its path.
 fn bare_request(out: &mut Answer) -> Request {

@@ -3,11 +3,11 @@ ghost use Rattle.std.specs.Prelude.{◌≡◌, ◌<◌, ◌^◌, length, true};
 ghost use Rattle.asp_job.specs.Running.{is_page};
 ghost use Rattle.asp_job.specs.Size.{IsSmall, request_size};
 
-use crate::reading::{next, next_moment, number, text};
 use asp_job::{Asked, Job, Request, Verb, Work};
 use case_files::{Answer, CaseStop};
 use std::str::Split;
 use vb_value::{Bytes, List, Text};
+use word_runs::{next, next_moment, number, text};
 
 /// The key for which a job asks: `-` a new one, `0` none, and else that of this number.
 fn asked(out: &mut Answer, written: &str) -> Asked {

@@ -6,15 +6,11 @@ mod desk;
 mod entries;
 mod jobs;
 mod lines;
-mod reading;
 mod recordings;
-mod run;
-mod runner;
 mod said;
 mod shared_values;
 mod shown;
 mod table;
-mod words;
 
 use calls::Calls;
 use case_files::try_file;

@@ -1,9 +1,9 @@
 //! Calls of the Application object with their replies, as cases write them.
 
-use crate::reading::{next, text};
 use case_files::{Answer, CaseStop};
 use std::str::Split;
 use vb_value::{AppCall, AppReply, Array, List, Text, Value};
+use word_runs::{next, text};
 
 /// A fixed array of two items: the Integer 1, and an array without dimensions.
 fn array(out: &mut Answer) -> Array {

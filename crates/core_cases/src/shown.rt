@@ -4,17 +4,18 @@ use crate::desk::Told;
 use crate::said::write_bytes;
 use asp_core::{AdmitStop, Admitted, AppStepStop, BeginStop, CollectStop, EventStop, Progress};
 use asp_job::EndKind;
+use asp_journal::Full;
 use case_files::{Answer, CaseStop};
 
 /// The content of an answer is shown that has at most so many bytes.
 const LONG: usize = 1000;
 
 /// Too many or too heavy entries.
-fn write_full(out: &mut Answer, entries: u64, weight: u64) {
+fn write_full(out: &mut Answer, full: Full) {
     out.put("full ");
-    out.show(&entries);
+    out.show(&full.entries);
     out.put(" ");
-    out.show(&weight);
+    out.show(&full.weight);
 }
 
 /// A job came, or did not.
@@ -23,7 +24,7 @@ pub fn write_admitted(out: &mut Answer, told: Told<Result<Admitted, AdmitStop>>)
         Ok(Ok(told)) => write_job(out, told),
         Ok(Err(AdmitStop::Stopping)) => out.put("stopping"),
         Ok(Err(AdmitStop::WaitingFull)) => out.put("waiting full"),
-        Ok(Err(AdmitStop::JournalFull { entries, weight })) => write_full(out, entries, weight),
+        Ok(Err(AdmitStop::JournalFull(full))) => write_full(out, full),
         Ok(Err(AdmitStop::Memory)) => out.stop(CaseStop::Memory),
         Err(stop) => out.stop(stop),
     }
@@ -70,7 +71,7 @@ pub fn write_halted(out: &mut Answer, told: Told<()>) {
 
 fn write_event_stop(out: &mut Answer, stop: EventStop) {
     match stop {
-        EventStop::JournalFull { entries, weight } => write_full(out, entries, weight),
+        EventStop::JournalFull(full) => write_full(out, full),
         EventStop::Memory => out.stop(CaseStop::Memory),
     }
 }
@@ -80,7 +81,7 @@ pub fn write_begun(out: &mut Answer, told: Told<Result<u32, BeginStop>>) {
     match told {
         Ok(Ok(run)) => out.show(&run),
         Ok(Err(BeginStop::Idle)) => out.put("idle"),
-        Ok(Err(BeginStop::JournalFull { entries, weight })) => write_full(out, entries, weight),
+        Ok(Err(BeginStop::JournalFull(full))) => write_full(out, full),
         Ok(Err(BeginStop::Memory)) => out.stop(CaseStop::Memory),
         Err(stop) => out.stop(stop),
     }
@@ -112,7 +113,7 @@ fn write_call_stop(out: &mut Answer, stop: AppStepStop) {
             out.put("blocked by ");
             out.show(&holder);
         }
-        AppStepStop::JournalFull { entries, weight } => write_full(out, entries, weight),
+        AppStepStop::JournalFull(full) => write_full(out, full),
         AppStepStop::Memory => out.stop(CaseStop::Memory),
     }
 }

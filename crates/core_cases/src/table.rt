@@ -1,9 +1,9 @@
 //! A recording of twenty items, made in code.
 
-use crate::reading::bytes;
 use asp_record::{Item, Recording};
 use case_files::{Answer, CaseStop};
 use vb_value::List;
+use word_runs::bytes;
 
 /// What session keys are made from.
 const SEED: [u8; 32] = [

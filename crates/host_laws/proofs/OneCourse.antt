@@ -2,6 +2,7 @@
 use Rattle.std.proofs.Common.{◌≡◌, ◌⊎◌, ℕ, zero, suc, List, ◌∷◌}
 use Rattle.std.proofs.Common.{sym, subst, ◌∙◌, inl, inr, arith}
 use Rattle.vb_value.specs.declared.application.AppCall.{AppCall}
+use Rattle.asp_journal.specs.declared.full.Full.{Full}
 use Rattle.asp_core.specs.Kernel.{IsBeginTooMuch, IsTooMuch, IsWithin}
 use Rattle.asp_job.specs.declared.answer.Finished.{Finished}
 use Rattle.asp_job.specs.declared.entry.EndKind.TheVariants as kind
@@ -17,17 +18,19 @@ use Rattle.replay_laws.proofs.OneWork.{one_next_run}
 
 -- ---- room
 
-pub no_room : (past : List Entry) (entries weight : ℕ) → IsWithin past → IsTooMuch past entries weight → ⊥
-no_room past entries weight within is = elim is.much [
+pub no_room : (past : List Entry) (full : Full) → IsWithin past → IsTooMuch past full → ⊥
+no_room past full within is = elim is.much [
   | inl many ↦ (let few = within.few in let same = is.entries_are in omega (arith, few, same, many))
   | inr heavy ↦ (let light = within.light in let same = is.weight_is in omega (arith, light, same, heavy))
 ]
 
--- what would be too much tells its numbers
-pub one_load : (past : List Entry) (entries weight count total : ℕ) → IsTooMuch past entries weight
-    → IsTooMuch past count total → (entries ≡ count) × (weight ≡ total)
-one_load past entries weight count total is also =
-    (is.entries_are ∙ sym also.entries_are, is.weight_is ∙ sym also.weight_is)
+-- a journal is too full in one way
+pub one_load : (past : List Entry) (full filled : Full) → IsTooMuch past full
+    → IsTooMuch past filled → full ≡ filled
+one_load past full filled is also =
+    let entries = is.entries_are ∙ sym also.entries_are in
+    let weight = is.weight_is ∙ sym also.weight_is in
+    λ i. record { entries = entries i; weight = weight i }
 
 one_call : (call other : AppCall) → Wants call ≡ Wants other → call ≡ other
 one_call call other e = cc
@@ -38,15 +41,15 @@ module _ (rules : Rules) (lane : ℕ) where
   -- the run ends, or its next call would be too much
   abbrev IsStuck : ℕ → List Entry → Type 0
   IsStuck run past = ((finished : Finished) × (rules.meaning.does (told rules past run) ≡ Ends finished))
-      ⊎ ((entries : ℕ) × (weight : ℕ) × IsCallTooMuch rules past lane run entries weight)
+      ⊎ ((full : Full) × IsCallTooMuch rules past lane run full)
 
   not_stuck : (run : ℕ) (past : List Entry) (call : AppCall) → rules.meaning.does (told rules past run) ≡ Wants call
       → IsWithin (call_entry past lane run call ∷ past) → IsStuck run past → ⊥
   not_stuck run past call wants within (inl ends) = let both : Wants call ≡ Ends ends.0 = sym wants ∙ ends.1 in cc
-  not_stuck run past call wants within (inr (entries, weight, much)) =
+  not_stuck run past call wants within (inr (full, much)) =
       let same : much.call ≡ call = one_call much.call call (sym much.wants ∙ wants) in
-      no_room (call_entry past lane run call ∷ past) entries weight within
-      (subst (λ some. IsTooMuch (call_entry past lane run some ∷ past) entries weight) same much.much)
+      no_room (call_entry past lane run call ∷ past) full within
+      (subst (λ some. IsTooMuch (call_entry past lane run some ∷ past) full) same much.much)
 
   -- the calls of a run lead to one place where it is stuck
   one_place : (run n k : ℕ) (from mid other : List Entry) → Calls rules lane run n from mid
@@ -82,42 +85,42 @@ module _ (rules : Rules) (lane : ℕ) where
       = λ i. end_entry rules (same.1 i) lane (same.0 i) kind.Done ∷ same.1 i in
       is.to_is ∙ ended ∙ sym also.to_is
 
-  begins_so : (from : List Entry) (run entries weight : ℕ) → Begins rules lane from run
-      → IsBeginTooMuch rules from lane entries weight → ⊥
-  begins_so from run entries weight begins much =
+  begins_so : (from : List Entry) (run : ℕ) (full : Full) → Begins rules lane from run
+      → IsBeginTooMuch rules from lane full → ⊥
+  begins_so from run full begins much =
       let same : much.0 ≡ run = one_next_run from much.0 run much.1.next begins.next.next in
-      no_room (begin_entry rules from lane run ∷ from) entries weight begins.within
-      (subst (λ some. IsTooMuch (begin_entry rules from lane some ∷ from) entries weight) same much.2)
+      no_room (begin_entry rules from lane run ∷ from) full begins.within
+      (subst (λ some. IsTooMuch (begin_entry rules from lane some ∷ from) full) same much.2)
 
   -- a run that goes through is not too much
-  pub not_too_much : (from to : List Entry) (run entries weight : ℕ) → GoesThrough rules lane from run to
-      → IsRunTooMuch rules lane from entries weight → ⊥
-  not_too_much from to run entries weight is (OfBegin valid much) =
-      begins_so from run entries weight is.under_way.begins much
-  not_too_much from to run entries weight is (OfCall number other way valid much) =
-      let same = one_way from is.mid other run number is.under_way way (inl is.ends) (inr (entries, weight, much)) in
+  pub not_too_much : (from to : List Entry) (run : ℕ) (full : Full) → GoesThrough rules lane from run to
+      → IsRunTooMuch rules lane from full → ⊥
+  not_too_much from to run full is (OfBegin valid much) =
+      begins_so from run full is.under_way.begins much
+  not_too_much from to run full is (OfCall number other way valid much) =
+      let same = one_way from is.mid other run number is.under_way way (inl is.ends) (inr (full, much)) in
       let ends : rules.meaning.does (told rules other number) ≡ Ends is.ends.0 =
       subst (λ some. rules.meaning.does (told rules some number) ≡ Ends is.ends.0) same.1
       (subst (λ some. rules.meaning.does (told rules is.mid some) ≡ Ends is.ends.0) same.0 is.ends.1) in
       let both : Wants much.call ≡ Ends is.ends.0 = sym much.wants ∙ ends in
       cc
 
-  pub one_much : (from : List Entry) (entries weight count total : ℕ) → IsRunTooMuch rules lane from entries weight
-      → IsRunTooMuch rules lane from count total → (entries ≡ count) × (weight ≡ total)
-  one_much from entries weight count total (OfBegin valid much) (OfBegin sound also) =
+  pub one_much : (from : List Entry) (full filled : Full) → IsRunTooMuch rules lane from full
+      → IsRunTooMuch rules lane from filled → full ≡ filled
+  one_much from full filled (OfBegin valid much) (OfBegin sound also) =
       let same : also.0 ≡ much.0 = one_next_run from also.0 much.0 also.1.next much.1.next in
-      one_load (begin_entry rules from lane much.0 ∷ from) entries weight count total much.2
-      (subst (λ some. IsTooMuch (begin_entry rules from lane some ∷ from) count total) same also.2)
-  one_much from entries weight count total (OfBegin valid much) (OfCall number other way sound also) =
-      absurd (begins_so from number entries weight way.begins much)
-  one_much from entries weight count total (OfCall run mid way valid much) (OfBegin sound also) =
-      absurd (begins_so from run count total way.begins also)
-  one_much from entries weight count total (OfCall run mid way valid much) (OfCall number other course sound also) =
-      let same = one_way from mid other run number way course (inr (entries, weight, much))
-      (inr (count, total, also)) in
-      let here : IsCallTooMuch rules mid lane run count total =
-      subst (λ some. IsCallTooMuch rules some lane run count total) (sym same.1)
-      (subst (λ some. IsCallTooMuch rules other lane some count total) (sym same.0) also) in
+      one_load (begin_entry rules from lane much.0 ∷ from) full filled much.2
+      (subst (λ some. IsTooMuch (begin_entry rules from lane some ∷ from) filled) same also.2)
+  one_much from full filled (OfBegin valid much) (OfCall number other way sound also) =
+      absurd (begins_so from number full way.begins much)
+  one_much from full filled (OfCall run mid way valid much) (OfBegin sound also) =
+      absurd (begins_so from run filled way.begins also)
+  one_much from full filled (OfCall run mid way valid much) (OfCall number other course sound also) =
+      let same = one_way from mid other run number way course (inr (full, much))
+      (inr (filled, also)) in
+      let here : IsCallTooMuch rules mid lane run filled =
+      subst (λ some. IsCallTooMuch rules some lane run filled) (sym same.1)
+      (subst (λ some. IsCallTooMuch rules other lane some filled) (sym same.0) also) in
       let call : here.call ≡ much.call = one_call here.call much.call (sym here.wants ∙ much.wants) in
-      one_load (call_entry mid lane run much.call ∷ mid) entries weight count total much.much
-      (subst (λ some. IsTooMuch (call_entry mid lane run some ∷ mid) count total) call here.much)
+      one_load (call_entry mid lane run much.call ∷ mid) full filled much.much
+      (subst (λ some. IsTooMuch (call_entry mid lane run some ∷ mid) filled) call here.much)

@@ -1,5 +1,6 @@
 -- A request to a host of its own comes to one outcome.
-use Rattle.std.proofs.Common.{◌≡◌, ℕ, List, Option, Some, None, Result, Ok, Err, ap, sym, subst, ◌∙◌}
+use Rattle.std.proofs.Common.{◌≡◌, List, Option, Some, None, Result, Ok, Err, ap, sym, subst, ◌∙◌}
+use Rattle.asp_journal.specs.declared.full.Full.{Full}
 use Rattle.asp_core.specs.Kernel.{IsTooMuch}
 use Rattle.asp_core.specs.Start.{start_fail}
 use Rattle.asp_get.specs.Answered.{HasAnswered, IsReadyFor, OfFirst, OfJob, OfPage, WasTooMuch, run_for, with_job}
@@ -52,59 +53,59 @@ module _ (rules : Rules) where
         → HasBegun rules 0 (Some fail) past → ⊥
     answer_not_failed answer fail past is failed = not_both fail past is.past failed is.came.begun
 
-    answer_not_much : (answer : Answer) (entries weight : ℕ) → HasAnswered rules job answer
-        → WasTooMuch rules job entries weight → ⊥
-    answer_not_much answer entries weight is (OfFirst much) =
-        not_too_much rules 0 (first_past 0) is.past 1 entries weight is.came.begun.through much
-    answer_not_much answer entries weight is (OfJob past begun much) =
+    answer_not_much : (answer : Answer) (full : Full) → HasAnswered rules job answer
+        → WasTooMuch rules job full → ⊥
+    answer_not_much answer full is (OfFirst much) =
+        not_too_much rules 0 (first_past 0) is.past 1 full is.came.begun.through much
+    answer_not_much answer full is (OfJob past begun much) =
         let same = (one_begun None None past is.past begun is.came.begun).0 in
-        no_room (with_job rules is.past job) entries weight is.came.within
-        (subst (λ some. IsTooMuch (with_job rules some job) entries weight) same much)
-    answer_not_much answer entries weight is (OfPage past ready much) =
+        no_room (with_job rules is.past job) full is.came.within
+        (subst (λ some. IsTooMuch (with_job rules some job) full) same much)
+    answer_not_much answer full is (OfPage past ready much) =
         let same = (one_begun None None past is.past ready.begun is.came.begun).0 in
-        not_too_much rules 0 (with_job rules is.past job) is.last (run_for rules is.past job) entries weight is.through
-        (subst (λ some. IsRunTooMuch rules 0 (with_job rules some job) entries weight) same much)
+        not_too_much rules 0 (with_job rules is.past job) is.last (run_for rules is.past job) full is.through
+        (subst (λ some. IsRunTooMuch rules 0 (with_job rules some job) full) same much)
 
-    failed_not_much : (fail : Fail) (past : List Entry) (entries weight : ℕ) → HasBegun rules 0 (Some fail) past
-        → WasTooMuch rules job entries weight → ⊥
-    failed_not_much fail past entries weight is (OfFirst much) =
-        not_too_much rules 0 (first_past 0) past 1 entries weight is.through much
-    failed_not_much fail past entries weight is (OfJob last begun much) = not_both fail past last is begun
-    failed_not_much fail past entries weight is (OfPage last ready much) = not_both fail past last is ready.begun
+    failed_not_much : (fail : Fail) (past : List Entry) (full : Full) → HasBegun rules 0 (Some fail) past
+        → WasTooMuch rules job full → ⊥
+    failed_not_much fail past full is (OfFirst much) =
+        not_too_much rules 0 (first_past 0) past 1 full is.through much
+    failed_not_much fail past full is (OfJob last begun much) = not_both fail past last is begun
+    failed_not_much fail past full is (OfPage last ready much) = not_both fail past last is ready.begun
 
     -- ---- too much
 
-    job_not_page : (past last : List Entry) (entries weight : ℕ) → HasBegun rules 0 None past
-        → IsTooMuch (with_job rules past job) entries weight → IsReadyFor rules job last → ⊥
-    job_not_page past last entries weight begun much ready =
+    job_not_page : (past last : List Entry) (full : Full) → HasBegun rules 0 None past
+        → IsTooMuch (with_job rules past job) full → IsReadyFor rules job last → ⊥
+    job_not_page past last full begun much ready =
         let same = (one_begun None None past last begun ready.begun).0 in
-        no_room (with_job rules last job) entries weight ready.within
-        (subst (λ some. IsTooMuch (with_job rules some job) entries weight) same much)
+        no_room (with_job rules last job) full ready.within
+        (subst (λ some. IsTooMuch (with_job rules some job) full) same much)
 
-    one_full : (entries weight count total : ℕ) → WasTooMuch rules job entries weight → WasTooMuch rules job count total
-        → (entries ≡ count) × (weight ≡ total)
-    one_full entries weight count total (OfFirst much) (OfFirst also) =
-        one_much rules 0 (first_past 0) entries weight count total much also
-    one_full entries weight count total (OfFirst much) (OfJob past begun also) =
-        absurd (not_too_much rules 0 (first_past 0) past 1 entries weight begun.through much)
-    one_full entries weight count total (OfFirst much) (OfPage past ready also) =
-        absurd (not_too_much rules 0 (first_past 0) past 1 entries weight ready.begun.through much)
-    one_full entries weight count total (OfJob past begun much) (OfFirst also) =
-        absurd (not_too_much rules 0 (first_past 0) past 1 count total begun.through also)
-    one_full entries weight count total (OfJob past begun much) (OfJob last has also) =
+    one_full : (full filled : Full) → WasTooMuch rules job full → WasTooMuch rules job filled
+        → full ≡ filled
+    one_full full filled (OfFirst much) (OfFirst also) =
+        one_much rules 0 (first_past 0) full filled much also
+    one_full full filled (OfFirst much) (OfJob past begun also) =
+        absurd (not_too_much rules 0 (first_past 0) past 1 full begun.through much)
+    one_full full filled (OfFirst much) (OfPage past ready also) =
+        absurd (not_too_much rules 0 (first_past 0) past 1 full ready.begun.through much)
+    one_full full filled (OfJob past begun much) (OfFirst also) =
+        absurd (not_too_much rules 0 (first_past 0) past 1 filled begun.through also)
+    one_full full filled (OfJob past begun much) (OfJob last has also) =
         let same = (one_begun None None last past has begun).0 in
-        one_load (with_job rules past job) entries weight count total much
-        (subst (λ some. IsTooMuch (with_job rules some job) count total) same also)
-    one_full entries weight count total (OfJob past begun much) (OfPage last ready also) =
-        absurd (job_not_page past last entries weight begun much ready)
-    one_full entries weight count total (OfPage past ready much) (OfFirst also) =
-        absurd (not_too_much rules 0 (first_past 0) past 1 count total ready.begun.through also)
-    one_full entries weight count total (OfPage past ready much) (OfJob last begun also) =
-        absurd (job_not_page last past count total begun also ready)
-    one_full entries weight count total (OfPage past ready much) (OfPage last has also) =
+        one_load (with_job rules past job) full filled much
+        (subst (λ some. IsTooMuch (with_job rules some job) filled) same also)
+    one_full full filled (OfJob past begun much) (OfPage last ready also) =
+        absurd (job_not_page past last full begun much ready)
+    one_full full filled (OfPage past ready much) (OfFirst also) =
+        absurd (not_too_much rules 0 (first_past 0) past 1 filled ready.begun.through also)
+    one_full full filled (OfPage past ready much) (OfJob last begun also) =
+        absurd (job_not_page last past filled begun also ready)
+    one_full full filled (OfPage past ready much) (OfPage last has also) =
         let same = (one_begun None None last past has.begun ready.begun).0 in
-        one_much rules 0 (with_job rules past job) entries weight count total much
-        (subst (λ some. IsRunTooMuch rules 0 (with_job rules some job) count total) same also)
+        one_much rules 0 (with_job rules past job) full filled much
+        (subst (λ some. IsRunTooMuch rules 0 (with_job rules some job) filled) same also)
 
     -- ---- outcomes
 
@@ -112,21 +113,20 @@ module _ (rules : Rules) where
     one_stop (stop.StartFailed fail) (stop.StartFailed other) is also =
         let same : Some fail ≡ Some other = (one_begun (Some fail) (Some other) is.0 also.0 is.1 also.1).1 in
         ap stop.StartFailed (some_one fail other same)
-    one_stop (stop.StartFailed fail) (stop.JournalFull entries weight) is also =
-        absurd (failed_not_much fail is.0 entries weight is.1 also)
-    one_stop (stop.JournalFull entries weight) (stop.StartFailed fail) is also =
-        absurd (failed_not_much fail also.0 entries weight also.1 is)
-    one_stop (stop.JournalFull entries weight) (stop.JournalFull count total) is also =
-        let same = one_full entries weight count total is also in
-        λ i. stop.JournalFull (same.0 i) (same.1 i)
+    one_stop (stop.StartFailed fail) (stop.JournalFull full) is also =
+        absurd (failed_not_much fail is.0 full is.1 also)
+    one_stop (stop.JournalFull full) (stop.StartFailed fail) is also =
+        absurd (failed_not_much fail also.0 full also.1 is)
+    one_stop (stop.JournalFull full) (stop.JournalFull filled) is also =
+        ap stop.JournalFull (one_full full filled is also)
     one_stop (stop.StartFailed fail) stop.Memory is also = absurd also
-    one_stop (stop.JournalFull entries weight) stop.Memory is also = absurd also
+    one_stop (stop.JournalFull full) stop.Memory is also = absurd also
     one_stop stop.Memory other is also = absurd is
 
     not_stopped : (answer : Answer) (ended : GetStop) → IsOutcome rules job (Ok answer) → IsOutcome rules job (Err ended)
         → ⊥
     not_stopped answer (stop.StartFailed fail) is also = answer_not_failed answer fail also.0 is also.1
-    not_stopped answer (stop.JournalFull entries weight) is also = answer_not_much answer entries weight is also
+    not_stopped answer (stop.JournalFull full) is also = answer_not_much answer full is also
     not_stopped answer stop.Memory is also = also
 
     pub one_outcome : (one other : Result Answer GetStop) → IsOutcome rules job one → IsOutcome rules job other

@@ -3,6 +3,7 @@ use Rattle.std.proofs.Common.{◌≡◌, inl, inr, ℕ, ◌≤◌, Bool, List, O
 use Rattle.std.proofs.Common.{Ok as Given, map, arith, refl, subst}
 use Rattle.vb_value.specs.declared.site_file.SiteFault.{SiteFault}
 use Rattle.vb_value.specs.declared.site_file.SiteFile.{SiteFile}
+use Rattle.asp_journal.specs.declared.full.Full.{Full}
 use Rattle.asp_get.specs.Answered.{HasAnswered, HasFailed, WasTooMuch}
 use Rattle.asp_get.specs.declared.stop.GetStop.TheVariants as stop
 use Rattle.asp_io.specs.Folder.{AreSitePaths, path_of}
@@ -83,7 +84,7 @@ module _ (sites : OneSite) (faultless : SiteOrFault) where
   check_refuses_none around site (SiteRefused fault) tells ends = no_folder_fault around site fault tells ends.1.0
   check_refuses_none around site Usage tells ends = ends.1
   check_refuses_none around site (RecordRefused offset) tells ends = ends.1
-  check_refuses_none around site (JournalFull entries weight) tells ends = ends.1
+  check_refuses_none around site (JournalFull full) tells ends = ends.1
   check_refuses_none around site (StartFailed fail) tells ends = ends.1
 
   -- ---- `get`
@@ -104,14 +105,14 @@ module _ (sites : OneSite) (faultless : SiteOrFault) where
         (Given answer) (Err (stop.StartFailed fail)) answered failed in
         cc
 
-    not_full : (path query : List ℕ) (around : Around) (site : Site) (answer : Answer) (entries weight : ℕ)
+    not_full : (path query : List ℕ) (around : Around) (site : Site) (answer : Answer) (full : Full)
         → TellsSite around site → HasAnswered (site_rules site) (job_of path query) answer
-        → get.IsFull path query around.files entries weight → ⊥
-    not_full path query around site answer entries weight tells answered full =
-        let much = of_site around site full.site
-        (λ site. WasTooMuch (site_rules site) (job_of path query) entries weight) tells full.accepted full.much in
-        let both : Given answer ≡ Err (stop.JournalFull entries weight) = outcomes (site_rules site)
-        (job_of path query) (Given answer) (Err (stop.JournalFull entries weight)) answered much in
+        → get.IsFull path query around.files full → ⊥
+    not_full path query around site answer full tells answered is =
+        let much = of_site around site is.site
+        (λ site. WasTooMuch (site_rules site) (job_of path query) full) tells is.accepted is.much in
+        let both : Given answer ≡ Err (stop.JournalFull full) = outcomes (site_rules site)
+        (job_of path query) (Given answer) (Err (stop.JournalFull full)) answered much in
         cc
 
     pub get_refuses_none : (path query : List ℕ) (around : Around) (site : Site) (answer : Answer) (status : Status)
@@ -126,8 +127,8 @@ module _ (sites : OneSite) (faultless : SiteOrFault) where
         no_folder_fault around site fault tells ends.1.0
     get_refuses_none path query around site answer (StartFailed fail) tells answered ends =
         no_failure path query around site answer fail tells answered ends.1.0
-    get_refuses_none path query around site answer (JournalFull entries weight) tells answered ends =
-        not_full path query around site answer entries weight tells answered ends.1.0
+    get_refuses_none path query around site answer (JournalFull full) tells answered ends =
+        not_full path query around site answer full tells answered ends.1.0
     get_refuses_none path query around site answer Usage tells answered ends = ends.1
     get_refuses_none path query around site answer (RecordRefused offset) tells answered ends = ends.1
 
@@ -137,10 +138,10 @@ module _ (sites : OneSite) (faultless : SiteOrFault) where
       → HasNotStarted rules fail before after → ⊥
   not_started rules fail before after never fails = never fails.past fail fails.account fails.failed
 
-  never_filled : (rules : Rules) (items : List Item) (entries weight : ℕ) (before after : Option (List ℕ))
-      → NeverFills rules items → (filled : HasFilled rules items entries weight before after)
+  never_filled : (rules : Rules) (items : List Item) (full : Full) (before after : Option (List ℕ))
+      → NeverFills rules items → (filled : HasFilled rules items full before after)
       → ¬ (NoneIs is_memory_end filled.0)
-  never_filled rules items entries weight before after never filled = never entries weight (
+  never_filled rules items full before after never filled = never full (
     filled.0,
     record {
       account = filled.1.account;
@@ -175,10 +176,10 @@ module _ (sites : OneSite) (faultless : SiteOrFault) where
   gen_refuses_none count journal around WriteFault never little ends = tt
   gen_refuses_none count journal around AcceptFault never little ends = tt
   gen_refuses_none count journal around (SiteRefused fault) never little ends = ends.1
-  gen_refuses_none count journal around (JournalFull entries weight) never little ends =
+  gen_refuses_none count journal around (JournalFull full) never little ends =
       let fills = ends.1.0 in (
         fills,
-        never_filled (rules_for fills.site (generated count)) (generated count).items entries weight None None
+        never_filled (rules_for fills.site (generated count)) (generated count).items full None None
             (little fills.site fills.accepted) fills.filled,
       )
   gen_refuses_none count journal around (StartFailed fail) never little ends =
@@ -208,7 +209,7 @@ module _ (sites : OneSite) (faultless : SiteOrFault) where
       no_folder_fault around site fault tells ends.2
   serve_refuses_none requests around site (StartFailed fail) tells never ends =
       not_begun around site fail tells never ends.2
-  serve_refuses_none requests around site (JournalFull entries weight) tells never ends = ends.2
+  serve_refuses_none requests around site (JournalFull full) tells never ends = ends.2
   serve_refuses_none requests around site (RecordRefused offset) tells never ends = ends.2
   serve_refuses_none requests around site Usage tells never ends = ends.2
 
@@ -252,15 +253,15 @@ module _ (sites : OneSite) (faultless : SiteOrFault) where
         (of_same around site fails.site recording fails.recording (λ site recording. HasNotStarted
         (rules_for site recording) fail around.sink.before around.sink.after) tells also fails.is_for fails.failed)
 
-    no_journal_full : (around : Around) (site : Site) (recording : Recording) (entries weight : ℕ)
+    no_journal_full : (around : Around) (site : Site) (recording : Recording) (full : Full)
         → TellsSite around site → TellsRecording around recording
         → NeverFills (rules_for site recording) recording.items
-        → (fills : Fills around.files around.source around.sink entries weight)
+        → (fills : Fills around.files around.source around.sink full)
         → ¬ (NoneIs is_memory_end fills.filled.0)
-    no_journal_full around site recording entries weight tells also never fills =
+    no_journal_full around site recording full tells also never fills =
         of_same around site fills.site recording fills.recording (λ site recording. NeverFills
         (rules_for site recording) recording.items → ¬ (NoneIs is_memory_end fills.filled.0)) tells also fills.is_for
-        (λ nowhere. never_filled (rules_for fills.site fills.recording) fills.recording.items entries weight
+        (λ nowhere. never_filled (rules_for fills.site fills.recording) fills.recording.items full
         around.sink.before around.sink.after nowhere fills.filled) never
 
     pub replay_refuses_none : (journal : Bool) (around : Around) (site : Site) (recording : Recording)
@@ -278,6 +279,6 @@ module _ (sites : OneSite) (faultless : SiteOrFault) where
         no_record_refused around recording offset also ends.0
     replay_refuses_none journal around site recording (StartFailed fail) tells also never little ends =
         no_start_failed around site recording fail tells also never ends
-    replay_refuses_none journal around site recording (JournalFull entries weight) tells also never little ends =
-        (ends, no_journal_full around site recording entries weight tells also little ends)
+    replay_refuses_none journal around site recording (JournalFull full) tells also never little ends =
+        (ends, no_journal_full around site recording full tells also little ends)
     replay_refuses_none journal around site recording Usage tells also never little ends = ends

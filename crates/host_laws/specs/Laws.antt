@@ -2,6 +2,7 @@
 use Rattle.std.specs.Prelude.{◌≡◌, ℕ, ◌^◌, ◌<◌, Bool, true, List, ◌++◌, Some, None, length, map, Result, Err}
 use Rattle.std.specs.Prelude.{Ok as Given}
 use Rattle.vb_value.specs.declared.site_file.SiteFile.{SiteFile}
+use Rattle.asp_journal.specs.declared.full.Full.{Full}
 use Rattle.asp_core.specs.Laws.{NoneIs}
 use Rattle.asp_get.specs.Answered.{HasAnswered, IsGetStop}
 use Rattle.asp_get.specs.declared.stop.GetStop.{GetStop}
@@ -98,23 +99,23 @@ NeverFailsToStart rules = (fail : Fail) → ¬ (HasFailedToStart rules fail)
 -- in no valid journal that is fed with the items, or with the first of them, and in which no run ended because memory ran
 -- out, was what could come next too much
 abbrev pub NeverFills : Rules → List Item → Type 0
-NeverFills rules items = (entries weight : ℕ) (filled : HasFilled rules items entries weight None None)
+NeverFills rules items = (full : Full) (filled : HasFilled rules items full None None)
     → ¬ (NoneIs is_memory_end filled.0)
 
 -- a replay, or a `gen`, refused nothing, unless its journal came to be full after memory had run out for a run
 abbrev pub ReplaysUnrefused : Around → Status → Type 0
-ReplaysUnrefused around (JournalFull entries weight) =
-    (fills : Fills around.files around.source around.sink entries weight) × ¬ (NoneIs is_memory_end fills.filled.0)
+ReplaysUnrefused around (JournalFull full) =
+    (fills : Fills around.files around.source around.sink full) × ¬ (NoneIs is_memory_end fills.filled.0)
 ReplaysUnrefused around status = IsNoRefusal status
 
 abbrev pub GeneratesUnrefused : ℕ → Status → Type 0
-GeneratesUnrefused count (JournalFull entries weight) =
-    (fills : FillsGenerated count entries weight) × ¬ (NoneIs is_memory_end fills.filled.0)
+GeneratesUnrefused count (JournalFull full) =
+    (fills : FillsGenerated count full) × ¬ (NoneIs is_memory_end fills.filled.0)
 GeneratesUnrefused count status = IsNoRefusal status
 
 -- a host that serves refused nothing, unless at some point of its journal something did not fit
 abbrev pub ServesUnrefused : Around → Status → Type 0
-ServesUnrefused around (JournalFull entries weight) = serve.Fills around.files around.seed entries weight
+ServesUnrefused around (JournalFull full) = serve.Fills around.files around.seed full
 ServesUnrefused around status = IsNoRefusal status
 
 -- `check` refuses no folder that is a site

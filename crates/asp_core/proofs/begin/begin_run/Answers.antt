@@ -34,11 +34,11 @@ pub returns-in-Err-clause-idle : goal.returns-in-Err-clause-idle
 returns-in-Err-clause-idle g c = c.in-Err.ensures.idle
 
 pub returns-in-Err-clause-full : goal.returns-in-Err-clause-full
-returns-in-Err-clause-full g c entries weight = λ e.
+returns-in-Err-clause-full g c full = λ e.
     let m = rules_by (g.R.Runner.meaning c.args.lent.now.runner.now c.args.lent.now.site.now) c.args.lent.now.setting in
     begin_too_much m (past_in c.args.book.now) c.args.sessions.now.account c.args.book.now.answers
-    c.args.lane entries weight c.requires
-    (c.in-Err.ensures.full entries weight (ap Err e))
+    c.args.lane full c.requires
+    (c.in-Err.ensures.full full (ap Err e))
 
 pub returns-in-Err-clause-fits : goal.returns-in-Err-clause-fits
 returns-in-Err-clause-fits g c = λ e.
@@ -94,7 +94,7 @@ returns-in-Err-start_run-clause-idle g c =
     )
 
 pub returns-in-Err-start_run-clause-full : goal.returns-in-Err-start_run-clause-full
-returns-in-Err-start_run-clause-full g c entries weight = λ e. absurd cc
+returns-in-Err-start_run-clause-full g c full = λ e. absurd cc
 
 pub returns-in-Err-start_run-clause-fits : goal.returns-in-Err-start_run-clause-fits
 returns-in-Err-start_run-clause-fits g c = λ e.

@@ -1,4 +1,5 @@
 use Rattle.std.proofs.Common.{◌≡◌, Err, ap, arith, refl}
+use Rattle.std.proofs.lemmas.Result.{err_from_is_err_and}
 use Rattle.asp_core.specs.Book.{past_in}
 use Rattle.asp_core.specs.declared.stop.BeginStop.TheVariants as stops
 use Rattle.asp_core.proofs.Beginning.{few_drawn, full_over, memory_back, refused_busy}
@@ -11,26 +12,29 @@ pub returns-in_default-clause-idle : goal.returns-in_default-clause-idle
 returns-in_default-clause-idle c = let idle = c.in_default.ensures.none in (λ e. idle, λ is. refl)
 
 pub returns-in_default-clause-full : goal.returns-in_default-clause-full
-returns-in_default-clause-full c entries weight e = absurd cc
+returns-in_default-clause-full c full e = absurd cc
 
 pub returns-in_default-clause-fits : goal.returns-in_default-clause-fits
 returns-in_default-clause-fits c e = absurd cc
 
-pub returns-in-Err-clause-idle : goal.returns-in-Err-clause-idle
-returns-in-Err-clause-idle c =
-    refused_busy (past_in c.args.book.now) c.args.book.now.answers c.in-Some.next c.in-Err.stop c.begin_stop.result
-    c.in-Some.ensures.next c.in-Some.ensures.light c.begin_stop.ensures
+pub returns-in_err-room_for-clause-idle : goal.returns-in_err-room_for-clause-idle
+returns-in_err-room_for-clause-idle c =
+    let p = err_from_is_err_and c.from_residual.result c.from_residual.ensures.1 in
+    rw p.1 (refused_busy (past_in c.args.book.now) c.args.book.now.answers c.in-Some.next c.in_err-room_for.field-0.0
+    p.0 c.in-Some.ensures.next c.in-Some.ensures.light p.2)
 
-pub returns-in-Err-clause-full : goal.returns-in-Err-clause-full
-returns-in-Err-clause-full c entries weight e =
-    let told : c.begin_stop.result ≡ stops.JournalFull entries weight = cc in
-    full_over (past_in c.args.book.now) c.in-Some.next entries weight c.in-Err.stop c.begin_stop.result
-    c.in-Some.ensures.next (λ total most same. c.in-Err.ensures.full total most (ap Err same)) c.begin_stop.ensures told
+pub returns-in_err-room_for-clause-full : goal.returns-in_err-room_for-clause-full
+returns-in_err-room_for-clause-full c full e =
+    let p = err_from_is_err_and c.from_residual.result c.from_residual.ensures.1 in
+    let told : p.0 ≡ stops.JournalFull full = cc (p.1, e) in
+    full_over (past_in c.args.book.now) c.in-Some.next full c.in_err-room_for.field-0.0 p.0 c.in-Some.ensures.next
+    (λ full same. c.in_err-room_for.ensures.full full (ap Err same)) p.2 told
 
-pub returns-in-Err-clause-fits : goal.returns-in-Err-clause-fits
-returns-in-Err-clause-fits c e =
-    let told : c.begin_stop.result ≡ stops.Memory = cc in
-    c.in-Err.ensures.fits (ap Err (memory_back c.in-Err.stop c.begin_stop.result c.begin_stop.ensures told))
+pub returns-in_err-room_for-clause-fits : goal.returns-in_err-room_for-clause-fits
+returns-in_err-room_for-clause-fits c e =
+    let p = err_from_is_err_and c.from_residual.result c.from_residual.ensures.1 in
+    let told : p.0 ≡ stops.Memory = cc (p.1, e) in
+    c.in_err-room_for.ensures.fits (ap Err (memory_back c.in_err-room_for.field-0.0 p.0 p.2 told))
 
 pub overflow_cast-result : goal.overflow_cast-result
 overflow_cast-result c =
@@ -43,11 +47,11 @@ returns-clause-ok c = record {
   number_is = rw c.journal.ensures at c.session_number-number.ensures.number;
   may = rw c.journal.ensures at c.session_number-number.ensures.may;
   light = c.in-Some.ensures.light;
-  load = c.in_default-room_for.ensures.ok.0;
+  load = c.in_ok-room_for.ensures.ok.0;
 }
 
 pub returns-clause-full : goal.returns-clause-full
-returns-clause-full c entries weight e = absurd cc
+returns-clause-full c full e = absurd cc
 
 pub returns-clause-fits : goal.returns-clause-fits
 returns-clause-fits c e = absurd cc

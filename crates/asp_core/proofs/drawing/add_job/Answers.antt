@@ -1,6 +1,7 @@
 use Rattle.std.proofs.Common.{◌≡◌, ◌++◌, ◌≤◌, ◌+◌, ◌-◌, ◌^◌, ◌∙◌, Err, ap, arith, length, min, reverse, sum_by}
 use Rattle.std.proofs.Common.{subst, sym, List}
 use Rattle.std.proofs.lemmas.Grind.{common_steps}
+use Rattle.std.proofs.lemmas.Result.{err_from_is_err_and}
 use Rattle.asp_job.specs.declared.entry.Entry.{Entry}
 use Rattle.asp_job.specs.declared.entry.TheConstants.{MOST_ENTRIES}
 use Rattle.asp_job.specs.History.{entries_in, work_weight}
@@ -13,9 +14,10 @@ use Rattle.asp_core.specs.declared.stop.EventStop.TheVariants.{JournalFull}
 use Rattle.asp_core.proofs.Coming.{job_much, job_within}
 use Rattle.asp_core.proofs.drawing.add_job.Goals as goal
 
-pub returns-in-Err-clause-full : goal.returns-in-Err-clause-full
-returns-in-Err-clause-full g c entries total e =
-    let same : c.in-Err.stop ≡ JournalFull entries total = cc in
+pub returns-in_err-room_for-clause-full : goal.returns-in_err-room_for-clause-full
+returns-in_err-room_for-clause-full g c full e =
+    let p = err_from_is_err_and c.from_residual.result c.from_residual.ensures.1 in
+    let told : p.0 ≡ JournalFull full = cc (p.1, e) in
     let m = rules_by (g.R.Runner.meaning c.args.lent.now.runner.now c.args.lent.now.site.now) c.args.lent.now.setting in
     let sessions = sessions_in c.args.sessions.now.account in
     let past = past_in c.args.book.now in
@@ -23,8 +25,9 @@ returns-in-Err-clause-full g c entries total e =
     let weighs : c.job_weight-weight.result
     ≡ min (sum_by entry_weight c.args.coming.more + (64 + work_weight c.args.coming.job.work)) (2 ^ 64 - 1) =
     grind (arith, common_steps) in
-    job_much m sessions past c.args.coming.more c.args.lane c.args.coming.job c.len-count.result c.job_weight-weight.result entries total
-    c.requires.tick count weighs (c.in-Err.ensures.full entries total (ap Err same))
+    job_much m sessions past c.args.coming.more c.args.lane c.args.coming.job c.len-count.result
+    c.job_weight-weight.result full c.requires.tick count weighs
+    (c.in_err-room_for.ensures.full full (ap Err (sym p.2 ∙ told)))
 
 pub add_ticked-requires-clause-few : goal.add_ticked-requires-clause-few
 add_ticked-requires-clause-few g c =
@@ -75,5 +78,5 @@ returns-clause-grows g c =
     grind (arith, common_steps) in (
       (next, adds.1 ∙ stays.1),
       job_within m sessions c.args.book.now.items c.add_ticked.new.book.items c.args.coming.more c.args.lane c.args.coming.job
-          c.len-count.result c.job_weight-weight.result c.requires.tick next count weighs c.in_default.ensures.ok.0,
+          c.len-count.result c.job_weight-weight.result c.requires.tick next count weighs c.in_ok-room_for.ensures.ok.0,
     )

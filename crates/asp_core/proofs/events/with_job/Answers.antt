@@ -34,14 +34,14 @@ returns-in-Ok-prepared-clause-drawn g c =
     subst (λ (entry : Entry). IfOk c.add_job.result (IsDrawn entry.what)) made c.add_job.ensures.drawn
 
 pub returns-in-Ok-prepared-clause-full : goal.returns-in-Ok-prepared-clause-full
-returns-in-Ok-prepared-clause-full g c entries weight e =
+returns-in-Ok-prepared-clause-full g c full e =
     let m = rules_by (g.R.Runner.meaning c.args.lent.now.runner.now c.args.lent.now.site.now) c.args.lent.now.setting in
     let past = past_in c.args.book.now in
     let made = job_made m past (sessions_in c.args.sessions.now.account) c.args.lane c.in-Ok-prepared.job
     (account_tells m past c.args.sessions.now.account c.requires.account).1
     ∙ ap (admit_entries m past c.args.lane) c.in-Ok-prepared.ensures.job in
-    subst (λ (more : List Entry). IsTooMuch (past_after past more) entries weight) made
-    (c.add_job.ensures.full entries weight e)
+    subst (λ (more : List Entry). IsTooMuch (past_after past more) full) made
+    (c.add_job.ensures.full full e)
 
 pub returns-in-Ok-prepared-clause-account : goal.returns-in-Ok-prepared-clause-account
 returns-in-Ok-prepared-clause-account g c =

@@ -7,12 +7,12 @@ use Rattle.asp_core.proofs.Same.{on_ok}
 use Rattle.asp_core.proofs.events.with_stop.Goals as goal
 
 pub returns-in-Ok-clause-full : goal.returns-in-Ok-clause-full
-returns-in-Ok-clause-full g c entries weight e =
+returns-in-Ok-clause-full g c full e =
     let m = rules_by (g.R.Runner.meaning c.args.house.now.runner.value c.args.house.now.site.value) c.args.house.now.setting in
     let past = past_in c.args.book.now in
-    subst (λ more. IsTooMuch (past_after past more) entries weight)
+    subst (λ more. IsTooMuch (past_after past more) full)
     ((rw c.journal-2.ensures at c.in-Ok.ensures) ∙ stopped_is m past c.args.sessions.now.account c.args.lane c.requires.account)
-    (c.add_calm.ensures.full entries weight e)
+    (c.add_calm.ensures.full full e)
 
 pub returns-in-Ok-clause-account : goal.returns-in-Ok-clause-account
 returns-in-Ok-clause-account g c =

@@ -50,4 +50,4 @@ returns-in-Err-clause-err g c =
     let m = rules_of g.R.Runner.meaning c.args.core.now in
     subst (λ ended. IsGetStop m c.args.job.now ended) (sym c.from.ensures)
     (admit_get m (past_of c.args.core.now) c.args.job.now c.in-Err.stop c.requires.ready
-    (λ entries weight same. c.in-Err.ensures.full entries weight (ap Err same)))
+    (λ full same. c.in-Err.ensures.full full (ap Err same)))

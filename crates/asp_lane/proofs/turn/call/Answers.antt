@@ -23,13 +23,12 @@ returns-in-Ok g c =
 pub returns-in-Err-JournalFull : goal.returns-in-Err-JournalFull
 returns-in-Err-JournalFull g c =
     let wants = some_is (wanted_by c.args.run.progress) c.requires.wants in
-    let entries = c.in-Err-JournalFull.entries in
-    let weight = c.in-Err-JournalFull.weight in
+    let full = c.in-Err-JournalFull.full in
     let same = c.in-Err-JournalFull.ensures.err in
     let ended = rw (same.0, same.1) at c.end-store.ensures in
     record {
       turn = full_turn g.R.Runner.meaning g.R.Runner.stands c.args.lane c.args.core.now c.end-store.new.self c.args.run
-          wants.0 entries weight c.requires.valid c.requires.load wants.1 (c.app_step.ensures.full entries weight
+          wants.0 full c.requires.valid c.requires.load wants.1 (c.app_step.ensures.full full
           (c.in-Err-JournalFull.is ∙ ap Err c.in-Err-JournalFull.field-0-is)) ended;
       made = λ e. absurd cc;
     }

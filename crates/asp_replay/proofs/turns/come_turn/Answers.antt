@@ -19,7 +19,7 @@ returns-in_err-come-clause-after g c = λ items left before is.
     let p = err_from_is_err_and c.from_residual.result c.from_residual.ensures.1 in
     rw p.1 (come_ends g.R.Runner.meaning c.args.core.now c.come.new.core items left c.args.clients.now.entries
     c.args.item.now before (g.K.Sink.held c.args.sink.now) p.0 same c.requires.may c.requires.started
-    (λ entries weight e. c.in_err-come.ensures.full entries weight (ap Err (sym p.2 ∙ e)))
+    (λ full e. c.in_err-come.ensures.full full (ap Err (sym p.2 ∙ e)))
     (λ fail e. c.in_err-come.ensures.no_start fail (ap Err (sym p.2 ∙ e))) is)
 
 pub returns-clause-grows : goal.returns-clause-grows

@@ -16,7 +16,7 @@ returns-in_err-stop-clause-after g c = λ items clients before is.
     let p = err_from_is_err_and c.from_residual.result c.from_residual.ensures.1 in
     rw p.1 (stop_ends g.R.Runner.meaning c.args.core.now c.stop.new.core items clients before
     (g.K.Sink.held c.args.sink.now) p.0 c.in_err-stop.ensures.err c.requires.calm c.requires.once c.requires.started
-    (λ entries weight e. c.in_err-stop.ensures.full entries weight (ap Err (sym p.2 ∙ e)))
+    (λ full e. c.in_err-stop.ensures.full full (ap Err (sym p.2 ∙ e)))
     (λ fail e. c.in_err-stop.ensures.no_start fail (ap Err (sym p.2 ∙ e))) is)
 
 pub returns-clause-grows : goal.returns-clause-grows

@@ -31,9 +31,9 @@ returns-in-Err-JournalFull-clause-comes g c = λ request same.
     let a = c.args.hand.now.lane in
     let b = c.admit.new.hand.lane in
     let turn = rw c.in-Err-JournalFull.field-0-is at c.in-Err-JournalFull.ensures.turn in
-    fills_it m request c.args.job.now.moment a b c.in-Err-JournalFull.entries c.in-Err-JournalFull.weight
+    fills_it m request c.args.job.now.moment a b c.in-Err-JournalFull.full
     (subst (λ job. IsTurn (Admits m a.number job) a
-    (Err (admit.JournalFull c.in-Err-JournalFull.entries c.in-Err-JournalFull.weight)) b) same turn)
+    (Err (admit.JournalFull c.in-Err-JournalFull.full)) b) same turn)
 
 pub returns-in-Err-Memory-clause-comes : goal.returns-in-Err-Memory-clause-comes
 returns-in-Err-Memory-clause-comes g c = λ request same.

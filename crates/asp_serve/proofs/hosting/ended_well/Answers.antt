@@ -11,7 +11,7 @@ returns-in-Some g c =
     let rules = rules_of g.R.Runner.meaning c.args.core.now in
     let past = past_of c.args.core.now in
     let same : first_early c.args.made.now ≡ Some c.in-Some.early = sym c.first_early.ensures ∙ c.in-Some.is in
-    subst (IsStop fails rules) (sym c.stop_of.ensures)
+    subst (IsStop fails rules) (sym c.from.ensures)
     (early_stops fails rules past c.requires.account c.requires.started c.in-Some.early
     (subst (λ found. IfSome found (IsEarly fails rules past)) same
     (first_cause fails rules past c.args.made.now c.requires.causes)))

@@ -30,7 +30,7 @@ returns-in-JournalFull-clause-err g c = record {
       c.work_slice.ensures.slice;
   why = slice_full g.R.Runner.pace g.R.Runner.meaning g.R.Runner.stands c.args.host.now
       (g.G.Gate.may_hold c.args.gate.now) (λ request. ⊥) c.args.hand.now c.work_slice.new.hand
-      c.in-JournalFull.entries c.in-JournalFull.weight
+      c.in-JournalFull.full
       (subst (λ s. IsSlice g.R.Runner.pace g.R.Runner.meaning g.R.Runner.stands c.args.host.now
       (g.G.Gate.may_hold c.args.gate.now) c.args.hand.now s c.work_slice.new.hand) c.in-JournalFull.is
       c.work_slice.ensures.slice);

@@ -62,7 +62,7 @@ returns-clause-told g c =
     ]
 
 pub returns-clause-full : goal.returns-clause-full
-returns-clause-full g c entries weight e =
+returns-clause-full g c full e =
     let core = c.self.inside.kept in
     let house = c.self.inside.house in
     let runner : c.args.runner.now ≡ house.runner.value = c.requires.host.runner_is
@@ -72,10 +72,10 @@ returns-clause-full g c entries weight e =
       | goal.in-Ok w ↦ let is = w.result-is in absurd cc
       | goal.in-Err w ↦
           let is = w.result-is in
-          let told : w.admit_stop.result ≡ admit.JournalFull entries weight = cc in
-          let same = full_back w.in-Err.stop entries weight (sym w.admit_stop.ensures ∙ told) in
-          let much = rw (runner, site) at (w.in-Err.ensures.full entries weight (ap Err same)) in
+          let told : w.from.result ≡ admit.JournalFull full = cc in
+          let same = full_back w.in-Err.stop full (sym w.from.ensures ∙ told) in
+          let much = rw (runner, site) at (w.in-Err.ensures.full full (ap Err same)) in
           subst (λ (v : CoreView g.row.R.Denot g.row.R-Site.Denot). IsTooMuch (past_after (past_of v)
-          (admit_entries (rules_of g.R.Runner.meaning v) (past_of v) c.args.lane c.args.job.now)) entries weight)
+          (admit_entries (rules_of g.R.Runner.meaning v) (past_of v) c.args.lane c.args.job.now)) full)
           c.self.view_is much
     ]

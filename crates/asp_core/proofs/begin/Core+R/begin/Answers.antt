@@ -113,7 +113,7 @@ returns-clause-idle g c =
     c.self.invariant.0.answers_are c.begin_run.ensures.idle)
 
 pub returns-clause-full : goal.returns-clause-full
-returns-clause-full g c entries weight =
+returns-clause-full g c full =
     let core = c.self.inside.kept in
     let house = c.self.inside.house in
     let past = past_in core.book in
@@ -124,11 +124,11 @@ returns-clause-full g c entries weight =
     let same = rules_same g.R.Runner.meaning c.args.runner.now house.runner.value c.args.site.now house.site.value
     house.setting runner site in
     subst (λ (v : CoreView g.row.R.Denot g.row.R-Site.Denot). IfErr c.begin_run.result
-    (λ stop. stop.1 ≡ begin.JournalFull entries weight →
-    IsBeginTooMuch (rules_of g.R.Runner.meaning v) (past_of v) c.args.lane entries weight)) c.self.view_is
+    (λ stop. stop.1 ≡ begin.JournalFull full →
+    IsBeginTooMuch (rules_of g.R.Runner.meaning v) (past_of v) c.args.lane full)) c.self.view_is
     (subst (λ (m : Rules). IfErr c.begin_run.result
-    (λ stop. stop.1 ≡ begin.JournalFull entries weight → IsBeginTooMuch m past c.args.lane entries weight)) same
-    (c.begin_run.ensures.full entries weight))
+    (λ stop. stop.1 ≡ begin.JournalFull full → IsBeginTooMuch m past c.args.lane full)) same
+    (c.begin_run.ensures.full full))
 
 pub returns-clause-fits : goal.returns-clause-fits
 returns-clause-fits g c =

@@ -81,24 +81,24 @@ returns-clause-blocked g c holder =
     c.self.invariant.0.held_is (c.make_call.ensures.blocked holder))
 
 pub returns-clause-full : goal.returns-clause-full
-returns-clause-full g c entries weight e =
+returns-clause-full g c full e =
     let core = c.self.inside.kept in
     let house = c.self.inside.house in
     let view = view_of house.runner.value house.site.value house.setting core.book.items in
     let m = rules_by (g.R.Runner.meaning house.runner.value house.site.value) house.setting in
     let run = c.args.run.now in
     subst (λ (v : CoreView g.row.R.Denot g.row.R-Site.Denot).
-    IsTooMuch (past_after (past_of v) (called v c.args.lane run)) entries weight) c.self.view_is
-    (full_called m view core.sessions.account core.application core.book.answers c.args.lane run entries
-    weight c.self.invariant.0 (c.make_call.ensures.full entries weight e)).0
+    IsTooMuch (past_after (past_of v) (called v c.args.lane run)) full) c.self.view_is
+    (full_called m view core.sessions.account core.application core.book.answers c.args.lane run full
+    c.self.invariant.0 (c.make_call.ensures.full full e)).0
 
 pub returns-clause-not_fit : goal.returns-clause-not_fit
-returns-clause-not_fit g c entries weight e =
+returns-clause-not_fit g c full e =
     let core = c.self.inside.kept in
     let house = c.self.inside.house in
     let view = view_of house.runner.value house.site.value house.setting core.book.items in
     let m = rules_by (g.R.Runner.meaning house.runner.value house.site.value) house.setting in
     let run = c.args.run.now in
     subst (λ (v : CoreView g.row.R.Denot g.row.R-Site.Denot). HasNotFitFor (past_of v) c.args.lane run) c.self.view_is
-    (full_called m view core.sessions.account core.application core.book.answers c.args.lane run entries
-    weight c.self.invariant.0 (c.make_call.ensures.full entries weight e)).1
+    (full_called m view core.sessions.account core.application core.book.answers c.args.lane run full
+    c.self.invariant.0 (c.make_call.ensures.full full e)).1

@@ -44,8 +44,8 @@ returns-clause-ok g c =
     c.with_stop.ensures.grows
 
 pub returns-clause-full : goal.returns-clause-full
-returns-clause-full g c entries weight e =
+returns-clause-full g c full e =
     subst (λ (v : CoreView g.row.R.Denot g.row.R-Site.Denot). IsTooMuch
-    (past_after (past_of v) (stop_entries (rules_of g.R.Runner.meaning v) (past_of v) c.args.lane)) entries weight)
+    (past_after (past_of v) (stop_entries (rules_of g.R.Runner.meaning v) (past_of v) c.args.lane)) full)
     c.self.view_is
-    (c.with_stop.ensures.full entries weight e)
+    (c.with_stop.ensures.full full e)

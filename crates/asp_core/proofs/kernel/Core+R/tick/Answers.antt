@@ -41,11 +41,11 @@ returns-clause-ok g c =
     c.with_tick.ensures.grows
 
 pub returns-clause-full : goal.returns-clause-full
-returns-clause-full g c entries weight e =
+returns-clause-full g c full e =
     subst (λ (v : CoreView g.row.R.Denot g.row.R-Site.Denot). IsTooMuch
     (past_after (past_of v) (tick_entries (rules_of g.R.Runner.meaning v) (past_of v) c.args.lane c.args.moment))
-    entries weight) c.self.view_is
-    (c.with_tick.ensures.full entries weight e)
+    full) c.self.view_is
+    (c.with_tick.ensures.full full e)
 
 pub returns-clause-count : goal.returns-clause-count
 returns-clause-count g c =

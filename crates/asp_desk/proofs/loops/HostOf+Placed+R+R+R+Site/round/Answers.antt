@@ -38,7 +38,7 @@ returns-else-rest-clause-goes g c =
 
 pub returns-in-JournalFull-clause-ends : goal.returns-in-JournalFull-clause-ends
 returns-in-JournalFull-clause-ends g c =
-    let full = slice.JournalFull c.in-JournalFull.entries c.in-JournalFull.weight in
+    let full = slice.JournalFull c.in-JournalFull.full in
     ends_so g.R.Runner.pace g.R.Runner.meaning g.R.Runner.stands c.args.self.now (g.G.Gate.may_hold c.args.gate.now)
     c.args.hand.now c.work_slice.new.hand full refl
     (subst (λ s. IsSlice g.R.Runner.pace g.R.Runner.meaning g.R.Runner.stands c.args.self.now

@@ -26,11 +26,12 @@ pub returns-in-Err-JournalFull-clause-turn : goal.returns-in-Err-JournalFull-cla
 returns-in-Err-JournalFull-clause-turn g c =
     let e = c.app_step.ensures in
     let core = c.args.self.now.core in
-    let full = c.in-Err-JournalFull in
-    let is : c.app_step.result ≡ Err (stop.JournalFull full.entries full.weight) = full.is ∙ ap Err full.field-0-is in
+    let full = c.in-Err-JournalFull.full in
+    let is : c.app_step.result ≡ Err (stop.JournalFull full) =
+    c.in-Err-JournalFull.is ∙ ap Err c.in-Err-JournalFull.field-0-is in
     let err = rw is at e.err in
     call_too_much (rules_of g.R.Runner.meaning core) c.args.lane core c.end-store.new.self c.args.run c.requires.wants
-    c.app_step.result full.entries full.weight e.blocked is (e.full full.entries full.weight is)
+    c.app_step.result full e.blocked is (e.full full is)
     (ended_same g.R.Runner.meaning c.args.lane core c.app_step.new.self c.end-store.new.self c.args.run
     c.app_step.new.run kind.JournalFull err.0 err.1 c.end-store.ensures)
 

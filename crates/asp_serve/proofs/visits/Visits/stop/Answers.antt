@@ -26,4 +26,4 @@ returns-in-Err-clause-ends g c =
     let ends = unstopped_ends (MayFail g.W.Wire.faults) rules (Unit {0}) a b d c.args.early c.in-Err.stop c.in-Err.ensures.turn
     halted c.requires.cause in
     subst (λ made. Ends (MayFail g.W.Wire.faults) rules a (Some made) d)
-    (sym (c.unwrap_or.ensures ∙ ap (unwrap_or c.args.early) c.early_stop.ensures)) ends
+    (sym (c.unwrap_or.ensures ∙ ap (unwrap_or c.args.early) c.from.ensures)) ends

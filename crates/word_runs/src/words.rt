@@ -3,9 +3,10 @@ ghost use Rattle.std.specs.Prelude.{◌≡◌, ◌+◌, ◌*◌, ◌++◌, ◌�
 ghost use Rattle.vb_value.specs.Outcome.{Gives};
 ghost use Rattle.asp_job.specs.Calls.{IsAppCall};
 ghost use Rattle.asp_job.specs.Running.{IsBounded};
-ghost use Rattle.core_cases.specs.Words as spec;
+ghost use Rattle.word_runs.specs.Words as spec;
 
-use asp_job::{Answer, Fail, Finished, Job, Named, SessionState, Work};
+use crate::run::Page;
+use asp_job::{Answer, Fail, Finished, Header, Job, Named, Request, SessionState, Verb, Work};
 use std::alloc::Global;
 use vb_value::{AppCall, Bytes, Copied, List, Memory, Text, Value, to_str};
 
@@ -39,15 +40,33 @@ pub fn is_keyed(job: &Job) -> bool
     }
 }
 
-/// The word of what is to be done, and the place of its first call.
-pub fn word_of(work: &Work) -> Result<(Option<Text>, usize), Memory>
-    ensures { Gives result (spec.word_of work.now, spec.place_after (spec.word_of work.now) 0) }
+fn is_head(verb: Verb) -> bool
+    ensures { result ≡ spec.is_head verb }
+{
+    matches!(verb, Verb::Head)
+}
+
+/// The page of a request.
+fn requested(request: &Request) -> Result<Page, Memory>
+    ensures { Gives result (spec.requested request.now) }
+{
+    Ok(Page {
+        word: request.path.copy()?,
+        sent: request.body.copy()?,
+        head_only: is_head(request.verb),
+        close: request.close,
+    })
+}
+
+/// The page of what is to be done, and the place of its first call.
+pub fn page_of(work: &Work) -> Result<(Option<Page>, usize), Memory>
+    ensures { Gives result (spec.page_of work.now, spec.place_after (spec.page_of work.now) 0) }
 {
     match work {
         Work::Page(request) => {
-            let word = request.path.copy()?;
-            let place = if has_session(&word) { 2 } else { 1 };
-            Ok((Some(word), place))
+            let page = requested(request)?;
+            let place = if has_session(&page.word) { 2 } else { 1 };
+            Ok((Some(page), place))
         }
         _ => Ok((None, 0)),
     }
@@ -180,24 +199,95 @@ fn filled(bytes: Bytes, count: usize, byte: u8) -> Result<Bytes, Memory>
     }
 }
 
-fn body(
+/// The number that a run counted, and behind it what was sent, where an `e` stands at the place.
+fn said(
     alloc: Global,
-    word: &Text,
+    page: &Page,
     session: &Option<SessionState>,
     place: usize,
 ) -> Result<Bytes, Memory>
-    ensures body { Gives result (spec.body_of word.now session.now place) }
+    ensures { Gives result (spec.said page.now session.now place) }
+{
+    let mut said = digits(alloc, session)?;
+    if is_letter(&page.word, place, 'e') {
+        said.append_slice(page.sent.as_slice())?;
+    }
+    Ok(said)
+}
+
+fn body(
+    alloc: Global,
+    page: &Page,
+    session: &Option<SessionState>,
+    place: usize,
+) -> Result<Bytes, Memory>
+    ensures body { Gives result (spec.body_of page.now session.now place) }
     ensures bounded { IfOk result (λ body. length body < 2 ^ 32) }
 {
-    let count = mebis(word, place);
+    let count = mebis(&page.word, place);
     if count >= TOO_MANY {
         return Err(Memory);
     }
-    let body = filled(digits(alloc, session)?, count * 1_048_576, b'm')?;
+    let body = filled(said(alloc, page, session, place)?, count * 1_048_576, b'm')?;
     if body.len() >= 4_294_967_296 {
         return Err(Memory);
     }
     Ok(body)
+}
+
+/// The status of a digit at the place; 200 for anything else.
+fn status_at(word: &Text, place: usize) -> u16
+    ensures { result ≡ spec.status_at word.now place }
+{
+    match word.get(place) {
+        Some('2') => 204,
+        Some('3') => 304,
+        Some('4') => 404,
+        Some('5') => 500,
+        _ => 200,
+    }
+}
+
+/// The field that tells a client these letters of its key.
+fn cookie_field(alloc: Global, letters: &Text) -> Result<Header, Memory>
+    ensures { Gives result (spec.cookie_field letters.now) }
+{
+    let name = Text::from_slice(alloc, &['S', 'e', 't', '-', 'C', 'o', 'o', 'k', 'i', 'e'])?;
+    let mut value = Bytes::from_slice(alloc, b"ASPSESSIONIDPROFILE=")?;
+    value.append(letters.to_utf8(alloc)?)?;
+    value.append_slice(b"; path=/")?;
+    Ok(Header { name, value })
+}
+
+fn fields(alloc: Global, cookie: &Option<Text>) -> Result<List<Header>, Memory>
+    ensures { Gives result (spec.fields cookie.now) }
+{
+    let mut fields = List::new(alloc);
+    if let Some(letters) = cookie {
+        fields.push(cookie_field(alloc, letters)?)?;
+    }
+    Ok(fields)
+}
+
+/// The answer of a run whose calls end before the place.
+fn answer_at(
+    alloc: Global,
+    page: &Page,
+    session: &Option<SessionState>,
+    cookie: &Option<Text>,
+    place: usize,
+) -> Result<Answer, Memory>
+    ensures answer { Gives result (spec.answer_of page.now session.now cookie.now place) }
+    ensures bounded { IfOk result IsBounded }
+{
+    Ok(Answer {
+        status: status_at(&page.word, place),
+        reason: Text::new(alloc),
+        headers: fields(alloc, cookie)?,
+        body: body(alloc, page, session, place)?,
+        head_only: page.head_only,
+        close: page.close,
+    })
 }
 
 /// The session with its count; none behind an `x`.
@@ -235,26 +325,20 @@ fn fail_at(word: &Text, place: usize) -> Option<Fail>
 /// What a run leaves whose calls end before the place.
 pub fn left_at(
     alloc: Global,
-    word: &Text,
+    page: &Page,
     session: &Option<SessionState>,
+    cookie: &Option<Text>,
     place: usize,
 ) -> Result<Finished, Memory>
-    ensures left { Gives result (spec.left_at word.now session.now place) }
+    ensures left { Gives result (spec.left_at page.now session.now cookie.now place) }
     ensures bounded { IfOk result (λ left. IfSome left.answer IsBounded) }
 {
-    let body = body(alloc, word, session, place)?;
-    let after = session_after(alloc, word, session, place)?;
+    let answer = answer_at(alloc, page, session, cookie, place)?;
+    let after = session_after(alloc, &page.word, session, place)?;
     Ok(Finished {
-        answer: Some(Answer {
-            status: 200,
-            reason: Text::new(alloc),
-            headers: List::new(alloc),
-            body,
-            head_only: false,
-            close: false,
-        }),
+        answer: Some(answer),
         session: after,
-        fail: fail_at(word, place),
+        fail: fail_at(&page.word, place),
         made: 0,
         finished: 0,
     })

@@ -5,7 +5,7 @@ use Rattle.asp_desk.specs.Calls.{Looks}
 use Rattle.asp_desk.specs.Hands.{rules_at}
 use Rattle.asp_serve.specs.declared.visits.Early.TheVariants as early
 use Rattle.asp_serve.proofs.Visiting.{early_later, later_turn}
-use Rattle.asp_serve.proofs.starting.full.Goals as goal
+use Rattle.asp_serve.proofs.starting.filled.Goals as goal
 
 pub returns-in-None-clause-stop : goal.returns-in-None-clause-stop
 returns-in-None-clause-stop g c =
@@ -20,5 +20,5 @@ returns-in-None-clause-stop g c =
       past = reverse b.seen;
       account = c.look.ensures.hand.1.valid;
       started = ap (λ past. start_fail rules (reverse past)) turn.done.0 ∙ sym told ∙ c.in-None.is;
-      much = early_later ⊥ rules a b (Some (early.JournalFull c.args.entries c.args.weight)) later c.requires.was;
+      much = early_later ⊥ rules a b (Some (early.JournalFull c.args.full)) later c.requires.was;
     }

@@ -1,10 +1,10 @@
 //! The runner of words.
 ghost use Rattle.std.specs.Prelude.{◌≡◌, IfOk, IfSome};
 ghost use Rattle.asp_job.specs.Running.{IsBounded};
-ghost use Rattle.core_cases.specs.Words as spec;
+ghost use Rattle.word_runs.specs.Words as spec;
 
 use crate::run::{At, WordRun};
-use crate::words::{call_at, is_keyed, left_at, left_by_event, word_of};
+use crate::words::{call_at, is_keyed, left_at, left_by_event, page_of};
 use asp_job::{Finished, Job, Runner, SessionState, Step};
 use std::alloc::Global;
 use vb_value::{AppCall, AppReply, Memory, Text};
@@ -37,17 +37,17 @@ pub enum Came {
 fn comes(alloc: Global, run: &WordRun) -> Result<Came, Memory>
     ensures { IfOk result (spec.HasCome run.now) }
 {
-    let Some(word) = &run.word else {
+    let Some(page) = &run.page else {
         return Ok(Came::Ends(left_by_event()));
     };
-    match call_at(alloc, word, run.place)? {
+    match call_at(alloc, &page.word, run.place)? {
         Some((call, next)) => Ok(Came::Wants(call, next)),
-        None => Ok(Came::Ends(left_at(alloc, word, &run.session, run.place)?)),
+        None => Ok(Came::Ends(left_at(alloc, page, &run.session, &run.cookie, run.place)?)),
     }
 }
 
 impl Runner for WordRunner {
-    ghost use Rattle.core_cases.specs.Words.{Stands, phase_at, meaning as meaning_of_words};
+    ghost use Rattle.word_runs.specs.Words.{Stands, phase_at, meaning as meaning_of_words};
     ghost use Rattle.asp_job.specs.Running.{Never};
 
     type Site = AllWords;
@@ -78,14 +78,15 @@ impl Runner for WordRunner {
         job: &Job,
         session: Option<SessionState>,
         _is_new: bool,
-        _cookie: Option<Text>,
+        cookie: Option<Text>,
         store: NoStore,
     ) -> Result<WordRun, (NoStore, Memory)> {
-        match word_of(&job.work) {
-            Ok((word, place)) => Ok(WordRun {
-                word,
+        match page_of(&job.work) {
+            Ok((page, place)) => Ok(WordRun {
+                page,
                 place,
                 session,
+                cookie,
                 at: At::Going,
             }),
             Err(memory) => Err((store, memory)),
@@ -116,9 +117,10 @@ impl Runner for WordRunner {
 
     fn finish(&self, run: WordRun) -> (Option<Finished>, NoStore) {
         let WordRun {
-            word: _word,
+            page: _page,
             place: _place,
             session: _session,
+            cookie: _cookie,
             at,
         } = run;
         match at {
