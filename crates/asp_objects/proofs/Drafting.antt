@@ -9,7 +9,7 @@ use Rattle.vb_syntax.specs.declared.member.Member.TheVariants as member
 use Rattle.asp_job.specs.declared.session.SessionState.{SessionState}
 use Rattle.asp_response.specs.declared.cookie.CookiePart.{CookiePart}
 use Rattle.asp_response.specs.declared.cookie.CookiePart.TheVariants as cookie
-use Rattle.asp_response.specs.declared.draft.Draft.{Draft}
+use Rattle.asp_response.specs.View.{Draft}
 use Rattle.asp_response.specs.Calls.{Buffer, Cache, Charset, Clear, ContentType, Cookie, DraftCall, Field, Flush, Part}
 use Rattle.asp_response.specs.Calls.{Secure}
 use Rattle.asp_response.specs.Calls.{Redirect, Status, Write, after, answer_to, made_by, said_by, where_done}

@@ -2,11 +2,13 @@
 use Rattle.std.proofs.Common.{ℕ, nat_lt, Bool, true, false, not, ◌&&◌, ◌||◌}
 use Rattle.std.proofs.Common.{if◌then◌else◌, List, [], ◌∷◌, is_some, Ok, Err}
 use Rattle.vb_value.specs.declared.value.Value.{Value, Null}
+use Rattle.vb_value.specs.declared.limit.LimitKind.TheVariants.{Body}
 use Rattle.asp_response.specs.declared.cookie.CookiePart.{CookiePart}
 use Rattle.asp_response.specs.declared.stop.DraftStop.TheVariants as stop
-use Rattle.asp_response.specs.declared.draft.Draft.{Draft}
+use Rattle.asp_response.specs.View.{Draft}
 use Rattle.asp_response.specs.Draft as draft
 use Rattle.asp_response.specs.Head.{is_reserved, is_token, is_value, status_in}
+use Rattle.asp_response.specs.HeadSize.{head_size, head_within}
 use Rattle.asp_objects.specs.declared.head.HeadPart.{HeadPart}
 use Rattle.asp_objects.specs.declared.head.HeadPart.TheVariants as head
 use Rattle.asp_objects.specs.declared.objects.PageObjects.{PageObjects}
@@ -33,12 +35,27 @@ body_done count = either_done (nat_lt 4194304 count) _ _ tt tt
 pub write_done : (text : List ℕ) (said : Draft) → IsDone (draft.write_answer text said)
 write_done text said = either_done (is_some said.location) _ _ tt (body_done _)
 
-pub head_done : (fits sent : Bool) → IsDone (draft.head_answer fits sent)
-head_done fits sent = either_done (not fits) _ _ tt (either_done sent _ _ tt tt)
+both_done : (first second : draft.Done) → IsDone first → IsDone second → IsDone (draft.both first second)
+both_done (Ok done) second one other = other
+both_done (Err (stop.Error number)) second one other = tt
+both_done (Err (stop.Limit kind)) second one other = tt
+both_done (Err stop.Memory) second one other = one
+
+size_done : (size : ℕ) → IsDone (draft.done (head_within size))
+size_done size = go (nat_lt 65536 size)
+  where
+    go : (past : Bool) → IsDone (draft.done (if past then Err (stop.Limit Body) else Ok size))
+    go true = tt
+    go false = tt
+
+pub head_done : (fits : Bool) (changed said : Draft) → IsDone (draft.head_answer fits changed said)
+head_done fits changed said = both_done (draft.change_answer fits said.sent) (draft.done (head_within (head_size changed)))
+    (either_done (not fits) _ _ tt (either_done said.sent _ _ tt tt)) (size_done (head_size changed))
 
 pub redirect_done : (url : List ℕ) (said : Draft) → IsDone (draft.redirect_answer url said)
 redirect_done url said =
-    either_done (not (is_value url) || said.sent) _ _ (head_done (is_value url) said.sent) (body_done _)
+    both_done (draft.head_answer (is_value url) (draft.redirected url said) said) _
+    (head_done (is_value url) (draft.redirected url said) said) (body_done _)
 
 pub drafted_fine : (done : draft.Done) (changed objects : PageObjects) → IsDone done
     → FineSaid (drafted done changed objects)
@@ -77,10 +94,22 @@ buffer_fine (on ∷ []) objects = using_fine (answers.truth_in on) _ objects (tr
 buffer_fine (on ∷ more ∷ others) objects = tt
 
 pub set_fine : (of : HeadPart) (text : List ℕ) (objects : PageObjects) → FineSaid (response.head_set of text objects)
-set_fine head.ContentType text objects = drafted_fine _ _ objects (head_done (is_value text) objects.draft.sent)
-set_fine head.Charset text objects = drafted_fine _ _ objects (head_done (is_value text) objects.draft.sent)
-set_fine head.Status text objects = drafted_fine _ _ objects (head_done (is_some (status_in text)) objects.draft.sent)
-set_fine head.CacheControl text objects = drafted_fine _ _ objects (head_done (is_value text) objects.draft.sent)
+set_fine head.ContentType text objects =
+    let changed = draft.with_content_type text objects.draft in
+    drafted_fine _ (record objects { draft = changed; content_type = text }) objects
+    (head_done (is_value text) changed objects.draft)
+set_fine head.Charset text objects =
+    let changed = draft.with_charset text objects.draft in
+    drafted_fine _ (record objects { draft = changed; charset = text }) objects
+    (head_done (is_value text) changed objects.draft)
+set_fine head.Status text objects =
+    let changed = draft.with_status text objects.draft in
+    drafted_fine _ (record objects { draft = changed; status = text }) objects
+    (head_done (is_some (status_in text)) changed objects.draft)
+set_fine head.CacheControl text objects =
+    let changed = draft.with_cache text objects.draft in
+    drafted_fine _ (record objects { draft = changed; cache = text }) objects
+    (head_done (is_value text) changed objects.draft)
 
 pub head_fine : (of : HeadPart) (arguments : List Value) (objects : PageObjects)
     → FineSaid (response.head_asked of arguments objects)
@@ -90,8 +119,10 @@ head_fine of (text ∷ []) objects =
 head_fine of (text ∷ more ∷ others) objects = tt
 
 pub field_fine : (name text : List ℕ) (objects : PageObjects) → FineSaid (response.with_header name text objects)
-field_fine name text objects = drafted_fine _ _ objects
-    (head_done (is_token name && not (is_reserved name) && is_value text) objects.draft.sent)
+field_fine name text objects =
+    let changed = draft.with_header name text objects.draft in
+    drafted_fine _ (response.with_draft changed objects) objects
+    (head_done (is_token name && not (is_reserved name) && is_value text) changed objects.draft)
 
 pub header_fine : (arguments : List Value) (objects : PageObjects) → FineSaid (response.header_asked arguments objects)
 header_fine (name ∷ text ∷ []) objects = using_fine (answers.text_in name) _ objects (text_fine name) (λ named.
@@ -102,16 +133,21 @@ header_fine (name ∷ text ∷ more ∷ others) objects = tt
 
 pub cookie_text_fine : (name key text : List ℕ) (objects : PageObjects)
     → FineSaid (response.with_cookie name key text objects)
-cookie_text_fine name key text objects = drafted_fine _ _ objects (head_done true objects.draft.sent)
+cookie_text_fine name key text objects =
+    let changed = draft.with_cookie_text name key text objects.draft in
+    drafted_fine _ (response.with_draft changed objects) objects (head_done true changed objects.draft)
 
 pub cookie_part_fine : (of : CookiePart) (name text : List ℕ) (objects : PageObjects)
     → FineSaid (response.with_part of name text objects)
 cookie_part_fine of name text objects =
-    drafted_fine _ _ objects (head_done (is_value text) objects.draft.sent)
+    let changed = draft.with_cookie_part name of text objects.draft in
+    drafted_fine _ (response.with_draft changed objects) objects (head_done (is_value text) changed objects.draft)
 
 pub cookie_secure_fine : (name : List ℕ) (on : Bool) (objects : PageObjects)
     → FineSaid (response.with_secure name on objects)
-cookie_secure_fine name on objects = drafted_fine _ _ objects (head_done true objects.draft.sent)
+cookie_secure_fine name on objects =
+    let changed = draft.with_cookie_secure name on objects.draft in
+    drafted_fine _ (response.with_draft changed objects) objects (head_done true changed objects.draft)
 
 pub cookie_fine : (arguments : List Value) (objects : PageObjects) → FineSaid (response.cookie_asked arguments objects)
 cookie_fine (name ∷ text ∷ []) objects = using_fine (answers.text_in name) _ objects (text_fine name) (λ named.

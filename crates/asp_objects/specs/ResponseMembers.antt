@@ -1,13 +1,14 @@
 -- The members of Response (ASP 3.0, "Response Object"). What each call makes of the draft, and its refusals, are those
 -- of the draft: error 5 for a text that may not stand where it should, error 1156 for a change of the head after Flush,
--- and the limit Body. An argument that is no text is made one, and the error of that comes before them.
+-- and the limit Body of the body and of the head. An argument that is no text is made one, and the error of that comes
+-- before them.
 use Rattle.std.specs.Prelude.{ℕ, Bool, true, List, [], ◌∷◌, is_some, codes, Result, Ok, Err}
 use Rattle.vb_value.specs.declared.value.Value.{Value, Null, Str, Bool as Boolean}
 use Rattle.vb_value.specs.Errors.{object_required, unsupported}
 use Rattle.vb_syntax.specs.declared.act.AskStop.{AskStop}
 use Rattle.vb_syntax.specs.declared.act.AskStop.TheVariants as why
 use Rattle.asp_response.specs.declared.cookie.CookiePart.{CookiePart}
-use Rattle.asp_response.specs.declared.draft.Draft.{Draft}
+use Rattle.asp_response.specs.View.{Draft}
 use Rattle.asp_response.specs.Draft as draft
 use Rattle.asp_response.specs.Head.{is_value, status_in}
 use Rattle.asp_objects.specs.declared.head.HeadPart.{HeadPart}
@@ -68,20 +69,28 @@ redirect_asked _ objects = told (failed object_required) objects
 
 -- a text that was set, as it is read, and how the draft then is
 abbrev pub with_content_type : List ℕ → PageObjects → Said
-with_content_type text objects = drafted (draft.head_answer (is_value text) objects.draft.sent)
-    (record objects { draft = draft.with_content_type text objects.draft; content_type = text }) objects
+with_content_type text objects =
+    let changed = draft.with_content_type text objects.draft in
+    drafted (draft.head_answer (is_value text) changed objects.draft)
+    (record objects { draft = changed; content_type = text }) objects
 
 abbrev pub with_charset : List ℕ → PageObjects → Said
-with_charset text objects = drafted (draft.head_answer (is_value text) objects.draft.sent)
-    (record objects { draft = draft.with_charset text objects.draft; charset = text }) objects
+with_charset text objects =
+    let changed = draft.with_charset text objects.draft in
+    drafted (draft.head_answer (is_value text) changed objects.draft)
+    (record objects { draft = changed; charset = text }) objects
 
 abbrev pub with_cache : List ℕ → PageObjects → Said
-with_cache text objects = drafted (draft.head_answer (is_value text) objects.draft.sent)
-    (record objects { draft = draft.with_cache text objects.draft; cache = text }) objects
+with_cache text objects =
+    let changed = draft.with_cache text objects.draft in
+    drafted (draft.head_answer (is_value text) changed objects.draft)
+    (record objects { draft = changed; cache = text }) objects
 
 abbrev pub with_status : List ℕ → PageObjects → Said
-with_status text objects = drafted (draft.head_answer (is_some (status_in text)) objects.draft.sent)
-    (record objects { draft = draft.with_status text objects.draft; status = text }) objects
+with_status text objects =
+    let changed = draft.with_status text objects.draft in
+    drafted (draft.head_answer (is_some (status_in text)) changed objects.draft)
+    (record objects { draft = changed; status = text }) objects
 
 -- AddHeader
 abbrev pub with_header : List ℕ → List ℕ → PageObjects → Said
@@ -118,18 +127,21 @@ header_asked _ objects = told (failed object_required) objects
 
 -- the text of a cookie, or the one beside a key
 abbrev pub with_cookie : List ℕ → List ℕ → List ℕ → PageObjects → Said
-with_cookie name key text objects = drafted (draft.head_answer true objects.draft.sent)
-    (with_draft (draft.with_cookie_text name key text objects.draft) objects) objects
+with_cookie name key text objects =
+    let changed = draft.with_cookie_text name key text objects.draft in
+    drafted (draft.head_answer true changed objects.draft) (with_draft changed objects) objects
 
 -- a part of a cookie
 abbrev pub with_part : CookiePart → List ℕ → List ℕ → PageObjects → Said
-with_part of name text objects = drafted (draft.head_answer (is_value text) objects.draft.sent)
-    (with_draft (draft.with_cookie_part name of text objects.draft) objects) objects
+with_part of name text objects =
+    let changed = draft.with_cookie_part name of text objects.draft in
+    drafted (draft.head_answer (is_value text) changed objects.draft) (with_draft changed objects) objects
 
 -- whether a cookie is sent over secure connections alone
 abbrev pub with_secure : List ℕ → Bool → PageObjects → Said
-with_secure name on objects = drafted (draft.head_answer true objects.draft.sent)
-    (with_draft (draft.with_cookie_secure name on objects.draft) objects) objects
+with_secure name on objects =
+    let changed = draft.with_cookie_secure name on objects.draft in
+    drafted (draft.head_answer true changed objects.draft) (with_draft changed objects) objects
 
 -- What is asked of a cookie: its text, the text beside a key, or a part is set. Reading one is not supported.
 abbrev pub cookie_asked : List Value → PageObjects → Said

@@ -1,25 +1,24 @@
 -- What a page says makes a sound draft, whatever its calls are.
-use Rattle.std.proofs.Common.{◌≡◌, ℕ, suc, zero, ◌+◌, ◌<◌, Bool, true, false, List, [], ◌∷◌, ◌++◌, length, refl, sym}
-use Rattle.std.proofs.Common.{ap, ◌∙◌, subst}
-use Rattle.std.proofs.Common.{Option, Some, None, Result, Ok, Err, option_map, take, arith}
-use Rattle.std.specs.Prelude.{IfSome, ◌==◌, ◌&&◌, ◌||◌, not, nat_lt, cond, codes, encode_utf8_all, is_some}
+use Rattle.std.proofs.Common.{◌≡◌, ℕ, suc, zero, Bool, true, false, List, [], ◌∷◌, ◌++◌, length, refl}
+use Rattle.std.proofs.Common.{subst}
+use Rattle.std.proofs.Common.{Option, Some, None, Ok, Err, option_map, take, arith}
+use Rattle.std.specs.Prelude.{IfSome, ◌==◌, ◌&&◌, not, nat_lt, codes, encode_utf8_all, is_some}
 use Rattle.std.specs.Prelude.{slice_index_or}
 use Rattle.std.specs.Char.{is_ascii_alphanumeric}
 use Rattle.std.specs.List.{All, list_all, list_any}
 use Rattle.std.proofs.lemmas.Bool.{cond_both}
 use Rattle.std.proofs.lemmas.Bool.Decides.{nat_tests}
 use Rattle.std.proofs.lemmas.List.Elements.{All-nil, All-cons, All-append, All-head, All-tail, All-set}
-use Rattle.asp_job.specs.declared.request.Header.{Header}
 use Rattle.asp_response.specs.declared.cookie.Cookie.{Cookie}
 use Rattle.asp_response.specs.declared.cookie.CookiePart.{CookiePart}
 use Rattle.asp_response.specs.declared.cookie.CookiePart.TheVariants as part
-use Rattle.asp_response.specs.declared.draft.Draft.{Draft}
+use Rattle.asp_response.specs.View.{Draft}
 use Rattle.asp_response.specs.declared.status.Status.{Status}
 use Rattle.asp_response.specs.Calls.{DraftCall, Write, Clear, Flush, Buffer, Status as SetStatus, ContentType}
 use Rattle.asp_response.specs.Calls.{Charset, Cache}
 use Rattle.asp_response.specs.Calls.{Field, Cookie as SetCookie, Part, Redirect, Secure, after, said_by, where_done}
-use Rattle.asp_response.specs.Cookies.{new_cookie, place_of, put_at, with_cookie, with_part, with_secure, with_value}
-use Rattle.asp_response.specs.Draft.{Done, fixed, head_answer, redirected, settled, write_answer, written}
+use Rattle.asp_response.specs.Cookies.{new_cookie, place_of, put_at, with_part, with_secure, with_value}
+use Rattle.asp_response.specs.Draft.{Done, both, change_answer, fixed, redirected, settled, write_answer, written}
 use Rattle.asp_response.specs.Draft.{with_cookie_text, with_cookie_part, with_cookie_secure, with_header}
 use Rattle.asp_response.specs.Head.{code_in, is_printable, is_reserved, is_token, is_token_character, is_value}
 use Rattle.asp_response.specs.Head.{status_in}
@@ -130,18 +129,19 @@ either : (answer : Done) (new old : Draft) → SoundDraft new → SoundDraft old
 either (Ok done) new old made sound = made
 either (Err stop) new old made sound = sound
 
--- a change of the head, which is done only where what is set fits
-changed : (fits sent : Bool) (new old : Draft) → (fits ≡ true → SoundDraft new) → SoundDraft old
-    → SoundDraft (where_done (head_answer fits sent) new old)
-changed false sent new old made sound = sound
-changed true true new old made sound = sound
-changed true false new old made sound = made refl
+-- a change of the head, which is done only where what is set fits, and whatever is asked behind it
+changed : (fits sent : Bool) (answer : Done) (new old : Draft) → (fits ≡ true → SoundDraft new) → SoundDraft old
+    → SoundDraft (where_done (both (change_answer fits sent) answer) new old)
+changed false sent answer new old made sound = sound
+changed true true answer new old made sound = sound
+changed true false answer new old made sound = either answer new old (made refl) sound
 
-moved : (fits sent : Bool) (answer : Done) (new old : Draft) → (fits ≡ true → SoundDraft new) → SoundDraft old
-    → SoundDraft (where_done (cond (not fits || sent) (head_answer fits sent) answer) new old)
-moved false sent answer new old made sound = sound
-moved true true answer new old made sound = sound
-moved true false answer new old made sound = either answer new old (made refl) sound
+moved : (fits sent : Bool) (answer last : Done) (new old : Draft) → (fits ≡ true → SoundDraft new) → SoundDraft old
+    → SoundDraft (where_done (both (both (change_answer fits sent) answer) last) new old)
+moved false sent answer last new old made sound = sound
+moved true true answer last new old made sound = sound
+moved true false (Ok done) last new old made sound = either last new old (made refl) sound
+moved true false (Err refused) last new old made sound = sound
 
 -- another body, and what is said of it
 with_body : (draft : Draft) (body : List ℕ) (count : ℕ) (sent buffer : Bool) → SoundDraft draft
@@ -175,7 +175,7 @@ after_sound Flush draft sound =
     cond_both (is_some draft.location) draft (fixed draft) SoundDraft (λ has. sound)
     (λ none. with_body draft draft.body (length draft.body) true draft.buffer sound)
 after_sound (Buffer on) draft sound = with_body draft draft.body draft.flushed draft.sent on sound
-after_sound (SetStatus text) draft sound = changed (is_some (status_in text)) draft.sent _ draft (λ fits. record {
+after_sound (SetStatus text) draft sound = changed (is_some (status_in text)) draft.sent _ _ draft (λ fits. record {
   status = status_printable text;
   content_type = sound.content_type;
   charset = sound.charset;
@@ -184,7 +184,7 @@ after_sound (SetStatus text) draft sound = changed (is_some (status_in text)) dr
   cookies = sound.cookies;
   added = sound.added;
 }) sound
-after_sound (ContentType text) draft sound = changed (is_value text) draft.sent _ draft (λ fits. record {
+after_sound (ContentType text) draft sound = changed (is_value text) draft.sent _ _ draft (λ fits. record {
   status = sound.status;
   content_type = printable_of text fits;
   charset = sound.charset;
@@ -193,7 +193,7 @@ after_sound (ContentType text) draft sound = changed (is_value text) draft.sent 
   cookies = sound.cookies;
   added = sound.added;
 }) sound
-after_sound (Charset text) draft sound = changed (is_value text) draft.sent _ draft (λ fits. record {
+after_sound (Charset text) draft sound = changed (is_value text) draft.sent _ _ draft (λ fits. record {
   status = sound.status;
   content_type = sound.content_type;
   charset = printable_of text fits;
@@ -202,7 +202,7 @@ after_sound (Charset text) draft sound = changed (is_value text) draft.sent _ dr
   cookies = sound.cookies;
   added = sound.added;
 }) sound
-after_sound (Cache text) draft sound = changed (is_value text) draft.sent _ draft (λ fits. record {
+after_sound (Cache text) draft sound = changed (is_value text) draft.sent _ _ draft (λ fits. record {
   status = sound.status;
   content_type = sound.content_type;
   charset = sound.charset;
@@ -213,7 +213,7 @@ after_sound (Cache text) draft sound = changed (is_value text) draft.sent _ draf
 }) sound
 after_sound (Field name text) draft sound =
     let named = is_token name && not (is_reserved name) in
-    changed (named && is_value text) draft.sent (with_header name text draft) draft (λ fits. record {
+    changed (named && is_value text) draft.sent _ (with_header name text draft) draft (λ fits. record {
       status = sound.status;
       content_type = sound.content_type;
       charset = sound.charset;
@@ -229,7 +229,7 @@ after_sound (Field name text) draft sound =
           } (All-nil IsSoundHeader));
     }) sound
 after_sound (SetCookie name key text) draft sound =
-    changed true draft.sent (with_cookie_text name key text draft) draft (λ fits. record {
+    changed true draft.sent _ (with_cookie_text name key text draft) draft (λ fits. record {
       status = sound.status;
       content_type = sound.content_type;
       charset = sound.charset;
@@ -240,7 +240,7 @@ after_sound (SetCookie name key text) draft sound =
           (λ cookie was. record { path = was.path; domain = was.domain }) (new_sound name) sound.cookies;
     }) sound
 after_sound (Part name of text) draft sound =
-    changed (is_value text) draft.sent (with_cookie_part name of text draft) draft (λ fits. record {
+    changed (is_value text) draft.sent _ (with_cookie_part name of text draft) draft (λ fits. record {
       status = sound.status;
       content_type = sound.content_type;
       charset = sound.charset;
@@ -251,7 +251,7 @@ after_sound (Part name of text) draft sound =
           (part_sound of text fits) (new_sound name) sound.cookies;
     }) sound
 after_sound (Secure name on) draft sound =
-    changed true draft.sent (with_cookie_secure name on draft) draft (λ fits. record {
+    changed true draft.sent _ (with_cookie_secure name on draft) draft (λ fits. record {
       status = sound.status;
       content_type = sound.content_type;
       charset = sound.charset;
@@ -262,7 +262,7 @@ after_sound (Secure name on) draft sound =
           (λ cookie was. record { path = was.path; domain = was.domain }) (new_sound name) sound.cookies;
     }) sound
 after_sound (Redirect url) draft sound =
-    moved (is_value url) draft.sent _ (redirected url draft) draft (λ fits. record {
+    moved (is_value url) draft.sent _ _ (redirected url draft) draft (λ fits. record {
       status = printable_of (codes "Object moved") refl;
       content_type = sound.content_type;
       charset = sound.charset;

@@ -1,23 +1,22 @@
 -- The answers of sound drafts, and the fixed ones, are sound.
-use Rattle.std.proofs.Common.{◌≡◌, ℕ, ◌<◌, Bool, true, false, List, [], ◌∷◌, ◌++◌, refl}
+use Rattle.std.proofs.Common.{ℕ, Bool, true, false, List, [], ◌∷◌, ◌++◌, refl}
 use Rattle.std.proofs.Common.{Option, Some, None}
-use Rattle.std.specs.Prelude.{IfSome, codes, encode_utf8_all, flat_map, is_some, map, unwrap_or}
+use Rattle.std.specs.Prelude.{IfSome, codes, flat_map, is_some, map, unwrap_or}
 use Rattle.std.specs.List.{All}
 use Rattle.std.proofs.lemmas.List.Elements.{All-nil, All-cons, All-append, All-map, All-weaker}
-use Rattle.asp_text.specs.Url.{url_encoded}
 use Rattle.asp_job.specs.declared.request.Header.{Header}
 use Rattle.asp_response.specs.declared.cookie.Cookie.{Cookie}
 use Rattle.asp_response.specs.declared.cookie.CookiePair.{CookiePair}
 use Rattle.asp_response.specs.declared.cookie.CookieValue.{CookieValue}
 use Rattle.asp_response.specs.declared.cookie.CookieValue.TheVariants.{Whole, Pairs}
-use Rattle.asp_response.specs.declared.draft.Draft.{Draft}
+use Rattle.asp_response.specs.View.{Draft}
 use Rattle.asp_response.specs.declared.fixed.Unavailable.{Unavailable}
 use Rattle.asp_response.specs.declared.status.Status.{Status}
 use Rattle.asp_response.specs.Finish.{cookie_header, cookie_text, charset_text, domain_text, finished, header}
 use Rattle.asp_response.specs.Finish.{headers_of}
-use Rattle.asp_response.specs.Finish.{location_headers, next_pair, pair_text, pairs_text, reason_of, secure_text}
-use Rattle.asp_response.specs.Finish.{session_headers, session_text, status_of, type_text, value_text}
-use Rattle.asp_response.specs.Fixed.{allowed, not_allowed_headers, not_allowed_of, plain_header, status_answer_of}
+use Rattle.asp_response.specs.Finish.{location_headers, next_pair, pair_text, pairs_text, secure_text}
+use Rattle.asp_response.specs.Finish.{session_headers, session_text, status_of, type_of, value_text}
+use Rattle.asp_response.specs.Fixed.{allowed, not_allowed_of, plain_header, status_answer_of}
 use Rattle.asp_response.specs.Fixed.{unavailable_of}
 use Rattle.asp_response.specs.Sound.{ArePrintable, IsPrintable, IsSound, IsSoundHeader}
 use Rattle.asp_response.proofs.Drafts.{SoundCookie, SoundDraft}
@@ -111,8 +110,8 @@ headers_sound draft letters sound printable =
     (said_or draft.content_type (codes "text/html") sound.content_type (printable_of (codes "text/html") refl))
     (charset_printable (unwrap_or draft.charset (codes "utf-8"))
     (said_or draft.charset (codes "utf-8") sound.charset (printable_of (codes "utf-8") refl))) in
-    let type_sound : AreSound (header (codes "Content-Type") (type_text draft) ∷ []) =
-    one_sound (codes "Content-Type") (type_text draft) (printable_of (codes "Content-Type") refl) said in
+    let type_sound : AreSound (header (codes "Content-Type") (type_of draft.content_type draft.charset) ∷ []) =
+    one_sound (codes "Content-Type") (type_of draft.content_type draft.charset) (printable_of (codes "Content-Type") refl) said in
     let cookies_sound : AreSound (map cookie_header draft.cookies) = record {
       each = All-map IsSoundHeader cookie_header draft.cookies
           (All-weaker SoundCookie (λ cookie. IsSoundHeader (cookie_header cookie)) cookie_sound draft.cookies

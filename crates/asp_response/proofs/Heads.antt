@@ -1,14 +1,14 @@
 -- The heads of sound answers are whole lines.
-use Rattle.std.proofs.Common.{◌≡◌, ℕ, ◌+◌, ◌<◌, Bool, true, false, List, [], ◌∷◌, ◌++◌, length, refl, arith}
+use Rattle.std.proofs.Common.{◌≡◌, ℕ, Bool, true, false, List, [], ◌∷◌, ◌++◌, length, refl, arith}
 use Rattle.std.proofs.Common.{length-append, subst, sym}
 use Rattle.std.specs.Prelude.{codes, encode_utf8_all, map}
 use Rattle.std.specs.Fmt.{decimal}
-use Rattle.std.specs.List.{All, flat_map}
+use Rattle.std.specs.List.{All}
 use Rattle.std.proofs.lemmas.List.Elements.{All-nil, All-cons, All-append, All-map, All-weaker}
 use Rattle.asp_job.specs.declared.answer.Answer.{Answer}
 use Rattle.asp_job.specs.declared.request.Header.{Header}
 use Rattle.asp_response.specs.AnswerText.{IsAnswerText, answer_text, close_lines, content, field, field_of}
-use Rattle.asp_response.specs.AnswerText.{head_lines, length_lines, line, may_have_content, status_line}
+use Rattle.asp_response.specs.AnswerText.{head_lines, length_lines, may_have_content, status_line}
 use Rattle.asp_response.specs.Sound.{HasWholeLines, IsHeadLine, IsPrintable, IsSound, IsSoundHeader}
 use Rattle.asp_response.proofs.Dates.{date_printable}
 use Rattle.asp_response.proofs.Printable.{both_printable, decimal_printable, printable_of, utf8_printable}

@@ -1,3 +1,4 @@
+pub mod CookieBytes
 mod Dates
 mod Drafts
 mod Finishing
@@ -5,3 +6,4 @@ mod Heads
 mod Lines
 pub mod Printable
 mod Reasons
+pub mod Weighing

@@ -1,7 +1,6 @@
 -- The reasons of statuses are printable.
-use Rattle.std.proofs.Common.{◌≡◌, ℕ, Bool, true, false, List, [], Option, Some, None, refl, unwrap_or}
+use Rattle.std.proofs.Common.{◌≡◌, ℕ, Bool, true, false, List, [], Option, Some, refl, unwrap_or}
 use Rattle.std.specs.Prelude.{◌==◌, cond, codes}
-use Rattle.http.specs.StatusCode.{reason_phrase}
 use Rattle.asp_response.specs.Finish.{reason_of}
 use Rattle.asp_response.specs.Head.{is_value}
 use Rattle.asp_response.specs.Sound.{IsPrintable}

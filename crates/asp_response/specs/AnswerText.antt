@@ -21,8 +21,11 @@ abbrev pub field_of : Header → List ℕ
 field_of header = field (encode_utf8_all header.name) header.value
 
 -- status-line = HTTP-version SP status-code SP [ reason-phrase ]
+abbrev pub status_text : ℕ → List ℕ → List ℕ
+status_text status reason = codes "HTTP/1.1 " ++ decimal status ++ codes " " ++ encode_utf8_all reason
+
 abbrev pub status_line : Answer → List ℕ
-status_line answer = codes "HTTP/1.1 " ++ decimal answer.status ++ codes " " ++ encode_utf8_all answer.reason
+status_line answer = status_text answer.status answer.reason
 
 -- whether an answer of this status may have content: 204 (No Content) and 304 (Not Modified) have none
 abbrev pub may_have_content : ℕ → Bool

@@ -1,7 +1,7 @@
 -- What a page can say of its answer by any list of calls.
 use Rattle.std.specs.Prelude.{ℕ, Bool, true, List, [], ◌∷◌, Ok, Err, is_some}
 use Rattle.asp_response.specs.declared.cookie.CookiePart.{CookiePart}
-use Rattle.asp_response.specs.declared.draft.Draft.{Draft}
+use Rattle.asp_response.specs.View.{Draft}
 use Rattle.asp_response.specs.Draft.{Done, no_draft, write_answer, written, cleared, flushed, buffered, head_answer}
 use Rattle.asp_response.specs.Draft.{with_status, with_content_type, with_charset, with_cache, with_header, header_answer}
 use Rattle.asp_response.specs.Draft.{with_cookie_text, with_cookie_part, with_cookie_secure, redirected}
@@ -30,14 +30,14 @@ answer_to (Write text) draft = write_answer text draft
 answer_to Clear draft = Ok tt
 answer_to Flush draft = Ok tt
 answer_to (Buffer on) draft = Ok tt
-answer_to (Status text) draft = head_answer (is_some (status_in text)) draft.sent
-answer_to (ContentType text) draft = head_answer (is_value text) draft.sent
-answer_to (Charset text) draft = head_answer (is_value text) draft.sent
-answer_to (Cache text) draft = head_answer (is_value text) draft.sent
+answer_to (Status text) draft = head_answer (is_some (status_in text)) (with_status text draft) draft
+answer_to (ContentType text) draft = head_answer (is_value text) (with_content_type text draft) draft
+answer_to (Charset text) draft = head_answer (is_value text) (with_charset text draft) draft
+answer_to (Cache text) draft = head_answer (is_value text) (with_cache text draft) draft
 answer_to (Field name text) draft = header_answer name text draft
-answer_to (Cookie name key text) draft = head_answer true draft.sent
-answer_to (Part name of text) draft = head_answer (is_value text) draft.sent
-answer_to (Secure name on) draft = head_answer true draft.sent
+answer_to (Cookie name key text) draft = head_answer true (with_cookie_text name key text draft) draft
+answer_to (Part name of text) draft = head_answer (is_value text) (with_cookie_part name of text draft) draft
+answer_to (Secure name on) draft = head_answer true (with_cookie_secure name on draft) draft
 answer_to (Redirect url) draft = redirect_answer url draft
 
 -- what a call that is done makes of the draft

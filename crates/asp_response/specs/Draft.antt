@@ -1,17 +1,16 @@
 -- What a page has said of its answer, and what each call of the Response object makes of it (ASP 3.0, "Response Object").
--- A draft has the body with what of it Flush has fixed, whether Flush was made, whether output is kept until then, and what
--- was said of the head.
-use Rattle.std.specs.Prelude.{ℕ, Bool, true, false, not, ◌&&◌, ◌||◌, nat_lt, ◌+◌, if◌then◌else◌, List, [], ◌∷◌}
+use Rattle.std.specs.Prelude.{ℕ, Bool, true, false, not, ◌&&◌, nat_lt, ◌+◌, if◌then◌else◌, List, [], ◌∷◌}
 use Rattle.std.specs.Prelude.{◌++◌, length, take, Some, None, is_some, Result, Ok, Err, codes}
 use Rattle.std.specs.Prelude.{encode_utf8_all, pos}
 use Rattle.asp_text.specs.Html.{html_encoded}
 use Rattle.vb_value.specs.declared.limit.LimitKind.TheVariants.{Body}
 use Rattle.asp_response.specs.declared.cookie.CookiePart.{CookiePart}
-use Rattle.asp_response.specs.declared.draft.Draft.{Draft}
+use Rattle.asp_response.specs.View.{Draft}
 use Rattle.asp_response.specs.declared.stop.DraftStop.{DraftStop}
 use Rattle.asp_response.specs.declared.stop.DraftStop.TheVariants as stop
 use Rattle.asp_response.specs.Cookies.{with_cookie, with_value, with_part, with_secure}
 use Rattle.asp_response.specs.Head.{is_value, is_token, is_reserved, status_in}
+use Rattle.asp_response.specs.HeadSize.{head_size, head_within}
 
 -- the answer of a call that was done, and of one that was refused
 abbrev pub Done : Type 0
@@ -70,10 +69,24 @@ buffered on draft = record draft { buffer = on }
 
 -- ---- the head
 
--- A change of the head: error 5 where what is set does not fit, and then error 1156 after Flush.
-abbrev pub head_answer : Bool → Bool → Done
-head_answer fits sent = if not fits then Err (stop.Error (pos 5))
+-- a size that the head may have, and why it may not
+abbrev pub done : Result ℕ DraftStop → Done
+done (Ok size) = Ok tt
+done (Err refused) = Err refused
+
+-- two answers: the second counts where the first refuses nothing
+abbrev pub both : Done → Done → Done
+both (Ok done) second = second
+both (Err refused) second = Err refused
+
+-- error 5 where what is set does not fit, and then error 1156 after Flush
+abbrev pub change_answer : Bool → Bool → Done
+change_answer fits sent = if not fits then Err (stop.Error (pos 5))
     else (if sent then Err (stop.Error (pos 1156)) else Ok tt)
+
+-- a change of the head: those errors, and then the limit Body where the page's own lines would pass 65,536 bytes
+abbrev pub head_answer : Bool → Draft → Draft → Done
+head_answer fits changed draft = both (change_answer fits draft.sent) (done (head_within (head_size changed)))
 
 -- Status
 abbrev pub with_status : List ℕ → Draft → Draft
@@ -97,7 +110,8 @@ with_header name text draft =
     record draft { added = draft.added ++ record { name = name; value = encode_utf8_all text } ∷ [] }
 
 abbrev pub header_answer : List ℕ → List ℕ → Draft → Done
-header_answer name text draft = head_answer (is_token name && not (is_reserved name) && is_value text) draft.sent
+header_answer name text draft =
+    head_answer (is_token name && not (is_reserved name) && is_value text) (with_header name text draft) draft
 
 -- a cookie, and a part of one
 abbrev pub with_cookie_text : List ℕ → List ℕ → List ℕ → Draft → Draft
@@ -125,5 +139,5 @@ redirected url draft = record draft {
 
 -- its refusals: those of the head, then the body's length
 abbrev pub redirect_answer : List ℕ → Draft → Done
-redirect_answer url draft = if not (is_value url) || draft.sent then head_answer (is_value url) draft.sent
-    else body_answer (length (moved_body url))
+redirect_answer url draft =
+    both (head_answer (is_value url) (redirected url draft) draft) (body_answer (length (moved_body url)))

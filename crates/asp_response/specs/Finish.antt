@@ -10,7 +10,7 @@ use Rattle.asp_response.specs.declared.cookie.Cookie.{Cookie}
 use Rattle.asp_response.specs.declared.cookie.CookiePair.{CookiePair}
 use Rattle.asp_response.specs.declared.cookie.CookieValue.{CookieValue}
 use Rattle.asp_response.specs.declared.cookie.CookieValue.TheVariants.{Whole, Pairs}
-use Rattle.asp_response.specs.declared.draft.Draft.{Draft}
+use Rattle.asp_response.specs.View.{Draft}
 use Rattle.asp_response.specs.declared.status.Status.{Status}
 
 -- a field of a name and a text
@@ -66,8 +66,9 @@ charset_text [] = []
 charset_text (first ∷ charset) = codes "; Charset=" ++ first ∷ charset
 
 -- what was not said is `text/html`, `utf-8` and `private`
-abbrev pub type_text : Draft → List ℕ
-type_text draft = unwrap_or draft.content_type (codes "text/html") ++ charset_text (unwrap_or draft.charset (codes "utf-8"))
+abbrev pub type_of : Option (List ℕ) → Option (List ℕ) → List ℕ
+type_of content_type charset =
+    unwrap_or content_type (codes "text/html") ++ charset_text (unwrap_or charset (codes "utf-8"))
 
 abbrev pub cache_text : Draft → List ℕ
 cache_text draft = unwrap_or draft.cache (codes "private")
@@ -80,7 +81,7 @@ location_headers (Some url) = header (codes "Location") url ∷ []
 -- which they were first named, the added fields in theirs, and what caches may do.
 unfoldable pub headers_of : Draft → Option (List ℕ) → List Header
 headers_of draft letters =
-    header (codes "Content-Type") (type_text draft) ∷ []
+    header (codes "Content-Type") (type_of draft.content_type draft.charset) ∷ []
     ++ location_headers draft.location
     ++ session_headers letters
     ++ map cookie_header draft.cookies

@@ -5,4 +5,7 @@ pub mod Draft
 pub mod Finish
 pub mod Fixed
 pub mod Head
+pub mod HeadSize
+pub mod Held
 pub mod Sound
+pub mod View

@@ -1,5 +1,5 @@
 -- Heads that cannot be split: each of their lines is printable ASCII (RFC 9110, section 5.5; RFC 9112, section 2.2).
-use Rattle.std.specs.Prelude.{◌≡◌, ℕ, ◌<◌, ◌≤◌, List, [], ◌∷◌, ◌++◌, length, Option, IfSome}
+use Rattle.std.specs.Prelude.{◌≡◌, ℕ, ◌<◌, ◌≤◌, List, [], ◌++◌, length, Option, IfSome}
 use Rattle.std.specs.List.{All, flat_map}
 use Rattle.asp_job.specs.declared.answer.Answer.{Answer}
 use Rattle.asp_job.specs.declared.request.Header.{Header}

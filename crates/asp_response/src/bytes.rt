@@ -9,7 +9,7 @@ ghost use Rattle.asp_response.specs.AnswerText as spec;
 use asp_job::{Answer, Header};
 use httpdate::HttpDate;
 use std::alloc::Global;
-use vb_value::{Bytes, Memory};
+use vb_value::{Bytes, Memory, Text};
 
 /// The last second of the year 9999.
 const LAST_SECOND: u64 = 253_402_300_799;
@@ -33,7 +33,8 @@ fn push_field(bytes: &mut Bytes, name: &[u8], value: &[u8]) -> Result<(), Memory
     bytes.append_slice(b"\r\n")
 }
 
-fn push_header(bytes: &mut Bytes, header: &Header) -> Result<(), Memory>
+/// Writes a field as a line.
+pub(crate) fn push_header(bytes: &mut Bytes, header: &Header) -> Result<(), Memory>
     ensures { Adds result bytes.old bytes.new (spec.line (spec.field_of header.now)) }
 {
     let name = header.name.to_utf8(*bytes.allocator())?;
@@ -55,12 +56,13 @@ fn decimal(alloc: Global, number: u64) -> Result<Bytes, Memory>
     Ok(Bytes::from_vec(number.to_string(alloc)?.into_bytes()))
 }
 
-fn push_status(bytes: &mut Bytes, answer: &Answer) -> Result<(), Memory>
-    ensures { Adds result bytes.old bytes.new (spec.line (spec.status_line answer.now)) }
+/// Writes a status as a line.
+pub(crate) fn push_status(bytes: &mut Bytes, status: u16, reason: &Text) -> Result<(), Memory>
+    ensures { Adds result bytes.old bytes.new (spec.line (spec.status_text status reason.now)) }
 {
     let alloc = *bytes.allocator();
-    let code = decimal(alloc, u64::from(answer.status))?;
-    let reason = answer.reason.to_utf8(alloc)?;
+    let code = decimal(alloc, u64::from(status))?;
+    let reason = reason.to_utf8(alloc)?;
     bytes.append_slice(b"HTTP/1.1 ")?;
     bytes.append(code)?;
     bytes.append_slice(b" ")?;
@@ -120,7 +122,7 @@ fn push_ending(bytes: &mut Bytes, answer: &Answer) -> Result<(), Memory>
 fn push_answer(bytes: &mut Bytes, answer: &Answer, date: &[u8]) -> Result<(), Memory>
     ensures { Adds result bytes.old bytes.new (spec.answer_text answer.now date.now) }
 {
-    push_status(bytes, answer)?;
+    push_status(bytes, answer.status, &answer.reason)?;
     push_field(bytes, b"Date", date)?;
     push_headers(bytes, answer.headers.as_slice())?;
     push_ending(bytes, answer)?;

@@ -10,7 +10,7 @@ use asp_text::url_encode;
 use std::alloc::Global;
 use vb_value::{Memory, Text};
 
-fn push_url(text: &mut Text, more: &Text) -> Result<(), Memory>
+pub(crate) fn push_url(text: &mut Text, more: &Text) -> Result<(), Memory>
     ensures { Adds result text.old text.new (url_encoded more.now) }
 {
     let more = url_encode(*text.allocator(), more)?;
@@ -52,7 +52,7 @@ fn push_pairs(text: &mut Text, pairs: &[CookiePair]) -> Result<(), Memory>
     push_next_pairs(text, rest)
 }
 
-fn push_value(text: &mut Text, value: &CookieValue) -> Result<(), Memory>
+pub(crate) fn push_value(text: &mut Text, value: &CookieValue) -> Result<(), Memory>
     ensures { Adds result text.old text.new (spec.value_text value.now) }
 {
     match value {
@@ -61,7 +61,7 @@ fn push_value(text: &mut Text, value: &CookieValue) -> Result<(), Memory>
     }
 }
 
-fn push_domain(text: &mut Text, domain: &[char]) -> Result<(), Memory>
+pub(crate) fn push_domain(text: &mut Text, domain: &[char]) -> Result<(), Memory>
     ensures { Adds result text.old text.new (spec.domain_text domain.now) }
 {
     if domain.is_empty() {
@@ -71,7 +71,7 @@ fn push_domain(text: &mut Text, domain: &[char]) -> Result<(), Memory>
     text.append_slice(domain)
 }
 
-fn push_secure(text: &mut Text, secure: bool) -> Result<(), Memory>
+pub(crate) fn push_secure(text: &mut Text, secure: bool) -> Result<(), Memory>
     ensures { Adds result text.old text.new (spec.secure_text secure) }
 {
     if secure {

@@ -1,5 +1,5 @@
 //! What a page says of its answer: cookies.
-ghost use Rattle.std.specs.Prelude.{◌≡◌, ◌<◌, Some, length, true};
+ghost use Rattle.std.specs.Prelude.{◌≡◌, ◌<◌, IfOk, Some, length, true};
 ghost use Rattle.asp_response.specs.declared.cookie.Cookie.{Cookie as CookieView};
 ghost use Rattle.asp_response.specs.declared.cookie.CookiePair.{CookiePair as CookiePairView};
 ghost use Rattle.vb_value.specs.Folding.{same_name};
@@ -7,11 +7,16 @@ ghost use Rattle.vb_value.specs.Outcome.{Answers, Changes, Gives};
 ghost use Rattle.asp_response.specs.Cookies as spec;
 ghost use Rattle.asp_response.specs.Draft as draft;
 ghost use Rattle.asp_response.specs.Head as head;
+ghost use Rattle.asp_response.specs.HeadSize as size;
 
 use crate::cookie::{Cookie, CookiePair, CookiePart, CookieValue};
+use crate::cookie_size::{
+    cookie_part_change, cookie_secure_change, cookie_size, cookie_text_change,
+};
 use crate::draft::Draft;
 use crate::field::is_value;
 use crate::head::may_change;
+use crate::head_size::{Change, resized};
 use crate::stop::DraftStop;
 use crate::text::ascii;
 use std::alloc::Global;
@@ -63,7 +68,7 @@ fn place_of(cookies: &[Cookie], name: &[char]) -> Option<usize>
     cookies.iter().position(|cookie| is_named(cookie, name))
 }
 
-fn place_of_key(pairs: &[CookiePair], key: &[char]) -> Option<usize>
+pub(crate) fn place_of_key(pairs: &[CookiePair], key: &[char]) -> Option<usize>
     ensures { result ≡ spec.place_of_key key.now pairs.now }
 {
     pairs.iter().position(|pair| is_keyed(pair, key))
@@ -226,15 +231,84 @@ fn set_cookie_text(
     }
 }
 
+/// How the size of the cookies changes where a text of the cookie of this name is set.
+fn text_change(
+    cookies: &List<Cookie>,
+    name: &Text,
+    key: &Text,
+    text: &Text,
+) -> Result<Change, Memory>
+    ensures { IfOk result (λ change. size.Resizes (size.cookies_size cookies.now)
+        (size.cookies_size (spec.with_cookie name.now (spec.with_value key.now text.now) cookies.now))
+        change.was change.will) }
+{
+    let alloc = *cookies.allocator();
+    match place_of(cookies.as_slice(), name.as_slice()) {
+        Some(at) => cookie_text_change(alloc, &cookies.as_slice()[at], key, text),
+        None => {
+            let mut cookie = new_cookie(alloc, name)?;
+            set_text(&mut cookie, key, text.copy()?)?;
+            let will = cookie_size(alloc, &cookie)?;
+            Ok(Change { was: 0, will })
+        }
+    }
+}
+
+/// How the size of the cookies changes where a part of the cookie of this name is set.
+fn part_change(
+    cookies: &List<Cookie>,
+    name: &Text,
+    part: CookiePart,
+    text: &Text,
+) -> Result<Change, Memory>
+    ensures { IfOk result (λ change. size.Resizes (size.cookies_size cookies.now)
+        (size.cookies_size (spec.with_cookie name.now (spec.with_part part text.now) cookies.now))
+        change.was change.will) }
+{
+    let alloc = *cookies.allocator();
+    match place_of(cookies.as_slice(), name.as_slice()) {
+        Some(at) => cookie_part_change(alloc, &cookies.as_slice()[at], part, text),
+        None => {
+            let mut cookie = new_cookie(alloc, name)?;
+            set_part(&mut cookie, part, text.copy()?);
+            let will = cookie_size(alloc, &cookie)?;
+            Ok(Change { was: 0, will })
+        }
+    }
+}
+
+/// How the size of the cookies changes where it is set whether the cookie of this name is sent over secure connections
+/// alone.
+fn secure_change(cookies: &List<Cookie>, name: &Text, on: bool) -> Result<Change, Memory>
+    ensures { IfOk result (λ change. size.Resizes (size.cookies_size cookies.now)
+        (size.cookies_size (spec.with_cookie name.now (spec.with_secure on) cookies.now)) change.was change.will) }
+{
+    let alloc = *cookies.allocator();
+    match place_of(cookies.as_slice(), name.as_slice()) {
+        Some(at) => cookie_secure_change(alloc, &cookies.as_slice()[at], on),
+        None => {
+            let mut cookie = new_cookie(alloc, name)?;
+            cookie.secure = on;
+            let will = cookie_size(alloc, &cookie)?;
+            Ok(Change { was: 0, will })
+        }
+    }
+}
+
 impl Draft {
     /// The text of the cookie `name`, or the one beside `key` where that is not empty. Setting the one drops the other.
     pub fn cookie(&mut self, name: &Text, key: &Text, value: &Text) -> Result<(), DraftStop>
-        ensures answer { Answers result DraftStop.Memory (draft.head_answer true self.old.sent) }
+        ensures answer { Answers result DraftStop.Memory
+            (draft.head_answer true (draft.with_cookie_text name.now key.now value.now self.old) self.old) }
         ensures draft { Changes result self.old self.new (draft.with_cookie_text name.now key.now value.now self.old) }
     {
         may_change(true, self.sent)?;
+        let change = text_change(&self.cookies, name, key, value)?;
+        let head = resized(self.head, change)?;
         let text = value.copy()?;
-        Ok(set_cookie_text(&mut self.cookies, name, key, text)?)
+        set_cookie_text(&mut self.cookies, name, key, text)?;
+        self.head = head;
+        Ok(())
     }
 
     /// A part of the cookie `name`. Error 5 for a character that is not printable.
@@ -244,20 +318,30 @@ impl Draft {
         part: CookiePart,
         value: &Text,
     ) -> Result<(), DraftStop>
-        ensures answer { Answers result DraftStop.Memory (draft.head_answer (head.is_value value.now) self.old.sent) }
+        ensures answer { Answers result DraftStop.Memory (draft.head_answer (head.is_value value.now)
+            (draft.with_cookie_part name.now part value.now self.old) self.old) }
         ensures draft { Changes result self.old self.new (draft.with_cookie_part name.now part value.now self.old) }
     {
         may_change(is_value(value.as_slice()), self.sent)?;
+        let change = part_change(&self.cookies, name, part, value)?;
+        let head = resized(self.head, change)?;
         let text = value.copy()?;
-        Ok(set_cookie_part(&mut self.cookies, name, part, text)?)
+        set_cookie_part(&mut self.cookies, name, part, text)?;
+        self.head = head;
+        Ok(())
     }
 
     /// Whether the cookie `name` is sent back over secure connections alone.
     pub fn cookie_secure(&mut self, name: &Text, on: bool) -> Result<(), DraftStop>
-        ensures answer { Answers result DraftStop.Memory (draft.head_answer true self.old.sent) }
+        ensures answer { Answers result DraftStop.Memory
+            (draft.head_answer true (draft.with_cookie_secure name.now on self.old) self.old) }
         ensures draft { Changes result self.old self.new (draft.with_cookie_secure name.now on self.old) }
     {
         may_change(true, self.sent)?;
-        Ok(set_cookie_secure(&mut self.cookies, name, on)?)
+        let change = secure_change(&self.cookies, name, on)?;
+        let head = resized(self.head, change)?;
+        set_cookie_secure(&mut self.cookies, name, on)?;
+        self.head = head;
+        Ok(())
     }
 }

@@ -8,12 +8,13 @@ use crate::status::Status;
 use crate::stop::DraftStop;
 use asp_job::Header;
 use std::alloc::Global;
+use std::marker::Model;
 use vb_value::{Bytes, LimitKind, List, Text};
 
 /// The longest body, in bytes: 4 MiB.
 pub const MOST_BODY: usize = 4_194_304;
 
-/// What a page has said of its answer so far (ASP 3.0, "Response Object"). Contracts see it as the record of it.
+/// What a page has said of its answer so far (ASP 3.0, "Response Object"). Contracts see it as the record of that.
 #[derive(Debug, Drop)]
 pub struct Draft {
     pub(crate) body: Bytes,
@@ -28,6 +29,20 @@ pub struct Draft {
     pub(crate) location: Option<Text>,
     pub(crate) cookies: List<Cookie>,
     pub(crate) added: List<Header>,
+    // How many bytes the lines of the head take that the page has said.
+    pub(crate) head: usize,
+}
+
+impl Model for Draft {
+    ghost use Rattle.asp_response.specs.View.{Draft};
+
+    ghost Value = { Draft };
+
+    ghost use Rattle.asp_response.specs.Held.{IsSized, draft_in};
+
+    ghost view = { draft_in };
+
+    ghost invariant = { IsSized };
 }
 
 /// Refuses a body of more than 4 MiB, given the lengths of its two parts.
@@ -42,6 +57,7 @@ pub(crate) fn within_limit(has: usize, more: usize) -> Result<(), DraftStop>
 
 impl Draft {
     /// A draft of which nothing is said yet.
+    #[tactic(auto, unfolding(crate::specs::HeadSize::status_size, crate::specs::HeadSize::type_size, crate::specs::HeadSize::location_size, crate::specs::HeadSize::cache_size))]
     pub fn new(alloc: Global) -> Draft
         ensures { result ≡ spec.no_draft }
     {
@@ -57,6 +73,7 @@ impl Draft {
             location: None,
             cookies: List::new(alloc),
             added: List::new(alloc),
+            head: 0,
         }
     }
 

@@ -27,11 +27,19 @@ fn push_header(headers: &mut List<Header>, name: &[u8], text: &Text) -> Result<(
     headers.push(header)
 }
 
+/// A cookie as a field.
+pub(crate) fn cookie_header(alloc: Global, cookie: &Cookie) -> Result<Header, Memory>
+    ensures { Gives result (spec.cookie_header cookie.now) }
+{
+    let text = cookie_text(alloc, cookie)?;
+    header(alloc, b"Set-Cookie", &text)
+}
+
 fn push_cookie(headers: &mut List<Header>, cookie: &Cookie) -> Result<(), Memory>
     ensures { Adds result headers.old headers.new (spec.cookie_header cookie.now ∷ []) }
 {
-    let text = cookie_text(*headers.allocator(), cookie)?;
-    push_header(headers, b"Set-Cookie", &text)
+    let header = cookie_header(*headers.allocator(), cookie)?;
+    headers.push(header)
 }
 
 fn push_cookies(headers: &mut List<Header>, cookies: &[Cookie]) -> Result<(), Memory>
@@ -85,11 +93,16 @@ fn push_charset(text: &mut Text, charset: &[char]) -> Result<(), Memory>
     text.append_slice(charset)
 }
 
-fn type_text(alloc: Global, draft: &Draft) -> Result<Text, Memory>
-    ensures { Gives result (spec.type_text draft.now) }
+/// The text of Content-Type.
+pub(crate) fn type_of(
+    alloc: Global,
+    content_type: &Option<Text>,
+    charset: &Option<Text>,
+) -> Result<Text, Memory>
+    ensures { Gives result (spec.type_of content_type.now charset.now) }
 {
-    let mut text = said_or(alloc, &draft.content_type, b"text/html")?;
-    let charset = said_or(alloc, &draft.charset, b"utf-8")?;
+    let mut text = said_or(alloc, content_type, b"text/html")?;
+    let charset = said_or(alloc, charset, b"utf-8")?;
     push_charset(&mut text, charset.as_slice())?;
     Ok(text)
 }
@@ -103,7 +116,7 @@ pub(crate) fn headers_of(
 ) -> Result<List<Header>, Memory>
     ensures { Gives result (spec.headers_of draft.now (option_map (λ l. l.now) letters.entry)) }
 {
-    let text = type_text(alloc, draft)?;
+    let text = type_of(alloc, &draft.content_type, &draft.charset)?;
     let cache = said_or(alloc, &draft.cache, b"private")?;
     let mut headers = List::new(alloc);
     push_header(&mut headers, b"Content-Type", &text)?;

@@ -1,10 +1,11 @@
 //! What holds of answers, whoever makes them.
-ghost use Rattle.std.specs.Prelude.{ℕ, Bool, List, Option};
+ghost use Rattle.std.specs.Prelude.{ℕ, ◌≤◌, Bool, List, Option};
 ghost use Rattle.asp_job.specs.declared.answer.Answer.{Answer};
 ghost use Rattle.asp_response.specs.AnswerText.{IsAnswerText};
 ghost use Rattle.asp_response.specs.Calls.{DraftCall, said_by};
 ghost use Rattle.asp_response.specs.Finish.{finished};
 ghost use Rattle.asp_response.specs.Fixed.{not_allowed_of, status_answer_of, unavailable_of};
+ghost use Rattle.asp_response.specs.HeadSize.{head_size};
 ghost use Rattle.asp_response.specs.Sound.{ArePrintable, HasWholeLines, IsSound};
 ghost use Rattle.asp_response.specs.declared.fixed.Unavailable.{Unavailable};
 
@@ -20,6 +21,11 @@ pub fn heads_are_whole()
 pub fn drafts_finish_sound()
     ensures { (calls : List DraftCall) (letters failure : Option (List ℕ)) (head_only close : Bool)
         → ArePrintable letters → IsSound (finished (said_by calls) letters failure head_only close) }
+{}
+
+/// However a page says its answer, its own lines of the head take at most 65,536 bytes.
+pub fn heads_stay_small()
+    ensures { (calls : List DraftCall) → head_size (said_by calls) ≤ 65536 }
 {}
 
 /// The answers whose text is fixed are sound.

@@ -3,6 +3,7 @@
 
 mod bytes;
 mod cookie;
+mod cookie_size;
 mod cookie_text;
 mod cookies;
 mod draft;
@@ -10,6 +11,7 @@ mod field;
 mod finish;
 mod fixed;
 mod head;
+mod head_size;
 mod headers;
 mod laws;
 mod status;
@@ -20,5 +22,5 @@ pub use bytes::answer_bytes;
 pub use cookie::CookiePart;
 pub use draft::{Draft, MOST_BODY};
 pub use fixed::{Unavailable, not_allowed_answer, refusal, status_answer, unavailable_answer};
-pub use laws::{drafts_finish_sound, fixed_answers_are_sound, heads_are_whole};
+pub use laws::{drafts_finish_sound, fixed_answers_are_sound, heads_are_whole, heads_stay_small};
 pub use stop::DraftStop;
