@@ -1,5 +1,6 @@
 //! Stories as cases, and the same story with connections that are cut at each place.
 
+use crate::pages::write_of_pages;
 use crate::story::write_story;
 use case_files::{Answer, CaseStop, Subject, read_text};
 use std::sync::Wait;
@@ -10,13 +11,24 @@ use word_runs::{AllWords, WordRunner};
 #[derive(Drop)]
 pub struct Stories<'a, Rt> {
     pub rt: &'a Rt,
+    pub of: Of,
+}
+
+/// What the hosts of stories serve.
+#[derive(Clone, Copy)]
+pub enum Of {
+    Words,
+    Pages,
 }
 
 /// What a story tells whose connections are cut at the place.
-fn told<Rt: Wait>(rt: &Rt, out: &mut Answer, steps: &str, first: usize) -> String {
+fn told<Rt: Wait>(rt: &Rt, out: &mut Answer, of: Of, steps: &str, first: usize) -> String {
     let alloc = out.alloc();
     let mut told = Answer::new(alloc);
-    write_story(rt, &mut told, WordRunner { alloc }, AllWords, steps, first);
+    match of {
+        Of::Words => write_story(rt, &mut told, WordRunner { alloc }, AllWords, steps, first),
+        Of::Pages => write_of_pages(rt, &mut told, steps, first),
+    }
     match told.end() {
         Ok(text) => text,
         Err(stop) => {
@@ -27,11 +39,11 @@ fn told<Rt: Wait>(rt: &Rt, out: &mut Answer, steps: &str, first: usize) -> Strin
 }
 
 /// Writes what the story tells without cuts, and where it tells something else with one.
-fn write_cuts<Rt: Wait>(rt: &Rt, out: &mut Answer, steps: &str) {
-    let whole = told(rt, out, steps, usize::MAX);
+fn write_cuts<Rt: Wait>(rt: &Rt, out: &mut Answer, of: Of, steps: &str) {
+    let whole = told(rt, out, of, steps, usize::MAX);
     out.put(whole.as_str());
     for place in 1..steps.len() {
-        let cut = told(rt, out, steps, place);
+        let cut = told(rt, out, of, steps, place);
         if cut.as_str() != whole.as_str() {
             out.put(" but cut at ");
             out.show(&place);
@@ -41,11 +53,11 @@ fn write_cuts<Rt: Wait>(rt: &Rt, out: &mut Answer, steps: &str) {
     }
 }
 
-fn write_case<Rt: Wait>(rt: &Rt, out: &mut Answer, case: &str) {
+fn write_case<Rt: Wait>(rt: &Rt, out: &mut Answer, of: Of, case: &str) {
     match case.strip_prefix("each cut ;; ") {
-        Some(steps) => write_cuts(rt, out, steps),
+        Some(steps) => write_cuts(rt, out, of, steps),
         None => {
-            let text = told(rt, out, case, usize::MAX);
+            let text = told(rt, out, of, case, usize::MAX);
             out.put(text.as_str());
         }
     }
@@ -54,7 +66,7 @@ fn write_case<Rt: Wait>(rt: &Rt, out: &mut Answer, case: &str) {
 impl<'a, Rt: Wait> Subject for Stories<'a, Rt> {
     fn answer(&self, case: &str, out: &mut Answer) {
         match read_text(out.alloc(), case) {
-            Ok(text) => write_case(self.rt, out, text.as_str()),
+            Ok(text) => write_case(self.rt, out, self.of, text.as_str()),
             Err(stop) => out.stop(stop),
         }
     }

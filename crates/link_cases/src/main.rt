@@ -3,20 +3,30 @@
 
 mod cuts;
 mod disturbed;
+mod pages;
 mod plan;
 mod said;
 mod serving;
 mod story;
 
 use case_files::try_file;
-use cuts::Stories;
+use cuts::{Of, Stories};
 use std::io;
 use std::io::ErrorKind;
 
 fn main(rt: HostRuntime) -> io::Result<()> {
-    let links = try_file(&rt, "links.txt", &Stories { rt: &rt })?;
-    let limits = try_file(&rt, "limits.txt", &Stories { rt: &rt })?;
-    if links && limits {
+    let words = Stories {
+        rt: &rt,
+        of: Of::Words,
+    };
+    let pages = Stories {
+        rt: &rt,
+        of: Of::Pages,
+    };
+    let links = try_file(&rt, "links.txt", &words)?;
+    let limits = try_file(&rt, "limits.txt", &words)?;
+    let sites = try_file(&rt, "pages.txt", &pages)?;
+    if links && limits && sites {
         Ok(())
     } else {
         Err(ErrorKind::InvalidData.into())
