@@ -11,9 +11,10 @@ ghost use Rattle.asp_request.specs.Pairs.{names_in};
 use crate::collection::Collection;
 use crate::cookies::Cookies;
 use crate::field::collect_form;
+use crate::keys::shown;
 use crate::query::collect_query;
 use crate::server::collect_server;
-use crate::text::{join, text_of};
+use crate::text::text_of;
 use asp_job::Request;
 use std::alloc::Global;
 use vb_value::{Bytes, Memory, Text, Value, fold};
@@ -135,11 +136,7 @@ impl Inputs {
         ensures { (request : Asked) → IsInputsOf request self.now →
             Gives result (spec.shown (spec.values_of request set name.now)) }
     {
-        let values = self.values(alloc, set, name)?;
-        if values.is_empty() {
-            return Ok(Value::Empty);
-        }
-        Ok(Value::Str(join(alloc, values)?))
+        shown(alloc, self.values(alloc, set, name)?)
     }
 
     /// The value of the cookie `name`, in any ASCII case, as it is written.

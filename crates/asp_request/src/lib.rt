@@ -5,9 +5,11 @@ mod collection;
 mod cookies;
 mod field;
 mod inputs;
+mod keys;
 mod place;
 mod query;
 mod server;
 mod text;
 
 pub use inputs::{InSet, Inputs};
+pub use keys::keyed;

@@ -16,11 +16,8 @@ use vb_value::{Copied, LimitKind, Memory, Text};
 fn spot_of(page: &Page, line: u32) -> Result<LineSpot, Memory>
     ensures { Gives result (lines.spot_of page.now line) }
 {
-    match page.lines.get(line as usize) {
-        Some(spot) => Ok(LineSpot {
-            path: spot.path.copy()?,
-            line: spot.line,
-        }),
+    match page.lines.spot(line as usize)? {
+        Some(spot) => Ok(spot),
         None => Ok(LineSpot {
             path: page.path.copy()?,
             line,

@@ -1,2 +1,3 @@
 pub mod Endings
 pub mod Lookup
+pub mod Spots

@@ -1,5 +1,6 @@
 //! A site, as it is once all its files are read.
 
+use crate::lines::Lines;
 use vb_syntax::Program;
 use vb_value::{List, SiteFile, Text};
 
@@ -22,7 +23,7 @@ pub struct Page {
     /// What the page runs. Its lines are places in `lines`: line n stands at the place n, counted from 0.
     pub program: Program,
     /// The line of a file in which each line of the program stands. At the place 0 stands none, of the page's own path.
-    pub lines: List<LineSpot>,
+    pub lines: Lines,
 }
 
 /// The files of a site.

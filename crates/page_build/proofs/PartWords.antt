@@ -1,24 +1,82 @@
 -- The words of parts, one part after the other.
-use Rattle.std.proofs.Common.{◌≡◌, ◌∙◌, ℕ, ◌+◌, ◌-◌, ◌<◌, zero, suc, inr, Bool, List, ◌∷◌, ◌++◌, [], sym, ap, subst}
-use Rattle.std.proofs.Common.{arith, append_assoc, length, drop, get_or}
+use Rattle.std.proofs.Common.{◌≡◌, ◌∙◌, ℕ, ◌+◌, ◌<◌, ◌≤◌, zero, suc, inr, Bool, List, ◌∷◌, ◌++◌, [], refl, sym, ap, subst}
+use Rattle.std.proofs.Common.{arith, length, take, drop, get_or}
+use Rattle.std.proofs.Math.ListN.{set}
 use Rattle.std.proofs.Math.Seq.{drop-cons}
 use Rattle.vb_value.specs.declared.site_file.SiteFault.{SiteFault}
 use Rattle.vb_value.specs.declared.token.Token.{Token}
 use Rattle.page_read.specs.declared.located.Located.{Located}
 use Rattle.page_build.specs.declared.joining.PageWords.{PageWords}
-use Rattle.asp_site.specs.declared.site.LineSpot.{LineSpot}
-use Rattle.page_build.specs.Words.{AreWordsBehind, AreWordsOf, HasWordFault, spot, spots, with_part}
+use Rattle.page_build.specs.Words.{AreWordsBehind, AreWordsOf, HasWordFault, shifted, shifted_word, with_part}
 
--- one line more
-pub more_lines : (path : List ℕ) (line left : ℕ) (lines all : List LineSpot) → 0 < left
-    → lines ++ spots path line left ≡ all → (lines ++ spot path line ∷ []) ++ spots path (line + 1) (left - 1) ≡ all
-more_lines path line zero lines all some is = absurd (omega arith)
-more_lines path line (suc left) lines all some is =
-    let front : List LineSpot = lines ++ spot path line ∷ [] in
-    let next : line + 1 ≡ suc line = omega arith in
-    let fewer : suc left - 1 ≡ left = omega arith in
-    ap (λ (l : ℕ). front ++ spots path l (suc left - 1)) next ∙ ap (λ (n : ℕ). front ++ spots path (suc line) n) fewer
-    ∙ append_assoc lines (spot path line ∷ []) (spots path (suc line) left) ∙ is
+-- ---- the words of a part
+
+-- the first words moved, and the others as they were
+abbrev pub moved_to : ℕ → ℕ → List Token → List Token
+moved_to base at words = shifted base (take at words) ++ drop at words
+
+moved_word : (base at : ℕ) (words : List Token) (other : Token) → at < length words
+    → get_or (moved_to base at words) at other ≡ get_or words at other
+moved_word base at [] other within = absurd (omega arith)
+moved_word base zero (word ∷ words) other within = refl
+moved_word base (suc at) (word ∷ words) other within = moved_word base at words other (omega arith)
+
+moved_more : (base at : ℕ) (words : List Token) (other : Token) → at < length words
+    → set (moved_to base at words) at (shifted_word base (get_or words at other)) ≡ moved_to base (suc at) words
+moved_more base at [] other within = absurd (omega arith)
+moved_more base zero (word ∷ words) other within = refl
+moved_more base (suc at) (word ∷ words) other within =
+    ap (λ (all : List Token). shifted_word base word ∷ all) (moved_more base at words other (omega arith))
+
+length-moved : (base at : ℕ) (words : List Token) → length (moved_to base at words) ≡ length words
+length-moved base at [] = refl
+length-moved base zero (word ∷ words) = refl
+length-moved base (suc at) (word ∷ words) = ap suc (length-moved base at words)
+
+moved_whole : (base at : ℕ) (words : List Token) → length words ≤ at → moved_to base at words ≡ shifted base words
+moved_whole base at [] past = refl
+moved_whole base zero (word ∷ words) past = absurd (omega arith)
+moved_whole base (suc at) (word ∷ words) past =
+    ap (λ (all : List Token). shifted_word base word ∷ all) (moved_whole base at words (omega arith))
+
+-- one word more is moved
+pub next_moved : (base at : ℕ) (words items : List Token) (word : Token) (line : ℕ) → at < length items
+    → word ≡ get_or items at word → items ≡ moved_to base at words → line ≡ base + word.line
+    → set items at (record word { line = line }) ≡ moved_to base (at + 1) words
+next_moved base at words items word line within is so_far moved =
+    let inside : at < length words = omega (arith, within, ap length so_far, length-moved base at words) in
+    let there : word ≡ get_or words at word =
+        is ∙ ap (λ (all : List Token). get_or all at word) so_far ∙ moved_word base at words word inside in
+    let next : suc at ≡ at + 1 = omega arith in
+    ap (λ (all : List Token). set all at (record word { line = line })) so_far
+    ∙ ap (λ (l : ℕ). set (moved_to base at words) at (record word { line = l })) moved
+    ∙ ap (λ (w : Token). set (moved_to base at words) at (shifted_word base w)) there
+    ∙ moved_more base at words word inside ∙ ap (λ (n : ℕ). moved_to base n words) next
+
+-- all are moved
+pub all_moved : (base at : ℕ) (words items : List Token) → length items ≤ at → items ≡ moved_to base at words
+    → items ≡ shifted base words
+all_moved base at words items past so_far =
+    let whole : length words ≤ at = omega (arith, past, ap length so_far, length-moved base at words) in
+    so_far ∙ moved_whole base at words whole
+
+-- ---- the words of two lists
+
+behind_all : (back front : List Token) → drop (length back) (back ++ front) ≡ front
+behind_all [] front = refl
+behind_all (word ∷ back) front = behind_all back front
+
+before_all : (back front : List Token) → take (length back) (back ++ front) ≡ back
+before_all [] front = refl
+before_all (word ∷ back) front = ap (λ (all : List Token). word ∷ all) (before_all back front)
+
+-- what stands in front is turned behind
+pub turned : (back front : List Token)
+    → drop (length back) (back ++ front) ++ take (length back) (back ++ front) ≡ front ++ back
+turned back front = ap (λ (all : List Token). all ++ take (length back) (back ++ front)) (behind_all back front)
+    ∙ ap (λ (all : List Token). front ++ all) (before_all back front)
+
+-- ---- parts
 
 -- the part at a place
 pub part_there : (parts : List Located) (at : ℕ) (part : Located) → at < length parts → part ≡ get_or parts at part

@@ -19,10 +19,11 @@ use Rattle.page_read.specs.Expansion.{fault_at}
 use Rattle.page_read.specs.declared.fragment.Fragment.{Fragment}
 use Rattle.page_read.specs.declared.fragment.Fragment.TheVariants.{Directive}
 use Rattle.page_read.specs.declared.located.Located.{Located}
+use Rattle.asp_site.specs.Spots.{spot}
 use Rattle.asp_site.specs.declared.site.LineSpot.{LineSpot}
 use Rattle.asp_site.specs.declared.site.Page.{Page}
 use Rattle.page_build.specs.declared.joining.PageWords.{PageWords}
-use Rattle.page_build.specs.Words.{ArePageWords, HasWordFault, bad_block, first_line, spot}
+use Rattle.page_build.specs.Words.{ArePageWords, HasWordFault, bad_block, first_line}
 
 -- ---- the script of a page
 

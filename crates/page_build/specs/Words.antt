@@ -1,5 +1,5 @@
 -- The words of a page: those of its parts, one after the other, and the line of a file in which each stands.
-use Rattle.std.specs.Prelude.{◌≡◌, ℕ, zero, suc, ◌+◌, ◌-◌, ◌⊎◌, Bool, true, false, List, [], ◌∷◌, ◌++◌}
+use Rattle.std.specs.Prelude.{◌≡◌, ℕ, ◌+◌, ◌-◌, ◌⊎◌, Bool, true, false, List, [], ◌∷◌, ◌++◌}
 use Rattle.std.specs.Prelude.{length, take, drop, map, find, Option, None, Some}
 use Rattle.vb_value.specs.declared.site_file.SiteFault.{SiteFault}
 use Rattle.vb_value.specs.declared.site_file.FaultKind.{FaultKind}
@@ -15,6 +15,7 @@ use Rattle.page_read.specs.Expansion.{fault_at}
 use Rattle.page_read.specs.declared.fragment.Fragment.{Fragment}
 use Rattle.page_read.specs.declared.fragment.Fragment.TheVariants.{Directive, Text, Script, Write, Element, Include}
 use Rattle.page_read.specs.declared.located.Located.{Located}
+use Rattle.asp_site.specs.Spots.{spot, spots}
 use Rattle.asp_site.specs.declared.site.LineSpot.{LineSpot}
 use Rattle.page_build.specs.declared.joining.PageWords.{PageWords}
 use Rattle.page_build.specs.Declaring.{stray_in}
@@ -62,15 +63,6 @@ stray_of (Element text line) words = stray_in words
 stray_of piece words = None
 
 -- ---- lines
-
--- a line of a file
-abbrev pub spot : List ℕ → ℕ → LineSpot
-spot path line = record { path = path; line = line }
-
--- so many lines of a file, from one on
-abbrev pub spots : List ℕ → ℕ → ℕ → List LineSpot
-spots path line zero = []
-spots path line (suc count) = spot path line ∷ spots path (suc line) count
 
 -- the lines of a part: one for each line of its words
 abbrev pub part_lines : Located → List Token → List LineSpot

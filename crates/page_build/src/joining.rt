@@ -1,15 +1,15 @@
 //! The words of a page: those of its parts, one after the other.
-ghost use Rattle.std.specs.Prelude.{◌≡◌, IfOk};
+ghost use Rattle.std.specs.Prelude.{◌≡◌, ◌+◌, ◌++◌, IfOk};
 ghost use Rattle.vb_value.specs.Outcome.{Gives};
 ghost use Rattle.vb_syntax.specs.grammar.Faults.{last_line};
 ghost use Rattle.page_read.specs.Reading.{OnSiteFault};
 ghost use Rattle.page_build.specs.Words as spec;
 
 use crate::part::{first_line, part_words, stray_of};
-use asp_site::LineSpot;
+use asp_site::Lines;
 use page_read::{Located, SiteStop};
 use std::alloc::Global;
-use vb_value::{Copied, List, Memory, Text, Token};
+use vb_value::{List, Memory, Text, Token};
 
 /// The words of a page, and where they stand.
 #[derive(Drop)]
@@ -19,7 +19,7 @@ pub struct PageWords {
     /// The place of the first word of a script element that is none of a declaration.
     pub stray: Option<usize>,
     /// The line of a file in which each line of the words stands.
-    pub lines: List<LineSpot>,
+    pub lines: Lines,
 }
 
 /// The line in which the last word stands, or 0.
@@ -35,55 +35,43 @@ fn last_line(tokens: &[Token]) -> u32
     line
 }
 
-/// So many lines of the file at the path, from one on.
-#[tactic(auto, using(crate::proofs::PartWords::more_lines))]
-fn spots(alloc: Global, path: &Text, first: u32, count: u32) -> Result<List<LineSpot>, Memory>
-    ensures { Gives result (spec.spots path.now first count) }
+/// The line of a word, counted from another place on.
+fn shifted_line(base: u32, line: u32) -> Result<u32, Memory>
+    ensures { Gives result (base + line) }
 {
-    let mut lines = List::new(alloc);
-    let mut line = first;
-    let mut left = count;
-    while left > 0 {
-        lines.push(LineSpot {
-            path: path.copy()?,
-            line,
-        })?;
-        line = line.checked_add(1).ok_or(Memory)?;
-        left -= 1;
-    }
-    Ok(lines)
-}
-
-/// The word, whose line counts from another place on.
-fn shifted_word(base: u32, word: Token) -> Result<Token, Memory>
-    ensures { Gives result (spec.shifted_word base word) }
-{
-    let Token {
-        kind,
-        line,
-        start,
-        end,
-    } = word;
     match base.checked_add(line) {
-        Some(line) => Ok(Token {
-            kind,
-            line,
-            start,
-            end,
-        }),
+        Some(line) => Ok(line),
         None => Err(Memory),
     }
 }
 
-/// The words, whose lines count from another place on.
-fn shifted(alloc: Global, base: u32, words: List<Token>) -> Result<List<Token>, Memory>
+/// The words, whose lines count from another place on. They stay where they lie.
+fn shifted(base: u32, words: List<Token>) -> Result<List<Token>, Memory>
     ensures { Gives result (spec.shifted base words) }
 {
-    let mut moved = List::with_capacity(alloc, words.len())?;
-    for word in words.into_vec() {
-        moved.push(shifted_word(base, word)?)?;
+    let mut moved = words.into_vec();
+    for word in moved.iter_mut() {
+        word.line = shifted_line(base, word.line)?;
     }
-    Ok(moved)
+    Ok(List::from_vec(moved))
+}
+
+/// The words at the front and those behind them. The longer of the two lists stays where it lies.
+#[tactic(auto, using(crate::proofs::PartWords::turned))]
+fn joined(front: List<Token>, back: List<Token>) -> Result<List<Token>, Memory>
+    ensures { Gives result (front ++ back) }
+{
+    let behind = back.len();
+    if behind <= front.len() {
+        let mut words = front;
+        words.append(back)?;
+        return Ok(words);
+    }
+    let mut words = back;
+    words.append(front)?;
+    let mut words = words.into_vec();
+    words.rotate_left(behind);
+    Ok(List::from_vec(words))
 }
 
 /// Where the first stray word stands: before so many words, or at a place behind them.
@@ -106,7 +94,6 @@ fn earliest(
 
 /// The words of the parts before, and then those of this part.
 fn with_part(
-    alloc: Global,
     before: PageWords,
     part: &Located,
     words: List<Token>,
@@ -114,7 +101,7 @@ fn with_part(
     ensures { Gives result (spec.with_part before part.now words) }
 {
     let PageWords {
-        mut tokens,
+        tokens,
         stray,
         mut lines,
     } = before;
@@ -122,10 +109,9 @@ fn with_part(
     let stray = earliest(stray, tokens.len(), found)?;
     let base = line_number(lines.len().saturating_sub(1))?;
     let count = last_line(words.as_slice());
-    lines.append(spots(alloc, &part.path, first_line(&part.fragment), count)?)?;
-    tokens.append(shifted(alloc, base, words)?)?;
+    lines.add(&part.path, first_line(&part.fragment), count)?;
     Ok(PageWords {
-        tokens,
+        tokens: joined(tokens, shifted(base, words)?)?,
         stray,
         lines,
     })
@@ -144,11 +130,8 @@ fn line_number(count: usize) -> Result<u32, Memory>
 fn no_words(alloc: Global, path: &Text) -> Result<PageWords, Memory>
     ensures { Gives result (spec.no_words path.now) }
 {
-    let mut lines = List::new(alloc);
-    lines.push(LineSpot {
-        path: path.copy()?,
-        line: 0,
-    })?;
+    let mut lines = Lines::new(alloc);
+    lines.add(path, 0, 1)?;
     Ok(PageWords {
         tokens: List::new(alloc),
         stray: None,
@@ -169,7 +152,7 @@ pub fn page_words(
     let mut so_far = no_words(alloc, path)?;
     for part in parts {
         let words = part_words(alloc, part, global)?;
-        so_far = with_part(alloc, so_far, part, words)?;
+        so_far = with_part(so_far, part, words)?;
     }
     Ok(so_far)
 }

@@ -10,13 +10,13 @@ ghost use Rattle.page_build.specs.Words as words;
 use crate::joining::{PageWords, page_words};
 use crate::part::{first_line, stop_at};
 use crate::unit::page_unit;
-use asp_site::{LineSpot, Page};
+use asp_site::{LineSpot, Lines, Page};
 use page_read::{Fragment, Located, SiteStop};
 use std::alloc::Global;
 use vb_parse::ParseFault;
 use vb_scope::resolve;
 use vb_syntax::{Program, ScopeFault, Unit};
-use vb_value::{Copied, FaultKind, List, Stop, Text};
+use vb_value::{Copied, FaultKind, Memory, SiteFault, Stop, Text};
 
 fn kind_of_grammar(kind: ParseFault) -> FaultKind
     ensures { result ≡ spec.kind_of_grammar kind }
@@ -80,21 +80,18 @@ fn session_of(parts: &[Located]) -> bool
 }
 
 /// The stop at a fault in a line of the script of the page at the path, told in the line of the file.
-fn told_stop(path: &Text, lines: &[LineSpot], line: u32, kind: FaultKind) -> SiteStop
+fn told_stop(path: &Text, lines: &Lines, line: u32, kind: FaultKind) -> SiteStop
     ensures { StopsAtFault (spec.told_at path.now lines.now line kind) result }
 {
-    match lines.get(line as usize) {
-        Some(spot) => stop_at(&spot.path, spot.line, kind),
-        None => stop_at(path, 0, kind),
+    match lines.spot(line as usize) {
+        Ok(Some(LineSpot { path, line })) => SiteStop::Fault(SiteFault { path, line, kind }),
+        Ok(None) => stop_at(path, 0, kind),
+        Err(Memory) => SiteStop::Memory,
     }
 }
 
 /// The script of a page's words, and the lines of files that it stands in.
-fn words_unit(
-    alloc: Global,
-    path: &Text,
-    words: PageWords,
-) -> Result<(Unit, List<LineSpot>), SiteStop>
+fn words_unit(alloc: Global, path: &Text, words: PageWords) -> Result<(Unit, Lines), SiteStop>
     ensures ok { IfOk result (λ found. spec.SpellsUnit words found.0 × (found.1 ≡ words.lines)) }
     ensures fault { OnSiteFault result (spec.IsGrammarFault path.now words) }
 {
@@ -106,7 +103,7 @@ fn words_unit(
     match page_unit(alloc, tokens, stray) {
         Ok(unit) => Ok((unit, lines)),
         Err(Stop::Fault { kind, line }) => {
-            Err(told_stop(path, lines.as_slice(), line, kind_of_grammar(kind)))
+            Err(told_stop(path, &lines, line, kind_of_grammar(kind)))
         }
         Err(Stop::Memory) => Err(SiteStop::Memory),
     }
@@ -116,7 +113,7 @@ fn words_unit(
 fn unit_program(
     alloc: Global,
     path: &Text,
-    lines: &[LineSpot],
+    lines: &Lines,
     unit: Unit,
 ) -> Result<Program, SiteStop>
     ensures ok { IfOk result (λ program. Resolves unit (parts_of program)) }
@@ -135,7 +132,7 @@ fn words_page(alloc: Global, path: &Text, session: bool, words: PageWords) -> Re
     ensures fault { OnSiteFault result (spec.IsScriptFault path.now words) }
 {
     let (unit, lines) = words_unit(alloc, path, words)?;
-    let program = unit_program(alloc, path, lines.as_slice(), unit)?;
+    let program = unit_program(alloc, path, &lines, unit)?;
     Ok(Page {
         path: path.copy()?,
         session,

@@ -2,7 +2,7 @@
 
 use crate::includes::{parts, write_fault};
 use asp_site::{Page, is_global};
-use case_files::{Answer, Subject};
+use case_files::{Answer, CaseStop, Subject};
 use page_build::build;
 
 /// Pages of sites, each with the lines of files that its program's lines stand in, or with the file and the line of its
@@ -26,10 +26,20 @@ fn write_page(out: &mut Answer, page: &Page) {
         out.put("no sessions, ");
     }
     out.put("lines");
-    for spot in page.lines.as_slice() {
-        out.put(" ");
-        out.text(spot.path.as_slice());
-        out.put(":");
-        out.show(&spot.line);
+    for place in 0..page.lines.len() {
+        write_spot(out, page, place);
+    }
+}
+
+fn write_spot(out: &mut Answer, page: &Page, place: usize) {
+    match page.lines.spot(place) {
+        Ok(Some(spot)) => {
+            out.put(" ");
+            out.text(spot.path.as_slice());
+            out.put(":");
+            out.show(&spot.line);
+        }
+        Ok(None) => out.put(" nowhere"),
+        Err(_) => out.stop(CaseStop::Memory),
     }
 }

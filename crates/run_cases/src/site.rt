@@ -1,9 +1,9 @@
 //! A site of one page and one static file. Where memory runs out, that stops the answer, and the site lacks something.
 
-use asp_site::{LineSpot, Page, Site};
+use asp_site::{Lines, Page, Site};
 use case_files::{Answer, CaseStop};
 use vb_syntax::Program;
-use vb_value::{Bytes, Copied, List, SiteFile, Text};
+use vb_value::{Bytes, List, SiteFile, Text};
 
 /// The file of the page.
 const PAGE: &str = "/d/p.asp";
@@ -44,16 +44,10 @@ fn text(out: &mut Answer, written: &str) -> Text {
     }
 }
 
-fn lines(out: &mut Answer, path: &Text) -> List<LineSpot> {
-    let mut lines = List::new(out.alloc());
-    for line in 0..LINES {
-        let is_kept = match path.copy() {
-            Ok(path) => lines.push(LineSpot { path, line }).is_ok(),
-            Err(_) => false,
-        };
-        if !is_kept {
-            out.stop(CaseStop::Memory);
-        }
+fn lines(out: &mut Answer, path: &Text) -> Lines {
+    let mut lines = Lines::new(out.alloc());
+    if lines.add(path, 0, LINES).is_err() {
+        out.stop(CaseStop::Memory);
     }
     lines
 }

@@ -1,10 +1,6 @@
-use Rattle.std.proofs.Common.{◌≡◌, ◌++◌}
-use Rattle.page_build.specs.Words.{shifted}
+use Rattle.std.proofs.Common.{◌≡◌}
+use Rattle.page_build.proofs.PartWords.{moved_to}
 use Rattle.page_build.proofs.joining.shifted.Given as goal
 
 abbrev pub invariant-loop-word : goal.invariant-loop-word
-invariant-loop-word l = record {
-  next : (goal.iterator-loop-word).can_next l.word-iterator;
-  finite : (goal.iterator-loop-word).is_finite l.word-iterator;
-  so_far : l.moved ++ shifted l.fn.base l.word-iterator.rest.items ≡ shifted l.fn.base l.fn.words;
-}
+invariant-loop-word l = l.word-items ≡ moved_to l.fn.base l.word-index l.fn.words
