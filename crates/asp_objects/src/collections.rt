@@ -3,14 +3,13 @@ ghost use Rattle.std.specs.Prelude.{◌≡◌, IfOk, length};
 ghost use Rattle.std.specs.Option.{option_copied};
 ghost use Rattle.vb_value.specs.Outcome.{Gives};
 ghost use Rattle.asp_request.specs.Inputs as inputs_spec;
-ghost use Rattle.asp_request.specs.Pairs.{names_in, values_in};
-ghost use Rattle.asp_request.specs.Request.{query_pairs};
+ghost use Rattle.asp_request.specs.Pairs.{names_in};
 
-use asp_job::{Request, Verb};
+use asp_job::Request;
 use asp_request::{InSet, Inputs};
 use std::alloc::Global;
 use std::marker::Model;
-use vb_value::{Bytes, Copied, List, Memory, Text, Value};
+use vb_value::{Bytes, Memory, Text, Value};
 
 /// The request that a page answers, with its collections. Contracts see it as the request.
 #[derive(Debug, Drop)]
@@ -72,22 +71,6 @@ impl Collections {
         ensures { IfOk result (λ raw. option_copied raw ≡ inputs_spec.raw_cookie_of self.now name.now) }
     {
         self.inputs.raw_cookie(alloc, name)
-    }
-
-    /// What stands beside a key in a cookie as it is written.
-    pub(crate) fn keyed(alloc: Global, raw: &Bytes, key: &Text) -> Result<Value, Memory>
-        ensures { Gives result (inputs_spec.shown (values_in (query_pairs raw.now) key.now)) }
-    {
-        let request = Request {
-            verb: Verb::Get,
-            path: Text::new(alloc),
-            query: raw.copy()?,
-            minor: 1,
-            headers: List::new(alloc),
-            body: Bytes::new(alloc),
-            close: false,
-        };
-        Collections::of(alloc, request)?.joined(alloc, InSet::Query, key)
     }
 
     /// How many bytes the body has.

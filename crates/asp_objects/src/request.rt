@@ -19,7 +19,7 @@ fn keyed(alloc: Global, key: &Text, raw: Option<&Bytes>) -> Result<Value, Memory
     ensures { Gives result (spec.keyed key.now (option_copied raw.entry)) }
 {
     match raw {
-        Some(raw) => Collections::keyed(alloc, raw, key),
+        Some(raw) => asp_request::keyed(alloc, raw.as_slice(), key),
         None => Ok(Value::Empty),
     }
 }
