@@ -29,29 +29,30 @@ moved_more base (suc at) (word ∷ words) other within =
     ap (λ (all : List Token). shifted_word base word ∷ all) (moved_more base at words other (omega arith))
 
 length-moved : (base at : ℕ) (words : List Token) → length (moved_to base at words) ≡ length words
-length-moved base at [] = refl
-length-moved base zero (word ∷ words) = refl
+length-moved base zero words = refl
+length-moved base (suc at) [] = refl
 length-moved base (suc at) (word ∷ words) = ap suc (length-moved base at words)
 
 moved_whole : (base at : ℕ) (words : List Token) → length words ≤ at → moved_to base at words ≡ shifted base words
-moved_whole base at [] past = refl
+moved_whole base zero [] past = refl
+moved_whole base (suc at) [] past = refl
 moved_whole base zero (word ∷ words) past = absurd (omega arith)
 moved_whole base (suc at) (word ∷ words) past =
     ap (λ (all : List Token). shifted_word base word ∷ all) (moved_whole base at words (omega arith))
 
 -- one word more is moved
-pub next_moved : (base at : ℕ) (words items : List Token) (word : Token) (line : ℕ) → at < length items
-    → word ≡ get_or items at word → items ≡ moved_to base at words → line ≡ base + word.line
-    → set items at (record word { line = line }) ≡ moved_to base (at + 1) words
-next_moved base at words items word line within is so_far moved =
+pub next_moved : (base at : ℕ) (words items : List Token) (other : Token) (line : ℕ) → at < length items
+    → items ≡ moved_to base at words → line ≡ base + (get_or items at other).line
+    → set items at (record (get_or items at other) { line = line }) ≡ moved_to base (at + 1) words
+next_moved base at words items other line within so_far moved =
     let inside : at < length words = omega (arith, within, ap length so_far, length-moved base at words) in
-    let there : word ≡ get_or words at word =
-        is ∙ ap (λ (all : List Token). get_or all at word) so_far ∙ moved_word base at words word inside in
+    let there : get_or items at other ≡ get_or words at other =
+    ap (λ (all : List Token). get_or all at other) so_far ∙ moved_word base at words other inside in
     let next : suc at ≡ at + 1 = omega arith in
-    ap (λ (all : List Token). set all at (record word { line = line })) so_far
-    ∙ ap (λ (l : ℕ). set (moved_to base at words) at (record word { line = l })) moved
-    ∙ ap (λ (w : Token). set (moved_to base at words) at (shifted_word base w)) there
-    ∙ moved_more base at words word inside ∙ ap (λ (n : ℕ). moved_to base n words) next
+    ap (λ (l : ℕ). set items at (record (get_or items at other) { line = l })) moved
+    ∙ ap (λ (all : List Token). set all at (shifted_word base (get_or items at other))) so_far
+    ∙ ap (λ (word : Token). set (moved_to base at words) at (shifted_word base word)) there
+    ∙ moved_more base at words other inside ∙ ap (λ (n : ℕ). moved_to base n words) next
 
 -- all are moved
 pub all_moved : (base at : ℕ) (words items : List Token) → length items ≤ at → items ≡ moved_to base at words

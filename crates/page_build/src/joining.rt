@@ -1,5 +1,5 @@
 //! The words of a page: those of its parts, one after the other.
-ghost use Rattle.std.specs.Prelude.{◌≡◌, ◌+◌, ◌++◌, IfOk};
+ghost use Rattle.std.specs.Prelude.{◌≡◌, ◌+◌, ◌++◌, IfOk, OnOk};
 ghost use Rattle.vb_value.specs.Outcome.{Gives};
 ghost use Rattle.vb_syntax.specs.grammar.Faults.{last_line};
 ghost use Rattle.page_read.specs.Reading.{OnSiteFault};
@@ -45,14 +45,21 @@ fn shifted_line(base: u32, line: u32) -> Result<u32, Memory>
     }
 }
 
+fn shift(base: u32, words: &mut [Token]) -> Result<(), Memory>
+    ensures { OnOk result (words.new ≡ spec.shifted base words.old) }
+{
+    for word in words.iter_mut() {
+        word.line = shifted_line(base, word.line)?;
+    }
+    Ok(())
+}
+
 /// The words, whose lines count from another place on. They stay where they lie.
 fn shifted(base: u32, words: List<Token>) -> Result<List<Token>, Memory>
     ensures { Gives result (spec.shifted base words) }
 {
     let mut moved = words.into_vec();
-    for word in moved.iter_mut() {
-        word.line = shifted_line(base, word.line)?;
-    }
+    shift(base, &mut moved)?;
     Ok(List::from_vec(moved))
 }
 
@@ -93,11 +100,7 @@ fn earliest(
 }
 
 /// The words of the parts before, and then those of this part.
-fn with_part(
-    before: PageWords,
-    part: &Located,
-    words: List<Token>,
-) -> Result<PageWords, Memory>
+fn with_part(before: PageWords, part: &Located, words: List<Token>) -> Result<PageWords, Memory>
     ensures { Gives result (spec.with_part before part.now words) }
 {
     let PageWords {

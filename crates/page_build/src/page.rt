@@ -110,12 +110,7 @@ fn words_unit(alloc: Global, path: &Text, words: PageWords) -> Result<(Unit, Lin
 }
 
 /// The program of a script.
-fn unit_program(
-    alloc: Global,
-    path: &Text,
-    lines: &Lines,
-    unit: Unit,
-) -> Result<Program, SiteStop>
+fn unit_program(alloc: Global, path: &Text, lines: &Lines, unit: Unit) -> Result<Program, SiteStop>
     ensures ok { IfOk result (λ program. Resolves unit (parts_of program)) }
     ensures fault { OnSiteFault result (spec.IsNameFault path.now lines.now unit) }
 {
