@@ -1,10 +1,14 @@
 //! A recording is fed to a site by one lane, and the answers are written as they come.
 #![tactic(auto)]
 
+mod bringing;
 mod coming;
 mod feeding;
 mod handing;
 mod laws;
+mod near;
+mod round;
+mod slicing;
 mod stop;
 mod turns;
 mod winding_up;
@@ -13,5 +17,6 @@ mod writing;
 
 pub use feeding::feed;
 pub use laws::journals_have_lines;
+pub use near::hand_out_near;
 pub use stop::FeedStop;
 pub use writing::{write_done, write_lines};
