@@ -27,9 +27,9 @@ use Rattle.asp_record.specs.Recorded as recorded
 use Rattle.asp_replay.specs.declared.stop.FeedStop.{FeedStop}
 use Rattle.asp_replay.specs.declared.stop.FeedStop.TheVariants as stop
 use Rattle.asp_feed.specs.Feeding.{Clients, IsJobOf, clients_after, is_calm}
-use Rattle.asp_replay.specs.Near.{BringsNear, HasWorked, IsBorneOut, IsDue, IsNear, NearAfter}
+use Rattle.asp_replay.specs.Near.{BringsNear, EndsNear, HasWorked, IsBorneOut, IsDue, IsNear, NearAfter}
 use Rattle.asp_replay.specs.Sequential.{AddsItem, may_come}
-use Rattle.asp_replay.specs.Underway.{EndsSo, IsItemTooMuch, admit_stop, event_stop}
+use Rattle.asp_replay.specs.Underway.{IsItemTooMuch, admit_stop, event_stop}
 use Rattle.asp_replay.proofs.Causes.{item_cause, next_is, stop_cause}
 use Rattle.asp_replay.proofs.Grown.{all_come, calm_where}
 use Rattle.asp_replay.proofs.Others.{lane_in, turn_borne, turn_found}
@@ -48,18 +48,18 @@ brings_memory m past clients then_clients next = λ items left before held borne
 
 module _ (m : Rules) (old mid : List Entry) (worked : HasWorked old mid) (right : AreRight m mid)
     (next : Item) (due : IsDue m old (recorded.moment_of next)) where
-  abbrev moment : ℕ
-  moment = recorded.moment_of next
+  abbrev its_moment : ℕ
+  its_moment = recorded.moment_of next
 
   -- where time goes on nothing came meanwhile
-  same_where : moment_of mid < moment → mid ≡ old
+  same_where : moment_of mid < its_moment → mid ≡ old
   same_where later =
-      let then_later = subst (λ n. n < moment) (quiet_moment old mid (worked_quiet old mid worked)) later in
-      let calm = calm_where old moment due.may then_later in
+      let then_later = subst (λ n. n < its_moment) (quiet_moment old mid (worked_quiet old mid worked)) later in
+      let calm = calm_where old its_moment due.may then_later in
       let none = calm_none m old worked.entries (subst (AreRight m) worked.new_is right) calm worked.work in
       worked.new_is ∙ ap (past_after old) none
 
-  none_where : moment_of mid < moment → ready m mid ≡ []
+  none_where : moment_of mid < its_moment → ready m mid ≡ []
   none_where later = ap (ready m) (same_where later) ∙ due.none_ready
 
   -- the item came
@@ -70,7 +70,7 @@ module _ (m : Rules) (old mid : List Entry) (worked : HasWorked old mid) (right 
       let borne_then = subst (IsBorneOut m) is borne in
       let here = borne_before m mid entries borne_then in
       let found = near_worked m items before held old mid clients (next ∷ left) worked right here.answered near in
-      let may = may_stays m old mid moment (worked_quiet old mid worked) right due.may in
+      let may = may_stays m old mid its_moment (worked_quiet old mid worked) right due.may in
       subst (λ past. IsNear m items past then_clients left before held) (sym is)
       (near_came m items before held mid entries clients then_clients next left (subst (AreRight m) is right_new)
       borne_then.answered may none_where adds found)
@@ -82,8 +82,8 @@ module _ (m : Rules) (old mid : List Entry) (worked : HasWorked old mid) (right 
   brings_not new clients then_clients ended is so not = λ items left before held borne near.
       let here = subst (IsBorneOut m) is borne in
       let found = near_worked m items before held old mid clients (next ∷ left) worked right here.answered near in
-      let may = may_stays m old mid moment (worked_quiet old mid worked) right due.may in
-      subst (λ past. EndsSo m items past ended before held) (sym is)
+      let may = may_stays m old mid its_moment (worked_quiet old mid worked) right due.may in
+      subst (λ past. EndsNear m items past ended before held) (sym is)
       (near_ends m items before held mid clients (next ∷ left) ended
       (item_cause m items mid clients next ended found.started (next_is items mid clients next left may found.stands)
       so not) found)
@@ -124,10 +124,10 @@ module _ {F : Type 0} (m : Rules) (a b : LaneView Entry F) (has : HasOwn lane_in
       (due (turn_borne m does a b (Ok count) turn borne)) (reverse b.seen) entries clients clients is right (refl, refl)
       items left before held borne near
 
-  tick_same : (moment : ℕ) (before after : List Entry) (ended : EventStop)
-      → Ticks m a.number moment before (Err ended) after → after ≡ before
-  tick_same moment before after (event.JournalFull full) does = does.0
-  tick_same moment before after event.Memory does = does.0
+  tick_same : (at : ℕ) (before after : List Entry) (ended : EventStop)
+      → Ticks m a.number at before (Err ended) after → after ≡ before
+  tick_same at before after (event.JournalFull full) does = does.0
+  tick_same at before after event.Memory does = does.0
 
   tick_much : (moment : ℕ) (before after : List Entry) (ended : EventStop) (told : FeedStop) (full : Full)
       → Ticks m a.number moment before (Err ended) after → told ≡ event_stop ended

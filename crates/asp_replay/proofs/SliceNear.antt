@@ -31,7 +31,7 @@ use Rattle.asp_replay.specs.Feed.IsTooMuchNext.{OfBegin, OfCall}
 use Rattle.asp_replay.specs.Feed.{IsTooMuchNext}
 use Rattle.asp_feed.specs.Feeding.{IsFedPart}
 use Rattle.asp_record.specs.declared.recording.Item.{Item}
-use Rattle.asp_replay.specs.Near.{HasWorked, IsBorneOut, StaysNear}
+use Rattle.asp_replay.specs.Near.{HasWorked, IsBorneOut, IsTooMuchHere, StaysNear, WasMuchNear}
 use Rattle.asp_replay.proofs.Grown.{fed_part}
 use Rattle.asp_replay.proofs.Others.{lane_in, later_work, work_found}
 use Rattle.asp_replay.proofs.Quiet.{borne_before}
@@ -39,16 +39,12 @@ use Rattle.asp_replay.proofs.Showing.{right_before}
 use Rattle.asp_replay.proofs.StandsNear.{near_ends, near_worked}
 use Rattle.asp_replay.proofs.TakenNear.{worked_quiet}
 
--- so many entries of that weight are too much here, with a Begin or with a call of an unfinished run
-abbrev pub IsTooMuchHere : Rules → List Entry → Full → Type 0
-IsTooMuchHere rules past full = IsBeginTooMuch rules past 0 full ⊎ ((run : ℕ) × IsCallTooMuch rules past 0 run full)
-
--- they were at a turn between two moments of a lane
+-- so many entries of that weight were too much at a turn between two moments of a lane
 pub record IsTooMuchBetween {F : Type 0} (rules : Rules) (old new : LaneView Entry F) (full : Full) : Type 0 where
   pub before : List Entry
   pub later : BeginsWith before old.seen
   pub earlier : BeginsWith new.seen before
-  pub much : IsTooMuchHere rules (reverse before) full
+  pub much : IsTooMuchHere rules (reverse before) old.number full
 
 -- ---- in a slice
 
@@ -87,12 +83,12 @@ module _ {R Site State : Type 0} (pace : R → Pace) (meaning : R → Site → M
       subst (IsCallTooMuch (rules_at meaning host) (reverse before) lane run.number) same here
 
   stepped_much : (a ready paused b : Hand) (stepped : Stepped) (full : Full) → AddsWork a.lane ready.lane
-      → a.lane.number ≡ 0 → HasGoneOn pace meaning stands host ready false paused
+      → HasGoneOn pace meaning stands host ready false paused
       → HasStepped pace meaning stands host paused stepped b → slice.JournalFull full ≡ slice_of stepped
       → IsTooMuchBetween (rules_at meaning host) a.lane b.lane full
-  stepped_much a ready paused b stepped full adds zero gone has is =
-      let number : paused.lane.number ≡ 0 = ap (λ (l : LaneView Entry (Fixed R Site)). l.number) gone.lane
-      ∙ adds.number ∙ zero in
+  stepped_much a ready paused b stepped full adds gone has is =
+      let number : paused.lane.number ≡ a.lane.number = ap (λ (l : LaneView Entry (Fixed R Site)). l.number) gone.lane
+      ∙ adds.number in
       let seen : BeginsWith paused.lane.seen a.lane.seen =
       subst (λ l. BeginsWith l a.lane.seen) (sym (ap (λ (l : LaneView Entry (Fixed R Site)). l.seen) gone.lane))
       adds.later in
@@ -109,33 +105,32 @@ module _ {R Site State : Type 0} (pace : R → Pace) (meaning : R → Site → M
         );
       }
 
-  rest_much : (a ready b : Hand) (full : Full) → AddsWork a.lane ready.lane → a.lane.number ≡ 0
+  rest_much : (a ready b : Hand) (full : Full) → AddsWork a.lane ready.lane
       → Works pace meaning stands host may_hold ready (slice.JournalFull full) b
       → IsTooMuchBetween (rules_at meaning host) a.lane b.lane full
-  rest_much a ready b full adds zero (inl held) = absurd (let is = held.1 in cc)
-  rest_much a ready b full adds zero (inr (inl more)) = absurd (let is = more.1 in cc)
-  rest_much a ready b full adds zero (inr (inr (paused, stepped, gone, has, is))) =
-      stepped_much a ready paused b stepped full adds zero gone has is
+  rest_much a ready b full adds (inl held) = absurd (let is = held.1 in cc)
+  rest_much a ready b full adds (inr (inl more)) = absurd (let is = more.1 in cc)
+  rest_much a ready b full adds (inr (inr (paused, stepped, gone, has, is))) =
+      stepped_much a ready paused b stepped full adds gone has is
 
-  -- what did not fit in a slice of lane 0
-  pub slice_much : (a b : Hand) (full : Full) → a.lane.number ≡ 0
+  -- what did not fit in a slice
+  pub slice_much : (a b : Hand) (full : Full)
       → IsSlice pace meaning stands host may_hold a (slice.JournalFull full) b
       → IsTooMuchBetween (rules_at meaning host) a.lane b.lane full
-  slice_much a b full zero (inl (why, refused, is)) = record {
+  slice_much a b full (inl (why, refused, is)) = record {
     before = refused.turn.before;
     later = refused.turn.fits.0;
     earlier = (refused.turn.grows.0, refused.turn.grows.1);
-    much = inl (subst (λ n. IsBeginTooMuch (rules_at meaning host) (reverse refused.turn.before) n full) zero
-        (begins_much (rules_at meaning host) a.lane.number refused.turn.before b.lane.seen why full is
-        refused.turn.done));
+    much = inl (begins_much (rules_at meaning host) a.lane.number refused.turn.before b.lane.seen why full is
+        refused.turn.done);
   }
-  slice_much a b full zero (inr (ready, is, works)) =
-      rest_much a ready b full (ready_adds pace meaning stands host may_hold a ready is) zero works
+  slice_much a b full (inr (ready, is, works)) =
+      rest_much a ready b full (ready_adds pace meaning stands host may_hold a ready is) works
 
 -- ---- the feed then ends
 
-next_much : (rules : Rules) (items : List Item) (past : List Entry) (full : Full) → IsFedPart items past
-    → IsTooMuchHere rules past full → IsTooMuchNext rules items past full
+pub next_much : (rules : Rules) (items : List Item) (past : List Entry) (full : Full) → IsFedPart items past
+    → IsTooMuchHere rules past 0 full → IsTooMuchNext rules items past full
 next_much rules items past full fed (inl much) = OfBegin fed much
 next_much rules items past full fed (inr much) = OfCall fed much.0 much.1
 
@@ -157,6 +152,17 @@ module _ {F : Type 0} (m : Rules) (a b : LaneView Entry F) (adds : AddsWork a b)
         new_is = ap reverse later.1 ∙ past_of_more a.seen later.0;
         work = first_work later.0 earlier.0 (subst AreWork same (later_work a b adds has zero borne.others));
       }
+
+  -- where something did not fit
+  pub much_near : (full : Full) → IsTooMuchBetween m a b full
+      → WasMuchNear m (reverse a.seen) (reverse b.seen) full
+  much_near full much = record {
+    before = reverse much.before;
+    worked = work_first much.before much.later much.earlier;
+    later = reverse much.earlier.0;
+    new_is = ap reverse much.earlier.1 ∙ reverse-append much.before much.earlier.0;
+    much = subst (λ n. IsTooMuchHere m (reverse much.before) n full) zero much.much;
+  }
 
   -- a slice that was stopped for want of memory
   pub stays_memory : {T : Type 0} → (held : Option (List ℕ))
@@ -190,7 +196,8 @@ module _ {F : Type 0} (m : Rules) (a b : LaneView Entry F) (adds : AddsWork a b)
               before,
               reverse much.earlier.0,
               ap reverse much.earlier.1 ∙ reverse-append much.before much.earlier.0,
-              next_much m items before full (fed_part items before clients left found.stands) much.much,
+              next_much m items before full (fed_part items before clients left found.stands)
+                  (subst (λ n. IsTooMuchHere m before n full) zero much.much),
             ) (near_worked m items kept held (reverse a.seen) (reverse b.seen) clients left worked right
             borne.answered is);
       }

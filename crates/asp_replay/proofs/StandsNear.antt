@@ -19,9 +19,9 @@ use Rattle.asp_replay.specs.declared.stop.FeedStop.TheVariants as stop
 use Rattle.asp_replay.specs.Feed.{HasCause}
 use Rattle.asp_feed.specs.Feeding.{Clients, is_calm}
 use Rattle.asp_feed.specs.Shown.{AreRecords, IsRecord, Shown, shown_of}
-use Rattle.asp_replay.specs.Near.{HasWorked, IsNear}
+use Rattle.asp_replay.specs.Near.{EndsNear, HasWorked, IsNear}
 use Rattle.asp_replay.specs.Sequential.{AddsItem, may_come}
-use Rattle.asp_replay.specs.Underway.{EndsSo, StandsAt, WritesRecord, stamped}
+use Rattle.asp_replay.specs.Underway.{StandsAt, WritesRecord, stamped}
 use Rattle.asp_replay.proofs.Events.{quiet_all, quiet_one}
 use Rattle.asp_replay.proofs.Grown.{come_stands, fed_part, item_shows, stands_same, stop_stands}
 use Rattle.asp_replay.proofs.Handed.{ready_handed, shown_handed}
@@ -94,18 +94,21 @@ module _ (m : Rules) (items : List Item) (before held : Option (List ℕ)) where
   -- the feed ends where it stands
   pub near_ends : (past : List Entry) (clients : Clients) (left : List Item) (ended : FeedStop)
       → HasCause m items past ended → IsNear m items past clients left before held
-      → EndsSo m items past ended before held
+      → EndsNear m items past ended before held
   near_ends past clients left ended cause is = record {
-    fed = fed_part items past clients left is.stands;
-    cause = cause;
-    written = record {
-      first = is.done;
-      later = stamped m past;
-      shown_are = is.shown;
-      records = is.records;
-      are_records = is.are_records;
-      wrote = part_whole before held is.records is.wrote;
+    ends = record {
+      fed = fed_part items past clients left is.stands;
+      cause = cause;
+      written = record {
+        first = is.done;
+        later = stamped m past;
+        shown_are = is.shown;
+        records = is.records;
+        are_records = is.are_records;
+        wrote = part_whole before held is.records is.wrote;
+      };
     };
+    started = is.started;
   }
 
 -- ---- hand-outs
@@ -143,39 +146,46 @@ module _ (m : Rules) (items : List Item) (before : Option (List ℕ)) where
   -- its record was not written whole
   pub out_ends : (past : List Entry) (clients : Clients) (left : List Item)
       (held after : Option (List ℕ)) (first : ℕ × Answer) (rest : List (ℕ × Answer)) (ended : FeedStop)
-      → ready m past ≡ first ∷ rest → WritesRecord {T = Unit {0}} (shown_one past first) (Err ended) held after
-      → IsNear m items past clients left before held → EndsSo m items (taken past first) ended before after
-  out_ends past clients left held after first rest stop.WriteFault waits wrote is =
+      → ready m past ≡ first ∷ rest → AreRight m (taken past first)
+      → WritesRecord {T = Unit {0}} (shown_one past first) (Err ended) held after
+      → IsNear m items past clients left before held → EndsNear m items (taken past first) ended before after
+  out_ends past clients left held after first rest stop.WriteFault waits right wrote is =
       let one = shown_one past first in
       let stands = stands_same items past (taken past first) clients left
       (quiet_one past (with_lane 0 (Take first.0)) refl) is.stands in
       record {
-        fed = fed_part items (taken past first) clients left stands;
-        cause = tt;
-        written = record {
-          first = is.done ++ one ∷ [];
-          later = stamp (moment_of past) rest;
-          shown_are = is.shown ∙ ap (λ answers. is.done ++ stamp (moment_of past) answers) waits
-              ∙ sym (append_assoc is.done (one ∷ []) (stamp (moment_of past) rest));
-          records = is.records ++ wrote.0;
-          are_records = records_more is.done one is.records wrote.0 is.are_records wrote.1;
-          wrote = part_more before held after is.records wrote.0 is.wrote wrote.2;
+        ends = record {
+          fed = fed_part items (taken past first) clients left stands;
+          cause = tt;
+          written = record {
+            first = is.done ++ one ∷ [];
+            later = stamp (moment_of past) rest;
+            shown_are = is.shown ∙ ap (λ answers. is.done ++ stamp (moment_of past) answers) waits
+                ∙ sym (append_assoc is.done (one ∷ []) (stamp (moment_of past) rest));
+            records = is.records ++ wrote.0;
+            are_records = records_more is.done one is.records wrote.0 is.are_records wrote.1;
+            wrote = part_more before held after is.records wrote.0 is.wrote wrote.2;
+          };
         };
+        started = started_stays m past (with_lane 0 (Take first.0) ∷ []) right is.started;
       }
-  out_ends past clients left held after first rest stop.Memory waits same is =
+  out_ends past clients left held after first rest stop.Memory waits right same is =
       let stands = stands_same items past (taken past first) clients left
       (quiet_one past (with_lane 0 (Take first.0)) refl) is.stands in
       record {
-        fed = fed_part items (taken past first) clients left stands;
-        cause = tt;
-        written = record {
-          first = is.done;
-          later = stamped m past;
-          shown_are = is.shown;
-          records = is.records;
-          are_records = is.are_records;
-          wrote = part_whole before after is.records (same ∙ is.wrote);
+        ends = record {
+          fed = fed_part items (taken past first) clients left stands;
+          cause = tt;
+          written = record {
+            first = is.done;
+            later = stamped m past;
+            shown_are = is.shown;
+            records = is.records;
+            are_records = is.are_records;
+            wrote = part_whole before after is.records (same ∙ is.wrote);
+          };
         };
+        started = started_stays m past (with_lane 0 (Take first.0) ∷ []) right is.started;
       }
-  out_ends past clients left held after first rest (stop.JournalFull full) waits none is = absurd none
-  out_ends past clients left held after first rest (stop.StartFailed fail) waits none is = absurd none
+  out_ends past clients left held after first rest (stop.JournalFull full) waits right none is = absurd none
+  out_ends past clients left held after first rest (stop.StartFailed fail) waits right none is = absurd none

@@ -16,8 +16,8 @@ use Rattle.asp_record.specs.declared.recording.Item.{Item}
 use Rattle.asp_replay.specs.declared.stop.FeedStop.{FeedStop}
 use Rattle.asp_replay.specs.declared.stop.FeedStop.TheVariants as stop
 use Rattle.asp_feed.specs.Feeding.{Clients, is_calm}
-use Rattle.asp_replay.specs.Near.{IsBorneOut, IsNear}
-use Rattle.asp_replay.specs.Underway.{EndsSo, event_stop}
+use Rattle.asp_replay.specs.Near.{EndsNear, IsBorneOut, IsNear}
+use Rattle.asp_replay.specs.Underway.{event_stop}
 use Rattle.asp_replay.proofs.Causes.{stop_cause}
 use Rattle.asp_replay.proofs.Grown.{all_come}
 use Rattle.asp_replay.proofs.ItemsNear.{event_no_start, found_so, zero_entries}
@@ -31,10 +31,10 @@ module _ {F : Type 0} (m : Rules) (a b : LaneView Entry F) (has : HasOwn lane_in
     (items : List Item) (clients : Clients) (before held : Option (List ℕ)) (borne : IsBorneOut m (reverse b.seen))
     (near : IsNear m items (reverse a.seen) clients [] before held) where
   -- it came
-  stop_comes : (turn : IsTurn (Stops {A = Unit {0}} m a.number) a (Ok tt) b)
+  stop_comes : (turn : IsTurn (Stops m a.number {A = Unit {0}}) a (Ok tt) b)
       → is_stopping (reverse turn.before) ≡ false → IsNear m items (reverse b.seen) clients [] before held
   stop_comes turn once =
-      let does = Stops {A = Unit {0}} m a.number in
+      let does = Stops m a.number {A = Unit {0}} in
       let past = reverse turn.before in
       let entries = stop_entries m past 0 in
       let is = zero_entries m a b has zero right turn.before b.seen (λ n. stop_entries m past n) (turn.done.0 once) in
@@ -48,10 +48,10 @@ module _ {F : Type 0} (m : Rules) (a b : LaneView Entry F) (has : HasOwn lane_in
       (near_stopped m items before held past clients (subst (AreRight m) is right) borne_then.answered calm once here)
 
   -- it stood already
-  stop_stood : (turn : IsTurn (Stops {A = Unit {0}} m a.number) a (Ok tt) b)
+  stop_stood : (turn : IsTurn (Stops m a.number {A = Unit {0}}) a (Ok tt) b)
       → is_stopping (reverse turn.before) ≡ true → IsNear m items (reverse b.seen) clients [] before held
   stop_stood turn stood =
-      let does = Stops {A = Unit {0}} m a.number in
+      let does = Stops m a.number {A = Unit {0}} in
       let past = reverse turn.before in
       let is : reverse b.seen ≡ past = ap reverse (turn.done.1 stood) in
       let found = found_so m a b has zero right does (Ok tt) turn [] is borne in
@@ -59,7 +59,7 @@ module _ {F : Type 0} (m : Rules) (a b : LaneView Entry F) (has : HasOwn lane_in
       (near_worked m items before held (reverse a.seen) past clients [] found.0 found.1
       (subst (IsBorneOut m) is borne).answered near)
 
-  pub stop_near : (turn : IsTurn (Stops {A = Unit {0}} m a.number) a (Ok tt) b)
+  pub stop_near : (turn : IsTurn (Stops m a.number {A = Unit {0}}) a (Ok tt) b)
       → IsNear m items (reverse b.seen) clients [] before held
   stop_near turn = elim (cases_Bool (is_stopping (reverse turn.before))) [
     | inl stood ↦ stop_stood turn stood
@@ -67,13 +67,13 @@ module _ {F : Type 0} (m : Rules) (a b : LaneView Entry F) (has : HasOwn lane_in
   ]
 
   stop_same : (before_it after : List Entry) (ended : EventStop)
-      → Stops {A = Unit {0}} m a.number before_it (Err ended) after
+      → Stops m a.number {A = Unit {0}} before_it (Err ended) after
       → (after ≡ before_it) × (is_stopping (reverse before_it) ≡ false)
   stop_same before_it after (event.JournalFull full) does = (does.0, does.1)
   stop_same before_it after event.Memory does = (does.0, does.1)
 
   stop_much : (before_it after : List Entry) (ended : EventStop) (told : FeedStop) (full : Full)
-      → Stops {A = Unit {0}} m a.number before_it (Err ended) after → told ≡ event_stop ended
+      → Stops m a.number {A = Unit {0}} before_it (Err ended) after → told ≡ event_stop ended
       → told ≡ stop.JournalFull full
       → IsTooMuch (past_after (reverse before_it) (stop_entries m (reverse before_it) 0)) full
   stop_much before_it after (event.JournalFull much) told full does from is =
@@ -84,10 +84,10 @@ module _ {F : Type 0} (m : Rules) (a b : LaneView Entry F) (has : HasOwn lane_in
   stop_much before_it after event.Memory told full does from is = absurd cc
 
   -- it did not come
-  pub stop_not : (ended : EventStop) (told : FeedStop) (turn : IsTurn (Stops {A = Unit {0}} m a.number) a (Err ended) b)
-      → told ≡ event_stop ended → EndsSo m items (reverse b.seen) told before held
+  pub stop_not : (ended : EventStop) (told : FeedStop) (turn : IsTurn (Stops m a.number {A = Unit {0}}) a (Err ended) b)
+      → told ≡ event_stop ended → EndsNear m items (reverse b.seen) told before held
   stop_not ended told turn from =
-      let does = Stops {A = Unit {0}} m a.number in
+      let does = Stops m a.number {A = Unit {0}} in
       let past = reverse turn.before in
       let same = stop_same turn.before b.seen ended turn.done in
       let is : reverse b.seen ≡ past = ap reverse same.0 in
@@ -96,7 +96,7 @@ module _ {F : Type 0} (m : Rules) (a b : LaneView Entry F) (has : HasOwn lane_in
       (subst (IsBorneOut m) is borne).answered near in
       let calm = calm_stays m (reverse a.seen) past (worked_quiet (reverse a.seen) past found.0) found.1
       (due (turn_borne m does a b (Err ended) turn borne)) in
-      subst (λ new. EndsSo m items new told before held) (sym is)
+      subst (λ new. EndsNear m items new told before held) (sym is)
       (near_ends m items before held past clients [] told
       (stop_cause m items past told here.started (record {
         clients = clients;

@@ -14,12 +14,12 @@ use Rattle.asp_job.specs.Rules.{Rules}
 use Rattle.asp_job.specs.Runs.{moment_of}
 use Rattle.asp_replay.specs.declared.stop.FeedStop.{FeedStop}
 use Rattle.asp_feed.specs.Shown.{IsRecord}
-use Rattle.asp_replay.specs.Near.{GrowsQuietly, HasTaken, HasWorked, IsBorneOut, IsNear, StaysNear}
-use Rattle.asp_replay.specs.Underway.{EndsSo, WritesRecord}
+use Rattle.asp_replay.specs.Near.{EndsNear, GrowsQuietly, HasTaken, HasWorked, IsBorneOut, IsNear, StaysNear}
+use Rattle.asp_replay.specs.Underway.{WritesRecord}
 use Rattle.asp_replay.proofs.Events.{quiet_all}
 use Rattle.asp_replay.proofs.HandingOut.{head_first, none_first, ready_asked}
 use Rattle.asp_replay.proofs.Others.{lane_in, turn_found}
-use Rattle.asp_replay.proofs.Quiet.{borne_before, borne_quiet, quiet_comes, quiet_then, work_quiet}
+use Rattle.asp_replay.proofs.Quiet.{borne_before, borne_quiet, quiet_comes, quiet_none, quiet_then, work_quiet}
 use Rattle.asp_replay.proofs.Showing.{right_before}
 use Rattle.asp_replay.proofs.StandsNear.{near_out, near_worked, out_ends, shown_one, taken}
 
@@ -139,13 +139,17 @@ module _ (m : Rules) (old new : List Entry) (held after : Option (List ℕ)) (fi
   stays_ended ended wrote = record {
     grows = taken_quiet m old new first has;
     near = λ items left clients before is.
-        subst (λ past. EndsSo m items past ended before after) (sym has.new_is)
+        subst (λ past. EndsNear m items past ended before after) (sym has.new_is)
         (out_ends m items before has.mid clients left held after first has.rest ended has.waits
-        (subst (λ shown. WritesRecord {T = Unit {0}} shown (Err ended) held after) its_shown wrote)
+        right_taken (subst (λ shown. WritesRecord {T = Unit {0}} shown (Err ended) held after) its_shown wrote)
         (near_worked m items before held old has.mid clients left has.worked right_taken.1 borne_mid.answered is));
   }
 
 -- ---- one behind another
+
+pub stays_none : (m : Rules) (past : List Entry) (held : Option (List ℕ))
+    → StaysNear {T = Unit {0}} m (Ok tt) past past held held
+stays_none m past held = record { grows = quiet_none past; near = λ items left clients before is. is }
 
 pub stays_then : {T U : Type 0} → (given : T) (result : Result U FeedStop) (m : Rules) (old mid new : List Entry)
     (held between after : Option (List ℕ)) → StaysNear m (Ok given) old mid held between

@@ -2,3 +2,4 @@ pub mod Sequential
 pub mod Feed
 pub mod Underway
 pub mod Near
+pub mod Workers

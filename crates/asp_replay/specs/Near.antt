@@ -1,6 +1,9 @@
 -- What lane 0 knows of a host that it feeds while other lanes work there. All of it is the product's own.
-use Rattle.std.specs.Prelude.{◌≡◌, ◌⊎◌, ℕ, true, List, [], ◌∷◌, ◌++◌, reverse}
+use Rattle.std.specs.Prelude.{◌≡◌, ◌⊎◌, ℕ, ◌==◌, ◌&&◌, ◌||◌, Bool, true, nat_le, nat_lt, List, [], ◌∷◌, ◌++◌, reverse}
+use Rattle.std.specs.Prelude.{is_some}
+use Rattle.asp_job.specs.declared.entry.TheConstants.{MOST_WAITING}
 use Rattle.std.specs.Prelude.{Option, Some, None, Result, Ok, Err}
+use Rattle.std.specs.Borrow.{Bor}
 use Rattle.turn_desk.specs.Shown.{HasOwn}
 use Rattle.asp_job.specs.declared.entry.Entry.{Entry}
 use Rattle.asp_job.specs.declared.entry.What.{What}
@@ -9,20 +12,25 @@ use Rattle.asp_job.specs.declared.answer.Answer.{Answer}
 use Rattle.asp_job.specs.History.{with_lane}
 use Rattle.asp_job.specs.Journal.{past_after}
 use Rattle.asp_job.specs.Rules.{Rules}
-use Rattle.asp_job.specs.Runs.{is_stopping}
+use Rattle.asp_job.specs.Runs.{is_halted, is_stopping}
 use Rattle.asp_job.specs.Told.{Meaning, Told}
-use Rattle.asp_core.specs.Kernel.{RunView}
+use Rattle.asp_core.specs.Kernel.{IsBeginTooMuch, RunView}
+use Rattle.asp_core.specs.Laws.{NoneIs}
 use Rattle.asp_core.specs.Ready.{IsAnswered, ready}
 use Rattle.asp_desk.specs.Calls.{AreWork, IsWork, looked_of}
 use Rattle.asp_desk.specs.declared.looking.Looked.{Looked}
 use Rattle.asp_desk.specs.Hands.{Fixed, HandView, HostView, IsHandOf}
 use Rattle.asp_io.specs.Sink.{with_bytes}
+use Rattle.asp_job.specs.declared.entry.EndKind.TheVariants as kind
+use Rattle.asp_journal.specs.declared.full.Full.{Full}
 use Rattle.asp_lane.specs.Started.{HasStarted}
+use Rattle.asp_lane.specs.Turns.{IsCallTooMuch}
 use Rattle.asp_record.specs.declared.recording.Item.{Item}
 use Rattle.asp_replay.specs.declared.stop.FeedStop.{FeedStop}
-use Rattle.asp_feed.specs.Feeding.{Clients, IsFed, is_calm}
+use Rattle.asp_replay.specs.declared.stop.FeedStop.TheVariants as stop
+use Rattle.asp_feed.specs.Feeding.{Clients, IsFed, IsFedPart, comes, is_calm}
 use Rattle.asp_feed.specs.Shown.{AreRecords, Shown, shown_of}
-use Rattle.asp_replay.specs.Feed.{AreWritten}
+use Rattle.asp_replay.specs.Feed.{ArePartWritten, AreWritten, IsPassed, WasTooMuch}
 use Rattle.asp_replay.specs.Sequential.{may_come}
 use Rattle.asp_replay.specs.Underway.{AreCurrent, EndsSo, StandsAt, stamped}
 
@@ -88,11 +96,17 @@ pub record IsNear (rules : Rules) (items : List Item) (past : List Entry) (clien
   pub are_records : AreRecords done records
   pub wrote : after ≡ with_bytes before records
 
+-- how a feed ends whose first run has ended well
+pub record EndsNear (rules : Rules) (items : List Item) (past : List Entry) (ended : FeedStop)
+    (before after : Option (List ℕ)) : Type 0 where
+  pub ends : EndsSo rules items past ended before after
+  pub started : HasStarted rules past
+
 -- where a feed stands, or how it ends
 abbrev pub NearAfter : {T : Type 0} → Result T FeedStop → Rules → List Item → List Entry → Clients → List Item →
     Option (List ℕ) → Option (List ℕ) → Type 0
 NearAfter (Ok given) rules items past clients left before after = IsNear rules items past clients left before after
-NearAfter (Err ended) rules items past clients left before after = EndsSo rules items past ended before after
+NearAfter (Err ended) rules items past clients left before after = EndsNear rules items past ended before after
 
 -- what a round of hand-outs comes to, where more of them may follow
 abbrev pub so_far : Option (Result (Unit {0}) FeedStop) → Result (Unit {0}) FeedStop
@@ -118,7 +132,64 @@ BringsNear result rules old new clients then_clients item = (items left : List I
     → IsBorneOut rules new → IsNear rules items old clients (item ∷ left) before held
     → NearAfter result rules items new then_clients left before held
 
+-- ---- what did not fit
+
+-- so many entries of that weight are too much here, with a Begin of this lane or with the call that its run wants
+abbrev pub IsTooMuchHere : Rules → List Entry → ℕ → Full → Type 0
+IsTooMuchHere rules past lane full =
+    IsBeginTooMuch rules past lane full ⊎ ((run : ℕ) × IsCallTooMuch rules past lane run full)
+
+-- it was so for lane 0, at a point of the journal up to which it had grown by work
+pub record WasMuchNear (rules : Rules) (old new : List Entry) (full : Full) : Type 0 where
+  pub before : List Entry
+  pub worked : HasWorked old before
+  pub later : List Entry
+  pub new_is : new ≡ later ++ before
+  pub much : IsTooMuchHere rules before 0 full
+
+-- a slice of lane 0's work, with what did not fit in it
+abbrev pub SlicesNear : {T : Type 0} → Result T FeedStop → Rules → List Entry → List Entry → Type 0
+SlicesNear (Ok given) rules old new = HasWorked old new
+SlicesNear (Err (stop.JournalFull full)) rules old new = HasWorked old new × WasMuchNear rules old new full
+SlicesNear (Err stop.Memory) rules old new = HasWorked old new
+SlicesNear (Err _) rules old new = ⊥
+
+-- ---- the first run
+
+-- it ended well; or it failed so, something did not fit, or memory ran out. Nothing came but work.
+abbrev pub Starts : Result (Unit {0}) FeedStop → Rules → List Entry → List Entry → Type 0
+Starts (Ok given) rules old new = HasWorked old new × HasStarted rules new
+Starts (Err (stop.JournalFull full)) rules old new = HasWorked old new × WasMuchNear rules old new full
+Starts (Err stop.WriteFault) rules old new = ⊥
+Starts (Err _) rules old new = HasWorked old new
+
+-- a part of that: it goes on, or this was its end
+abbrev pub GoesOn : Option (Result (Unit {0}) FeedStop) → Rules → List Entry → List Entry → Type 0
+GoesOn None rules old new = HasWorked old new
+GoesOn (Some done) rules old new = Starts done rules old new
+
+-- the hand is free where the first run has ended
+abbrev pub IsFreeThen : {Run : Type 0} → Result (Unit {0}) FeedStop → Option Run → Type 0
+IsFreeThen (Ok given) run = run ≡ None
+IsFreeThen (Err (stop.StartFailed fail)) run = run ≡ None
+IsFreeThen (Err _) run = Unit {0}
+
+-- how the first run has ended, by a look: it did well, or not
+abbrev pub StartedBy : Result (Unit {0}) FeedStop → Looked → Type 0
+StartedBy (Ok given) looked = (looked.start_kind ≡ Some kind.Done) × (looked.start_fail ≡ None)
+StartedBy (Err (stop.JournalFull full)) looked = ⊥
+StartedBy (Err stop.WriteFault) looked = ⊥
+StartedBy (Err _) looked = Unit {0}
+
 -- ---- rounds
+
+-- by a look: no run waits and none is unfinished; and an item of this moment may come
+abbrev pub calm_by : Looked → Bool
+calm_by looked = looked.waiting == 0 && looked.unfinished == 0
+
+abbrev pub may_by : Looked → ℕ → Bool
+may_by looked moment = is_some looked.start_kind && (nat_le moment looked.moment || calm_by looked)
+    && nat_lt looked.waiting_pages MOST_WAITING
 
 -- A look, and then runs and hand-outs until no answer waited: this is what it told.
 pub record IsSeen (rules : Rules) (looked : Looked) (past : List Entry) : Type 0 where
@@ -143,13 +214,46 @@ abbrev pub RoundNear : Result (Option (Bor (List Item))) FeedStop → Rules → 
 RoundNear (Ok (Some left)) rules items past clients before after =
     IsNear rules items past clients left.now before after
 RoundNear (Ok None) rules items past clients before after = IsFedNear rules items past before after
-RoundNear (Err ended) rules items past clients before after = EndsSo rules items past ended before after
+RoundNear (Err ended) rules items past clients before after = EndsNear rules items past ended before after
 
 -- all items were fed, or the feed ends
 abbrev pub FedNear : {T : Type 0} → Result T FeedStop → Rules → List Item → List Entry → Option (List ℕ) →
     Option (List ℕ) → Type 0
 FedNear (Ok given) rules items past before after = IsFedNear rules items past before after
-FedNear (Err ended) rules items past before after = EndsSo rules items past ended before after
+FedNear (Err ended) rules items past before after = EndsNear rules items past ended before after
+
+-- ---- how lane 0 leaves
+
+-- the journal has grown, and nothing came from outside
+pub record GrowsSilently (old new : List Entry) : Type 0 where
+  pub entries : List Entry
+  pub new_is : new ≡ past_after old entries
+  pub silent : NoneIs comes entries
+
+-- what did not fit, where that is why the feed ended
+abbrev pub Overflows : Rules → List Item → List Entry → FeedStop → Type 0
+Overflows rules items past (stop.JournalFull full) = WasTooMuch rules items past full
+Overflows rules items past _ = Unit {0}
+
+-- the host was halted, unless the first run has failed
+abbrev pub IsHaltedFor : FeedStop → List Entry → Type 0
+IsHaltedFor (stop.StartFailed fail) past = Unit {0}
+IsHaltedFor _ past = is_halted past ≡ true
+
+-- how lane 0 leaves a host that was not fed to its end
+pub record Leaves (rules : Rules) (items : List Item) (past : List Entry) (ended : FeedStop)
+    (before after : Option (List ℕ)) : Type 0 where
+  pub fed : IsFedPart items past
+  pub passed : IsPassed rules past ended
+  pub much : Overflows rules items past ended
+  pub written : ArePartWritten rules past before after
+  pub halted : IsHaltedFor ended past
+
+-- how it leaves one
+abbrev pub LeavesBy : {T : Type 0} → Result T FeedStop → Rules → List Item → List Entry → Option (List ℕ) →
+    Option (List ℕ) → Type 0
+LeavesBy (Ok given) rules items past before after = IsFedNear rules items past before after
+LeavesBy (Err ended) rules items past before after = Leaves rules items past ended before after
 
 -- ---- the hand
 

@@ -1,11 +1,14 @@
 //! A recording is fed to a site by one lane, and the answers are written as they come.
 #![tactic(auto)]
 
+mod beginning;
 mod bringing;
 mod coming;
 mod feeding;
 mod handing;
 mod laws;
+mod leaving;
+mod met;
 mod near;
 mod round;
 mod slicing;

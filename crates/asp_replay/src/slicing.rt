@@ -3,6 +3,7 @@
 
 ghost use Rattle.std.specs.Prelude.{◌≡◌, List, Option, ℕ, Err};
 ghost use Rattle.asp_desk.specs.Hands.{rules_at};
+ghost use Rattle.asp_job.specs.declared.answer.Fail.{Fail};
 ghost use Rattle.asp_replay.specs.Near as spec;
 
 use crate::stop::FeedStop;
@@ -23,7 +24,10 @@ pub fn work_near<Rt: Wait, R: Runner, G: Gate>(
     ensures near { (held : Option (List ℕ)) → spec.IsBorneOut (rules_at R.meaning host.now) (spec.past_in hand.new)
         → spec.StaysNear (rules_at R.meaning host.now) result (spec.past_in hand.old) (spec.past_in hand.new)
         held held }
+    ensures slice { spec.IsBorneOut (rules_at R.meaning host.now) (spec.past_in hand.new)
+        → spec.SlicesNear result (rules_at R.meaning host.now) (spec.past_in hand.old) (spec.past_in hand.new) }
     ensures no_fault { result ≡ Err FeedStop.WriteFault → ⊥ }
+    ensures no_start { (fail : Fail) → result ≡ Err (FeedStop.StartFailed fail) → ⊥ }
 {
     match host.work_slice(rt, hand, gate) {
         Slice::Worked => Ok(true),

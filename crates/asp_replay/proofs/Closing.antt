@@ -1,0 +1,234 @@
+-- Once all hands are back: the lanes beside lane 0 have only worked, and what lane 0 took for granted holds.
+use Rattle.std.proofs.Common.{◌≡◌, ◌⊎◌, ℕ, zero, suc, ◌+◌, ◌<◌, ◌≤◌, ◌==◌, Bool, true, false, List, [], ◌∷◌, ◌++◌, All, Option}
+use Rattle.std.proofs.Common.{None, Some, Result, Ok, Err, refl, ap, sym, ◌∙◌, subst, arith, inl, inr, length, map, reverse}
+use Rattle.std.proofs.Common.{append-nil}
+use Rattle.std.specs.List.{AllByRecursion, AllZip}
+use Rattle.std.proofs.lemmas.Bool.{cases_Bool, cases_lt, eq-eqb, eqb-true}
+use Rattle.std.proofs.lemmas.List.Elements.{All-cons, All-from_recursion, All-nil, recursion_from_All}
+use Rattle.turn_desk.specs.declared.view.Known.{Known}
+use Rattle.turn_desk.specs.Histories.{AreOfLanes, own_part}
+use Rattle.turn_desk.specs.Rule.{known}
+use Rattle.turn_desk.specs.Shown.{DeskView, HasOwn, LaneFits, LaneView, lane_view}
+use Rattle.turn_desk.specs.Steps.{fresh_lanes}
+use Rattle.asp_core.proofs.Kept.{past_of_more}
+use Rattle.asp_core.specs.Kernel.{RunView}
+use Rattle.asp_core.specs.Ready.{IsAnswered}
+use Rattle.asp_desk.specs.Calls.{AreWork, IsWork}
+use Rattle.asp_desk.specs.Crews.{LoopsOn, with_place}
+use Rattle.asp_desk.specs.declared.slices.Slice.{Slice}
+use Rattle.asp_desk.specs.declared.slices.Slice.TheVariants as slice
+use Rattle.asp_desk.specs.declared.worker.WorkerOf.{WorkerOf}
+use Rattle.asp_desk.specs.Hands.{Fixed, HandView, HostView, IsHandOf, rules_at}
+use Rattle.asp_desk.specs.Loops.{HasLooped, IsLast}
+use Rattle.asp_desk.specs.Opening.{first_journal, free_hand}
+use Rattle.asp_desk.specs.Working.{AddsWork}
+use Rattle.asp_desk.proofs.Working.{adds_none, loop_adds, slice_adds}
+use Rattle.asp_job.specs.declared.entry.Entry.{Entry}
+use Rattle.asp_job.specs.Journal.{AreRight, past_after}
+use Rattle.asp_job.specs.Rules.{Rules}
+use Rattle.asp_job.specs.Running.{Pace}
+use Rattle.asp_job.specs.Told.{Meaning, Told}
+use Rattle.asp_journal.specs.declared.full.Full.{Full}
+use Rattle.asp_record.specs.declared.recording.Item.{Item}
+use Rattle.asp_replay.specs.declared.stop.FeedStop.{FeedStop}
+use Rattle.asp_replay.specs.Near.{HasWorked, IsBorneOut, IsFedNear, IsTooMuchHere, LeavesBy, OthersWork}
+use Rattle.asp_replay.specs.Workers.{HasHelped, IsIdle, MeetsEnd, MetFull}
+use Rattle.asp_replay.proofs.Freeing.{looped_free}
+use Rattle.asp_replay.proofs.Leaving.{borne_silent, leaves_later, worked_silent}
+use Rattle.asp_replay.proofs.Others.{lane_in, work_between}
+use Rattle.asp_replay.proofs.Quiet.{calm_none}
+use Rattle.asp_replay.proofs.SliceNear.{IsTooMuchBetween, slice_much}
+use Rattle.std.proofs.lemmas.List.{reverse-append}
+
+-- ---- a journal whose lanes but lane 0 have work alone
+
+abbrev AreTheirs : ℕ → List Entry → Type 0
+AreTheirs count entries = (k : ℕ) → 0 < k → k < count → AreWork (own_part lane_in k entries)
+
+tail_own : (k : ℕ) (entry : Entry) (entries : List Entry) → AreWork (own_part lane_in k (entry ∷ entries))
+    → AreWork (own_part lane_in k entries)
+tail_own k entry entries work = elim (cases_Bool (entry.lane == k)) [
+  | inl own ↦ (let is : own_part lane_in k (entry ∷ entries) ≡ entry ∷ own_part lane_in k entries = rw own refl in
+      (subst AreWork is work).1)
+  | inr other ↦ (let is : own_part lane_in k (entry ∷ entries) ≡ own_part lane_in k entries = rw other refl in
+      subst AreWork is work)
+]
+
+head_own : (entry : Entry) (entries : List Entry) → AreWork (own_part lane_in entry.lane (entry ∷ entries))
+    → IsWork entry.what
+head_own entry entries work =
+    let own : (entry.lane == entry.lane) ≡ true = eq-eqb entry.lane entry.lane refl in
+    let is : own_part lane_in entry.lane (entry ∷ entries) ≡ entry ∷ own_part lane_in entry.lane entries =
+    rw own refl in
+    (subst AreWork is work).0
+
+positive : (n : ℕ) → (n == 0) ≡ false → 0 < n
+positive zero e = absurd cc
+positive (suc n) e = omega arith
+
+one_other : (count : ℕ) (entry : Entry) (entries : List Entry) → entry.lane < count
+    → AreTheirs count (entry ∷ entries) → (entry.lane ≡ 0) ⊎ IsWork entry.what
+one_other count entry entries below theirs = elim (cases_Bool (entry.lane == 0)) [
+  | inl own ↦ inl (eqb-true entry.lane 0 own)
+  | inr not ↦ inr (head_own entry entries (theirs entry.lane (positive entry.lane not) below))
+]
+
+others_in : (count : ℕ) (entries : List Entry) → AllByRecursion (λ (entry : Entry). entry.lane < count) entries
+    → AreTheirs count entries → OthersWork entries
+others_in count [] below theirs = tt
+others_in count (entry ∷ entries) below theirs = (
+  one_other count entry entries below.0 theirs,
+  others_in count entries below.1 (λ k some low. tail_own k entry entries (theirs k some low)),
+)
+
+others_after : (past entries : List Entry) → OthersWork past → OthersWork entries
+    → OthersWork (past_after past entries)
+others_after past [] before behind = before
+others_after past (entry ∷ entries) before behind = others_after (entry ∷ past) entries (behind.0, before) behind.1
+
+pub others_work : (count : ℕ) (journal : List Entry) → AreOfLanes lane_in count journal → AreTheirs count journal
+    → OthersWork (reverse journal)
+others_work count journal below theirs =
+    subst OthersWork (sym (past_of_more [] journal))
+    (others_after [] journal tt (others_in count journal
+    (recursion_from_All (λ (entry : Entry). entry.lane < count) journal below) theirs))
+
+-- ---- the hands of a new host
+
+fresh_own : (k : ℕ) → 0 < k → own_part lane_in k first_journal ≡ []
+fresh_own zero some = absurd (omega (arith, some))
+fresh_own (suc k) some = refl
+
+module _ {R Site State : Type 0} (meaning : R → Site → Meaning) (stands : R → Site → State → Told → ℕ → Type 0)
+    (host : HostView R Site) where
+  abbrev Hand : Type 0
+  Hand = HandView Entry (Fixed R Site) (RunView State)
+
+  abbrev Worker : Type 0
+  Worker = WorkerOf Hand Slice
+
+  -- the hands from this number on
+  abbrev pub hands_from : ℕ → ℕ → List Hand
+  hands_from number count = map free_hand (map (lane_view host.desk) (fresh_lanes lane_in first_journal number count))
+
+  -- workers numbered from this number on, which have no entries yet
+  abbrev pub AreFresh : ℕ → List Worker → Type 0
+  AreFresh number [] = Unit {0}
+  AreFresh number (worker ∷ workers) =
+      (worker.hand.lane.number ≡ number) × (worker.hand.lane.own ≡ []) × AreFresh (suc number) workers
+
+  pub fresh_from : (number count : ℕ) → 0 < number → AreFresh number (map (with_place slice.Idle) (hands_from number count))
+  fresh_from number zero some = tt
+  fresh_from number (suc count) some =
+      (refl, fresh_own number some, fresh_from (suc number) count (omega (arith, some)))
+
+  -- ---- helpers
+
+  met_by : (lane : LaneView Entry (Fixed R Site)) (made : Slice) → made ≡ slice.Idle
+      → MeetsEnd (rules_at meaning host) lane made
+  met_by lane made is = subst (MeetsEnd (rules_at meaning host) lane) (sym is) tt
+
+  pub idle_helped : (worker : Worker) → IsIdle meaning stands host worker → HasHelped meaning stands host worker worker
+  idle_helped worker idle = record {
+    hand = idle.0;
+    free = idle.1;
+    work = adds_none worker.hand.lane worker.hand.lane refl;
+    ends = met_by worker.hand.lane worker.made idle.2;
+  }
+
+  module _ (pace : R → Pace) (may_hold : ℕ → Type 0) where
+    last_met : (a b : Hand) (full : Full) → IsLast pace meaning stands host may_hold a (slice.JournalFull full) b
+        → MetFull (rules_at meaning host) b.lane full
+    last_met a b full (inl idle) = absurd (let is = idle.0 in cc)
+    last_met a b full (inr (last, is)) =
+        let much = slice_much pace meaning stands host may_hold a b full is in
+        let number = (slice_adds pace meaning stands host may_hold a b (slice.JournalFull full) is).number in (
+          reverse much.before,
+          reverse much.earlier.0,
+          ap reverse much.earlier.1 ∙ reverse-append much.before much.earlier.0,
+          subst (λ n. IsTooMuchHere (rules_at meaning host) (reverse much.before) n full) (sym number) much.much,
+        )
+
+    made_met : (a b : Hand) (made : Slice) → IsLast pace meaning stands host may_hold a made b
+        → MeetsEnd (rules_at meaning host) b.lane made
+    made_met a b (slice.JournalFull full) is = last_met a b full is
+    made_met a b slice.Memory is = tt
+    made_met a b slice.Worked is = tt
+    made_met a b slice.Idle is = tt
+    made_met a b (slice.Blocked holder) is = tt
+    made_met a b slice.Held is = tt
+
+    pub loop_helped : (old new : Worker) → LoopsOn pace meaning stands may_hold host old new
+        → HasHelped meaning stands host old new
+    loop_helped old new loops = record {
+      hand = loops.hand;
+      free = looped_free pace meaning stands host may_hold old.hand new.hand new.made loops.hand loops.slices;
+      work = loop_adds pace meaning stands host may_hold old.hand new.hand new.made loops.slices;
+      ends = made_met loops.slices.mid new.hand new.made loops.slices.last;
+    }
+
+    pub all_helped : (olds news : List Worker) → AllZip (LoopsOn pace meaning stands may_hold host) olds news
+        → AllZip (HasHelped meaning stands host) olds news
+    all_helped [] [] all = tt
+    all_helped [] (new ∷ news) all = absurd all
+    all_helped (old ∷ olds) [] all = absurd all
+    all_helped (old ∷ olds) (new ∷ news) all = (loop_helped old new all.0, all_helped olds news all.1)
+
+  idles_helped : (workers : List Worker) → AllByRecursion (IsIdle meaning stands host) workers
+      → AllZip (HasHelped meaning stands host) workers workers
+  idles_helped [] all = tt
+  idles_helped (worker ∷ workers) all = (idle_helped worker all.0, idles_helped workers all.1)
+
+  pub none_helped : (workers : List Worker) → All (IsIdle meaning stands host) workers → AllZip (HasHelped meaning stands host) workers workers
+  none_helped workers all = idles_helped workers (recursion_from_All (IsIdle meaning stands host) workers all)
+
+  -- ---- hands that are back
+
+  -- numbered from this number on; their own entries are work
+  abbrev AreHelpers : ℕ → List Hand → Type 0
+  AreHelpers number [] = Unit {0}
+  AreHelpers number (hand ∷ hands) =
+      (hand.lane.number ≡ number) × AreWork hand.lane.own × AreHelpers (suc number) hands
+
+  pub helpers : (number : ℕ) (olds news : List Worker) → AreFresh number olds
+      → AllZip (HasHelped meaning stands host) olds news
+      → AreHelpers number (map (λ (worker : Worker). worker.hand) news)
+  helpers number [] [] fresh all = tt
+  helpers number [] (new ∷ news) fresh all = absurd all
+  helpers number (old ∷ olds) [] fresh all = absurd all
+  helpers number (old ∷ olds) (new ∷ news) fresh all = (
+    all.0.work.number ∙ fresh.0,
+    subst AreWork (sym (all.0.work.own_is ∙ ap (λ own. own ++ all.0.work.entries) fresh.1)) all.0.work.work,
+    helpers (suc number) olds news fresh.2 all.1,
+  )
+
+  helped_are : (olds news : List Worker) → AllZip (HasHelped meaning stands host) olds news
+      → AllByRecursion (IsHandOf meaning stands host) (map (λ (worker : Worker). worker.hand) news)
+  helped_are [] [] all = tt
+  helped_are [] (new ∷ news) all = absurd all
+  helped_are (old ∷ olds) [] all = absurd all
+  helped_are (old ∷ olds) (new ∷ news) all = (all.0.hand, helped_are olds news all.1)
+
+  helped_free : (olds news : List Worker) → AllZip (HasHelped meaning stands host) olds news
+      → AllByRecursion (λ (hand : Hand). hand.run ≡ None) (map (λ (worker : Worker). worker.hand) news)
+  helped_free [] [] all = tt
+  helped_free [] (new ∷ news) all = absurd all
+  helped_free (old ∷ olds) [] all = absurd all
+  helped_free (old ∷ olds) (new ∷ news) all = (all.0.free, helped_free olds news all.1)
+
+  helped_many : (olds news : List Worker) → AllZip (HasHelped meaning stands host) olds news → length news ≡ length olds
+  helped_many [] [] all = refl
+  helped_many [] (new ∷ news) all = absurd all
+  helped_many (old ∷ olds) [] all = absurd all
+  helped_many (old ∷ olds) (new ∷ news) all = ap suc (helped_many olds news all.1)
+
+  theirs_by : (journal : List Entry) (hands : List Hand) (from : ℕ) → AreHelpers from hands
+      → AllByRecursion (λ (hand : Hand). LaneFits lane_in journal hand.lane) hands → (k : ℕ) → from ≤ k
+      → k < from + length hands → AreWork (own_part lane_in k journal)
+  theirs_by journal [] from are fits k low high = absurd (omega (arith, low, high))
+  theirs_by journal (hand ∷ hands) from are fits k low high = elim (cases_lt from k) [
+    | inl later ↦ theirs_by journal hands (suc from) are.2 fits.1 k (omega (arith, later)) (omega (arith, high))
+    | inr here ↦ (let at : from ≡ k = omega (arith, low, here) in
+        let same : k ≡ hand.lane.number = sym at ∙ sym are.0 in
+        subst AreWork (sym (ap (λ n. own_part lane_in n journal) same ∙ fits.0.1)) are.1)
+  ]
