@@ -2,8 +2,8 @@
 use Rattle.std.proofs.Common.{◌≡◌, ℕ, zero, suc, ◌++◌, All, List, [], ◌∷◌, ap, sym, ◌∙◌, subst, append-nil}
 use Rattle.std.proofs.Common.{append_assoc, inl, inr, reverse, Ok, Err}
 use Rattle.std.proofs.lemmas.List.{append_cancel_left}
-use Rattle.turn_desk.specs.Histories.{BeginsWith, own_part}
-use Rattle.turn_desk.specs.Shown.{HasOwn, LaneView}
+use Rattle.turn_desk.specs.Histories.{own_part}
+use Rattle.turn_desk.specs.Shown.{LaneView}
 use Rattle.turn_desk.proofs.Parts.{own_part-grows}
 use Rattle.asp_job.specs.declared.entry.Entry.{Entry}
 use Rattle.asp_job.specs.Journal.{begin_entry}
@@ -28,28 +28,21 @@ both_work : (xs ys : List Entry) → AreWork xs → AreWork ys → AreWork (xs +
 both_work [] ys p q = q
 both_work (x ∷ xs) ys p q = (p.0, both_work xs ys p.1 q)
 
-pub begins_then : (a b c : List Entry) → BeginsWith b a → BeginsWith c b → BeginsWith c a
-begins_then a b c x y = (x.0 ++ y.0, y.1 ∙ ap (λ l. l ++ y.0) x.1 ∙ append_assoc a x.0 y.0)
-
 module _ {F : Type 0} where
   pub adds_none : (a b : LaneView Entry F) → b ≡ a → AddsWork a b
   adds_none a b same = record {
     number = ap (λ (l : LaneView Entry F). l.number) same;
-    later = ([], ap (λ (l : LaneView Entry F). l.seen) same ∙ sym (append-nil a.seen));
     entries = [];
     own_is = ap (λ (l : LaneView Entry F). l.own) same ∙ sym (append-nil a.own);
     work = tt;
-    keeps = λ own. subst (HasOwn (λ (entry : Entry). entry.lane)) (sym same) own;
   }
 
   pub adds_then : (a b c : LaneView Entry F) → AddsWork a b → AddsWork b c → AddsWork a c
   adds_then a b c x y = record {
     number = y.number ∙ x.number;
-    later = begins_then a.seen b.seen c.seen x.later y.later;
     entries = x.entries ++ y.entries;
     own_is = y.own_is ∙ ap (λ l. l ++ y.entries) x.own_is ∙ append_assoc a.own x.entries y.entries;
     work = both_work x.entries y.entries x.work y.work;
-    keeps = λ own. y.keeps (x.keeps own);
   }
 
   -- a turn adds to the lane's own entries what it adds to the journal
@@ -62,12 +55,10 @@ module _ {F : Type 0} where
       let bear = subst (All (λ (entry : Entry). entry.lane ≡ a.number)) same turn.grows.2 in
       record {
         number = turn.lane.1;
-        later = begins_then a.seen turn.before b.seen turn.fits.0 (turn.grows.0, turn.grows.1);
         entries = entries;
         own_is = turn.own ∙ ap (own_part lane a.number) is
             ∙ own_part-grows lane a.number turn.before entries bear ∙ ap (λ own. own ++ entries) turn.fits.1;
         work = work;
-        keeps = λ own. turn.own ∙ ap (λ number. own_part lane number b.seen) (sym turn.lane.1);
       }
 
   turn_rests : {A : Type 0} (does : List Entry → A → List Entry → Type 0) (a b : LaneView Entry F) (answer : A)
@@ -104,7 +95,7 @@ module _ {R Site State : Type 0} (pace : R → Pace) (meaning : R → Site → M
       begun.turn (begin_entry (rules_at meaning host) (reverse begun.turn.before) a.lane.number number ∷ [])
       begun.turn.done.2 (tt, tt)
 
-  pub ready_adds : (a b : Hand) → IsReady pace meaning stands host a b → AddsWork a.lane b.lane
+  ready_adds : (a b : Hand) → IsReady pace meaning stands host a b → AddsWork a.lane b.lane
   ready_adds a b (inl same) = adds_none a.lane b.lane (ap (λ (h : Hand). h.lane) same.1)
   ready_adds a b (inr begun) = begun_adds a b begun.0 begun.1
 

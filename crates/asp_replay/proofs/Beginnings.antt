@@ -78,8 +78,11 @@ slice_worked m old new stop.Memory slice = slice
 slice_worked m old new stop.WriteFault slice = absurd slice
 slice_worked m old new (stop.StartFailed fail) slice = absurd slice
 
+abbrev pub ended_so : FeedStop → Result Bool FeedStop
+ended_so ended = Err ended
+
 pub not_started : {Run : Type 0} (ended : FeedStop) (run : Option Run)
-    → ((fail : Fail) → Err {Bool} {FeedStop} ended ≡ Err (stop.StartFailed fail) → ⊥) → IsFreeThen (Err ended) run
+    → ((fail : Fail) → ended_so ended ≡ ended_so (stop.StartFailed fail) → ⊥) → IsFreeThen (Err ended) run
 not_started (stop.JournalFull full) run not = tt
 not_started stop.Memory run not = tt
 not_started stop.WriteFault run not = tt

@@ -1,6 +1,6 @@
 -- Once all hands are back: the lanes beside lane 0 have only worked, and what lane 0 took for granted holds.
 use Rattle.std.proofs.Common.{◌≡◌, ◌⊎◌, ℕ, zero, suc, ◌+◌, ◌<◌, ◌≤◌, ◌==◌, Bool, true, false, List, [], ◌∷◌, ◌++◌, All, Option}
-use Rattle.std.proofs.Common.{None, Some, Result, Ok, Err, refl, ap, sym, ◌∙◌, subst, arith, inl, inr, length, map, reverse}
+use Rattle.std.proofs.Common.{None, Some, Result, Ok, Err, refl, ap, sym, ◌∙◌, subst, arith, inl, inr, length, map, reverse, take, drop, get_or}
 use Rattle.std.proofs.Common.{append-nil}
 use Rattle.std.specs.List.{AllByRecursion, AllZip}
 use Rattle.std.proofs.lemmas.Bool.{cases_Bool, cases_lt, eq-eqb, eqb-true}
@@ -21,8 +21,8 @@ use Rattle.asp_desk.specs.declared.worker.WorkerOf.{WorkerOf}
 use Rattle.asp_desk.specs.Hands.{Fixed, HandView, HostView, IsHandOf, rules_at}
 use Rattle.asp_desk.specs.Loops.{HasLooped, IsLast}
 use Rattle.asp_desk.specs.Opening.{first_journal, free_hand}
-use Rattle.asp_desk.specs.Working.{AddsWork}
-use Rattle.asp_desk.proofs.Working.{adds_none, loop_adds, slice_adds}
+use Rattle.asp_replay.specs.Adds.{AddsWork}
+use Rattle.asp_replay.proofs.Adding.{adds_none, loop_adds, slice_adds}
 use Rattle.asp_job.specs.declared.entry.Entry.{Entry}
 use Rattle.asp_job.specs.Journal.{AreRight, past_after}
 use Rattle.asp_job.specs.Rules.{Rules}
@@ -31,10 +31,10 @@ use Rattle.asp_job.specs.Told.{Meaning, Told}
 use Rattle.asp_journal.specs.declared.full.Full.{Full}
 use Rattle.asp_record.specs.declared.recording.Item.{Item}
 use Rattle.asp_replay.specs.declared.stop.FeedStop.{FeedStop}
-use Rattle.asp_replay.specs.Near.{HasWorked, IsBorneOut, IsFedNear, IsTooMuchHere, LeavesBy, OthersWork}
+use Rattle.asp_replay.specs.Near.{HasWorked, IsBorneOut, IsFedNear, IsLead, IsTooMuchHere, LeavesBy, OthersWork}
 use Rattle.asp_replay.specs.Workers.{HasHelped, IsIdle, MeetsEnd, MetFull}
 use Rattle.asp_replay.proofs.Freeing.{looped_free}
-use Rattle.asp_replay.proofs.Leaving.{borne_silent, leaves_later, worked_silent}
+use Rattle.asp_replay.proofs.LeftNear.{borne_silent, leaves_later, worked_silent}
 use Rattle.asp_replay.proofs.Others.{lane_in, work_between}
 use Rattle.asp_replay.proofs.Quiet.{calm_none}
 use Rattle.asp_replay.proofs.SliceNear.{IsTooMuchBetween, slice_much}
@@ -95,9 +95,17 @@ others_work count journal below theirs =
 
 -- ---- the hands of a new host
 
+-- the first of a list, and the others
+pub first_of : {A : Type 0} (xs : List A) (x : A) (rest : List A) → 1 ≤ length xs → x ≡ get_or xs 0 x
+    → rest ≡ take 0 xs ++ drop 1 xs → xs ≡ x ∷ rest
+first_of [] x rest some is behind = absurd (omega (arith, some))
+first_of (first ∷ xs) x rest some is behind = ap (λ y. y ∷ xs) (sym is) ∙ ap (λ ys. x ∷ ys) (sym behind)
+
 fresh_own : (k : ℕ) → 0 < k → own_part lane_in k first_journal ≡ []
-fresh_own zero some = absurd (omega (arith, some))
-fresh_own (suc k) some = refl
+fresh_own k some = elim (cases_Bool (0 == k)) [
+  | inl own ↦ absurd (let same = eqb-true 0 k own in omega (arith, some, same))
+  | inr other ↦ rw other refl
+]
 
 module _ {R Site State : Type 0} (meaning : R → Site → Meaning) (stands : R → Site → State → Told → ℕ → Type 0)
     (host : HostView R Site) where
@@ -121,6 +129,52 @@ module _ {R Site State : Type 0} (meaning : R → Site → Meaning) (stands : R 
   fresh_from number zero some = tt
   fresh_from number (suc count) some =
       (refl, fresh_own number some, fresh_from (suc number) count (omega (arith, some)))
+
+  abbrev pub first_hand : Hand
+  first_hand = free_hand (lane_view host.desk (known 0 first_journal (own_part lane_in 0 first_journal)))
+
+  -- the first of the hands of a new host, and the others
+  pub dealt_from : (count : ℕ) (hand : Hand) (rest : List Hand) → hands_from 0 count ≡ hand ∷ rest
+      → (hand ≡ first_hand) × ((more : ℕ) × (rest ≡ hands_from 1 more))
+  dealt_from zero hand rest is = absurd (let no : [] ≡ hand ∷ rest = is in cc)
+  dealt_from (suc more) hand rest is =
+      let both : first_hand ∷ hands_from 1 more ≡ hand ∷ rest = is in
+      let head : first_hand ≡ hand = cc in
+      let tail : hands_from 1 more ≡ rest = cc in
+      (sym head, (more, sym tail))
+
+  pub first_lead : (hand : Hand) → hand ≡ first_hand → IsHandOf meaning stands host hand
+      → IsLead meaning stands host hand
+  first_lead hand is of =
+      subst (IsLead meaning stands host) (sym is)
+      (record { hand_of = subst (IsHandOf meaning stands host) is of; number = refl; own = refl })
+
+  pub first_seen : (hand : Hand) → hand ≡ first_hand → hand.lane.seen ≡ first_journal
+  first_seen hand is = ap (λ (hand : Hand). hand.lane.seen) is
+
+  pub fresh_rest : (rest : List Hand) (more : ℕ) → rest ≡ hands_from 1 more
+      → AreFresh 1 (map (with_place slice.Idle) rest)
+  fresh_rest rest more is =
+      subst (λ (hands : List Hand). AreFresh 1 (map (with_place slice.Idle) hands)) (sym is)
+      (fresh_from 1 more (omega arith))
+
+  free_from : (number count : ℕ) → AllByRecursion (λ (hand : Hand). hand.run ≡ None) (hands_from number count)
+  free_from number zero = tt
+  free_from number (suc count) = (refl, free_from (suc number) count)
+
+  idle_by : (rest : List Hand) → AllByRecursion (IsHandOf meaning stands host) rest
+      → AllByRecursion (λ (hand : Hand). hand.run ≡ None) rest
+      → AllByRecursion (IsIdle meaning stands host) (map (with_place slice.Idle) rest)
+  idle_by [] of free = tt
+  idle_by (hand ∷ rest) of free = ((of.0, free.0, refl), idle_by rest of.1 free.1)
+
+  pub idle_rest : (hand : Hand) (rest : List Hand) (more : ℕ) → rest ≡ hands_from 1 more
+      → All (IsHandOf meaning stands host) (hand ∷ rest)
+      → All (IsIdle meaning stands host) (map (with_place slice.Idle) rest)
+  idle_rest hand rest more is all =
+      All-from_recursion (IsIdle meaning stands host) (map (with_place slice.Idle) rest)
+      (idle_by rest (recursion_from_All (IsHandOf meaning stands host) (hand ∷ rest) all).1
+      (subst (AllByRecursion (λ (hand : Hand). hand.run ≡ None)) (sym is) (free_from 1 more)))
 
   -- ---- helpers
 
@@ -182,6 +236,16 @@ module _ {R Site State : Type 0} (meaning : R → Site → Meaning) (stands : R 
   pub none_helped : (workers : List Worker) → All (IsIdle meaning stands host) workers → AllZip (HasHelped meaning stands host) workers workers
   none_helped workers all = idles_helped workers (recursion_from_All (IsIdle meaning stands host) workers all)
 
+  idle_hands : (workers : List Worker) → AllByRecursion (IsIdle meaning stands host) workers
+      → AllByRecursion (λ (worker : Worker). IsHandOf meaning stands host worker.hand) workers
+  idle_hands [] all = tt
+  idle_hands (worker ∷ workers) all = (all.0.0, idle_hands workers all.1)
+
+  pub idles_are : (workers : List Worker) → All (IsIdle meaning stands host) workers
+      → All (λ (worker : Worker). IsHandOf meaning stands host worker.hand) workers
+  idles_are workers all = All-from_recursion (λ (worker : Worker). IsHandOf meaning stands host worker.hand) workers
+      (idle_hands workers (recursion_from_All (IsIdle meaning stands host) workers all))
+
   -- ---- hands that are back
 
   -- numbered from this number on; their own entries are work
@@ -232,3 +296,58 @@ module _ {R Site State : Type 0} (meaning : R → Site → Meaning) (stands : R 
         let same : k ≡ hand.lane.number = sym at ∙ sym are.0 in
         subst AreWork (sym (ap (λ n. own_part lane_in n journal) same ∙ fits.0.1)) are.1)
   ]
+
+  -- ---- all are back
+
+  pub back_are : (hand : Hand) (olds news : List Worker) → IsHandOf meaning stands host hand
+      → AllZip (HasHelped meaning stands host) olds news
+      → All (IsHandOf meaning stands host) (hand ∷ map (λ (worker : Worker). worker.hand) news)
+  back_are hand olds news of all = All-from_recursion (IsHandOf meaning stands host)
+      (hand ∷ map (λ (worker : Worker). worker.hand) news) (of, helped_are olds news all)
+
+  pub back_free : (hand : Hand) (olds news : List Worker) → hand.run ≡ None
+      → AllZip (HasHelped meaning stands host) olds news
+      → All (λ (hand : Hand). hand.run ≡ None) (hand ∷ map (λ (worker : Worker). worker.hand) news)
+  back_free hand olds news free all = All-from_recursion (λ (hand : Hand). hand.run ≡ None)
+      (hand ∷ map (λ (worker : Worker). worker.hand) news) (free, helped_free olds news all)
+
+  mapped : (news : List Worker) → length (map (λ (worker : Worker). worker.hand) news) ≡ length news
+  mapped [] = refl
+  mapped (new ∷ news) = ap suc (mapped news)
+
+  placed : (hands : List Hand) → length (map (with_place {T = Slice} slice.Idle) hands) ≡ length hands
+  placed [] = refl
+  placed (hand ∷ hands) = ap suc (placed hands)
+
+  -- as many as there were
+  pub back_many : (hand : Hand) (rest : List Hand) (news : List Worker)
+      → AllZip (HasHelped meaning stands host) (map (with_place slice.Idle) rest) news
+      → length (hand ∷ map (λ (worker : Worker). worker.hand) news) ≡ length (hand ∷ rest)
+  back_many hand rest news all = ap suc (mapped news ∙ helped_many (map (with_place slice.Idle) rest) news all ∙ placed rest)
+
+  module _ (journal : List Entry) (hand : Hand) (olds news : List Worker) (count : ℕ)
+      (fits : All (λ (hand : Hand). LaneFits lane_in journal hand.lane)
+      (hand ∷ map (λ (worker : Worker). worker.hand) news))
+      (many : length (hand ∷ map (λ (worker : Worker). worker.hand) news) ≡ count)
+      (below : AreOfLanes lane_in count journal) (fresh : AreFresh 1 olds)
+      (all : AllZip (HasHelped meaning stands host) olds news) where
+    each : AllByRecursion (λ (hand : Hand). LaneFits lane_in journal hand.lane)
+        (hand ∷ map (λ (worker : Worker). worker.hand) news)
+    each = recursion_from_All (λ (hand : Hand). LaneFits lane_in journal hand.lane)
+        (hand ∷ map (λ (worker : Worker). worker.hand) news) fits
+
+    pub borne_whole : (m : Rules) → IsAnswered m (reverse journal) → IsBorneOut m (reverse journal)
+    borne_whole m answered = record {
+      others = others_work count journal below (λ k some low.
+          theirs_by journal (map (λ (worker : Worker). worker.hand) news) 1 (helpers 1 olds news fresh all) each.1 k
+          some (let more : length (hand ∷ map (λ (worker : Worker). worker.hand) news)
+          ≡ suc (length (map (λ (worker : Worker). worker.hand) news)) = refl in omega (arith, low, many, more)));
+      answered = answered;
+    }
+
+    pub worked_whole : (m : Rules) → IsAnswered m (reverse journal) → HasOwn lane_in hand.lane → hand.lane.number ≡ 0
+        → HasWorked (reverse hand.lane.seen) (reverse journal)
+    worked_whole m answered own lead =
+        work_between hand.lane journal each.0.0 [] own lead
+        (ap (λ n. own_part lane_in n journal) (sym lead) ∙ each.0.1 ∙ sym (append-nil hand.lane.own)) tt
+        (borne_whole m answered).others

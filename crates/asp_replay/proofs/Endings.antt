@@ -23,7 +23,7 @@ use Rattle.asp_replay.specs.declared.stop.FeedStop.TheVariants as stop
 use Rattle.asp_replay.specs.Feed.{HasWoundUp, IsPassed, IsWoundUp, is_full_end}
 use Rattle.asp_replay.specs.Near.{GrowsSilently, HasWorked, IsFedNear, Leaves, LeavesBy}
 use Rattle.asp_replay.specs.Workers.{HasCauseBeside, HasFedBeside, HasFedPartBeside, IsEarly, StopsWith, first_stop, stop_of}
-use Rattle.asp_replay.proofs.Leaving.{leaves_fed, leaves_later, worked_silent}
+use Rattle.asp_replay.proofs.LeftNear.{leaves_fed, leaves_later, worked_silent}
 use Rattle.asp_replay.proofs.Pieces.{part_whole}
 use Rattle.asp_replay.proofs.Quiet.{calm_none}
 

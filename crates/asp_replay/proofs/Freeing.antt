@@ -1,5 +1,5 @@
 -- A hand that has taken slices until nothing was left to do holds no run.
-use Rattle.std.proofs.Common.{◌≡◌, ◌⊎◌, ℕ, ◌==◌, ◌&&◌, ◌||◌, Bool, true, false, List, Option, Some, None, refl, ap, sym, ◌∙◌}
+use Rattle.std.proofs.Common.{◌≡◌, ◌⊎◌, ℕ, ◌==◌, ◌&&◌, ◌||◌, Bool, true, false, List, [], Option, Some, None, refl, ap, sym, ◌∙◌}
 use Rattle.std.proofs.Common.{inl, inr, reverse, subst, length}
 use Rattle.std.proofs.lemmas.Bool.{eqb-true}
 use Rattle.asp_core.specs.Kernel.{CoreView, RunView, past_of, rules_of}
@@ -42,7 +42,7 @@ module _ {R Site State : Type 0} (pace : R → Pace) (meaning : R → Site → M
   Hand = HandView Entry (Fixed R Site) (RunView State)
 
   not_last : (came_to : Slice) (is : Slice) → came_to ≡ is → is_last is ≡ false → is_last came_to ≡ true → ⊥
-  not_last came_to is same no last = let both : true ≡ false = sym last ∙ ap is_last same ∙ no in cc
+  not_last came_to is same more last = let both : true ≡ false = sym last ∙ ap is_last same ∙ more in cc
 
   stepped_free : (a b : Hand) (came_to : Slice) (stepped : Stepped) → came_to ≡ slice_of stepped
       → is_last came_to ≡ true → HasStepped pace meaning stands host a stepped b → b.run ≡ None

@@ -10,8 +10,8 @@ use Rattle.asp_core.proofs.Kept.{past_of_more}
 use Rattle.asp_core.specs.Kernel.{RunView}
 use Rattle.asp_desk.specs.Calls.{AreWork, IsTurn, IsWork}
 use Rattle.asp_desk.specs.Hands.{Fixed, HandView, HostView, IsHandOf}
-use Rattle.asp_desk.specs.Working.{AddsWork}
-use Rattle.asp_desk.proofs.Working.{begins_then}
+use Rattle.asp_replay.specs.Adds.{AddsWork}
+use Rattle.asp_replay.proofs.Adding.{begins_then}
 use Rattle.asp_job.specs.declared.entry.Entry.{Entry}
 use Rattle.asp_job.specs.Journal.{past_after}
 use Rattle.asp_job.specs.Rules.{Rules}
@@ -73,7 +73,7 @@ between_work a whole begins own has zero same work others =
     all_work begins.0 own (more_own a whole begins own has zero same) work
     (others_behind (reverse a.seen) begins.0 (subst OthersWork is others))
 
-work_between : {F : Type 0} → (a : LaneView Entry F) (whole : List Entry) → BeginsWith whole a.seen
+pub work_between : {F : Type 0} → (a : LaneView Entry F) (whole : List Entry) → BeginsWith whole a.seen
     → (own : List Entry) → HasOwn lane_in a → a.number ≡ 0 → own_part lane_in 0 whole ≡ a.own ++ own → AreWork own
     → OthersWork (reverse whole) → HasWorked (reverse a.seen) (reverse whole)
 work_between a whole begins own has zero same work others = record {

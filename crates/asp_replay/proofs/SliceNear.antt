@@ -8,7 +8,7 @@ use Rattle.asp_core.proofs.Kept.{past_of_more}
 use Rattle.asp_core.specs.declared.stop.BeginStop.{BeginStop}
 use Rattle.asp_core.specs.declared.stop.BeginStop.TheVariants as begin
 use Rattle.asp_core.specs.Kernel.{IsBeginTooMuch, IsRunOf, RunView}
-use Rattle.asp_desk.proofs.Working.{begins_then, ready_adds}
+use Rattle.asp_replay.proofs.Adding.{begins_then, ready_adds}
 use Rattle.asp_desk.specs.Calls.{AreWork}
 use Rattle.asp_desk.specs.declared.slices.Slice.TheVariants as slice
 use Rattle.asp_desk.specs.declared.steps.Stepped.{Stepped}
@@ -16,7 +16,7 @@ use Rattle.asp_desk.specs.declared.steps.Stepped.TheVariants as step
 use Rattle.asp_desk.specs.Hands.{Fixed, HandView, HostView, core_at, rules_at}
 use Rattle.asp_desk.specs.Slices.{HasGoneOn, HasStepped, IsReady, IsSlice, StepsHere, Works, slice_of, stopped}
 use Rattle.asp_desk.specs.Steps.{Begins, Steps}
-use Rattle.asp_desk.specs.Working.{AddsWork}
+use Rattle.asp_replay.specs.Adds.{AddsWork}
 use Rattle.asp_job.specs.declared.entry.Entry.{Entry}
 use Rattle.asp_job.specs.Journal.{AreRight, past_after}
 use Rattle.asp_job.specs.Rules.{Rules}

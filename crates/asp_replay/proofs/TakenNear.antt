@@ -92,7 +92,7 @@ pub quiet_moment : (old new : List Entry) → GrowsQuietly old new → moment_of
 quiet_moment old new grows =
     ap moment_of grows.new_is ∙ (quiet_all old grows.entries (quiet_comes grows.entries grows.quiet)).moment
 
-taken_quiet : (m : Rules) (old new : List Entry) (first : ℕ × Answer) → HasTaken m old new first
+pub taken_quiet : (m : Rules) (old new : List Entry) (first : ℕ × Answer) → HasTaken m old new first
     → GrowsQuietly old new
 taken_quiet m old new first has = quiet_then old has.mid new (worked_quiet old has.mid has.worked) (record {
   entries = with_lane 0 (Take first.0) ∷ [];

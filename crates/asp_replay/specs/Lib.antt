@@ -1,3 +1,4 @@
+pub mod Adds
 pub mod Sequential
 pub mod Feed
 pub mod Underway

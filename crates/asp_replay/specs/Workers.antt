@@ -1,4 +1,5 @@
 -- What a recording leaves that was fed to a host on which several lanes worked. All of it is the product's own.
+use Rattle.std.specs.Prelude.{◌≤◌, length, map}
 use Rattle.std.specs.Prelude.{◌≡◌, ◌⊎◌, ℕ, ◌<◌, true, ⊤, List, [], ◌∷◌, ◌++◌, reverse, Option, Some, None, Result, Ok, Err}
 use Rattle.std.specs.Option.{option_or}
 use Rattle.turn_desk.specs.Shown.{LaneView}
@@ -6,11 +7,12 @@ use Rattle.asp_core.specs.Kernel.{RunView}
 use Rattle.asp_core.specs.Laws.{NoneIs}
 use Rattle.asp_core.specs.Ready.{IsAnswered}
 use Rattle.asp_core.specs.Start.{start_fail}
+use Rattle.asp_desk.specs.Crews.{with_place}
 use Rattle.asp_desk.specs.declared.slices.Slice.{Slice}
 use Rattle.asp_desk.specs.declared.slices.Slice.TheVariants as slice
 use Rattle.asp_desk.specs.declared.worker.WorkerOf.{WorkerOf}
 use Rattle.asp_desk.specs.Hands.{Fixed, HandView, HostView, IsHandOf, rules_at}
-use Rattle.asp_desk.specs.Working.{AddsWork}
+use Rattle.asp_replay.specs.Adds.{AddsWork}
 use Rattle.asp_job.specs.declared.answer.Fail.{Fail}
 use Rattle.asp_job.specs.declared.entry.Entry.{Entry}
 use Rattle.asp_job.specs.Journal.{IsValidJournal}
@@ -135,3 +137,12 @@ module _ {R Site State : Type 0} (meaning : R → Site → Meaning) (stands : R 
     pub free : new.run ≡ None
     pub leaves : IsBorneOut (rules_at meaning host) (past_in new)
         → LeavesBy told (rules_at meaning host) items (past_in new) held after
+
+-- the first of hands, a crew of the others, and room for all
+pub record IsDealt {H : Type 0} (hands : List H) (hand : H) (crew : List (WorkerOf H Slice)) (items : List H)
+    (room : ℕ) : Type 0 where
+  pub rest : List H
+  pub hands_are : hands ≡ hand ∷ rest
+  pub crew_is : crew ≡ map (with_place slice.Idle) rest
+  pub none : items ≡ []
+  pub enough : length hands ≤ room

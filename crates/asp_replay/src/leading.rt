@@ -22,6 +22,7 @@ use std::alloc::Global;
 use std::sync::Wait;
 
 /// What a lane beside lane 0 does: slices, until nothing is left to do. Where it ends early lane 0 is told.
+#[derive(Clone, Copy)]
 pub struct Helping<'a, G> {
     pub gate: &'a G,
     pub met: &'a Met,
@@ -49,6 +50,7 @@ impl<'a, Rt: Wait, R: Runner, G: Gate> Task<Rt, Host<R>, Worker<R, Slice>> for H
 
 /// What lane 0 does: it feeds the recording, works, hands answers out and writes them; and where not all is fed it halts
 /// the host and takes its run to its end.
+#[derive(Drop)]
 pub struct Leading<'a, Rt, R: Runner, G, K> {
     pub rt: &'a Rt,
     pub alloc: Global,

@@ -6,7 +6,9 @@ mod bringing;
 mod coming;
 mod feeding;
 mod handing;
+mod lanes;
 mod laws;
+mod leading;
 mod leaving;
 mod met;
 mod near;
@@ -19,6 +21,7 @@ mod working;
 mod writing;
 
 pub use feeding::feed;
+pub use lanes::feed_with;
 pub use laws::journals_have_lines;
 pub use near::hand_out_near;
 pub use stop::FeedStop;

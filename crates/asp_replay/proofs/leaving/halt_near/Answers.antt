@@ -1,6 +1,6 @@
 use Rattle.asp_desk.specs.Calls.{Halts}
 use Rattle.asp_desk.specs.Hands.{rules_at}
-use Rattle.asp_replay.proofs.Leaving.{halt_grows, halt_stands}
+use Rattle.asp_replay.proofs.LeftNear.{halt_grows, halt_stands}
 use Rattle.asp_replay.proofs.Others.{lead_turn}
 use Rattle.asp_replay.proofs.leaving.halt_near.Goals as goal
 

@@ -1,6 +1,6 @@
 use Rattle.asp_desk.specs.Hands.{rules_at}
 use Rattle.asp_replay.specs.Near.{past_in}
-use Rattle.asp_replay.proofs.Leaving.{borne_silent, leaves_ended}
+use Rattle.asp_replay.proofs.LeftNear.{borne_silent, leaves_ended}
 use Rattle.asp_replay.proofs.leaving.leave.Goals as goal
 
 pub returns-in-Err-clause-borne : goal.returns-in-Err-clause-borne

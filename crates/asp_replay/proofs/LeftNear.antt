@@ -7,7 +7,7 @@ use Rattle.asp_core.proofs.Kept.{past_of_more}
 use Rattle.asp_core.specs.Laws.{NoneIs}
 use Rattle.asp_core.specs.Ready.{IsAnswered}
 use Rattle.asp_desk.specs.Calls.{Halts, IsTurn}
-use Rattle.asp_desk.specs.Working.{AddsWork}
+use Rattle.asp_replay.specs.Adds.{AddsWork}
 use Rattle.asp_job.specs.declared.entry.Entry.{Entry}
 use Rattle.asp_job.specs.declared.entry.What.TheVariants.{Halt}
 use Rattle.asp_job.specs.History.{with_lane}
@@ -107,7 +107,7 @@ module _ {F : Type 0} (m : Rules) (a b : LaneView Entry F) where
 
 -- ---- how it leaves
 
-halted_for : (ended : FeedStop) (past : List Entry) → is_halted past ≡ true → IsHaltedFor ended past
+pub halted_for : (ended : FeedStop) (past : List Entry) → is_halted past ≡ true → IsHaltedFor ended past
 halted_for (stop.StartFailed fail) past halted = tt
 halted_for (stop.JournalFull full) past halted = halted
 halted_for stop.WriteFault past halted = halted
