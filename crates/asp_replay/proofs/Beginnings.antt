@@ -1,6 +1,6 @@
 -- The first run, beside which no other lane works.
 use Rattle.std.proofs.Common.{◌≡◌, ℕ, List, [], ◌∷◌, ◌++◌, Bool, true, false, Option, Some, None, Result, Ok, Err, IsTrue}
-use Rattle.std.proofs.Common.{refl, ap, sym, ◌∙◌, subst}
+use Rattle.std.proofs.Common.{refl, ap, sym, ◌∙◌, subst, is_some, not}
 use Rattle.turn_desk.specs.Shown.{LaneView}
 use Rattle.asp_core.specs.Kernel.{RunView}
 use Rattle.asp_desk.specs.Calls.{AreWork, looked_of}
@@ -106,6 +106,10 @@ starts_worked m old new (Err (stop.JournalFull full)) starts = starts.0
 starts_worked m old new (Err stop.WriteFault) starts = absurd starts
 starts_worked m old new (Err (stop.StartFailed fail)) starts = starts
 starts_worked m old new (Err stop.Memory) starts = starts
+
+pub none_told : (run : Option ℕ) (free : Bool) → is_some run ≡ not free → free ≡ true → run ≡ None
+none_told None free same is = refl
+none_told (Some run) free same is = absurd (let both : true ≡ false = same ∙ ap not is in cc)
 
 pub free_where : {State : Type 0} (run : Option (RunView State)) → held_number run ≡ None → run ≡ None
 free_where None is = refl

@@ -1,6 +1,6 @@
 -- Once all hands are back: the lanes beside lane 0 have only worked, and what lane 0 took for granted holds.
 use Rattle.std.proofs.Common.{◌≡◌, ◌⊎◌, ℕ, zero, suc, ◌+◌, ◌<◌, ◌≤◌, ◌==◌, Bool, true, false, List, [], ◌∷◌, ◌++◌, All, Option}
-use Rattle.std.proofs.Common.{None, Some, Result, Ok, Err, refl, ap, sym, ◌∙◌, subst, arith, inl, inr, length, map, reverse, take, drop, get_or}
+use Rattle.std.proofs.Common.{None, Some, Result, Ok, Err, refl, ap, sym, ◌∙◌, subst, arith, inl, inr, length, map, reverse, take, drop, get_or, length-append}
 use Rattle.std.proofs.Common.{append-nil}
 use Rattle.std.specs.List.{AllByRecursion, AllZip}
 use Rattle.std.proofs.lemmas.Bool.{cases_Bool, cases_lt, eq-eqb, eqb-true}
@@ -297,21 +297,35 @@ module _ {R Site State : Type 0} (meaning : R → Site → Meaning) (stands : R 
         subst AreWork (sym (ap (λ n. own_part lane_in n journal) same ∙ fits.0.1)) are.1)
   ]
 
-  -- ---- all are back
+  -- ---- all are back, lane 0's hand last
+
+  abbrev pub hands_in : List Worker → List Hand
+  hands_in workers = map (λ (worker : Worker). worker.hand) workers
+
+  last_by : (P : Hand → Type 0) (hands : List Hand) (hand : Hand) → AllByRecursion P hands → P hand
+      → AllByRecursion P (hands ++ hand ∷ [])
+  last_by P [] hand all last = (last, tt)
+  last_by P (first ∷ hands) hand all last = (all.0, last_by P hands hand all.1 last)
+
+  by_last : (P : Hand → Type 0) (hands : List Hand) (hand : Hand) → AllByRecursion P (hands ++ hand ∷ [])
+      → AllByRecursion P hands × P hand
+  by_last P [] hand all = (tt, all.0)
+  by_last P (first ∷ hands) hand all = (let rest = by_last P hands hand all.1 in ((all.0, rest.0), rest.1))
 
   pub back_are : (hand : Hand) (olds news : List Worker) → IsHandOf meaning stands host hand
       → AllZip (HasHelped meaning stands host) olds news
-      → All (IsHandOf meaning stands host) (hand ∷ map (λ (worker : Worker). worker.hand) news)
-  back_are hand olds news of all = All-from_recursion (IsHandOf meaning stands host)
-      (hand ∷ map (λ (worker : Worker). worker.hand) news) (of, helped_are olds news all)
+      → All (IsHandOf meaning stands host) (hands_in news ++ hand ∷ [])
+  back_are hand olds news of all = All-from_recursion (IsHandOf meaning stands host) (hands_in news ++ hand ∷ [])
+      (last_by (IsHandOf meaning stands host) (hands_in news) hand (helped_are olds news all) of)
 
   pub back_free : (hand : Hand) (olds news : List Worker) → hand.run ≡ None
       → AllZip (HasHelped meaning stands host) olds news
-      → All (λ (hand : Hand). hand.run ≡ None) (hand ∷ map (λ (worker : Worker). worker.hand) news)
-  back_free hand olds news free all = All-from_recursion (λ (hand : Hand). hand.run ≡ None)
-      (hand ∷ map (λ (worker : Worker). worker.hand) news) (free, helped_free olds news all)
+      → All (λ (hand : Hand). hand.run ≡ None) (hands_in news ++ hand ∷ [])
+  back_free hand olds news free all =
+      All-from_recursion (λ (hand : Hand). hand.run ≡ None) (hands_in news ++ hand ∷ [])
+      (last_by (λ (hand : Hand). hand.run ≡ None) (hands_in news) hand (helped_free olds news all) free)
 
-  mapped : (news : List Worker) → length (map (λ (worker : Worker). worker.hand) news) ≡ length news
+  mapped : (news : List Worker) → length (hands_in news) ≡ length news
   mapped [] = refl
   mapped (new ∷ news) = ap suc (mapped news)
 
@@ -320,34 +334,41 @@ module _ {R Site State : Type 0} (meaning : R → Site → Meaning) (stands : R 
   placed (hand ∷ hands) = ap suc (placed hands)
 
   -- as many as there were
+  pub many_in : (rest : List Hand) (news : List Worker)
+      → AllZip (HasHelped meaning stands host) (map (with_place slice.Idle) rest) news
+      → length (hands_in news) ≡ length rest
+  many_in rest news all = mapped news ∙ helped_many (map (with_place slice.Idle) rest) news all ∙ placed rest
+
   pub back_many : (hand : Hand) (rest : List Hand) (news : List Worker)
       → AllZip (HasHelped meaning stands host) (map (with_place slice.Idle) rest) news
-      → length (hand ∷ map (λ (worker : Worker). worker.hand) news) ≡ length (hand ∷ rest)
-  back_many hand rest news all = ap suc (mapped news ∙ helped_many (map (with_place slice.Idle) rest) news all ∙ placed rest)
+      → length (hands_in news ++ hand ∷ []) ≡ length (hand ∷ rest)
+  back_many hand rest news all =
+      let many = many_in rest news all in
+      let behind = length-append (hands_in news) (hand ∷ []) in
+      let one : length (hand ∷ rest) ≡ suc (length rest) = refl in
+      omega (arith, many, behind, one)
 
   module _ (journal : List Entry) (hand : Hand) (olds news : List Worker) (count : ℕ)
-      (fits : All (λ (hand : Hand). LaneFits lane_in journal hand.lane)
-      (hand ∷ map (λ (worker : Worker). worker.hand) news))
-      (many : length (hand ∷ map (λ (worker : Worker). worker.hand) news) ≡ count)
+      (fits : All (λ (hand : Hand). LaneFits lane_in journal hand.lane) (hands_in news ++ hand ∷ []))
+      (many : length (hands_in news ++ hand ∷ []) ≡ count)
       (below : AreOfLanes lane_in count journal) (fresh : AreFresh 1 olds)
       (all : AllZip (HasHelped meaning stands host) olds news) where
-    each : AllByRecursion (λ (hand : Hand). LaneFits lane_in journal hand.lane)
-        (hand ∷ map (λ (worker : Worker). worker.hand) news)
-    each = recursion_from_All (λ (hand : Hand). LaneFits lane_in journal hand.lane)
-        (hand ∷ map (λ (worker : Worker). worker.hand) news) fits
+    each : AllByRecursion (λ (hand : Hand). LaneFits lane_in journal hand.lane) (hands_in news)
+        × LaneFits lane_in journal hand.lane
+    each = by_last (λ (hand : Hand). LaneFits lane_in journal hand.lane) (hands_in news) hand
+        (recursion_from_All (λ (hand : Hand). LaneFits lane_in journal hand.lane) (hands_in news ++ hand ∷ []) fits)
 
     pub borne_whole : (m : Rules) → IsAnswered m (reverse journal) → IsBorneOut m (reverse journal)
     borne_whole m answered = record {
       others = others_work count journal below (λ k some low.
-          theirs_by journal (map (λ (worker : Worker). worker.hand) news) 1 (helpers 1 olds news fresh all) each.1 k
-          some (let more : length (hand ∷ map (λ (worker : Worker). worker.hand) news)
-          ≡ suc (length (map (λ (worker : Worker). worker.hand) news)) = refl in omega (arith, low, many, more)));
+          theirs_by journal (hands_in news) 1 (helpers 1 olds news fresh all) each.0 k some
+          (let behind = length-append (hands_in news) (hand ∷ []) in omega (arith, low, many, behind)));
       answered = answered;
     }
 
     pub worked_whole : (m : Rules) → IsAnswered m (reverse journal) → HasOwn lane_in hand.lane → hand.lane.number ≡ 0
         → HasWorked (reverse hand.lane.seen) (reverse journal)
     worked_whole m answered own lead =
-        work_between hand.lane journal each.0.0 [] own lead
-        (ap (λ n. own_part lane_in n journal) (sym lead) ∙ each.0.1 ∙ sym (append-nil hand.lane.own)) tt
+        work_between hand.lane journal each.1.0 [] own lead
+        (ap (λ n. own_part lane_in n journal) (sym lead) ∙ each.1.1 ∙ sym (append-nil hand.lane.own)) tt
         (borne_whole m answered).others

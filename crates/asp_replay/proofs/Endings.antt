@@ -1,6 +1,6 @@
 -- What is known of a feed once its host is closed.
 use Rattle.std.proofs.Common.{◌≡◌, ◌≢◌, ◌⊎◌, ℕ, ◌<◌, true, false, List, [], ◌∷◌, ◌++◌, All, Option, None, Some, Result, Ok, Err}
-use Rattle.std.proofs.Common.{IfSome, refl, ap, sym, ◌∙◌, subst, inl, inr, reverse, append-nil}
+use Rattle.std.proofs.Common.{Bool, IsTrue, IfSome, refl, ap, sym, ◌∙◌, subst, inl, inr, reverse, append-nil}
 use Rattle.std.specs.List.{AllByRecursion}
 use Rattle.std.proofs.lemmas.List.Elements.{recursion_from_All}
 use Rattle.asp_core.proofs.Kept.{past_of_more}
@@ -66,6 +66,9 @@ pub none_full_in : (journal : List Entry) → All (λ (entry : Entry). is_full_e
 none_full_in journal all = subst (NoneIs is_full_end) (sym (past_of_more [] journal))
     (none_after [] journal tt (none_in journal
     (recursion_from_All (λ (entry : Entry). is_full_end entry.what ≡ false) journal all)))
+
+pub is_true : (b : Bool) → b ≡ true → IsTrue b
+is_true b e = subst IsTrue (sym e) tt
 
 pub fed_beside : (m : Rules) (items : List Item) (past : List Entry) (before after : Option (List ℕ))
     → NoneIs is_full_end past → LeavesBy {T = Unit {0}} (Ok tt) m items past before after

@@ -1,7 +1,7 @@
 //! The first run of a host that a recording is fed to. No other lane works before it has ended.
 #![tactic(auto)]
 
-ghost use Rattle.std.specs.Prelude.{IfSome, IsTrue};
+ghost use Rattle.std.specs.Prelude.{◌≡◌, IfSome, true};
 ghost use Rattle.asp_desk.specs.Hands.{rules_at};
 ghost use Rattle.asp_replay.specs.Near as spec;
 
@@ -14,7 +14,7 @@ use std::sync::Wait;
 /// How the first run has ended by this look, once it has and the hand is free.
 fn started(looked: &Looked, free: bool) -> Option<Result<(), FeedStop>>
     ensures done { IfSome result (λ done. spec.StartedBy done looked.now) }
-    ensures free { IfSome result (λ done. IsTrue free) }
+    ensures free { IfSome result (λ done. free ≡ true) }
 {
     if !free {
         return None;

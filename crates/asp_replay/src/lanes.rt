@@ -1,7 +1,7 @@
 //! A recording is fed to a host on which several lanes work, each in a thread of its own.
 #![tactic(auto)]
 
-ghost use Rattle.std.specs.Prelude.{◌≡◌, ◌⊎◌, ◌≤◌, ◌+◌, ◌↔◌, ◌∷◌, [], ℕ, All, Err, IfErr, IfOk, IfSome, IsTrue, List, None};
+ghost use Rattle.std.specs.Prelude.{◌≡◌, ◌⊎◌, ◌≤◌, ◌+◌, ◌↔◌, ◌∷◌, ◌++◌, [], ℕ, All, Err, IfErr, IfOk, IfSome, IsTrue, List, None};
 ghost use Rattle.std.specs.Prelude.{OnOk, Option, Some, false, length, vec_capacity};
 ghost use Rattle.std.specs.List.{AllZip};
 ghost use Rattle.turn_desk.specs.Histories.{AreOfLanes};
@@ -265,19 +265,31 @@ fn ended<R: Runner>(
     }
 }
 
-/// All hands in one list.
-fn gathered<R: Runner>(hand: Hand<R>, rest: Vec<Hand<R>>, mut room: Vec<Hand<R>>) -> Vec<Hand<R>>
+/// Hands, where there is room for them.
+fn moved<R: Runner>(hands: Vec<Hand<R>>, mut room: Vec<Hand<R>>) -> Vec<Hand<R>>
+where
+    R::Store: Drop,
+    R::State: Drop,
+    requires { (room.items ≡ []) × (length hands.items ≤ vec_capacity room) }
+    ensures { (result.items ≡ hands.items) × (vec_capacity result ≡ vec_capacity room) }
+{
+    for hand in hands {
+        room.push_reserved(hand);
+    }
+    room
+}
+
+/// All hands in one list, lane 0's last.
+fn gathered<R: Runner>(hand: Hand<R>, rest: Vec<Hand<R>>, room: Vec<Hand<R>>) -> Vec<Hand<R>>
 where
     R::Store: Drop,
     R::State: Drop,
     requires { (room.items ≡ []) × (length rest.items + 1 ≤ vec_capacity room) }
-    ensures { result.items ≡ hand ∷ rest.items }
+    ensures { result.items ≡ rest.items ++ hand ∷ [] }
 {
-    room.push_reserved(hand);
-    for one in rest {
-        room.push_reserved(one);
-    }
-    room
+    let mut hands = moved(rest, room);
+    hands.push_reserved(hand);
+    hands
 }
 
 /// Lane 0's hand, a crew of the others, and room for all.

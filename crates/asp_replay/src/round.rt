@@ -1,7 +1,7 @@
 //! The rounds of lane 0, which feeds a host while other lanes work there.
 #![tactic(auto)]
 
-ghost use Rattle.std.specs.Prelude.{◌≡◌, List, Option, ℕ, Err, IfOk, IfNone, IfSome, IsTrue, None, OnOk, true};
+ghost use Rattle.std.specs.Prelude.{◌≡◌, List, Option, ℕ, Err, IfOk, IfNone, IfSome, None, OnOk, true};
 ghost use Rattle.asp_desk.specs.Hands.{rules_at};
 ghost use Rattle.asp_io.specs.Faults.{HasCause};
 ghost use Rattle.asp_record.specs.declared.recording.Item.{Item as ItemView};
@@ -31,8 +31,8 @@ fn is_calm(looked: &Looked) -> bool
 
 /// Whether a host is done by this look, where nothing is under way: a Stop stands, and the hand is free.
 fn is_done(looked: &Looked, free: bool) -> bool
-    ensures stopping { IsTrue result → looked.now.stopping ≡ true }
-    ensures free { IsTrue result → IsTrue free }
+    ensures stopping { result ≡ true → looked.now.stopping ≡ true }
+    ensures free { result ≡ true → free ≡ true }
 {
     looked.stopping && free
 }

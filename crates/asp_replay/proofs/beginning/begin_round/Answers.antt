@@ -1,8 +1,8 @@
-use Rattle.std.proofs.Common.{◌≡◌, None, true}
+use Rattle.std.proofs.Common.{◌∙◌, sym, true}
 use Rattle.asp_desk.specs.Calls.{Looks}
-use Rattle.asp_desk.specs.Hands.{held_number, rules_at}
-use Rattle.asp_replay.specs.Near.{HasWorked, past_in}
-use Rattle.asp_replay.proofs.Beginnings.{begun_by, free_done, free_where, goes_not, goes_on, not_started}
+use Rattle.asp_desk.specs.Hands.{rules_at}
+use Rattle.asp_replay.specs.Near.{past_in}
+use Rattle.asp_replay.proofs.Beginnings.{begun_by, free_done, free_where, goes_not, goes_on, none_told, not_started}
 use Rattle.asp_replay.proofs.Beginnings.{slice_worked}
 use Rattle.asp_replay.proofs.Others.{lead_turn}
 use Rattle.asp_replay.proofs.Quiet.{borne_quiet}
@@ -31,8 +31,8 @@ returns-in-Some-clause-goes g c = λ borne.
 
 pub returns-in-Some-clause-free : goal.returns-in-Some-clause-free
 returns-in-Some-clause-free g c = free_done c.in-Some.done c.look-looked.new.hand.run
-    (free_where c.look-looked.new.hand.run (let free = c.in-Some.ensures.free in let none = c.is_none.ensures in
-    let told = c.run.ensures in ?))
+    (free_where c.look-looked.new.hand.run (sym c.run.ensures
+    ∙ none_told c.run.result c.is_none.result c.is_none.ensures c.in-Some.ensures.free))
 
 pub returns-in-Ok-clause-goes : goal.returns-in-Ok-clause-goes
 returns-in-Ok-clause-goes g c = λ borne.

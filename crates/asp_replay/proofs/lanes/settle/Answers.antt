@@ -4,8 +4,8 @@ use Rattle.asp_replay.proofs.Endings.{settled_fed}
 use Rattle.asp_replay.proofs.LeftNear.{borne_silent, leaves_later}
 use Rattle.asp_replay.proofs.lanes.settle.Goals as goal
 
-pub returns-else-early-clause-leaves : goal.returns-else-early-clause-leaves
-returns-else-early-clause-leaves g c = λ items before after borne left. left borne
+pub returns-then-not-early-clause-leaves : goal.returns-then-not-early-clause-leaves
+returns-then-not-early-clause-leaves g c = λ items before after borne left. left borne
 
 pub returns-in-Ok-clause-leaves : goal.returns-in-Ok-clause-leaves
 returns-in-Ok-clause-leaves g c = λ items before after borne left.

@@ -36,7 +36,8 @@ returns-in_err-hand_out_near-clause-near g c = λ all before borne near.
     let past = past_in c.hand_out_near.new.hand in
     let ended = c.in_err-hand_out_near.field-0.0 in
     let p = err_from_is_err_and c.from_residual.result c.from_residual.ensures.1 in
-    rw p.1 (round_near m a b c.look-looked.result c.look-looked.ensures.turn (Err ended) past all c.args.items.now c.args.clients.now.entries
+    let same = p.2 in
+    rw (p.1, same) (round_near m a b c.look-looked.result c.look-looked.ensures.turn (Err ended) past all c.args.items.now c.args.clients.now.entries
     before (g.K.Sink.held c.args.sink.now) (g.K.Sink.held c.hand_out_near.new.sink) c.requires.lead.own
     c.requires.lead.number c.look-looked.ensures.hand.1.valid.entries borne (c.in_err-hand_out_near.ensures.near borne) near)
 
