@@ -1,8 +1,9 @@
 -- Once all hands are back: the lanes beside lane 0 have only worked, and what lane 0 took for granted holds.
 use Rattle.std.proofs.Common.{◌≡◌, ◌⊎◌, ℕ, zero, suc, ◌+◌, ◌<◌, ◌≤◌, ◌==◌, Bool, true, false, List, [], ◌∷◌, ◌++◌, All, Option}
 use Rattle.std.proofs.Common.{None, Some, Result, Ok, Err, refl, ap, sym, ◌∙◌, subst, arith, inl, inr, length, map, reverse, take, drop, get_or, length-append}
-use Rattle.std.proofs.Common.{append-nil}
+use Rattle.std.proofs.Common.{append-nil, append_assoc, IfSome}
 use Rattle.std.specs.List.{AllByRecursion, AllZip}
+use Rattle.std.specs.Option.{option_or}
 use Rattle.std.proofs.lemmas.Bool.{cases_Bool, cases_lt, eq-eqb, eqb-true}
 use Rattle.std.proofs.lemmas.List.Elements.{All-cons, All-from_recursion, All-nil, recursion_from_All}
 use Rattle.turn_desk.specs.declared.view.Known.{Known}
@@ -32,7 +33,9 @@ use Rattle.asp_journal.specs.declared.full.Full.{Full}
 use Rattle.asp_record.specs.declared.recording.Item.{Item}
 use Rattle.asp_replay.specs.declared.stop.FeedStop.{FeedStop}
 use Rattle.asp_replay.specs.Near.{HasWorked, IsBorneOut, IsFedNear, IsLead, IsTooMuchHere, LeavesBy, OthersWork}
-use Rattle.asp_replay.specs.Workers.{HasHelped, IsIdle, MeetsEnd, MetFull}
+use Rattle.asp_replay.specs.declared.stop.FeedStop.TheVariants as stop
+use Rattle.asp_replay.specs.Workers.{HasHelped, IsEarly, IsIdle, MeetsEnd, MetFull, first_stop, stop_of}
+use Rattle.asp_replay.proofs.Endings.{leaves_whole}
 use Rattle.asp_replay.proofs.Freeing.{looped_free}
 use Rattle.asp_replay.proofs.LeftNear.{borne_silent, leaves_later, worked_silent}
 use Rattle.asp_replay.proofs.Others.{lane_in, work_between}
@@ -129,6 +132,10 @@ module _ {R Site State : Type 0} (meaning : R → Site → Meaning) (stands : R 
   fresh_from number zero some = tt
   fresh_from number (suc count) some =
       (refl, fresh_own number some, fresh_from (suc number) count (omega (arith, some)))
+
+  pub hands_many : (number count : ℕ) → length (hands_from number count) ≡ count
+  hands_many number zero = refl
+  hands_many number (suc count) = ap suc (hands_many (suc number) count)
 
   abbrev pub first_hand : Hand
   first_hand = free_hand (lane_view host.desk (known 0 first_journal (own_part lane_in 0 first_journal)))
@@ -372,3 +379,71 @@ module _ {R Site State : Type 0} (meaning : R → Site → Meaning) (stands : R 
         work_between hand.lane journal each.1.0 [] own lead
         (ap (λ n. own_part lane_in n journal) (sym lead) ∙ each.1.1 ∙ sym (append-nil hand.lane.own)) tt
         (borne_whole m answered).others
+
+    -- what lane 0 left so holds of the whole journal
+    pub closed_leaves : (m : Rules) (items : List Item) (told : Result (Unit {0}) FeedStop) (before after : Option (List ℕ))
+        → IsAnswered m (reverse journal) → AreRight m (reverse journal) → IsLead meaning stands host hand
+        → (IsBorneOut m (reverse hand.lane.seen) → LeavesBy told m items (reverse hand.lane.seen) before after)
+        → LeavesBy told m items (reverse journal) before after
+    closed_leaves m items told before after answered right lead leaves =
+        let worked = worked_whole m answered lead.own lead.number in
+        let seen = reverse hand.lane.seen in
+        leaves_whole m items told seen (reverse journal) before after worked right
+        (leaves (borne_silent m seen (reverse journal) (worked_silent seen (reverse journal) worked)
+        (borne_whole m answered)))
+
+  -- ---- what another lane ended early for
+
+  met_later : (m : Rules) (count number : ℕ) (journal : List Entry) (lane : LaneView Entry (Fixed R Site)) (full : Full)
+      → 0 < number → number < count → lane.number ≡ number → LaneFits lane_in journal lane → MetFull m lane full
+      → IsEarly count m (reverse journal) (stop.JournalFull full)
+  met_later m count number journal lane full some low same fits met =
+      let rest = fits.0.0 in (
+        number,
+        some,
+        low,
+        met.0,
+        reverse rest ++ met.1,
+        ap reverse fits.0.1 ∙ reverse-append lane.seen rest ∙ ap (λ past. reverse rest ++ past) met.2
+            ∙ sym (append_assoc (reverse rest) met.1 met.0),
+        subst (λ n. IsTooMuchHere m met.0 n full) same met.3,
+      )
+
+  or_met : (P : FeedStop → Type 0) (made : Slice) (rest : Option FeedStop)
+      → ((full : Full) → made ≡ slice.JournalFull full → P (stop.JournalFull full)) → P stop.Memory → IfSome rest P
+      → IfSome (option_or (stop_of made) rest) P
+  or_met P (slice.JournalFull full) rest full_is memory others = full_is full refl
+  or_met P slice.Memory rest full_is memory others = memory
+  or_met P slice.Worked rest full_is memory others = others
+  or_met P slice.Idle rest full_is memory others = others
+  or_met P (slice.Blocked holder) rest full_is memory others = others
+  or_met P slice.Held rest full_is memory others = others
+
+  met_in : (count number : ℕ) (journal : List Entry) (olds news : List Worker) → 0 < number
+      → number + length news ≤ count → AreFresh number olds → AllZip (HasHelped meaning stands host) olds news
+      → AllByRecursion (λ (hand : Hand). LaneFits lane_in journal hand.lane) (hands_in news)
+      → IfSome (first_stop (map (λ (worker : Worker). worker.made) news))
+      (IsEarly count (rules_at meaning host) (reverse journal))
+  met_in count number journal [] [] some low fresh all fits = tt
+  met_in count number journal [] (new ∷ news) some low fresh all fits = absurd all
+  met_in count number journal (old ∷ olds) [] some low fresh all fits = absurd all
+  met_in count number journal (old ∷ olds) (new ∷ news) some low fresh all fits =
+      let m = rules_at meaning host in
+      let more : length (new ∷ news) ≡ suc (length news) = refl in
+      or_met (IsEarly count m (reverse journal)) new.made (first_stop (map (λ (worker : Worker). worker.made) news))
+      (λ full is. met_later m count number journal new.hand.lane full some (omega (arith, low, more))
+      (all.0.work.number ∙ fresh.0) fits.0 (subst (MeetsEnd m new.hand.lane) is all.0.ends)) tt
+      (met_in count (suc number) journal olds news (omega (arith, some)) (omega (arith, low, more)) fresh.2 all.1 fits.1)
+
+  pub early_met : (journal : List Entry) (hand : Hand) (olds news : List Worker) (count : ℕ)
+      → All (λ (hand : Hand). LaneFits lane_in journal hand.lane) (hands_in news ++ hand ∷ [])
+      → length (hands_in news ++ hand ∷ []) ≡ count → AreFresh 1 olds
+      → AllZip (HasHelped meaning stands host) olds news
+      → IfSome (first_stop (map (λ (worker : Worker). worker.made) news))
+      (IsEarly count (rules_at meaning host) (reverse journal))
+  early_met journal hand olds news count fits many fresh all =
+      let each = (by_last (λ (hand : Hand). LaneFits lane_in journal hand.lane) (hands_in news) hand
+      (recursion_from_All (λ (hand : Hand). LaneFits lane_in journal hand.lane) (hands_in news ++ hand ∷ []) fits)).0 in
+      let behind = length-append (hands_in news) (hand ∷ []) in
+      let same = mapped news in
+      met_in count 1 journal olds news (omega arith) (omega (arith, many, behind, same)) fresh all each

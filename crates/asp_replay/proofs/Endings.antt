@@ -1,6 +1,6 @@
 -- What is known of a feed once its host is closed.
 use Rattle.std.proofs.Common.{◌≡◌, ◌≢◌, ◌⊎◌, ℕ, ◌<◌, true, false, List, [], ◌∷◌, ◌++◌, All, Option, None, Some, Result, Ok, Err}
-use Rattle.std.proofs.Common.{Bool, IsTrue, IfSome, refl, ap, sym, ◌∙◌, subst, inl, inr, reverse, append-nil}
+use Rattle.std.proofs.Common.{Bool, IsTrue, IfErr, IfOk, OnOk, IfSome, refl, ap, sym, ◌∙◌, subst, inl, inr, reverse, append-nil}
 use Rattle.std.specs.List.{AllByRecursion}
 use Rattle.std.proofs.lemmas.List.Elements.{recursion_from_All}
 use Rattle.asp_core.proofs.Kept.{past_of_more}
@@ -68,7 +68,7 @@ none_full_in journal all = subst (NoneIs is_full_end) (sym (past_of_more [] jour
     (recursion_from_All (λ (entry : Entry). is_full_end entry.what ≡ false) journal all)))
 
 pub is_true : (b : Bool) → b ≡ true → IsTrue b
-is_true b e = subst IsTrue (sym e) tt
+is_true b e = e
 
 pub fed_beside : (m : Rules) (items : List Item) (past : List Entry) (before after : Option (List ℕ))
     → NoneIs is_full_end past → LeavesBy {T = Unit {0}} (Ok tt) m items past before after
@@ -183,3 +183,19 @@ first_no_fault (slice.Worked ∷ made) is = first_no_fault made is
 first_no_fault (slice.Idle ∷ made) is = first_no_fault made is
 first_no_fault (slice.Blocked holder ∷ made) is = first_no_fault made is
 first_no_fault (slice.Held ∷ made) is = first_no_fault made is
+
+-- ---- what is handed back
+
+pub ok_back : {C : Type 0} (result : Result C FeedStop) (core : C) (P : C → Type 0)
+    → IfOk result (λ back. back ≡ core) → OnOk result (P core) → IfOk result P
+ok_back (Ok back) core P is holds = subst P (sym is) holds
+ok_back (Err ended) core P is holds = tt
+
+pub ok_then : {C : Type 0} (result : Result C FeedStop) (P Q : Type 0) → (P → Q) → OnOk result P → OnOk result Q
+ok_then (Ok back) P Q more holds = more holds
+ok_then (Err ended) P Q more holds = tt
+
+pub err_then : {C : Type 0} (result : Result C FeedStop) (P Q : FeedStop → Type 0)
+    → ((ended : FeedStop) → P ended → Q ended) → IfErr result P → IfErr result Q
+err_then (Ok back) P Q more holds = tt
+err_then (Err ended) P Q more holds = more ended holds

@@ -62,6 +62,8 @@ pub struct Leading<'a, Rt, R: Runner, G, K> {
 }
 
 impl<'a, Rt: Wait, R: Runner, G: Gate, K: Sink> Lead<Hand<R>> for Leading<'a, Rt, R, G, K> {
+    ghost use Rattle.asp_replay.specs.declared.stop.FeedStop.TheVariants.{WriteFault};
+
     type Told = Result<(), FeedStop>;
 
     ghost accepts = { λ lead hand. IsLead R.meaning R.stands lead.host.now hand × IsSound lead.recording.now
@@ -70,7 +72,7 @@ impl<'a, Rt: Wait, R: Runner, G: Gate, K: Sink> Lead<Hand<R>> for Leading<'a, Rt
     ghost does = { λ old hand told new then_hand. (new.sink.ghost_name ≡ old.sink.ghost_name)
         × spec.HasLed R.meaning R.stands old.host.now old.recording.now.items then_hand told
         (K.held old.sink.now) (K.held new.sink.now)
-        × HasCause FeedStop.WriteFault (K.faults old.sink.now) (K.faults new.sink.now) told };
+        × HasCause WriteFault (K.faults old.sink.now) (K.faults new.sink.now) told };
 
     fn lead(&mut self, hand: &mut Hand<R>) -> Result<(), FeedStop> {
         let mut clients = Clients::new(self.alloc);
