@@ -107,6 +107,21 @@ starts_worked m old new (Err stop.WriteFault) starts = absurd starts
 starts_worked m old new (Err (stop.StartFailed fail)) starts = starts
 starts_worked m old new (Err stop.Memory) starts = starts
 
+pub no_fault_by : (looked : Looked) (done : Result (Unit {0}) FeedStop) → StartedBy done looked
+    → done ≡ Err stop.WriteFault → ⊥
+no_fault_by looked (Ok given) by e = absurd cc
+no_fault_by looked (Err (stop.JournalFull full)) by e = absurd by
+no_fault_by looked (Err stop.WriteFault) by e = absurd by
+no_fault_by looked (Err (stop.StartFailed fail)) by e = absurd cc
+no_fault_by looked (Err stop.Memory) by e = absurd cc
+
+abbrev pub ended_at : FeedStop → Result (Unit {0}) FeedStop
+ended_at ended = Err ended
+
+pub no_fault_in : (ended : FeedStop) → (ended_so ended ≡ ended_so stop.WriteFault → ⊥)
+    → ended_at ended ≡ ended_at stop.WriteFault → ⊥
+no_fault_in ended not e = not (ap ended_so (let same : ended ≡ stop.WriteFault = cc in same))
+
 pub none_told : (run : Option ℕ) (free : Bool) → is_some run ≡ not free → free ≡ true → run ≡ None
 none_told None free same is = refl
 none_told (Some run) free same is = absurd (let both : true ≡ false = same ∙ ap not is in cc)

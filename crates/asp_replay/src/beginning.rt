@@ -1,7 +1,7 @@
 //! The first run of a host that a recording is fed to. No other lane works before it has ended.
 #![tactic(auto)]
 
-ghost use Rattle.std.specs.Prelude.{◌≡◌, IfSome, true};
+ghost use Rattle.std.specs.Prelude.{◌≡◌, Err, IfSome, true};
 ghost use Rattle.asp_desk.specs.Hands.{rules_at};
 ghost use Rattle.asp_replay.specs.Near as spec;
 
@@ -41,6 +41,7 @@ fn begin_round<Rt: Wait, R: Runner, G: Gate>(
     ensures goes { spec.IsBorneOut (rules_at R.meaning host.now) (spec.past_in hand.new)
         → spec.GoesOn result (rules_at R.meaning host.now) (spec.past_in hand.old) (spec.past_in hand.new) }
     ensures free { IfSome result (λ done. spec.IsFreeThen done hand.new.run) }
+    ensures no_fault { IfSome result (λ done. done ≡ Err FeedStop.WriteFault → ⊥) }
 {
     let looked = host.look(rt, hand);
     if let Some(done) = started(&looked, hand.run().is_none()) {
@@ -64,6 +65,7 @@ pub fn begin_near<Rt: Wait, R: Runner, G: Gate>(
     ensures starts { spec.IsBorneOut (rules_at R.meaning host.now) (spec.past_in hand.new)
         → spec.Starts result (rules_at R.meaning host.now) (spec.past_in hand.old) (spec.past_in hand.new) }
     ensures free { spec.IsFreeThen result hand.new.run }
+    ensures no_fault { result ≡ Err FeedStop.WriteFault → ⊥ }
 {
     for _ in rt.forever() {
         if let Some(done) = begin_round(rt, host, hand, gate) {

@@ -152,6 +152,8 @@ pub fn feed_near<Rt: Wait, R: Runner, G: Gate, K: Sink>(
     requires sound { recorded.IsSound recording.now }
     ensures lead { spec.IsLead R.meaning R.stands host.now hand.new }
     ensures free { OnOk result (hand.new.run ≡ None) }
+    ensures borne { spec.IsBorneOut (rules_at R.meaning host.now) (spec.past_in hand.new)
+        → spec.IsBorneOut (rules_at R.meaning host.now) (spec.past_in hand.old) }
     ensures near { (before : Option (List ℕ))
         → spec.IsBorneOut (rules_at R.meaning host.now) (spec.past_in hand.new)
         → spec.IsNear (rules_at R.meaning host.now) recording.now.items (spec.past_in hand.old) clients.old.entries

@@ -32,3 +32,6 @@ returns-in-Some-begin_round-clause-starts g c = λ borne.
 
 pub returns-in-Some-begin_round-clause-free : goal.returns-in-Some-begin_round-clause-free
 returns-in-Some-begin_round-clause-free g c = rw c.in-Some-begin_round.is at c.begin_round.ensures.free
+
+pub returns-in-Some-begin_round-clause-no_fault : goal.returns-in-Some-begin_round-clause-no_fault
+returns-in-Some-begin_round-clause-no_fault g c = rw c.in-Some-begin_round.is at c.begin_round.ensures.no_fault

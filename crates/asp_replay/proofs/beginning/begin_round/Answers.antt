@@ -2,7 +2,7 @@ use Rattle.std.proofs.Common.{◌∙◌, sym, true}
 use Rattle.asp_desk.specs.Calls.{Looks}
 use Rattle.asp_desk.specs.Hands.{rules_at}
 use Rattle.asp_replay.specs.Near.{past_in}
-use Rattle.asp_replay.proofs.Beginnings.{begun_by, free_done, free_where, goes_not, goes_on, none_told, not_started}
+use Rattle.asp_replay.proofs.Beginnings.{begun_by, free_done, free_where, goes_not, goes_on, no_fault_by, no_fault_in, none_told, not_started}
 use Rattle.asp_replay.proofs.Beginnings.{slice_worked}
 use Rattle.asp_replay.proofs.Others.{lead_turn}
 use Rattle.asp_replay.proofs.Quiet.{borne_quiet}
@@ -57,3 +57,9 @@ returns-in-Err-clause-goes g c = λ borne.
 
 pub returns-in-Err-clause-free : goal.returns-in-Err-clause-free
 returns-in-Err-clause-free g c = not_started c.in-Err.stop c.work_near.new.hand.run c.in-Err.ensures.no_start
+
+pub returns-in-Some-clause-no_fault : goal.returns-in-Some-clause-no_fault
+returns-in-Some-clause-no_fault g c = no_fault_by c.look-looked.result c.in-Some.done c.in-Some.ensures.done
+
+pub returns-in-Err-clause-no_fault : goal.returns-in-Err-clause-no_fault
+returns-in-Err-clause-no_fault g c = no_fault_in c.in-Err.stop c.in-Err.ensures.no_fault

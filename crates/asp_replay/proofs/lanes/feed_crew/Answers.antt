@@ -1,4 +1,4 @@
-use Rattle.std.proofs.Common.{◌≡◌, Err, ap, reverse, subst}
+use Rattle.std.proofs.Common.{◌≡◌, Err, ap, arith, reverse, subst}
 use Rattle.asp_desk.specs.Hands.{rules_at}
 use Rattle.asp_replay.specs.Near.{HasWorked, Starts, past_in}
 use Rattle.asp_replay.proofs.Closing.{idles_are, none_helped}
@@ -7,7 +7,7 @@ use Rattle.asp_replay.proofs.LeftNear.{borne_silent, leaves_begun, near_begins}
 use Rattle.asp_replay.proofs.lanes.feed_crew.Goals as goal
 
 pub lead_crew-requires-clause-begun : goal.lead_crew-requires-clause-begun
-lead_crew-requires-clause-begun g c = λ before borne.
+lead_crew-requires-clause-begun g c bounds lives = λ before borne.
     let m = rules_at g.R.Runner.meaning c.args.host.now in
     let past = past_in c.begin_near.new.hand in
     let starts = c.in-Ok.ensures.starts borne in
@@ -17,7 +17,7 @@ lead_crew-requires-clause-begun g c = λ before borne.
     starts.1
 
 pub lead_crew-requires-clause-crew : goal.lead_crew-requires-clause-crew
-lead_crew-requires-clause-crew g c =
+lead_crew-requires-clause-crew g c bounds lives =
     idles_are g.R.Runner.meaning g.R.Runner.stands c.args.host.now c.args.crew.now c.requires.crew
 
 pub returns-in-Err-clause-led : goal.returns-in-Err-clause-led
@@ -38,3 +38,10 @@ returns-in-Err-clause-led g c = record {
 pub returns-in-Err-clause-crew : goal.returns-in-Err-clause-crew
 returns-in-Err-clause-crew g c =
     none_helped g.R.Runner.meaning g.R.Runner.stands c.args.host.now c.args.crew.now c.requires.crew
+
+pub returns-in-Err-clause-cause : goal.returns-in-Err-clause-cause
+returns-in-Err-clause-cause g c = record {
+  later = omega arith;
+  within = λ below. below;
+  failed = λ e. absurd (c.in-Err.ensures.no_fault e);
+}

@@ -14,6 +14,7 @@ loop-init g c = (
       (g.K.Sink.held c.args.sink.now)) (sym c.as_slice-items.ensures) near,
   omega arith,
   λ below. below,
+  λ borne. borne,
 )
 
 pub round-requires-clause-lead : goal.round-requires-clause-lead
@@ -33,6 +34,7 @@ loop-preserved g c =
           (c.loop.invariant.2 before (c.round.ensures.borne borne) is),
       omega (arith, cause.later, c.loop.invariant.3),
       λ below. cause.within (c.loop.invariant.4 below),
+      λ borne. c.loop.invariant.5 (c.round.ensures.borne borne),
     )
 
 pub returns-in-Ok-None-clause-free : goal.returns-in-Ok-None-clause-free
@@ -66,3 +68,9 @@ returns-in-Err-clause-cause g c =
       failed = λ e. (let same : c.in-Err.stop ≡ stop.WriteFault = cc in
           let risen = cause.failed (c.in-Err.is ∙ ap Err same) in omega (arith, risen, c.loop.invariant.3));
     }
+
+pub returns-in-Ok-None-clause-borne : goal.returns-in-Ok-None-clause-borne
+returns-in-Ok-None-clause-borne g c = λ borne. c.loop.invariant.5 (c.round.ensures.borne borne)
+
+pub returns-in-Err-clause-borne : goal.returns-in-Err-clause-borne
+returns-in-Err-clause-borne g c = λ borne. c.loop.invariant.5 (c.round.ensures.borne borne)

@@ -15,3 +15,5 @@ invariant-loop g l =
     before (g.K.Sink.held l.sink))
     × (g.K.Sink.faults l.initial.sink ≤ g.K.Sink.faults l.sink)
     × (g.K.Sink.faults l.initial.sink < 2 ^ 64 → g.K.Sink.faults l.sink < 2 ^ 64)
+    × (IsBorneOut (rules_at g.R.Runner.meaning l.host) (past_in l.hand)
+    → IsBorneOut (rules_at g.R.Runner.meaning l.host) (past_in l.initial.hand))
