@@ -49,10 +49,13 @@ much_then m old mid new full worked was = record {
 -- it had ended by a look
 pub begun_by : (m : Rules) (old new : List Entry) (looked : Looked) (done : Result (Unit {0}) FeedStop)
     → HasWorked old new → looked ≡ looked_of m new → StartedBy done looked → GoesOn (Some done) m old new
-begun_by m old new looked (Ok given) worked is by = (worked, record {
-  ended = sym (ap (λ (l : Looked). l.start_kind) is) ∙ by.0;
-  sound = sym (ap (λ (l : Looked). l.start_fail) is) ∙ by.1;
-})
+begun_by m old new looked (Ok given) worked is by = (
+  worked,
+  record {
+    ended = sym (ap (λ (l : Looked). l.start_kind) is) ∙ by.0;
+    sound = sym (ap (λ (l : Looked). l.start_fail) is) ∙ by.1;
+  },
+)
 begun_by m old new looked (Err (stop.JournalFull full)) worked is by = absurd by
 begun_by m old new looked (Err stop.WriteFault) worked is by = absurd by
 begun_by m old new looked (Err (stop.StartFailed fail)) worked is by = worked

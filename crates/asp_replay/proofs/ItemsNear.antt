@@ -156,8 +156,12 @@ module _ {F : Type 0} (m : Rules) (a b : LaneView Entry F) (has : HasOwn lane_in
       let found = found_so does (Err ended) turn [] is borne in
       brings_not m (reverse a.seen) past found.0 found.1 (item.Tick moment)
       (due (turn_borne m does a b (Err ended) turn borne)) (reverse b.seen) clients clients told is
-      (λ full e. (tick_entries m past 0 moment, clients, (refl, refl),
-      tick_much moment turn.before b.seen ended told full turn.done from e))
+      (λ full e. (
+        tick_entries m past 0 moment,
+        clients,
+        (refl, refl),
+        tick_much moment turn.before b.seen ended told full turn.done from e,
+      ))
       (λ fail e. event_no_start ended told fail from e) items left before held borne near
 
   -- ---- a request comes
@@ -219,7 +223,10 @@ module _ {F : Type 0} (m : Rules) (a b : LaneView Entry F) (has : HasOwn lane_in
       let found = found_so does (Err ended) turn [] is borne in
       brings_not m (reverse a.seen) past found.0 found.1 (item.Request client moment bytes)
       (due (turn_borne m does a b (Err ended) turn borne)) (reverse b.seen) clients then_clients told is
-      (λ full e. (admit_entries m past 0 job,
-      clients_after clients client (entry_then m past 0 job).what, (job, of, refl, refl),
-      admit_much job turn.before b.seen ended told full turn.done from e))
+      (λ full e. (
+        admit_entries m past 0 job,
+        clients_after clients client (entry_then m past 0 job).what,
+        (job, of, refl, refl),
+        admit_much job turn.before b.seen ended told full turn.done from e,
+      ))
       (λ fail e. admit_no_start ended told fail from e) items left before held borne near

@@ -80,10 +80,10 @@ halt_is lane before after halts = elim (cases_Bool (is_halted (reverse before)))
     subst (λ past. is_halted past ≡ true) (sym same) halted,
   ))
   | inr going ↦ (let is : reverse after ≡ with_lane lane Halt ∷ reverse before =
-    ap reverse (halts.0 going) ∙ past_of_more before (with_lane lane Halt ∷ []) in (
-    record { entries = with_lane lane Halt ∷ []; new_is = is; silent = (refl, tt) },
-    subst (λ past. is_halted past ≡ true) (sym is) refl,
-  ))
+      ap reverse (halts.0 going) ∙ past_of_more before (with_lane lane Halt ∷ []) in (
+        record { entries = with_lane lane Halt ∷ []; new_is = is; silent = (refl, tt) },
+        subst (λ past. is_halted past ≡ true) (sym is) refl,
+      ))
 ]
 
 module _ {F : Type 0} (m : Rules) (a b : LaneView Entry F) where

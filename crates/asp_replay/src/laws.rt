@@ -9,16 +9,9 @@ ghost use Rattle.asp_record.specs.EntryLines.{lines_in};
 ghost use Rattle.asp_record.specs.Journal.{AreLines};
 ghost use Rattle.asp_record.specs.Ranged.{AreRanged};
 ghost use Rattle.asp_core.specs.Kernel.{AreWellFormed};
-ghost use Rattle.asp_desk.specs.Calls.{AreWork};
-ghost use Rattle.asp_replay.specs.Near.{AreQuiet};
 
 /// The lines of a valid journal may stand in one, where its entries are well formed and what their types say.
 pub fn journals_have_lines()
     ensures { (rules : Rules) (past : List Entry) → IsValidJournal rules past → AreWellFormed past
         → AreRanged past → AreLines (lines_in past) }
-{}
-
-/// Scratch.
-pub fn trial()
-    ensures { (past : List Entry) → AreWork past → AreQuiet past }
 {}

@@ -21,7 +21,7 @@ mod working;
 mod writing;
 
 pub use feeding::feed;
-pub use lanes::feed_with;
+pub use lanes::feed_crew;
 pub use laws::journals_have_lines;
 pub use near::hand_out_near;
 pub use stop::FeedStop;

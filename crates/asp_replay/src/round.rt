@@ -131,9 +131,7 @@ fn round<'a, Rt: Wait, R: Runner, G: Gate, K: Sink>(
     if met.is_met() {
         return Err(FeedStop::Memory);
     }
-    act(
-        rt, alloc, host, hand, gate, clients, items, &looked, rung,
-    )
+    act(rt, alloc, host, hand, gate, clients, items, &looked, rung)
 }
 
 /// Feeds the items of a recording to a host whose first run has ended well, until all were fed and nothing is under way.
@@ -164,9 +162,7 @@ pub fn feed_near<Rt: Wait, R: Runner, G: Gate, K: Sink>(
 {
     let mut items = recording.items.as_slice();
     for _ in rt.forever() {
-        match round(
-            rt, alloc, host, hand, gate, met, clients, items, sink,
-        ) {
+        match round(rt, alloc, host, hand, gate, met, clients, items, sink) {
             Ok(Some(left)) => items = left,
             Ok(None) => return Ok(()),
             Err(stop) => return Err(stop),

@@ -109,13 +109,13 @@ returns-in-Memory-clause-slice g c = λ borne. work_found c.args.hand.now.lane c
 pub returns-in-JournalFull-clause-slice : goal.returns-in-JournalFull-clause-slice
 returns-in-JournalFull-clause-slice g c = λ borne. (
   work_found c.args.hand.now.lane c.work_slice.new.hand.lane (slice_adds g.R.Runner.pace g.R.Runner.meaning g.R.Runner.stands c.args.host.now
-    (g.G.Gate.may_hold c.args.gate.now) c.args.hand.now c.work_slice.new.hand c.work_slice.result
-    c.work_slice.ensures.slice) c.requires.own
+      (g.G.Gate.may_hold c.args.gate.now) c.args.hand.now c.work_slice.new.hand c.work_slice.result
+      c.work_slice.ensures.slice) c.requires.own
       c.requires.number borne.others,
   much_near (rules_at g.R.Runner.meaning c.args.host.now) c.args.hand.now.lane c.work_slice.new.hand.lane
       (slice_adds g.R.Runner.pace g.R.Runner.meaning g.R.Runner.stands c.args.host.now
-    (g.G.Gate.may_hold c.args.gate.now) c.args.hand.now c.work_slice.new.hand c.work_slice.result
-    c.work_slice.ensures.slice) c.requires.own c.requires.number c.work_slice.ensures.hand.1.valid.entries borne
+      (g.G.Gate.may_hold c.args.gate.now) c.args.hand.now c.work_slice.new.hand c.work_slice.result
+      c.work_slice.ensures.slice) c.requires.own c.requires.number c.work_slice.ensures.hand.1.valid.entries borne
       c.in-JournalFull.full (slice_much g.R.Runner.pace g.R.Runner.meaning g.R.Runner.stands c.args.host.now
       (g.G.Gate.may_hold c.args.gate.now) c.args.hand.now c.work_slice.new.hand c.in-JournalFull.full
       c.in-JournalFull.ensures.slice),
