@@ -99,9 +99,8 @@ fn leave_begun<Rt: Wait, R: Runner, G: Gate>(
     }
 }
 
-/// Feeds a recording to a host that was just made: its first run by lane 0 alone, and where that ended well the items, by
-/// lane 0 and a crew beside it.
-pub fn feed_crew<Rt, R, G, K>(
+/// The first run, and where it ended well the items.
+fn feed_crew<Rt, R, G, K>(
     rt: &Rt,
     alloc: Global,
     host: &Host<R>,
@@ -310,4 +309,92 @@ where
         return Err(Memory);
     };
     Ok((hand, crew, room))
+}
+
+/// Feeds a host that was just made, and closes it.
+fn feed_hands<Rt, R, G, K>(
+    rt: &Rt,
+    alloc: Global,
+    host: Host<R>,
+    hands: Items<Hand<R>>,
+    recording: &Recording,
+    gate: &G,
+    sink: &mut K,
+) -> Result<Core<R>, FeedStop>
+where
+    Rt: Threads + Wait + Sync,
+    R: Runner + Sync + Drop,
+    R::Site: Sync + Drop,
+    R::Store: Send + Drop,
+    R::State: Send + Drop,
+    G: Gate + Sync,
+    K: Sink,
+    requires new { hands ≡ new_hands host }
+    requires hands { All (λ hand. IsHandOf R.meaning R.stands host hand) hands }
+    requires some { 1 ≤ host.desk.lanes }
+    requires sound { IsSound recording.now }
+    ensures core { IfOk result (way.IsCoreOf host.runner host.site host.setting) }
+    ensures lanes { IfOk result (λ core. AreOfLanes (λ entry. entry.lane) host.desk.lanes core.journal) }
+    ensures ok { IfOk result (λ core. spec.HasFedBeside (rules_at R.meaning host) recording.now.items (past_of core)
+        (K.held sink.old) (K.held sink.new)) }
+    ensures err { IfErr result (λ stop. way.HasNotBegun stop (K.held sink.old) (K.held sink.new)
+        ⊎ ((past : List Entry) × spec.HasFedPartBeside host.desk.lanes (rules_at R.meaning host)
+        recording.now.items past stop (K.held sink.old) (K.held sink.new))) }
+    ensures cause { HasCause FeedStop.WriteFault (K.faults sink.old) (K.faults sink.new) result }
+{
+    let (mut hand, mut crew, room) = dealt(alloc, hands.into_vec())?;
+    let told = feed_crew(
+        rt, alloc, &host, &mut hand, &mut crew, recording, gate, sink,
+    );
+    let (rest, made) = crew.part();
+    let early = first_stop(made.as_slice());
+    let told = settle(rt, &host, &mut hand, told, early.is_some());
+    match host.close(Items::from_vec(gathered(hand, rest.into_vec(), room))) {
+        Ok((core, _runner, _site)) => {
+            // The journal is valid, and the answers are those of pages.
+            let _ = core.journal();
+            ended(core, told, early)
+        }
+        Err(_back) => unreachable!(),
+    }
+}
+
+/// Feeds a site with a recording, by so many lanes, and writes the record of each answer when its run has ended. Lane 0,
+/// that of the calling thread, feeds, works and writes; the others work, each in a thread of its own, once the first run
+/// has ended well. Each run passes the gate.
+pub fn feed_with<Rt, R, G, K>(
+    rt: &Rt,
+    alloc: Global,
+    runner: R,
+    site: R::Site,
+    recording: &Recording,
+    gate: &G,
+    workers: u32,
+    sink: &mut K,
+) -> Result<Core<R>, FeedStop>
+where
+    Rt: Threads + Wait + Sync,
+    R: Runner + Sync + Drop,
+    R::Site: Sync + Drop,
+    R::Store: Send + Drop,
+    R::State: Send + Drop,
+    G: Gate + Sync,
+    K: Sink,
+    requires sound { IsSound recording.now }
+    requires workers { (1 ≤ workers) × (workers ≤ 32) }
+    ensures core { IfOk result (way.IsCoreOf runner site (setting_of recording.now.seed false)) }
+    ensures lanes { IfOk result (λ core. AreOfLanes (λ entry. entry.lane) workers core.journal) }
+    ensures ok { IfOk result (λ core. spec.HasFedBeside (rules_by (R.meaning runner site)
+        (setting_of recording.now.seed false))
+        recording.now.items (past_of core) (K.held sink.old) (K.held sink.new)) }
+    ensures err { IfErr result (λ stop. way.HasNotBegun stop (K.held sink.old) (K.held sink.new)
+        ⊎ ((past : List Entry) × spec.HasFedPartBeside workers (rules_by (R.meaning runner site)
+        (setting_of recording.now.seed false))
+        recording.now.items past stop (K.held sink.old) (K.held sink.new))) }
+    ensures cause { HasCause FeedStop.WriteFault (K.faults sink.old) (K.faults sink.new) result }
+{
+    match Host::new(alloc, runner, site, recording.seed, false, workers) {
+        Ok((host, hands)) => feed_hands(rt, alloc, host, hands, recording, gate, sink),
+        Err(_back) => Err(FeedStop::Memory),
+    }
 }

@@ -21,8 +21,7 @@ mod working;
 mod writing;
 
 pub use feeding::feed;
-pub use lanes::feed_crew;
+pub use lanes::feed_with;
 pub use laws::journals_have_lines;
-pub use near::hand_out_near;
 pub use stop::FeedStop;
 pub use writing::{write_done, write_lines};
