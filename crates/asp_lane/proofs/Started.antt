@@ -102,7 +102,7 @@ right_before : (m : Rules) (past entries : List Entry) → AreRight m (past_afte
 right_before m past [] right = right
 right_before m past (entry ∷ entries) right = (right_before m (entry ∷ past) entries right).1
 
-started_stays : (m : Rules) (past entries : List Entry) → AreRight m (past_after past entries) → HasStarted m past
+pub started_stays : (m : Rules) (past entries : List Entry) → AreRight m (past_after past entries) → HasStarted m past
     → HasStarted m (past_after past entries)
 started_stays m past [] right is = is
 started_stays m past (entry ∷ entries) right is =

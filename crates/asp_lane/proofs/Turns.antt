@@ -63,7 +63,7 @@ no_holder (Some run) never = absurd (never run refl)
 
 module _ {R Site State : Type 0} (meaning : R → Site → Meaning) (stands : R → Site → State → Told → ℕ → Type 0) where
   -- the call that the run wants is the one that its meaning wants
-  wants_so : (core : CoreView R Site) (lane : ℕ) (run : RunView State) (call : AppCall)
+  pub wants_so : (core : CoreView R Site) (lane : ℕ) (run : RunView State) (call : AppCall)
       → IsRunOf meaning stands core lane run → wanted_by run.progress ≡ Some call
       → (meaning core.runner core.site).does (told (rules_of meaning core) (past_of core) run.number) ≡ Wants call
   wants_so core lane run call is_of e =

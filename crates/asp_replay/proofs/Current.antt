@@ -62,7 +62,7 @@ pub calm_unfinished : (past : List Entry) → is_calm past ≡ true → unfinish
 calm_unfinished past calm = nothing_in (unfinished past)
     (both_true (length (waiting past) == 0) (length (unfinished past) == 0) calm).1
 
-none_waiting : (m : Rules) (past : List Entry) → AreRight m past → is_calm past ≡ true → (r : ℕ)
+pub none_waiting : (m : Rules) (past : List Entry) → AreRight m past → is_calm past ≡ true → (r : ℕ)
     → is_waiting past r ≡ false
 none_waiting m past right calm r = elim (cases_Bool (is_waiting past r)) [
   | inl busy ↦ (let known = numbered m past right r (ap is_drawn (waiting_is (stage_of past r) busy)) in
@@ -70,7 +70,7 @@ none_waiting m past right calm r = elim (cases_Bool (is_waiting past r)) [
   | inr idle ↦ idle
 ]
 
-none_unfinished : (m : Rules) (past : List Entry) → AreRight m past → is_calm past ≡ true → (r : ℕ)
+pub none_unfinished : (m : Rules) (past : List Entry) → AreRight m past → is_calm past ≡ true → (r : ℕ)
     → is_unfinished past r ≡ false
 none_unfinished m past right calm r = elim (cases_Bool (is_unfinished past r)) [
   | inl busy ↦ (let known = numbered m past right r (ap is_drawn (unfinished_is (stage_of past r) busy)) in

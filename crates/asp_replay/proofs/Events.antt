@@ -325,12 +325,24 @@ request_item rules done past clients client moment bytes job came now may rises 
       stopping = stopping_same mid entry its.no_stop ∙ tick_stopping rules past 0 moment;
     }
 
-time_may : (past : List Entry) (moment : ℕ) → may_come past moment ≡ true
+pub time_may : (past : List Entry) (moment : ℕ) → may_come past moment ≡ true
     → (nat_le moment (moment_of past) || is_calm past) ≡ true
 time_may past moment may =
     let time = nat_le moment (moment_of past) || is_calm past in
     let front = and_left (is_some (end_kind past 1) && time) (nat_lt (length (waiting_pages past)) MOST_WAITING) may in
     and_right (is_some (end_kind past 1)) time front
+
+pub ended_may : (past : List Entry) (moment : ℕ) → may_come past moment ≡ true → is_some (end_kind past 1) ≡ true
+ended_may past moment may =
+    let time = nat_le moment (moment_of past) || is_calm past in
+    let front = and_left (is_some (end_kind past 1) && time) (nat_lt (length (waiting_pages past)) MOST_WAITING) may in
+    and_left (is_some (end_kind past 1)) time front
+
+pub few_may : (past : List Entry) (moment : ℕ) → may_come past moment ≡ true
+    → nat_lt (length (waiting_pages past)) MOST_WAITING ≡ true
+few_may past moment may =
+    let time = nat_le moment (moment_of past) || is_calm past in
+    and_right (is_some (end_kind past 1) && time) (nat_lt (length (waiting_pages past)) MOST_WAITING) may
 
 pub item_came : (rules : Rules) (done : List Item) (past : List Entry) (clients then_clients : Clients) (next : Item)
     (entries : List Entry) → HasCome done past clients → moment_of past ≡ moment_by done

@@ -16,7 +16,7 @@ use Rattle.asp_feed.specs.Feeding.{Clients}
 use Rattle.asp_replay.specs.Underway.{AreCurrent, IsUnderWay}
 use Rattle.asp_replay.proofs.Pieces.{with_none}
 
-abbrev first_past : List Entry
+abbrev pub first_past : List Entry
 first_past = with_lane 0 (Queue 1 Start 0) ∷ []
 
 first_job : (run : ℕ) → job_of first_past run ≡ queued_job Start
@@ -25,7 +25,7 @@ first_job run = elim (cases_Bool (1 == run)) [
   | inr other ↦ rw other refl
 ]
 
-first_current : AreCurrent first_past
+pub first_current : AreCurrent first_past
 first_current = λ run waits page.
     absurd (let none : is_page (job_of first_past run).work ≡ false = ap (λ job. is_page job.work) (first_job run) in
     let both : true ≡ false = sym page ∙ none in cc)

@@ -198,7 +198,7 @@ not_yet : (a b : ℕ) → a < b → nat_le b a ≡ false
 not_yet a b l = grind arith
 
 -- where an item may come and time goes on, nothing is under way
-calm_where : (past : List Entry) (moment : ℕ) → may_come past moment ≡ true → moment_of past < moment
+pub calm_where : (past : List Entry) (moment : ℕ) → may_come past moment ≡ true → moment_of past < moment
     → is_calm past ≡ true
 calm_where past moment may later =
     let ended = is_some (end_kind past 1) in
@@ -220,9 +220,9 @@ item_aside m past entries clients then_clients (item.Tick moment) adds = rw adds
 item_aside m past entries clients then_clients (item.Request client moment bytes) adds =
     rw adds.2 (aside_admitted m past 0 adds.0)
 
-item_shows : (m : Rules) (past entries : List Entry) (clients then_clients : Clients) (next : Item) (done : List Shown)
-    → AreRight m (past_after past entries) → IsAnswered m (past_after past entries)
-    → may_come past (recorded.moment_of next) ≡ true → ready m past ≡ []
+pub item_shows : (m : Rules) (past entries : List Entry) (clients then_clients : Clients) (next : Item)
+    (done : List Shown) → AreRight m (past_after past entries) → IsAnswered m (past_after past entries)
+    → may_come past (recorded.moment_of next) ≡ true → (moment_of past < recorded.moment_of next → ready m past ≡ [])
     → AddsItem m past clients next entries then_clients → Shows m past done → Shows m (past_after past entries) done
 item_shows m past entries clients then_clients (item.Tick moment) done right answered may none adds shows =
     let right_then = subst (λ some. AreRight m (past_after past some)) adds.0 right in
@@ -235,10 +235,11 @@ item_shows m past entries clients then_clients (item.Request client moment bytes
     let right_then = subst (λ some. AreRight m (past_after past some)) adds.2 right in
     let answered_then = subst (λ some. IsAnswered m (past_after past some)) adds.2 answered in
     rw adds.2 (shown_admit m past 0 job done right_then answered_then
-    (λ later. calm_where past moment may (subst (λ n. moment_of past < n) at later)) none shows)
+    (λ later. calm_where past moment may (subst (λ n. moment_of past < n) at later))
+    (λ later. none (subst (λ n. moment_of past < n) at later)) shows)
 
 -- an item more has come
-come_stands : (m : Rules) (items : List Item) (past entries : List Entry) (clients then_clients : Clients) (next : Item)
+pub come_stands : (m : Rules) (items : List Item) (past entries : List Entry) (clients then_clients : Clients) (next : Item)
     (left : List Item) → may_come past (recorded.moment_of next) ≡ true
     → AddsItem m past clients next entries then_clients → StandsAt items past clients (next ∷ left)
     → StandsAt items (past_after past entries) then_clients left
@@ -273,7 +274,7 @@ come_grown m items past entries clients then_clients next left before held is ri
       are_records = is.written.are_records;
       wrote = is.written.wrote;
       shows = item_shows m past entries clients then_clients next (shown_of m past) right answered may
-          is.lane.none_ready adds shows;
+          (λ later. is.lane.none_ready) adds shows;
       answered = answered;
       stays = item_stays m past entries clients then_clients next adds (stays_of m past is.lane);
       stands = come_stands m items past entries clients then_clients next left may adds is.stands;
@@ -293,7 +294,7 @@ all_come items past clients once (inl feeding) =
     subst (λ some. HasCome (reverse some) past clients) whole feeding.came
 all_come items past clients once (inr fed) = absurd (let both : true ≡ false = sym fed.stopped ∙ once in cc)
 
-stop_stands : (m : Rules) (items : List Item) (past : List Entry) (clients : Clients) → is_calm past ≡ true
+pub stop_stands : (m : Rules) (items : List Item) (past : List Entry) (clients : Clients) → is_calm past ≡ true
     → is_stopping past ≡ false → StandsAt items past clients []
     → StandsAt items (past_after past (stop_entries m past 0)) clients []
 stop_stands m items past clients calm once stands =

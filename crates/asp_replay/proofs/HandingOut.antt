@@ -1,5 +1,5 @@
 -- The answers that wait, handed out one after another to the one lane.
-use Rattle.std.proofs.Common.{◌≡◌, ℕ, suc, ◌<◌, ◌==◌, nat_eq, Bool, true, false, List, [], ◌∷◌, ◌++◌, length}
+use Rattle.std.proofs.Common.{◌≡◌, ◌⊎◌, ℕ, suc, ◌<◌, ◌==◌, nat_eq, Bool, true, false, List, [], ◌∷◌, ◌++◌, length}
 use Rattle.std.proofs.Common.{Option, Some, None, IsSome, refl, ap, sym, ◌∙◌, subst, arith, inl, inr}
 use Rattle.std.proofs.Common.{append_assoc}
 use Rattle.std.specs.Map.{lookup}
@@ -26,26 +26,30 @@ use Rattle.asp_job.specs.Runs.{asking_lane_of, has_ended, is_taken, moment_of}
 use Rattle.asp_job.specs.Told.{Meaning}
 use Rattle.asp_replay.specs.Sequential.{hand_outs}
 use Rattle.asp_feed.specs.Shown.{AreRecords, IsRecord, Shown}
+use Rattle.asp_desk.specs.Calls.{IsWork}
+use Rattle.asp_replay.specs.Near.{OthersWork}
 use Rattle.asp_replay.specs.Underway.{AreOfLane}
 use Rattle.asp_replay.proofs.Handed.{first_handed, ready_handed, shown_handed}
 use Rattle.asp_replay.proofs.Pieces.{wrote_more}
 use Rattle.asp_replay.proofs.Records.{records_more}
 use Rattle.asp_replay.proofs.Showing.{stamp}
 
--- ---- the one lane asked for each page
+-- ---- lane 0 asked for each page, where the other lanes only work
 
-asks_lane : (past : List Entry) (lane : ℕ) (what : What) (r : ℕ) → lane ≡ 0
+asks_lane : (past : List Entry) (lane : ℕ) (what : What) (r : ℕ) → (lane ≡ 0) ⊎ IsWork what
     → (IsSome (asking_lane_of past r) → asked_by past 0 r ≡ true)
     → IsSome (asking_lane_of (with_lane lane what ∷ past) r) → asked_by (with_lane lane what ∷ past) 0 r ≡ true
 asks_lane past lane (Queue run work key) r is ih some = ih some
-asks_lane past lane (Admit run key fresh job) r is ih some = elim (cases_Bool (run == r)) [
+asks_lane past lane (Admit run key fresh job) r (inl is) ih some = elim (cases_Bool (run == r)) [
   | inl own ↦ rw own (eq-eqb lane 0 is)
   | inr other ↦ rw other (ih (rw other at some))
 ]
-asks_lane past lane (Refuse run job) r is ih some = elim (cases_Bool (run == r)) [
+asks_lane past lane (Admit run key fresh job) r (inr none) ih some = absurd none
+asks_lane past lane (Refuse run job) r (inl is) ih some = elim (cases_Bool (run == r)) [
   | inl own ↦ rw own (eq-eqb lane 0 is)
   | inr other ↦ rw other (ih (rw other at some))
 ]
+asks_lane past lane (Refuse run job) r (inr none) ih some = absurd none
 asks_lane past lane (Tick moment) r is ih some = ih some
 asks_lane past lane (Begin run serial) r is ih some = ih some
 asks_lane past lane (App run call reply) r is ih some = ih some
@@ -54,12 +58,16 @@ asks_lane past lane (Take run) r is ih some = ih some
 asks_lane past lane Stop r is ih some = ih some
 asks_lane past lane Halt r is ih some = ih some
 
-asked_here : (past : List Entry) → AreOfLane past → (r : ℕ) → IsSome (asking_lane_of past r)
+asked_here : (past : List Entry) → OthersWork past → (r : ℕ) → IsSome (asking_lane_of past r)
     → asked_by past 0 r ≡ true
-asked_here [] lanes r some = absurd cc
-asked_here (entry ∷ past) lanes r some =
-    asks_lane past entry.lane entry.what r (lanes 0 entry (omega arith)) (asked_here past (λ k d below. lanes (suc k) d
-    (omega arith)) r) some
+asked_here [] others r some = absurd cc
+asked_here (entry ∷ past) others r some =
+    asks_lane past entry.lane entry.what r others.0 (asked_here past others.1 r) some
+
+others_none : (past : List Entry) → AreOfLane past → OthersWork past
+others_none [] lanes = tt
+others_none (entry ∷ past) lanes =
+    (inl (lanes 0 entry (omega arith)), others_none past (λ k d below. lanes (suc k) d (omega arith)))
 
 -- ---- so it is handed the first of all answers that wait
 
@@ -92,15 +100,15 @@ waits_both false taken answer some = absurd cc
 waits_both true true answer some = absurd cc
 waits_both true false answer some = (refl, some)
 
-pub ready_asked : (m : Rules) (past : List Entry) → AreRight m past → IsAnswered m past → AreOfLane past
+pub ready_asked : (m : Rules) (past : List Entry) → AreRight m past → IsAnswered m past → OthersWork past
     → ArePassed (asked_by past 0) (ready m past)
-ready_asked m past right answered lanes = all_passed (asked_by past 0) (ready m past) (λ r some.
+ready_asked m past right answered others = all_passed (asked_by past 0) (ready m past) (λ r some.
     let found = (are_those m past right).found r in
     let facts = waits_both (has_ended past r) (is_taken past r) (answer_of_run m past r) (subst IsSome found some) in
     let page = sym (its_answer m past right answered r facts.0) ∙ facts.1 in
-    asked_here past lanes r (page_asked m past right r page))
+    asked_here past others r (page_asked m past right r page))
 
-head_first : (past : List Entry) (left : List (ℕ × Answer)) (first : ℕ × Answer) → ArePassed (asked_by past 0) left
+pub head_first : (past : List Entry) (left : List (ℕ × Answer)) (first : ℕ × Answer) → ArePassed (asked_by past 0) left
     → Some first ≡ first_for past 0 left → (rest : List (ℕ × Answer)) × (left ≡ first ∷ rest)
 head_first past [] first passed found = absurd cc
 head_first past (head ∷ rest) first passed found =
@@ -145,7 +153,7 @@ handing_starts meaning core held right answered lanes none =
       left = ready (rules_of meaning core) (past_of core);
       now_is = sym (grown_none core);
       split = refl;
-      passed = ready_asked (rules_of meaning core) (past_of core) right answered lanes;
+      passed = ready_asked (rules_of meaning core) (past_of core) right answered (others_none (past_of core) lanes);
       bytes = [];
       are_records = refl;
       wrote = none;

@@ -152,8 +152,8 @@ shown_stop m past lane done right answered shows =
 pub shown_tick : (m : Rules) (past : List Entry) (lane moment : ℕ) (done : List Shown)
     → AreRight m (past_after past (tick_entries m past lane moment))
     → IsAnswered m (past_after past (tick_entries m past lane moment))
-    → (moment_of past < moment → is_calm past ≡ true) → ready m past ≡ [] → Shows m past done
-    → Shows m (past_after past (tick_entries m past lane moment)) done
+    → (moment_of past < moment → is_calm past ≡ true) → (moment_of past < moment → ready m past ≡ [])
+    → Shows m past done → Shows m (past_after past (tick_entries m past lane moment)) done
 shown_tick m past lane moment done right answered calm none shows = elim (cases_lt (moment_of past) moment) [
   | inl later ↦ (let entry = with_lane lane (Tick moment) in
       let list = owed m (entry ∷ past) in
@@ -165,7 +165,7 @@ shown_tick m past lane moment done right answered calm none shows = elim (cases_
       subst (λ entries. IsAnswered m (past_after past entries)) is answered in
       subst (λ entries. Shows m (past_after past entries) done) (sym is) (shown_after m (entry ∷ past) queued done
       right_then answered_then (plain_queue lane (drawn (entry ∷ past) + 1) list) (shown_ticks m past lane moment
-      done (right_before m (entry ∷ past) queued right_then).1 (calm later) none shows)))
+      done (right_before m (entry ∷ past) queued right_then).1 (calm later) (none later) shows)))
   | inr early ↦ subst (λ entries. Shows m (past_after past entries) done) (sym (no_tick_is m past lane moment early))
       shows
 ]
@@ -186,8 +186,8 @@ plain_admission keyed asked sessions past job = elim (cases_Bool (is_refused key
 pub shown_admit : (m : Rules) (past : List Entry) (lane : ℕ) (job : Job) (done : List Shown)
     → AreRight m (past_after past (admit_entries m past lane job))
     → IsAnswered m (past_after past (admit_entries m past lane job))
-    → (moment_of past < job.moment → is_calm past ≡ true) → ready m past ≡ [] → Shows m past done
-    → Shows m (past_after past (admit_entries m past lane job)) done
+    → (moment_of past < job.moment → is_calm past ≡ true) → (moment_of past < job.moment → ready m past ≡ [])
+    → Shows m past done → Shows m (past_after past (admit_entries m past lane job)) done
 shown_admit m past lane job done right answered calm none shows =
     let ticked = tick_entries m past lane job.moment in
     let mid = past_after past ticked in

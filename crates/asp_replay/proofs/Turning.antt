@@ -19,13 +19,12 @@ use Rattle.asp_record.specs.Recorded as recorded
 use Rattle.asp_job.specs.Rules.{Rules}
 use Rattle.asp_replay.specs.declared.stop.FeedStop.{FeedStop}
 use Rattle.asp_replay.specs.declared.stop.FeedStop.TheVariants as stop
-use Rattle.asp_replay.specs.Feed.{HasAllCome, HasCause, IsNext}
-use Rattle.asp_replay.specs.Feed.IsTooMuchNext.{OfItem, OfStop}
 use Rattle.asp_feed.specs.Feeding.{Clients, is_calm}
 use Rattle.asp_replay.specs.Sequential.{AddsItem, IsBusy, hand_outs, may_come}
 use Rattle.asp_replay.specs.Underway.{After, AreOfLane, EndsSo, HandsOut, IsItemTooMuch, IsOfOneLane, IsOfWriting}
 use Rattle.asp_replay.specs.Underway.{IsUnderWay, StandsAt, WorkAdds, Works, turn_stop}
 use Rattle.asp_replay.proofs.Aside.{AreAside, aside_handed, fits_still}
+use Rattle.asp_replay.proofs.Causes.{item_cause, next_is, stop_cause}
 use Rattle.asp_replay.proofs.Grown.{IsGrown, all_come, come_grown, ends_here, handed_after, item_stays, stays_of, stop_grown}
 use Rattle.asp_replay.proofs.Grown.{work_grown}
 use Rattle.asp_replay.proofs.Plain.{plain_stopped, stays_plain, stays_worked}
@@ -146,31 +145,6 @@ module _ {R Site : Type 0} (meaning : R → Site → Meaning) where
       (come_grown (rules_of meaning old) items (past_of old) entries clients then_clients next left before held is
       (right_grown old mid entries mid_is right) (answered_grown old mid entries mid_is answered) may adds) of out
 
-  -- the next item is the first of those that are left
-  next_is : (items : List Item) (past : List Entry) (clients : Clients) (next : Item) (left : List Item)
-      → may_come past (recorded.moment_of next) ≡ true → StandsAt items past clients (next ∷ left)
-      → IsNext items past clients next
-  next_is items past clients next left may (inl feeding) = record {
-    first = feeding.done;
-    later = left;
-    items_are = feeding.split;
-    came = feeding.came;
-    may = may;
-  }
-  next_is items past clients next left may (inr fed) = absurd (let none = fed.none_left in cc)
-
-  item_cause : (m : Rules) (items : List Item) (past : List Entry) (clients : Clients) (next : Item)
-      (ended : FeedStop) → HasStarted m past → IsNext items past clients next
-      → ((full : Full) → ended ≡ stop.JournalFull full
-      → IsItemTooMuch m past clients next full) → ((fail : Fail) → ended ≡ stop.StartFailed fail → ⊥)
-      → HasCause m items past ended
-  item_cause m items past clients next (stop.StartFailed fail) started is so not = absurd (not fail refl)
-  item_cause m items past clients next (stop.JournalFull full) started is so not =
-      let much = so full refl in
-      (past, [], refl, OfItem clients much.1 next much.0 started is much.2 much.3)
-  item_cause m items past clients next stop.WriteFault started is so not = tt
-  item_cause m items past clients next stop.Memory started is so not = tt
-
   -- an item did not come
   pub come_ends : (old mid : CoreView R Site) (items left : List Item) (clients : Clients) (next : Item)
       (before held : Option (List ℕ)) (ended : FeedStop) → mid ≡ old
@@ -210,17 +184,6 @@ module _ {R Site : Type 0} (meaning : R → Site → Meaning) where
       after_core result old mid new entries items [] clients before held after mid_is
       (stop_grown (rules_of meaning old) items (past_of old) clients before held is
       (right_grown old mid entries mid_is right) (answered_grown old mid entries mid_is answered) calm once) of out
-
-  stop_cause : (m : Rules) (items : List Item) (past : List Entry) (ended : FeedStop) → HasStarted m past
-      → HasAllCome items past
-      → ((full : Full) → ended ≡ stop.JournalFull full
-      → IsTooMuch (past_after past (stop_entries m past 0)) full)
-      → ((fail : Fail) → ended ≡ stop.StartFailed fail → ⊥) → HasCause m items past ended
-  stop_cause m items past (stop.StartFailed fail) started is so not = absurd (not fail refl)
-  stop_cause m items past (stop.JournalFull full) started is so not =
-      (past, [], refl, OfStop started is (so full refl))
-  stop_cause m items past stop.WriteFault started is so not = tt
-  stop_cause m items past stop.Memory started is so not = tt
 
   -- the host did not stop
   pub stop_ends : (old mid : CoreView R Site) (items : List Item) (clients : Clients) (before held : Option (List ℕ))

@@ -89,7 +89,7 @@ or_true : (a b : Bool) → b ≡ true → a || b ≡ true
 or_true true b e = refl
 or_true false b e = e
 
-halted_after : (past entries : List Entry) → is_halted past ≡ true → is_halted (past_after past entries) ≡ true
+pub halted_after : (past entries : List Entry) → is_halted past ≡ true → is_halted (past_after past entries) ≡ true
 halted_after past [] halted = halted
 halted_after past (entry ∷ entries) halted =
     halted_after (entry ∷ past) entries (or_true (is_halt entry.what) (is_halted past) halted)
@@ -167,18 +167,18 @@ module _ {R Site State : Type 0} (meaning : R → Site → Meaning) (stands : R 
 
 -- ---- how it ends
 
-added : (past entries : List Entry) → (more : List Entry) × (past_after past entries ≡ more ++ past)
+pub added : (past entries : List Entry) → (more : List Entry) × (past_after past entries ≡ more ++ past)
 added past [] = ([], refl)
 added past (entry ∷ entries) =
     let rest = added (entry ∷ past) entries in
     (rest.0 ++ entry ∷ [], rest.1 ∙ sym (append_assoc rest.0 (entry ∷ []) past))
 
-fed_then : (items : List Item) (old new : List Entry) → IsAsBefore old new → IsFedPart items old → IsFedPart items new
+pub fed_then : (items : List Item) (old new : List Entry) → IsAsBefore old new → IsFedPart items old → IsFedPart items new
 fed_then items old new same (inl fed) = inl (fed_as_before items old new same fed)
 fed_then items old new same (inr part) =
     inr (part.0, part.1, part.2, part.3, come_as_before (reverse part.0) old new part.2 same part.4)
 
-much_then : (m : Rules) (items : List Item) (past more : List Entry) (full : Full)
+pub much_then : (m : Rules) (items : List Item) (past more : List Entry) (full : Full)
     → WasTooMuch m items past full → WasTooMuch m items (more ++ past) full
 much_then m items past more full much = (
   much.0,
@@ -198,7 +198,7 @@ cause_then m items past new more (stop.JournalFull full) is same cause =
 cause_then m items past new more stop.WriteFault is same cause = tt
 cause_then m items past new more stop.Memory is same cause = tt
 
-part_then : (m : Rules) (past new : List Entry) (more : List Shown) (before after : Option (List ℕ))
+pub part_then : (m : Rules) (past new : List Entry) (more : List Shown) (before after : Option (List ℕ))
     → shown_of m new ≡ shown_of m past ++ more → ArePartWritten m past before after
     → ArePartWritten m new before after
 part_then m past new more before after is part = record {

@@ -49,7 +49,7 @@ pub fn may_come<R: Runner>(core: &Core<R>, moment: u64) -> bool
 }
 
 /// A client goes by the key that its job was admitted with.
-fn note(clients: &mut Clients, client: u32, told: Admitted)
+pub(crate) fn note(clients: &mut Clients, client: u32, told: Admitted)
     requires room { 0 < spare clients.old }
     ensures { (what : What) → told ≡ drawing.told_of what →
         clients.new.entries ≡ feeding.clients_after clients.old.entries client what }

@@ -1,10 +1,19 @@
 //! A recording is fed to a site by one lane, and the answers are written as they come.
 #![tactic(auto)]
 
+mod beginning;
+mod bringing;
 mod coming;
 mod feeding;
 mod handing;
+mod lanes;
 mod laws;
+mod leading;
+mod leaving;
+mod met;
+mod near;
+mod round;
+mod slicing;
 mod stop;
 mod turns;
 mod winding_up;
@@ -12,6 +21,7 @@ mod working;
 mod writing;
 
 pub use feeding::feed;
+pub use lanes::feed_with;
 pub use laws::journals_have_lines;
 pub use stop::FeedStop;
 pub use writing::{write_done, write_lines};
