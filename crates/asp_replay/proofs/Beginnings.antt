@@ -1,7 +1,6 @@
 -- The first run, beside which no other lane works.
-use Rattle.std.proofs.Common.{◌≡◌, ℕ, List, [], ◌∷◌, ◌++◌, Bool, true, false, Option, Some, None, Result, Ok, Err, IsTrue}
-use Rattle.std.proofs.Common.{refl, ap, sym, ◌∙◌, subst, is_some, not}
-use Rattle.turn_desk.specs.Shown.{LaneView}
+use Rattle.std.proofs.Common.{◌≡◌, ℕ, List, [], ◌∷◌, ◌++◌, Bool, true, false, Option, Some, None, Result, Ok, Err}
+use Rattle.std.proofs.Common.{refl, ap, sym, ◌∙◌, is_some, not}
 use Rattle.asp_core.specs.Kernel.{RunView}
 use Rattle.asp_desk.specs.Calls.{AreWork, looked_of}
 use Rattle.asp_desk.specs.declared.looking.Looked.{Looked}
@@ -11,7 +10,6 @@ use Rattle.asp_job.specs.declared.entry.Entry.{Entry}
 use Rattle.asp_job.specs.Journal.{past_after}
 use Rattle.asp_job.specs.Rules.{Rules}
 use Rattle.asp_journal.specs.declared.full.Full.{Full}
-use Rattle.asp_lane.specs.Started.{HasStarted}
 use Rattle.asp_replay.specs.declared.stop.FeedStop.{FeedStop}
 use Rattle.asp_replay.specs.declared.stop.FeedStop.TheVariants as stop
 use Rattle.asp_replay.specs.Near.{GoesOn, HasWorked, IsFreeThen, SlicesNear, StartedBy, Starts, WasMuchNear}

@@ -1,6 +1,6 @@
 -- What is known of a feed once its host is closed.
-use Rattle.std.proofs.Common.{◌≡◌, ◌≢◌, ◌⊎◌, ℕ, ◌<◌, true, false, List, [], ◌∷◌, ◌++◌, All, Option, None, Some, Result, Ok, Err}
-use Rattle.std.proofs.Common.{Bool, IsTrue, IfErr, IfOk, OnOk, IfSome, refl, ap, sym, ◌∙◌, subst, inl, inr, reverse, append-nil}
+use Rattle.std.proofs.Common.{◌≡◌, ◌≢◌, ℕ, true, false, List, [], ◌∷◌, All, Option, None, Some, Result, Ok, Err}
+use Rattle.std.proofs.Common.{Bool, IsTrue, IfErr, IfOk, OnOk, IfSome, ap, sym, ◌∙◌, subst, inl, inr, reverse, append-nil}
 use Rattle.std.specs.List.{AllByRecursion}
 use Rattle.std.proofs.lemmas.List.Elements.{recursion_from_All}
 use Rattle.asp_core.proofs.Kept.{past_of_more}
@@ -14,15 +14,13 @@ use Rattle.asp_job.specs.declared.entry.Entry.{Entry}
 use Rattle.asp_job.specs.Journal.{AreRight, IsValidJournal, past_after}
 use Rattle.asp_job.specs.Rules.{Rules}
 use Rattle.asp_job.specs.Runs.{is_halted, unfinished}
-use Rattle.asp_journal.specs.declared.full.Full.{Full}
 use Rattle.asp_record.specs.declared.recording.Item.{Item}
-use Rattle.asp_feed.specs.Feeding.{events_of}
 use Rattle.asp_feed.specs.Shown.{shown_of}
 use Rattle.asp_replay.specs.declared.stop.FeedStop.{FeedStop}
 use Rattle.asp_replay.specs.declared.stop.FeedStop.TheVariants as stop
-use Rattle.asp_replay.specs.Feed.{HasWoundUp, IsPassed, IsWoundUp, is_full_end}
+use Rattle.asp_replay.specs.Feed.{IsPassed, IsWoundUp, is_full_end}
 use Rattle.asp_replay.specs.Near.{GrowsSilently, HasWorked, IsFedNear, Leaves, LeavesBy}
-use Rattle.asp_replay.specs.Workers.{HasCauseBeside, HasFedBeside, HasFedPartBeside, IsEarly, StopsWith, first_stop, stop_of}
+use Rattle.asp_replay.specs.Workers.{HasCauseBeside, HasFedBeside, HasFedPartBeside, IsEarly, StopsWith, first_stop}
 use Rattle.asp_replay.proofs.LeftNear.{leaves_fed, leaves_later, worked_silent}
 use Rattle.asp_replay.proofs.Pieces.{part_whole}
 use Rattle.asp_replay.proofs.Quiet.{calm_none}

@@ -1,6 +1,6 @@
 -- A hand that has taken slices until nothing was left to do holds no run.
-use Rattle.std.proofs.Common.{◌≡◌, ◌⊎◌, ℕ, ◌==◌, ◌&&◌, ◌||◌, Bool, true, false, List, [], Option, Some, None, refl, ap, sym, ◌∙◌}
-use Rattle.std.proofs.Common.{inl, inr, reverse, subst, length}
+use Rattle.std.proofs.Common.{◌≡◌, ℕ, ◌==◌, ◌&&◌, ◌||◌, Bool, true, false, List, [], Option, Some, None, refl, ap, sym, ◌∙◌}
+use Rattle.std.proofs.Common.{inl, inr, reverse, length}
 use Rattle.std.proofs.lemmas.Bool.{eqb-true}
 use Rattle.asp_core.specs.Kernel.{CoreView, RunView, past_of, rules_of}
 use Rattle.asp_desk.specs.declared.slices.Slice.{Slice}
@@ -10,7 +10,7 @@ use Rattle.asp_desk.specs.declared.steps.Stepped.TheVariants as step
 use Rattle.asp_desk.specs.Calls.{looked_of}
 use Rattle.asp_desk.specs.Hands.{Fixed, HandView, Holds, HostView, IsHandOf, core_at, rules_at}
 use Rattle.asp_desk.specs.Loops.{HasLooped, IsLast, is_last, is_over}
-use Rattle.asp_desk.specs.Slices.{HasStepped, IsSlice, Passes, Works, slice_of}
+use Rattle.asp_desk.specs.Slices.{HasStepped, IsSlice, Works, slice_of}
 use Rattle.asp_job.specs.declared.entry.Entry.{Entry}
 use Rattle.asp_job.specs.Running.{Pace}
 use Rattle.asp_job.specs.Rules.{Rules}

@@ -1,6 +1,6 @@
 -- The hands of a host that were dealt, have worked and are back, and the core of the host once it is closed.
 use Rattle.std.proofs.Common.{◌≡◌, ◌⊎◌, ℕ, ◌+◌, ◌≤◌, List, [], ◌∷◌, ◌++◌, All, IfErr, IfOk, IfSome, None, OnOk, Option}
-use Rattle.std.proofs.Common.{Result, Ok, Err, ap, arith, inr, length, map, refl, reverse, subst, sym, ◌∙◌}
+use Rattle.std.proofs.Common.{Result, Ok, Err, ap, arith, inr, length, map, refl, subst, sym, ◌∙◌}
 use Rattle.std.specs.List.{AllZip}
 use Rattle.std.proofs.lemmas.List.Elements.{recursion_from_All}
 use Rattle.turn_desk.specs.Histories.{AreOfLanes}
@@ -14,7 +14,7 @@ use Rattle.asp_desk.specs.declared.worker.WorkerOf.{WorkerOf}
 use Rattle.asp_desk.specs.Hands.{Fixed, HandView, HostView, IsHandOf, core_at, rules_at}
 use Rattle.asp_desk.specs.Opening.{first_journal, new_hands}
 use Rattle.asp_job.specs.declared.entry.Entry.{Entry}
-use Rattle.asp_job.specs.Journal.{AreRight, IsValidJournal}
+use Rattle.asp_job.specs.Journal.{IsValidJournal}
 use Rattle.asp_job.specs.Rules.{Rules}
 use Rattle.asp_job.specs.Told.{Meaning, Told}
 use Rattle.asp_record.specs.declared.recording.Item.{Item}

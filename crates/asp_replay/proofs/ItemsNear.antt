@@ -1,7 +1,6 @@
 -- What lane 0 brings to a host while other lanes work: items, and the Stop.
-use Rattle.std.proofs.Common.{◌≡◌, ℕ, ◌<◌, Bool, true, false, List, [], ◌∷◌, ◌++◌, Option, Some, None, Result, Ok, Err}
-use Rattle.std.proofs.Common.{refl, ap, sym, ◌∙◌, subst, reverse, append-nil}
-use Rattle.std.proofs.lemmas.Bool.{cases_Bool}
+use Rattle.std.proofs.Common.{◌≡◌, ℕ, ◌<◌, List, [], ◌∷◌, ◌++◌, Ok, Err}
+use Rattle.std.proofs.Common.{refl, ap, sym, ◌∙◌, subst, reverse}
 use Rattle.turn_desk.specs.Shown.{HasOwn, LaneView}
 use Rattle.asp_core.proofs.Kept.{past_of_more}
 use Rattle.asp_core.specs.declared.admitted.Admitted.{Admitted}
@@ -11,31 +10,31 @@ use Rattle.asp_core.specs.declared.stop.EventStop.{EventStop}
 use Rattle.asp_core.specs.declared.stop.EventStop.TheVariants as event
 use Rattle.asp_core.specs.Drawing.{entry_then, told_of}
 use Rattle.asp_core.specs.Kernel.{IsTooMuch}
-use Rattle.asp_desk.specs.Calls.{Admits, IsTurn, Stops, Ticks}
+use Rattle.asp_desk.specs.Calls.{Admits, IsTurn, Ticks}
 use Rattle.asp_core.specs.Ready.{ready}
 use Rattle.asp_job.specs.declared.answer.Fail.{Fail}
 use Rattle.asp_job.specs.declared.entry.Entry.{Entry}
 use Rattle.asp_job.specs.declared.entry.What.{What}
 use Rattle.asp_job.specs.declared.job.Job.{Job}
-use Rattle.asp_job.specs.Journal.{AreRight, admit_entries, past_after, stop_entries, tick_entries}
+use Rattle.asp_job.specs.Journal.{AreRight, admit_entries, past_after, tick_entries}
 use Rattle.asp_job.specs.Rules.{Rules}
 use Rattle.asp_journal.specs.declared.full.Full.{Full}
-use Rattle.asp_job.specs.Runs.{is_stopping, moment_of}
+use Rattle.asp_job.specs.Runs.{moment_of}
 use Rattle.asp_record.specs.declared.recording.Item.{Item}
 use Rattle.asp_record.specs.declared.recording.Item.TheVariants as item
 use Rattle.asp_record.specs.Recorded as recorded
 use Rattle.asp_replay.specs.declared.stop.FeedStop.{FeedStop}
 use Rattle.asp_replay.specs.declared.stop.FeedStop.TheVariants as stop
-use Rattle.asp_feed.specs.Feeding.{Clients, IsJobOf, clients_after, is_calm}
-use Rattle.asp_replay.specs.Near.{BringsNear, EndsNear, HasWorked, IsBorneOut, IsDue, IsNear, NearAfter}
-use Rattle.asp_replay.specs.Sequential.{AddsItem, may_come}
+use Rattle.asp_feed.specs.Feeding.{Clients, IsJobOf, clients_after}
+use Rattle.asp_replay.specs.Near.{BringsNear, EndsNear, HasWorked, IsBorneOut, IsDue, IsNear}
+use Rattle.asp_replay.specs.Sequential.{AddsItem}
 use Rattle.asp_replay.specs.Underway.{IsItemTooMuch, admit_stop, event_stop}
-use Rattle.asp_replay.proofs.Causes.{item_cause, next_is, stop_cause}
-use Rattle.asp_replay.proofs.Grown.{all_come, calm_where}
+use Rattle.asp_replay.proofs.Causes.{item_cause, next_is}
+use Rattle.asp_replay.proofs.Grown.{calm_where}
 use Rattle.asp_replay.proofs.Others.{lane_in, turn_borne, turn_found}
-use Rattle.asp_replay.proofs.Quiet.{borne_before, calm_none, calm_quiet, may_stays}
+use Rattle.asp_replay.proofs.Quiet.{borne_before, calm_none, may_stays}
 use Rattle.asp_replay.proofs.Showing.{right_before}
-use Rattle.asp_replay.proofs.StandsNear.{near_came, near_ends, near_stopped, near_worked}
+use Rattle.asp_replay.proofs.StandsNear.{near_came, near_ends, near_worked}
 use Rattle.asp_replay.proofs.TakenNear.{quiet_moment, worked_quiet}
 
 -- nothing more was done

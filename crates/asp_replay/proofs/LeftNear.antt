@@ -1,5 +1,5 @@
 -- How lane 0 leaves a host that it fed.
-use Rattle.std.proofs.Common.{◌≡◌, ◌≢◌, ℕ, List, [], ◌∷◌, ◌++◌, true, false, Option, Result, Ok, Err, refl, ap, sym, ◌∙◌}
+use Rattle.std.proofs.Common.{◌≡◌, ◌≢◌, ℕ, List, [], ◌∷◌, ◌++◌, true, Option, Err, refl, ap, sym, ◌∙◌}
 use Rattle.std.proofs.Common.{subst, inl, inr, reverse, append-nil}
 use Rattle.std.proofs.lemmas.Bool.{cases_Bool}
 use Rattle.turn_desk.specs.Shown.{HasOwn, LaneView}
@@ -22,7 +22,7 @@ use Rattle.asp_record.specs.Recorded as recorded
 use Rattle.asp_replay.specs.declared.stop.FeedStop.{FeedStop}
 use Rattle.asp_replay.specs.declared.stop.FeedStop.TheVariants as stop
 use Rattle.asp_replay.specs.Feed.{ArePartWritten, HasCause, IsPassed, WasTooMuch}
-use Rattle.asp_feed.specs.Feeding.{Clients, IsFedPart, comes, events_of}
+use Rattle.asp_feed.specs.Feeding.{IsFedPart, comes, events_of}
 use Rattle.asp_feed.specs.Shown.{shown_of}
 use Rattle.asp_replay.specs.Near.{EndsNear, GrowsSilently, HasWorked, IsBorneOut, IsFedNear, IsHaltedFor, IsNear}
 use Rattle.asp_replay.specs.Near.{Leaves, OthersWork, Overflows, Starts, WasMuchNear}
@@ -30,7 +30,7 @@ use Rattle.asp_replay.specs.Underway.{StandsAt}
 use Rattle.asp_replay.proofs.Events.{quiet_all}
 use Rattle.asp_replay.proofs.FirstPlace.{first_current, first_past}
 use Rattle.asp_replay.proofs.Grown.{fed_part, stands_same}
-use Rattle.asp_replay.proofs.Others.{lane_in, turn_found, work_found}
+use Rattle.asp_replay.proofs.Others.{lane_in, turn_found}
 use Rattle.asp_replay.proofs.Pieces.{part_whole, with_none}
 use Rattle.asp_replay.proofs.Quiet.{borne_before, others_before, quiet_comes, work_plain, work_quiet}
 use Rattle.asp_replay.proofs.Showing.{Shows, after_both, shown_after}

@@ -1,6 +1,6 @@
 -- The rounds of lane 0.
-use Rattle.std.proofs.Common.{◌≡◌, ℕ, ◌++◌, true, false, List, [], ◌∷◌, Option, refl, ap, sym, ◌∙◌, subst, append-nil, reverse}
-use Rattle.std.proofs.Common.{inl, inr, Result, Ok, Err}
+use Rattle.std.proofs.Common.{◌≡◌, ℕ, ◌++◌, true, false, List, [], Option, ap, sym, ◌∙◌, subst, append-nil, reverse}
+use Rattle.std.proofs.Common.{inl, inr, Result}
 use Rattle.turn_desk.specs.Shown.{HasOwn, LaneView}
 use Rattle.asp_desk.specs.Calls.{IsTurn, Looks, looked_of}
 use Rattle.asp_desk.specs.declared.looking.Looked.{Looked}

@@ -1,21 +1,21 @@
 -- A slice of lane 0's work beside other lanes, and what did not fit in it.
-use Rattle.std.proofs.Common.{◌≡◌, ◌⊎◌, ℕ, List, [], ◌∷◌, ◌++◌, Option, Some, None, Result, Ok, Err, ap, sym, ◌∙◌, subst}
-use Rattle.std.proofs.Common.{inl, inr, reverse, append-nil, append_assoc, false}
+use Rattle.std.proofs.Common.{◌≡◌, ℕ, List, [], ◌∷◌, ◌++◌, Option, Err, ap, sym, ◌∙◌, subst}
+use Rattle.std.proofs.Common.{inl, inr, reverse, append_assoc, false}
 use Rattle.std.proofs.lemmas.List.{append_cancel_left, reverse-append}
 use Rattle.turn_desk.specs.Histories.{BeginsWith}
 use Rattle.turn_desk.specs.Shown.{HasOwn, LaneView}
 use Rattle.asp_core.proofs.Kept.{past_of_more}
 use Rattle.asp_core.specs.declared.stop.BeginStop.{BeginStop}
 use Rattle.asp_core.specs.declared.stop.BeginStop.TheVariants as begin
-use Rattle.asp_core.specs.Kernel.{IsBeginTooMuch, IsRunOf, RunView}
+use Rattle.asp_core.specs.Kernel.{IsBeginTooMuch, RunView}
 use Rattle.asp_replay.proofs.Adding.{begins_then, ready_adds}
 use Rattle.asp_desk.specs.Calls.{AreWork}
 use Rattle.asp_desk.specs.declared.slices.Slice.TheVariants as slice
 use Rattle.asp_desk.specs.declared.steps.Stepped.{Stepped}
 use Rattle.asp_desk.specs.declared.steps.Stepped.TheVariants as step
 use Rattle.asp_desk.specs.Hands.{Fixed, HandView, HostView, core_at, rules_at}
-use Rattle.asp_desk.specs.Slices.{HasGoneOn, HasStepped, IsReady, IsSlice, StepsHere, Works, slice_of, stopped}
-use Rattle.asp_desk.specs.Steps.{Begins, Steps}
+use Rattle.asp_desk.specs.Slices.{HasGoneOn, HasStepped, IsSlice, StepsHere, Works, slice_of, stopped}
+use Rattle.asp_desk.specs.Steps.{Begins}
 use Rattle.asp_replay.specs.Adds.{AddsWork}
 use Rattle.asp_job.specs.declared.entry.Entry.{Entry}
 use Rattle.asp_job.specs.Journal.{AreRight, past_after}
@@ -25,7 +25,6 @@ use Rattle.asp_job.specs.Running.{Pace}
 use Rattle.asp_job.specs.Told.{Meaning, Told}
 use Rattle.asp_lane.proofs.Turns.{wants_so}
 use Rattle.asp_lane.specs.Turns.{IsCallTooMuch}
-use Rattle.asp_replay.specs.declared.stop.FeedStop.{FeedStop}
 use Rattle.asp_replay.specs.declared.stop.FeedStop.TheVariants as stop
 use Rattle.asp_replay.specs.Feed.IsTooMuchNext.{OfBegin, OfCall}
 use Rattle.asp_replay.specs.Feed.{IsTooMuchNext}

@@ -1,6 +1,6 @@
 -- Where a feed stands beside other lanes, as the journal grows.
 use Rattle.std.proofs.Common.{◌≡◌, ℕ, ◌<◌, true, false, List, [], ◌∷◌, ◌++◌, Option, refl, ap, sym, ◌∙◌, subst}
-use Rattle.std.proofs.Common.{append_assoc, Result, Ok, Err, append-nil}
+use Rattle.std.proofs.Common.{append_assoc, Err}
 use Rattle.asp_core.specs.Ready.{IsAnswered, ready}
 use Rattle.asp_io.specs.Sink.{with_bytes}
 use Rattle.asp_job.specs.declared.answer.Answer.{Answer}
@@ -18,7 +18,7 @@ use Rattle.asp_replay.specs.declared.stop.FeedStop.{FeedStop}
 use Rattle.asp_replay.specs.declared.stop.FeedStop.TheVariants as stop
 use Rattle.asp_replay.specs.Feed.{HasCause}
 use Rattle.asp_feed.specs.Feeding.{Clients, is_calm}
-use Rattle.asp_feed.specs.Shown.{AreRecords, IsRecord, Shown, shown_of}
+use Rattle.asp_feed.specs.Shown.{IsRecord, Shown}
 use Rattle.asp_replay.specs.Near.{EndsNear, HasWorked, IsNear}
 use Rattle.asp_replay.specs.Sequential.{AddsItem, may_come}
 use Rattle.asp_replay.specs.Underway.{StandsAt, WritesRecord, stamped}

@@ -1,5 +1,5 @@
 -- The Stop, which lane 0 brings to a host while other lanes work.
-use Rattle.std.proofs.Common.{◌≡◌, ℕ, Bool, true, false, List, [], ◌∷◌, ◌++◌, Option, Result, Ok, Err, refl, ap, sym, ◌∙◌}
+use Rattle.std.proofs.Common.{◌≡◌, ℕ, true, false, List, [], Option, Ok, Err, ap, sym}
 use Rattle.std.proofs.Common.{subst, reverse, inl, inr}
 use Rattle.std.proofs.lemmas.Bool.{cases_Bool}
 use Rattle.turn_desk.specs.Shown.{HasOwn, LaneView}

@@ -1,5 +1,5 @@
 -- Hand-outs of lane 0, one after another, while other lanes work.
-use Rattle.std.proofs.Common.{◌≡◌, ℕ, List, [], ◌∷◌, ◌++◌, Option, Some, None, Result, Ok, Err, refl, ap, sym, ◌∙◌}
+use Rattle.std.proofs.Common.{◌≡◌, ℕ, List, [], ◌∷◌, Option, Some, None, Result, Ok, Err, ap, sym, ◌∙◌}
 use Rattle.std.proofs.Common.{subst, reverse, IfNone, IfSome}
 use Rattle.turn_desk.specs.Shown.{HasOwn, LaneView}
 use Rattle.asp_core.proofs.Kept.{past_of_more}
@@ -9,7 +9,7 @@ use Rattle.asp_job.specs.declared.answer.Answer.{Answer}
 use Rattle.asp_job.specs.declared.entry.Entry.{Entry}
 use Rattle.asp_job.specs.declared.entry.What.TheVariants.{Take}
 use Rattle.asp_job.specs.History.{with_lane}
-use Rattle.asp_job.specs.Journal.{AreRight, past_after}
+use Rattle.asp_job.specs.Journal.{AreRight}
 use Rattle.asp_job.specs.Rules.{Rules}
 use Rattle.asp_job.specs.Runs.{moment_of}
 use Rattle.asp_replay.specs.declared.stop.FeedStop.{FeedStop}
@@ -19,8 +19,7 @@ use Rattle.asp_replay.specs.Underway.{WritesRecord}
 use Rattle.asp_replay.proofs.Events.{quiet_all}
 use Rattle.asp_replay.proofs.HandingOut.{head_first, none_first, ready_asked}
 use Rattle.asp_replay.proofs.Others.{lane_in, turn_found}
-use Rattle.asp_replay.proofs.Quiet.{borne_before, borne_quiet, quiet_comes, quiet_none, quiet_then, work_quiet}
-use Rattle.asp_replay.proofs.Showing.{right_before}
+use Rattle.asp_replay.proofs.Quiet.{borne_before, quiet_comes, quiet_none, quiet_then, work_quiet}
 use Rattle.asp_replay.proofs.StandsNear.{near_out, near_worked, out_ends, shown_one, taken}
 
 -- ---- one hand-out

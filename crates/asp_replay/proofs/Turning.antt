@@ -1,6 +1,6 @@
 -- What turns leave of a core: its journal grows, and then the answers that wait are handed out.
 use Rattle.std.proofs.Common.{◌≡◌, ℕ, true, false, List, [], ◌∷◌, ◌++◌, append_assoc, refl, ap, sym, ◌∙◌, subst}
-use Rattle.std.proofs.Common.{inl, inr, Option, Some, Result, Ok, Err}
+use Rattle.std.proofs.Common.{Option, Some, Result, Ok, Err}
 use Rattle.asp_journal.specs.declared.full.Full.{Full}
 use Rattle.asp_core.specs.Kernel.{CoreView, IsTooMuch, RunView, grown, past_of, rules_of}
 use Rattle.asp_core.specs.Ready.{IsAnswered, ready}
@@ -22,7 +22,7 @@ use Rattle.asp_replay.specs.declared.stop.FeedStop.TheVariants as stop
 use Rattle.asp_feed.specs.Feeding.{Clients, is_calm}
 use Rattle.asp_replay.specs.Sequential.{AddsItem, IsBusy, hand_outs, may_come}
 use Rattle.asp_replay.specs.Underway.{After, AreOfLane, EndsSo, HandsOut, IsItemTooMuch, IsOfOneLane, IsOfWriting}
-use Rattle.asp_replay.specs.Underway.{IsUnderWay, StandsAt, WorkAdds, Works, turn_stop}
+use Rattle.asp_replay.specs.Underway.{IsUnderWay, WorkAdds, Works, turn_stop}
 use Rattle.asp_replay.proofs.Aside.{AreAside, aside_handed, fits_still}
 use Rattle.asp_replay.proofs.Causes.{item_cause, next_is, stop_cause}
 use Rattle.asp_replay.proofs.Grown.{IsGrown, all_come, come_grown, ends_here, handed_after, item_stays, stays_of, stop_grown}

@@ -1,13 +1,8 @@
 -- A recording that was fed to its end.
-use Rattle.std.proofs.Common.{◌≡◌, ℕ, ◌&&◌, Bool, true, false, is_some, List, [], ◌∷◌, refl, ap, sym, ◌∙◌, subst, inl}
+use Rattle.std.proofs.Common.{◌≡◌, ℕ, ◌&&◌, Bool, true, false, List, [], ◌∷◌, refl, sym, ◌∙◌, inl}
 use Rattle.std.proofs.Common.{inr}
-use Rattle.std.proofs.Common.{Option, Some, None}
-use Rattle.asp_core.specs.Kernel.{CoreView, grown, past_of}
-use Rattle.asp_journal.specs.Telling.{end_kind, kind_in}
-use Rattle.asp_core.proofs.Kept.{past_of_more}
-use Rattle.asp_job.specs.declared.entry.EndKind.{EndKind}
+use Rattle.std.proofs.Common.{Option}
 use Rattle.asp_job.specs.declared.entry.Entry.{Entry}
-use Rattle.asp_job.specs.Journal.{past_after}
 use Rattle.asp_job.specs.Rules.{Rules}
 use Rattle.asp_job.specs.Runs.{is_stopping}
 use Rattle.asp_lane.specs.Started.{HasStarted}
@@ -15,7 +10,6 @@ use Rattle.asp_record.specs.declared.recording.Item.{Item}
 use Rattle.asp_replay.specs.Feed.{HasFed}
 use Rattle.asp_feed.specs.Feeding.{Clients, IsFed, is_calm}
 use Rattle.asp_replay.specs.Underway.{IsUnderWay, StandsAt, is_over}
-use Rattle.std.specs.Option.{option_or}
 
 -- ---- the end
 

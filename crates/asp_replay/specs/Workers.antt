@@ -1,6 +1,6 @@
 -- What a recording leaves that was fed to a host on which several lanes worked. All of it is the product's own.
 use Rattle.std.specs.Prelude.{◌≤◌, length, map}
-use Rattle.std.specs.Prelude.{◌≡◌, ◌⊎◌, ℕ, ◌<◌, true, ⊤, List, [], ◌∷◌, ◌++◌, reverse, Option, Some, None, Result, Ok, Err}
+use Rattle.std.specs.Prelude.{◌≡◌, ◌⊎◌, ℕ, ◌<◌, true, ⊤, List, [], ◌∷◌, ◌++◌, reverse, Option, Some, None, Result}
 use Rattle.std.specs.Option.{option_or}
 use Rattle.turn_desk.specs.Shown.{LaneView}
 use Rattle.asp_core.specs.Kernel.{RunView}

@@ -1,9 +1,7 @@
-use Rattle.std.proofs.Common.{◌≡◌, ◌∷◌, ◌∙◌, ◌++◌, [], All, List, None, ap, arith, inl, inr, length, map, subst, sym}
+use Rattle.std.proofs.Common.{◌≡◌, ◌∷◌, ◌∙◌, ◌++◌, [], All, None, ap, arith, inl, inr, length, map, subst, sym}
 use Rattle.turn_desk.specs.Shown.{LaneFits}
 use Rattle.asp_desk.specs.Hands.{IsHandOf}
-use Rattle.asp_replay.proofs.Back.{hands_in}
 use Rattle.asp_replay.proofs.Endings.{first_no_fault}
-use Rattle.asp_replay.specs.declared.stop.FeedStop.TheVariants as stop
 use Rattle.asp_replay.proofs.Gathering.{back_dealt, core_dealt, err_dealt, free_dealt, idle_dealt, lanes_dealt, lead_dealt}
 use Rattle.asp_replay.proofs.Gathering.{many_dealt, ok_dealt, room_dealt, seen_dealt, some_hands}
 use Rattle.asp_replay.proofs.Others.{lane_in}

@@ -1,6 +1,6 @@
-use Rattle.std.proofs.Common.{◌≡◌, ◌∙◌, Ok, arith, refl, sym}
+use Rattle.std.proofs.Common.{◌∙◌, Ok, arith, refl, sym}
 use Rattle.asp_desk.specs.Hands.{rules_at}
-use Rattle.asp_replay.specs.Near.{StaysNear, past_in}
+use Rattle.asp_replay.specs.Near.{past_in}
 use Rattle.asp_replay.proofs.Quiet.{borne_quiet}
 use Rattle.asp_replay.proofs.TakenNear.{quiet_moment, stays_none, stays_then}
 use Rattle.asp_replay.proofs.near.hand_out_near.Goals as goal

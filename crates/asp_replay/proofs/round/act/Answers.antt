@@ -1,4 +1,4 @@
-use Rattle.std.proofs.Common.{◌≡◌, ◌∷◌, [], None, ap, true, sym, ◌∙◌, subst}
+use Rattle.std.proofs.Common.{◌≡◌, None, true, subst}
 use Rattle.std.proofs.lemmas.Result.{err_from_is_err_and}
 use Rattle.asp_desk.specs.Hands.{rules_at}
 use Rattle.asp_record.specs.Recorded as recorded

@@ -1,4 +1,4 @@
-use Rattle.std.proofs.Common.{◌≡◌, ℕ, ◌<◌, ◌≤◌, ◌^◌, List, Option}
+use Rattle.std.proofs.Common.{ℕ, ◌<◌, ◌≤◌, ◌^◌, List, Option}
 use Rattle.asp_desk.specs.Hands.{rules_at}
 use Rattle.asp_record.specs.Recorded as recorded
 use Rattle.asp_replay.specs.Near.{IsBorneOut, IsLead, IsNear, past_in}
