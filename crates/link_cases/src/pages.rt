@@ -12,10 +12,17 @@ use vb_value::{Bytes, List, SiteFile, Text};
 /// The pages without sessions: one that writes, one that errs in its second line, one that errs behind what it flushed, one
 /// that reads a form, one that leads elsewhere, and one whose answer has no content.
 const WRITES: &str = "<%@ ENABLESESSIONSTATE=False %>A<%= 1 + 2 %>B";
+
 const ERRS: &str = "<%@ ENABLESESSIONSTATE=False %>\n<% x = 1 \\ 0 %>";
-const FLUSHES: &str = "<%@ ENABLESESSIONSTATE=False %>a<% Response.Flush : Response.Write 1 : Err.Raise 5 %>";
-const READS: &str = "<%@ ENABLESESSIONSTATE=False %><%= Request.Form(\"a\") %>;<%= Request.TotalBytes %>";
+
+const FLUSHES: &str =
+    "<%@ ENABLESESSIONSTATE=False %>a<% Response.Flush : Response.Write 1 : Err.Raise 5 %>";
+
+const READS: &str =
+    "<%@ ENABLESESSIONSTATE=False %><%= Request.Form(\"a\") %>;<%= Request.TotalBytes %>";
+
 const LEADS: &str = "<%@ ENABLESESSIONSTATE=False %><% Response.Redirect \"/p.asp?b=1&c\" %>";
+
 const EMPTY: &str = "<%@ ENABLESESSIONSTATE=False %><% Response.Status = \"204 No Content\" %>hi";
 
 /// A page that counts the requests of its session.
