@@ -13,7 +13,6 @@ use Rattle.asp_record.specs.Generated.{count_files, generated}
 use Rattle.asp_record.specs.Journal.{AreLines}
 use Rattle.asp_replay.specs.declared.stop.FeedStop.{FeedStop}
 use Rattle.asp_replay.specs.declared.stop.FeedStop.TheVariants as feed
-use Rattle.asp_replay.specs.Feed.{IsWhole}
 use Rattle.asp_feed.specs.Shown.{lines_of}
 use Rattle.asp_site.specs.declared.site.Site.{Site}
 use Rattle.asp_summary.specs.Counted.{summary_of}
@@ -24,16 +23,20 @@ use Rattle.asp_host.specs.declared.status.Status.TheVariants.{Ok, Memory, Usage,
 use Rattle.asp_host.specs.declared.status.Status.TheVariants.{ReadFault, WriteFault, RecordRefused, JournalFull, AcceptFault}
 use Rattle.asp_host.specs.Around.{Around, Change, IsLeft}
 use Rattle.asp_host.specs.Replay.{rules_for}
-use Rattle.asp_host.specs.Replayed.{HasFilled, HasNotStarted}
+use Rattle.asp_host.specs.Replayed.{HasFilled, HasNotStarted, IsFedBy}
+
+-- how many workers there are
+abbrev pub gen_workers : ℕ
+gen_workers = 4
 
 -- ---- feeding
 
--- The items were fed to their end with this journal, which is a right account of all runs; and these are its lines,
--- where they are asked for, and its summary.
+-- The items were fed to their end by those workers with this journal, which is a right account of all runs; and these are
+-- its lines, where they are asked for, and its summary.
 pub record HasSummed (rules : Rules) (items : List Item) (count : ℕ) (journal : Bool) (output : List ℕ) : Type 0 where
   pub past : List Entry
   pub account : IsValidJournal rules past
-  pub whole : IsWhole rules items past
+  pub whole : IsFedBy gen_workers rules items past
   pub output_is : output ≡ lines_of journal past ++ summary_lines (summary_of count past)
 
 -- so they were, and a first part of that was written
@@ -51,7 +54,7 @@ pub record HasSummedAll (rules : Rules) (items : List Item) (count : ℕ) (journ
 -- why they were not, or their summary was not written whole. The answers go to a sink that tells nothing.
 abbrev pub IsSumStop : Rules → List Item → ℕ → Bool → Change → FeedStop → Type 0
 IsSumStop rules items count journal sink (feed.StartFailed fail) = HasNotStarted rules fail None None × IsLeft sink
-IsSumStop rules items count journal sink (feed.JournalFull full) = HasFilled rules items full None None × IsLeft sink
+IsSumStop rules items count journal sink (feed.JournalFull full) = HasFilled gen_workers rules items full None None × IsLeft sink
 IsSumStop rules items count journal sink feed.WriteFault = HasSummedPart rules items count journal sink
 IsSumStop rules items count journal sink feed.Memory = IsLeft sink ⊎ HasSummedPart rules items count journal sink
 
@@ -79,7 +82,7 @@ pub record FailsGenerated (count : ℕ) (fail : Fail) : Type 0 where
 pub record FillsGenerated (count : ℕ) (full : Full) : Type 0 where
   pub site : Site
   pub accepted : IsAccepted count_files site
-  pub filled : HasFilled (rules_for site (generated count)) (generated count).items full None None
+  pub filled : HasFilled gen_workers (rules_for site (generated count)) (generated count).items full None None
 
 -- the requests were fed, and a first part of what belongs to them was written
 abbrev pub GeneratesPart : ℕ → Bool → Change → Type 0

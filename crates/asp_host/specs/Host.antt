@@ -13,7 +13,7 @@ use Rattle.asp_host.specs.Serve.{ServeEnds}
 abbrev pub Ends : Command → Around → Status → Type 0
 Ends (Get site path query) around status = GetEnds path query around status
 Ends (Check site) around status = CheckEnds around status
-Ends (Replay site workers asked) around status = ReplayEnds asked around status
+Ends (Replay site workers asked) around status = ReplayEnds workers asked around status
 Ends (Serve site requests workers port) around status = ServeEnds requests around status
 Ends (Gen count asked) around status = GenEnds count asked around status
 

@@ -22,14 +22,14 @@ GetWritesOf path query site sink status = (files : Option (List SiteFile))
     → IfSome files (λ all. IsAccepted all site) → GetWrites path query files sink status
 
 -- what `replay` ran and wrote
-abbrev pub ReplayWritesOf : Bool → Site → Change → Change → Status → Type 0
-ReplayWritesOf journal site source sink status = (files : Option (List SiteFile))
-    → IfSome files (λ all. IsAccepted all site) → ReplayWrites journal files source sink status
+abbrev pub ReplayWritesOf : ℕ → Bool → Site → Change → Change → Status → Type 0
+ReplayWritesOf workers journal site source sink status = (files : Option (List SiteFile))
+    → IfSome files (λ all. IsAccepted all site) → ReplayWrites workers journal files source sink status
 
 -- the same once its recording was read too, whichever source had it
-abbrev pub RecordingWritesOf : Bool → Site → Recording → Change → Status → Type 0
-RecordingWritesOf journal site recording sink status = (files : Option (List SiteFile)) (source : Change)
-    → IsFor files source site recording → ReplayWrites journal files source sink status
+abbrev pub RecordingWritesOf : ℕ → Bool → Site → Recording → Change → Status → Type 0
+RecordingWritesOf workers journal site recording sink status = (files : Option (List SiteFile)) (source : Change)
+    → IsFor files source site recording → ReplayWrites workers journal files source sink status
 
 -- what `serve` came to
 abbrev pub ServeMeetsOf : ℕ → Site → List ℕ → Bool → Status → Type 0

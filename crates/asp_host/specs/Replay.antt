@@ -27,12 +27,12 @@ pub record IsFor (files : Option (List SiteFile)) (source : Change) (site : Site
   pub accepted : IfSome files (λ all. IsAccepted all site)
   pub whole : IsAllRecording source.before source.after recording
 
--- a site and its recording were replayed to the end; in part; until the journal was full
-pub record ReplaysAll (journal : Bool) (files : Option (List SiteFile)) (source sink : Change) : Type 0 where
+-- a site and its recording were replayed to the end, by so many workers; in part; until the journal was full
+pub record ReplaysAll (workers : ℕ) (journal : Bool) (files : Option (List SiteFile)) (source sink : Change) : Type 0 where
   pub site : Site
   pub recording : Recording
   pub is_for : IsFor files source site recording
-  pub replayed : HasReplayed (rules_for site recording) recording.items journal sink.before sink.after
+  pub replayed : HasReplayed workers (rules_for site recording) recording.items journal sink.before sink.after
 
 pub record ReplaysPart (journal : Bool) (ended : FeedStop) (files : Option (List SiteFile)) (source sink : Change) :
     Type 0 where
@@ -41,11 +41,11 @@ pub record ReplaysPart (journal : Bool) (ended : FeedStop) (files : Option (List
   pub is_for : IsFor files source site recording
   pub replayed : HasReplayedPart (rules_for site recording) recording.items journal ended sink.before sink.after
 
-pub record Fills (files : Option (List SiteFile)) (source sink : Change) (full : Full) : Type 0 where
+pub record Fills (workers : ℕ) (files : Option (List SiteFile)) (source sink : Change) (full : Full) : Type 0 where
   pub site : Site
   pub recording : Recording
   pub is_for : IsFor files source site recording
-  pub filled : HasFilled (rules_for site recording) recording.items full sink.before sink.after
+  pub filled : HasFilled workers (rules_for site recording) recording.items full sink.before sink.after
 
 -- the source is refused there, where the files that are told are a site
 pub record HasRefused (files : Option (List SiteFile)) (source : Change) (offset : ℕ) : Type 0 where
@@ -60,20 +60,20 @@ pub record FailsToBegin (files : Option (List SiteFile)) (source sink : Change) 
   pub is_for : IsFor files source site recording
   pub failed : HasNotStarted (rules_for site recording) fail sink.before sink.after
 
--- what `replay` ran and wrote, by its status
-abbrev pub ReplayWrites : Bool → Option (List SiteFile) → Change → Change → Status → Type 0
-ReplayWrites journal files source sink Ok = ReplaysAll journal files source sink
-ReplayWrites journal files source sink (JournalFull full) = Fills files source sink full
-ReplayWrites journal files source sink WriteFault = ReplaysPart journal stop.WriteFault files source sink
-ReplayWrites journal files source sink Memory = IsLeft sink ⊎ ReplaysPart journal stop.Memory files source sink
-ReplayWrites journal files source sink (RecordRefused offset) = HasRefused files source offset × IsLeft sink
-ReplayWrites journal files source sink (SiteRefused fault) =
+-- what `replay` with so many workers ran and wrote, by its status
+abbrev pub ReplayWrites : ℕ → Bool → Option (List SiteFile) → Change → Change → Status → Type 0
+ReplayWrites workers journal files source sink Ok = ReplaysAll workers journal files source sink
+ReplayWrites workers journal files source sink (JournalFull full) = Fills workers files source sink full
+ReplayWrites workers journal files source sink WriteFault = ReplaysPart journal stop.WriteFault files source sink
+ReplayWrites workers journal files source sink Memory = IsLeft sink ⊎ ReplaysPart journal stop.Memory files source sink
+ReplayWrites workers journal files source sink (RecordRefused offset) = HasRefused files source offset × IsLeft sink
+ReplayWrites workers journal files source sink (SiteRefused fault) =
     IfSome files (λ all. IsFolderFault all fault) × IsLeft source × IsLeft sink
-ReplayWrites journal files source sink (StartFailed fail) = FailsToBegin files source sink fail
-ReplayWrites journal files source sink ReadFault = IsLeft sink
-ReplayWrites journal files source sink Usage = ⊥
-ReplayWrites journal files source sink AcceptFault = ⊥
+ReplayWrites workers journal files source sink (StartFailed fail) = FailsToBegin files source sink fail
+ReplayWrites workers journal files source sink ReadFault = IsLeft sink
+ReplayWrites workers journal files source sink Usage = ⊥
+ReplayWrites workers journal files source sink AcceptFault = ⊥
 
 -- how `replay` ends
-abbrev pub ReplayEnds : Bool → Around → Status → Type 0
-ReplayEnds journal around status = ReplayWrites journal around.files around.source around.sink status
+abbrev pub ReplayEnds : ℕ → Bool → Around → Status → Type 0
+ReplayEnds workers journal around status = ReplayWrites workers journal around.files around.source around.sink status

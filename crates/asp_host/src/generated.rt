@@ -13,24 +13,36 @@ use asp_run::PlainRunner;
 use asp_site::Site;
 use site_load::load;
 use std::alloc::Global;
+use std::sync::Wait;
+use std::thread::Threads;
 use vb_value::{List, Memory, SiteFile};
 
 /// Makes a site of one page and a recording of so many requests for it, replays that, and writes the summary of its
 /// journal, behind its lines where they are asked for. The answers are let go.
-pub fn replay_generated<K: Sink>(alloc: Global, count: u32, journal: bool, sink: &mut K) -> Status
+pub fn replay_generated<Rt, K>(
+    rt: &Rt,
+    alloc: Global,
+    count: u32,
+    journal: bool,
+    sink: &mut K,
+) -> Status
+where
+    Rt: Threads + Wait + Sync,
+    K: Sink,
     requires { count ≤ 10000 }
     ensures writes { spec.GenWrites count journal
         (record { before = K.held sink.old; after = K.held sink.new }) result }
     ensures write_fault { result ≡ Status.WriteFault → HasRisen (K.faults sink.old) (K.faults sink.new) }
 {
     match generate(alloc, count) {
-        Ok((files, recording)) => replay_made(alloc, files, &recording, count, journal, sink),
+        Ok((files, recording)) => replay_made(rt, alloc, files, &recording, count, journal, sink),
         Err(Memory) => Status::Memory,
     }
 }
 
 /// Replays the recording that was made, over the site of the one page.
-fn replay_made<K: Sink>(
+fn replay_made<Rt, K>(
+    rt: &Rt,
     alloc: Global,
     files: List<SiteFile>,
     recording: &Recording,
@@ -38,6 +50,9 @@ fn replay_made<K: Sink>(
     journal: bool,
     sink: &mut K,
 ) -> Status
+where
+    Rt: Threads + Wait + Sync,
+    K: Sink,
     requires few { count ≤ 10000 }
     requires page { files ≡ count_files }
     requires requests { recording.now ≡ generated count }
@@ -46,26 +61,26 @@ fn replay_made<K: Sink>(
     ensures write_fault { result ≡ Status.WriteFault → HasRisen (K.faults sink.old) (K.faults sink.new) }
 {
     match count_site(alloc, files) {
-        Ok(site) => {
-            let status = write_made(alloc, &site, recording, count, journal, sink);
-            drop(site);
-            status
-        }
+        Ok(site) => write_made(rt, alloc, site, recording, count, journal, sink),
         Err(Memory) => Status::Memory,
     }
 }
 
 /// Replays it over the site, and writes what `gen` writes.
-fn write_made<K: Sink>(
+fn write_made<Rt, K>(
+    rt: &Rt,
     alloc: Global,
-    site: &Site,
+    site: Site,
     recording: &Recording,
     count: u32,
     journal: bool,
     sink: &mut K,
 ) -> Status
+where
+    Rt: Threads + Wait + Sync,
+    K: Sink,
     requires few { count ≤ 10000 }
-    requires accepted { IsAccepted count_files site.now }
+    requires accepted { IsAccepted count_files site }
     requires requests { recording.now ≡ generated count }
     ensures writes { spec.GenWrites count journal
         (record { before = K.held sink.old; after = K.held sink.new }) result }
@@ -74,8 +89,9 @@ fn write_made<K: Sink>(
     // What is generated is sound.
     generated_sound();
     match write_generated(
+        rt,
         alloc,
-        &PlainRunner { alloc },
+        PlainRunner { alloc },
         site,
         recording,
         count,

@@ -82,10 +82,10 @@ where
         Ok(
             Command::Replay {
                 site: _,
-                workers: _,
+                workers,
                 journal,
             },
-        ) => replay(alloc, journal, folder, source, sink),
+        ) => replay(rt, alloc, workers, journal, folder, source, sink),
         Ok(
             Command::Serve {
                 site: _,
@@ -101,7 +101,7 @@ where
             };
             serve(rt, alloc, &terms, folder, wire, clock)
         }
-        Ok(Command::Gen { count, journal }) => replay_generated(alloc, count, journal, sink),
+        Ok(Command::Gen { count, journal }) => replay_generated(rt, alloc, count, journal, sink),
         Err(WordStop::Usage) => Status::Usage,
         Err(WordStop::Memory) => Status::Memory,
     }

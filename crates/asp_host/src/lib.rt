@@ -4,6 +4,7 @@
 mod answers;
 mod check;
 mod fail_text;
+mod feeding;
 mod generated;
 mod get;
 mod host;

@@ -1,5 +1,5 @@
 //! What a replay writes behind the records of the answers, and in all.
-ghost use Rattle.std.specs.Prelude.{◌≡◌, ◌++◌, IfErr, OnOk, length, reverse, true, false};
+ghost use Rattle.std.specs.Prelude.{◌≡◌, ◌≤◌, ◌++◌, IfErr, OnOk, length, reverse, true, false};
 ghost use Rattle.asp_core.specs.Kernel.{past_of, rules_by, rules_of, setting_of};
 ghost use Rattle.asp_io.specs.Faults.{HasCause};
 ghost use Rattle.asp_job.specs.Journal.{IsValidJournal};
@@ -12,12 +12,15 @@ ghost use Rattle.asp_replay.specs.Underway.{WritesText};
 ghost use Rattle.asp_host.specs.Replayed.{HasReplayed, HasStopped};
 
 use crate::answers::count_answers;
+use crate::feeding::feed_by;
 use asp_core::Core;
 use asp_io::Sink;
 use asp_job::{Entry, Runner};
 use asp_record::Recording;
-use asp_replay::{FeedStop, feed, journals_have_lines, write_done, write_lines};
+use asp_replay::{FeedStop, journals_have_lines, write_done, write_lines};
 use std::alloc::Global;
+use std::sync::Wait;
+use std::thread::Threads;
 
 /// Writes the lines of the entries, where they are asked for.
 pub fn write_journal<K: Sink>(
@@ -59,30 +62,35 @@ fn write_end<R: Runner, K: Sink>(
     write_done(alloc, sink, count)
 }
 
-/// Feeds a site with a recording, and writes all that a replay writes.
-pub fn write_replay<R, K>(
+/// Feeds a site with a recording by so many workers, and writes all that a replay writes.
+pub fn write_replay<Rt, R, K>(
+    rt: &Rt,
     alloc: Global,
-    runner: &R,
-    site: &R::Site,
+    runner: R,
+    site: R::Site,
     recording: &Recording,
+    workers: u32,
     journal: bool,
     sink: &mut K,
 ) -> Result<(), FeedStop>
 where
-    R: Runner,
-    R::State: Drop,
-    R::Store: Drop,
+    Rt: Threads + Wait + Sync,
+    R: Runner + Sync + Drop,
+    R::Site: Sync + Drop,
+    R::Store: Send + Drop,
+    R::State: Send + Drop,
     K: Sink,
     requires sound { IsSound recording.now }
-    ensures ok { OnOk result (HasReplayed (rules_by (R.meaning runner.now site.now)
+    requires workers { (1 ≤ workers) × (workers ≤ 32) }
+    ensures ok { OnOk result (HasReplayed workers (rules_by (R.meaning runner site)
         (setting_of recording.now.seed false))
         recording.now.items journal (K.held sink.old) (K.held sink.new)) }
-    ensures err { IfErr result (HasStopped (rules_by (R.meaning runner.now site.now)
+    ensures err { IfErr result (HasStopped workers (rules_by (R.meaning runner site)
         (setting_of recording.now.seed false))
         recording.now.items journal (K.held sink.old) (K.held sink.new)) }
     ensures cause { HasCause FeedStop.WriteFault (K.faults sink.old) (K.faults sink.new) result }
 {
-    let core = feed(alloc, runner, site, recording, sink)?;
+    let core = feed_by(rt, alloc, runner, site, recording, workers, sink)?;
     let written = write_end(alloc, &core, journal, sink);
     drop(core);
     written

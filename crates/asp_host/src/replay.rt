@@ -1,5 +1,5 @@
 //! The command `replay`.
-ghost use Rattle.std.specs.Prelude.{◌≡◌, ◌⊎◌};
+ghost use Rattle.std.specs.Prelude.{◌≡◌, ◌≤◌, ◌⊎◌};
 ghost use Rattle.asp_io.specs.Faults.{HasRisen};
 ghost use Rattle.asp_record.specs.Recorded.{IsSound};
 ghost use Rattle.asp_host.specs.Loaded.{RecordingWritesOf, ReplayWritesOf};
@@ -14,16 +14,27 @@ use asp_run::PlainRunner;
 use asp_site::Site;
 use site_load::load;
 use std::alloc::Global;
+use std::sync::Wait;
+use std::thread::Threads;
 
-/// Replays the recording that the source has, and writes its answers, and its journal where that is asked for.
-pub fn replay<F: Folder, S: Source, K: Sink>(
+/// Replays the recording that the source has by so many workers, and writes its answers, and its journal where that is
+/// asked for.
+pub fn replay<Rt, F, S, K>(
+    rt: &Rt,
     alloc: Global,
+    workers: u32,
     journal: bool,
     folder: &mut F,
     source: &mut S,
     sink: &mut K,
 ) -> Status
-    ensures writes { ReplayWrites journal (F.files folder.old)
+where
+    Rt: Threads + Wait + Sync,
+    F: Folder,
+    S: Source,
+    K: Sink,
+    requires { (1 ≤ workers) × (workers ≤ 32) }
+    ensures writes { ReplayWrites workers journal (F.files folder.old)
         (record { before = S.left source.old; after = S.left source.new })
         (record { before = K.held sink.old; after = K.held sink.new }) result }
     ensures read_fault { result ≡ Status.ReadFault → HasRisen (F.faults folder.old) (F.faults folder.new)
@@ -31,54 +42,68 @@ pub fn replay<F: Folder, S: Source, K: Sink>(
     ensures write_fault { result ≡ Status.WriteFault → HasRisen (K.faults sink.old) (K.faults sink.new) }
 {
     match load(alloc, folder) {
-        Ok(site) => {
-            let status = replay_source(alloc, &site, journal, source, sink);
-            drop(site);
-            status
-        }
+        Ok(site) => replay_source(rt, alloc, site, workers, journal, source, sink),
         Err(stop) => Status::from(stop),
     }
 }
 
 /// Replays the recording that the source has over the site.
-fn replay_source<S: Source, K: Sink>(
+fn replay_source<Rt, S, K>(
+    rt: &Rt,
     alloc: Global,
-    site: &Site,
+    site: Site,
+    workers: u32,
     journal: bool,
     source: &mut S,
     sink: &mut K,
 ) -> Status
-    ensures writes { ReplayWritesOf journal site.now
+where
+    Rt: Threads + Wait + Sync,
+    S: Source,
+    K: Sink,
+    requires { (1 ≤ workers) × (workers ≤ 32) }
+    ensures writes { ReplayWritesOf workers journal site
         (record { before = S.left source.old; after = S.left source.new })
         (record { before = K.held sink.old; after = K.held sink.new }) result }
     ensures read_fault { result ≡ Status.ReadFault → HasRisen (S.faults source.old) (S.faults source.new) }
     ensures write_fault { result ≡ Status.WriteFault → HasRisen (K.faults sink.old) (K.faults sink.new) }
 {
     match source_recording(alloc, source) {
-        Ok(recording) => replay_recording(alloc, site, &recording, journal, sink),
-        Err(stop) => Status::from(stop),
+        Ok(recording) => replay_recording(rt, alloc, site, &recording, workers, journal, sink),
+        Err(stop) => {
+            drop(site);
+            Status::from(stop)
+        }
     }
 }
 
 /// Replays the recording over the site.
-fn replay_recording<K: Sink>(
+fn replay_recording<Rt, K>(
+    rt: &Rt,
     alloc: Global,
-    site: &Site,
+    site: Site,
     recording: &Recording,
+    workers: u32,
     journal: bool,
     sink: &mut K,
 ) -> Status
+where
+    Rt: Threads + Wait + Sync,
+    K: Sink,
     requires sound { IsSound recording.now }
-    ensures writes { RecordingWritesOf journal site.now recording.now
+    requires workers { (1 ≤ workers) × (workers ≤ 32) }
+    ensures writes { RecordingWritesOf workers journal site recording.now
         (record { before = K.held sink.old; after = K.held sink.new }) result }
     ensures no_read { result ≡ Status.ReadFault → ⊥ }
     ensures write_fault { result ≡ Status.WriteFault → HasRisen (K.faults sink.old) (K.faults sink.new) }
 {
     match write_replay(
+        rt,
         alloc,
-        &PlainRunner { alloc },
+        PlainRunner { alloc },
         site,
         recording,
+        workers,
         journal,
         sink,
     ) {

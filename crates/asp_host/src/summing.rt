@@ -13,15 +13,21 @@ ghost use Rattle.asp_summary.specs.Counted.{summary_of as summary};
 ghost use Rattle.asp_summary.specs.Lines.{summary_lines};
 ghost use Rattle.asp_host.specs.Gen as spec;
 
+use crate::feeding::feed_by;
 use crate::output::write_journal;
 use asp_core::Core;
 use asp_io::{Failed, Sink, SureSink, write_all};
 use asp_job::{Entry, Runner};
 use asp_record::Recording;
-use asp_replay::{FeedStop, feed, journals_have_lines};
+use asp_replay::{FeedStop, journals_have_lines};
 use asp_summary::{summary_of, summary_text};
 use std::alloc::Global;
+use std::sync::Wait;
+use std::thread::Threads;
 use vb_value::Memory;
+
+/// How many workers there are.
+const GEN_WORKERS: u32 = 4;
 
 /// The lines of the summary.
 fn summary_string(alloc: Global, count: u32, entries: &[Entry]) -> Result<String, Memory>
@@ -65,32 +71,43 @@ fn write_summary<R: Runner, K: Sink>(
 }
 
 /// Feeds a site with a recording of so many requests, lets the answers go, and writes what `gen` writes.
-pub fn write_generated<R, K>(
+pub fn write_generated<Rt, R, K>(
+    rt: &Rt,
     alloc: Global,
-    runner: &R,
-    site: &R::Site,
+    runner: R,
+    site: R::Site,
     recording: &Recording,
     count: u32,
     journal: bool,
     sink: &mut K,
 ) -> Result<(), FeedStop>
 where
-    R: Runner,
-    R::State: Drop,
-    R::Store: Drop,
+    Rt: Threads + Wait + Sync,
+    R: Runner + Sync + Drop,
+    R::Site: Sync + Drop,
+    R::Store: Send + Drop,
+    R::State: Send + Drop,
     K: Sink,
     requires sound { IsSound recording.now }
-    ensures ok { OnOk result (spec.HasSummedAll (rules_by (R.meaning runner.now site.now)
+    ensures ok { OnOk result (spec.HasSummedAll (rules_by (R.meaning runner site)
         (setting_of recording.now.seed false)) recording.now.items count journal
         (record { before = K.held sink.old; after = K.held sink.new })) }
-    ensures err { IfErr result (spec.IsSumStop (rules_by (R.meaning runner.now site.now)
+    ensures err { IfErr result (spec.IsSumStop (rules_by (R.meaning runner site)
         (setting_of recording.now.seed false))
         recording.now.items count journal (record { before = K.held sink.old; after = K.held sink.new })) }
     ensures cause { HasCause FeedStop.WriteFault (K.faults sink.old) (K.faults sink.new) result }
 {
     // The sink of the answers takes all, so none of its faults is handed on.
     let mut nowhere = SureSink;
-    let core = feed(alloc, runner, site, recording, &mut nowhere)?;
+    let core = feed_by(
+        rt,
+        alloc,
+        runner,
+        site,
+        recording,
+        GEN_WORKERS,
+        &mut nowhere,
+    )?;
     let written = write_summary(alloc, &core, count, journal, sink);
     drop(core);
     written
