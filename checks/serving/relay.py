@@ -78,7 +78,7 @@ def replayed(check, site, client, requests):
     """Returns the answers that `replay` writes for these requests of a client, in their order."""
     items = [b"request %d 0 %d\n%s\n" % (client, len(it), it) for it in requests]
     recording = f"ASPREC 1\nseed {SEED}\n".encode() + b"".join(items) + b"end\n"
-    words = [*check.program, "replay", site]
+    words = [*check.program, "replay", site, "--workers", "1"]
     ran = subprocess.run(words, input=recording, stdout=subprocess.PIPE, check=True)
     answers, text = [], ran.stdout
     while text.startswith(b"answer "):

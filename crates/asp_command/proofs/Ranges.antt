@@ -1,9 +1,9 @@
 -- The numbers that options say are such as they may have.
-use Rattle.std.proofs.Common.{◌≡◌, ℕ, ◌≤◌, List, [], ◌∷◌, Option, Some, None, IfSome, unwrap_or, arith, sym, subst}
+use Rattle.std.proofs.Common.{◌≡◌, ℕ, ◌≤◌, Bool, List, [], ◌∷◌, Option, Some, None, IfSome, unwrap_or, arith, sym, subst}
 use Rattle.asp_command.specs.declared.options.Options.{Options}
 use Rattle.asp_command.specs.declared.options.Said.{Said}
 use Rattle.asp_command.specs.declared.options.Said.TheVariants as said
-use Rattle.asp_command.specs.Words.{HasRange, SayFurther, SaysServe, no_options, with_option}
+use Rattle.asp_command.specs.Words.{HasRange, SayFurther, SaysReplay, SaysServe, no_options, with_option}
 
 -- the number is not 0, and not greater than the most
 abbrev IsWithin : ℕ → ℕ → Type 0
@@ -35,6 +35,14 @@ or_within most unsaid (Some number) usual have = have
 some_within : (most number : ℕ) (said : Option ℕ) → said ≡ Some number → IfSome said (IsWithin most)
     → IsWithin most number
 some_within most number said is have = subst (λ (said : Option ℕ). IfSome said (IsWithin most)) is have
+
+-- that of `replay`
+pub replay_within : (words : List (List ℕ)) (site : List ℕ) (workers : ℕ) (journal : Bool)
+    → SaysReplay words site workers journal → (1 ≤ workers) × (workers ≤ 16)
+replay_within words site workers journal says =
+    let have = have_ranges no_options says.are_options.0 says.behind says.options (tt, tt, tt) says.are_options.1 in
+    subst (IsWithin 16) (sym says.workers_are)
+    (or_within 16 4 says.options.workers (omega arith, omega arith) have.0)
 
 -- those of `serve`
 pub serve_within : (words : List (List ℕ)) (site : List ℕ) (requests workers port : ℕ)

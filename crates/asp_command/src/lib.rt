@@ -7,5 +7,5 @@ mod options;
 mod target;
 mod words;
 
-pub use laws::{one_command, serve_within};
+pub use laws::{one_command, replay_within, serve_within};
 pub use words::{Command, WordStop, read_words};

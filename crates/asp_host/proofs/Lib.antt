@@ -1,5 +1,6 @@
 mod Literals
 mod Causes
+mod Fed
 mod GenEnds
 mod GetEnds
 mod Inputs

@@ -1,5 +1,5 @@
 -- What a replay comes to.
-use Rattle.std.proofs.Common.{◌≡◌, ◌⊎◌, ℕ, ◌++◌, Bool, true, List, [], ◌∷◌, length, append_assoc, refl, ap, sym, ◌∙◌, subst}
+use Rattle.std.proofs.Common.{◌≡◌, ℕ, ◌++◌, Bool, true, List, [], ◌∷◌, length, append_assoc, refl, ap, sym, ◌∙◌, subst}
 use Rattle.std.proofs.Common.{inl, inr, arith, Option}
 use Rattle.std.proofs.Common.{Result, Ok, Err, IfErr, OnOk}
 use Rattle.asp_core.specs.Kernel.{CoreView, past_of, rules_by, rules_of}
@@ -17,12 +17,12 @@ use Rattle.asp_record.specs.EntryLines.{lines_in}
 use Rattle.asp_record.specs.Journal.{AreLines}
 use Rattle.asp_replay.specs.declared.stop.FeedStop.{FeedStop}
 use Rattle.asp_replay.specs.declared.stop.FeedStop.TheVariants as stop
-use Rattle.asp_replay.specs.Feed.{HasFed, HasFedPart}
+use Rattle.asp_replay.specs.Workers.{HasFedPartBeside}
 use Rattle.asp_feed.specs.Shown.{AreRecords, IsOutput, done_line, lines_of, shown_of}
-use Rattle.asp_replay.specs.Underway.{HasNotBegun, IsCoreOf, WritesText}
+use Rattle.asp_replay.specs.Underway.{IsCoreOf, WritesText}
 use Rattle.asp_replay.proofs.FedBack.{rules_here}
 use Rattle.asp_replay.proofs.Pieces.{part_more, with_none, wrote_more}
-use Rattle.asp_host.specs.Replayed.{HasNotStarted, HasReplayed, HasReplayedPart, HasStopped}
+use Rattle.asp_host.specs.Replayed.{HasFedBy, HasFedUntil, HasNotStarted, HasReplayed, HasReplayedPart, HasStopped}
 use Rattle.asp_replay.proofs.Silent.{none_shown, none_written}
 use Rattle.asp_core.specs.declared.setting.Setting.{Setting}
 
@@ -44,10 +44,10 @@ nothing_part rules items journal before after same = record {
   wrote = record { count = 0; within = omega arith; added = same ∙ sym (with_none before) };
 }
 
-part_of : (rules : Rules) (items : List Item) (journal : Bool) (past : List Entry) (ended : FeedStop)
-    (before after : Option (List ℕ)) → HasFedPart rules items past ended before after
+part_of : (workers : ℕ) (rules : Rules) (items : List Item) (journal : Bool) (past : List Entry) (ended : FeedStop)
+    (before after : Option (List ℕ)) → HasFedPartBeside workers rules items past ended before after
     → HasReplayedPart rules items journal ended before after
-part_of rules items journal past ended before after part =
+part_of workers rules items journal past ended before after part =
     let written = part.written in
     record {
       past = past;
@@ -60,9 +60,10 @@ part_of rules items journal past ended before after part =
     }
 
 -- the first run failed so
-pub not_started : (rules : Rules) (items : List Item) (past : List Entry) (fail : Fail) (before after : Option (List ℕ))
-    → HasFedPart rules items past (stop.StartFailed fail) before after → HasNotStarted rules fail before after
-not_started rules items past fail before after part =
+pub not_started : (workers : ℕ) (rules : Rules) (items : List Item) (past : List Entry) (fail : Fail)
+    (before after : Option (List ℕ)) → HasFedPartBeside workers rules items past (stop.StartFailed fail) before after
+    → HasNotStarted rules fail before after
+not_started workers rules items past fail before after part =
     let none = none_shown rules past part.account.entries part.answered part.cause.none_came in
     record {
       past = past;
@@ -72,22 +73,21 @@ not_started rules items past fail before after part =
     }
 
 -- a feed stopped so
-pub feed_stopped : (rules : Rules) (items : List Item) (journal : Bool) (before after : Option (List ℕ)) (ended : FeedStop)
-    → HasNotBegun ended before after
-    ⊎ ((past : List Entry) × HasFedPart rules items past ended before after)
-    → HasStopped rules items journal before after ended
-feed_stopped rules items journal before after (stop.StartFailed fail) (inl none) = absurd (let e = none.0 in cc)
-feed_stopped rules items journal before after (stop.StartFailed fail) (inr part) =
-    not_started rules items part.0 fail before after part.1
-feed_stopped rules items journal before after (stop.JournalFull full) (inl none) = absurd (let e = none.0 in cc)
-feed_stopped rules items journal before after (stop.JournalFull full) (inr part) = part
-feed_stopped rules items journal before after stop.WriteFault (inl none) = absurd (let e = none.0 in cc)
-feed_stopped rules items journal before after stop.WriteFault (inr part) =
-    part_of rules items journal part.0 stop.WriteFault before after part.1
-feed_stopped rules items journal before after stop.Memory (inl none) =
+pub feed_stopped : (workers : ℕ) (rules : Rules) (items : List Item) (journal : Bool) (before after : Option (List ℕ))
+    (ended : FeedStop) → HasFedUntil workers rules items ended before after
+    → HasStopped workers rules items journal before after ended
+feed_stopped workers rules items journal before after (stop.StartFailed fail) (inl none) = absurd (let e = none.0 in cc)
+feed_stopped workers rules items journal before after (stop.StartFailed fail) (inr part) =
+    not_started workers rules items part.0 fail before after part.1
+feed_stopped workers rules items journal before after (stop.JournalFull full) (inl none) = absurd (let e = none.0 in cc)
+feed_stopped workers rules items journal before after (stop.JournalFull full) (inr part) = part
+feed_stopped workers rules items journal before after stop.WriteFault (inl none) = absurd (let e = none.0 in cc)
+feed_stopped workers rules items journal before after stop.WriteFault (inr part) =
+    part_of workers rules items journal part.0 stop.WriteFault before after part.1
+feed_stopped workers rules items journal before after stop.Memory (inl none) =
     nothing_part rules items journal before after none.1
-feed_stopped rules items journal before after stop.Memory (inr part) =
-    part_of rules items journal part.0 stop.Memory before after part.1
+feed_stopped workers rules items journal before after stop.Memory (inr part) =
+    part_of workers rules items journal part.0 stop.Memory before after part.1
 
 -- ---- what is written behind the answers
 
@@ -103,16 +103,16 @@ whole_output rules other past journal records same are = record {
       ∙ sym (append_assoc records (lines_of journal past) (done_line (length (shown_of other past))));
 }
 
-module _ {R Site : Type 0} (meaning : R → Site → Meaning) where
+module _ {R Site : Type 0} (workers : ℕ) (meaning : R → Site → Meaning) where
   pub replay_ok : {T : Type 0} → (core : CoreView R Site) (runner : R) (site : Site) (setting : Setting)
       (items : List Item)
       (journal : Bool) (before held after : Option (List ℕ)) (result : Result T FeedStop)
       → IsCoreOf runner site setting core → IsValidJournal (rules_of meaning core) (past_of core)
-      → HasFed (rules_by (meaning runner site) setting) items (past_of core) before held
+      → HasFedBy workers (rules_by (meaning runner site) setting) items (past_of core) before held
       → WritesText (lines_of journal (past_of core)
       ++ done_line (length (shown_of (rules_of meaning core) (past_of core)))) result held after
       → OnOk result (journal ≡ true → AreLines (lines_in (past_of core)))
-      → OnOk result (HasReplayed (rules_by (meaning runner site) setting) items journal before after)
+      → OnOk result (HasReplayed workers (rules_by (meaning runner site) setting) items journal before after)
   replay_ok core runner site setting items journal before held after (Ok given) of valid fed wrote lines =
       let same = rules_here meaning core runner site setting of in
       let other = rules_by (meaning runner site) setting in
@@ -133,7 +133,7 @@ module _ {R Site : Type 0} (meaning : R → Site → Meaning) where
   replay_part : (core : CoreView R Site) (runner : R) (site : Site) (setting : Setting) (items : List Item)
       (journal : Bool) (ended : FeedStop) (before held after : Option (List ℕ))
       → IsCoreOf runner site setting core → IsValidJournal (rules_of meaning core) (past_of core)
-      → HasFed (rules_by (meaning runner site) setting) items (past_of core) before held
+      → HasFedBy workers (rules_by (meaning runner site) setting) items (past_of core) before held
       → AddsPart held after (lines_of journal (past_of core)
       ++ done_line (length (shown_of (rules_of meaning core) (past_of core))))
       → HasReplayedPart (rules_by (meaning runner site) setting) items journal ended before after
@@ -156,10 +156,10 @@ module _ {R Site : Type 0} (meaning : R → Site → Meaning) where
   pub replay_err : {T : Type 0} → (core : CoreView R Site) (runner : R) (site : Site) (setting : Setting)
       (items : List Item) (journal : Bool) (before held after : Option (List ℕ)) (result : Result T FeedStop)
       → IsCoreOf runner site setting core → IsValidJournal (rules_of meaning core) (past_of core)
-      → HasFed (rules_by (meaning runner site) setting) items (past_of core) before held
+      → HasFedBy workers (rules_by (meaning runner site) setting) items (past_of core) before held
       → WritesText (lines_of journal (past_of core)
       ++ done_line (length (shown_of (rules_of meaning core) (past_of core)))) result held after
-      → IfErr result (HasStopped (rules_by (meaning runner site) setting) items journal before after)
+      → IfErr result (HasStopped workers (rules_by (meaning runner site) setting) items journal before after)
   replay_err core runner site setting items journal before held after (Ok given) of valid fed wrote = tt
   replay_err core runner site setting items journal before held after (Err (stop.StartFailed fail)) of valid fed wrote =
       absurd wrote

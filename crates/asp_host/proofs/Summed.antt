@@ -13,13 +13,13 @@ use Rattle.asp_record.specs.EntryLines.{lines_in}
 use Rattle.asp_record.specs.Journal.{AreLines}
 use Rattle.asp_replay.specs.declared.stop.FeedStop.{FeedStop}
 use Rattle.asp_replay.specs.declared.stop.FeedStop.TheVariants as stop
-use Rattle.asp_replay.specs.Feed.{HasFedPart, IsWhole}
 use Rattle.asp_feed.specs.Shown.{lines_of}
-use Rattle.asp_replay.specs.Underway.{HasNotBegun, IsCoreOf, WritesText}
+use Rattle.asp_replay.specs.Underway.{IsCoreOf, WritesText}
 use Rattle.asp_replay.proofs.FedBack.{rules_here}
 use Rattle.asp_summary.specs.Counted.{summary_of}
 use Rattle.asp_summary.specs.Lines.{summary_lines}
-use Rattle.asp_host.specs.Gen.{HasSummed, HasSummedAll, IsSumStop}
+use Rattle.asp_host.specs.Gen.{HasSummed, HasSummedAll, IsSumStop, gen_workers}
+use Rattle.asp_host.specs.Replayed.{HasFedUntil, IsFedBy}
 use Rattle.asp_host.proofs.Replaying.{not_started}
 use Rattle.asp_core.specs.declared.setting.Setting.{Setting}
 
@@ -34,13 +34,12 @@ no_fault fed ended cause was fault = omega (arith, cause.failed (was ∙ ap Err 
 pub sum_stopped : {T : Type 0} → (rules : Rules) (items : List Item) (count : ℕ) (journal : Bool)
     (held : Option (List ℕ)) (fed : Result T FeedStop) (ended : FeedStop) → HasCause stop.WriteFault 0 0 fed
     → fed ≡ Err ended
-    → HasNotBegun ended None None
-    ⊎ ((past : List Entry) × HasFedPart rules items past ended None None)
+    → HasFedUntil gen_workers rules items ended None None
     → IsSumStop rules items count journal (record { before = held; after = held }) ended
 sum_stopped rules items count journal held fed (stop.StartFailed fail) cause was (inl none) =
     absurd (let e = none.0 in cc)
 sum_stopped rules items count journal held fed (stop.StartFailed fail) cause was (inr part) =
-    (not_started rules items part.0 fail None None part.1, refl)
+    (not_started gen_workers rules items part.0 fail None None part.1, refl)
 sum_stopped rules items count journal held fed (stop.JournalFull full) cause was (inl none) =
     absurd (let e = none.0 in cc)
 sum_stopped rules items count journal held fed (stop.JournalFull full) cause was (inr part) = (part, refl)
@@ -71,7 +70,7 @@ all_lines count journal past = lines_of journal past ++ summary_lines (summary_o
 module _ {R Site : Type 0} (meaning : R → Site → Meaning) where
   summed : (core : CoreView R Site) (runner : R) (site : Site) (setting : Setting) (items : List Item) (count : ℕ)
       (journal : Bool) → IsCoreOf runner site setting core → IsValidJournal (rules_of meaning core) (past_of core)
-      → IsWhole (rules_by (meaning runner site) setting) items (past_of core)
+      → IsFedBy gen_workers (rules_by (meaning runner site) setting) items (past_of core)
       → HasSummed (rules_by (meaning runner site) setting) items count journal (all_lines count journal (past_of core))
   summed core runner site setting items count journal of valid whole =
       let past = past_of core in
@@ -86,7 +85,7 @@ module _ {R Site : Type 0} (meaning : R → Site → Meaning) where
       (items : List Item)
       (count : ℕ) (journal : Bool) (held after : Option (List ℕ)) (result : Result T FeedStop)
       → IsCoreOf runner site setting core → IsValidJournal (rules_of meaning core) (past_of core)
-      → IsWhole (rules_by (meaning runner site) setting) items (past_of core)
+      → IsFedBy gen_workers (rules_by (meaning runner site) setting) items (past_of core)
       → WritesText (all_lines count journal (past_of core)) result held after
       → OnOk result (journal ≡ true → AreLines (lines_in (past_of core)))
       → OnOk result (HasSummedAll (rules_by (meaning runner site) setting) items count journal
@@ -104,7 +103,7 @@ module _ {R Site : Type 0} (meaning : R → Site → Meaning) where
       (items : List Item)
       (count : ℕ) (journal : Bool) (held after : Option (List ℕ)) (result : Result T FeedStop)
       → IsCoreOf runner site setting core → IsValidJournal (rules_of meaning core) (past_of core)
-      → IsWhole (rules_by (meaning runner site) setting) items (past_of core)
+      → IsFedBy gen_workers (rules_by (meaning runner site) setting) items (past_of core)
       → WritesText (all_lines count journal (past_of core)) result held after
       → IfErr result (IsSumStop (rules_by (meaning runner site) setting) items count journal
       (record { before = held; after = after }))

@@ -1,5 +1,5 @@
 -- What a replay writes is a function of what it reads.
-use Rattle.std.proofs.Common.{◌≡◌, ◌∙◌, ℕ, Bool, List, Some, length, ap, subst}
+use Rattle.std.proofs.Common.{◌≡◌, ◌∙◌, ℕ, Bool, List, Some, length, refl, ap, subst}
 use Rattle.vb_value.specs.declared.site_file.SiteFile.{SiteFile}
 use Rattle.asp_io.specs.Sink.{with_bytes}
 use Rattle.asp_record.specs.declared.recording.Recording.{Recording}
@@ -16,16 +16,16 @@ is_replay : (journal : Bool) (around : Around) (well : ReplaysWell journal aroun
     → IsReplay (rules_for well.all.site well.all.recording) well.all.recording.items journal well.all.replayed.output
 is_replay journal around well = record {
   past = well.all.replayed.past;
-  sequential = well.all.replayed.whole.sequential well.enough;
+  sequential = well.all.replayed.whole.sequential refl well.enough;
   is_output = well.all.replayed.is_output;
 }
 
 -- two replays of the same bytes have one recording
-pub same_recording : OneRecording → (bytes : List ℕ) (journal : Bool) (around other : Around)
-    (one : ReplaysAll journal around.files around.source around.sink)
-    (also : ReplaysAll journal other.files other.source other.sink) → around.source.before ≡ Some bytes
+pub same_recording : OneRecording → (bytes : List ℕ) (workers others : ℕ) (journal : Bool) (around other : Around)
+    (one : ReplaysAll workers journal around.files around.source around.sink)
+    (also : ReplaysAll others journal other.files other.source other.sink) → around.source.before ≡ Some bytes
     → other.source.before ≡ Some bytes → one.recording ≡ also.recording
-same_recording recordings bytes journal around other one also told more =
+same_recording recordings bytes workers others journal around other one also told more =
     (recordings bytes one.recording also.recording (length bytes) (length bytes)
     (of_told around.source.before bytes (λ all. Stands all one.recording (length all)) told one.is_for.whole.stands)
     (of_told other.source.before bytes (λ all. Stands all also.recording (length all)) more
@@ -45,7 +45,7 @@ module _ (sites : OneSite) (recordings : OneRecording) (replays : OneReplay) whe
       → AreAddedAlike around.sink other.sink
   one_replay_output journal files bytes around other tells more told again one also =
       let site = same_site files journal around other one also tells more in
-      let recording = same_recording recordings bytes journal around other one.all also.all told again in
+      let recording = same_recording recordings bytes 1 1 journal around other one.all also.all told again in
       let output = one.all.replayed.output in
       let turned = subst (λ (last : Recording). IsReplay (rules_for also.all.site last) last.items journal output)
       recording (subst (λ site. IsReplay (rules_for site one.all.recording) one.all.recording.items journal output) site

@@ -21,7 +21,7 @@ use Rattle.asp_host.specs.declared.status.Status.TheVariants.{Ok, Memory, Usage,
 use Rattle.asp_host.specs.declared.status.Status.TheVariants.{ReadFault, WriteFault, RecordRefused, JournalFull, AcceptFault}
 use Rattle.asp_host.specs.Around.{Around}
 use Rattle.asp_host.specs.Check.{CheckEnds}
-use Rattle.asp_host.specs.Gen.{GenEnds}
+use Rattle.asp_host.specs.Gen.{GenEnds, gen_workers}
 use Rattle.asp_host.specs.Get.{GetEnds, site_rules}
 use Rattle.asp_host.specs.Get as get
 use Rattle.asp_host.specs.Input.{IsSourceRefusedAt}
@@ -138,10 +138,10 @@ module _ (sites : OneSite) (faultless : SiteOrFault) where
       → HasNotStarted rules fail before after → ⊥
   not_started rules fail before after never fails = never fails.past fail fails.account fails.failed
 
-  never_filled : (rules : Rules) (items : List Item) (full : Full) (before after : Option (List ℕ))
-      → NeverFills rules items → (filled : HasFilled rules items full before after)
+  never_filled : (workers : ℕ) (rules : Rules) (items : List Item) (full : Full) (before after : Option (List ℕ))
+      → NeverFills workers rules items → (filled : HasFilled workers rules items full before after)
       → ¬ (NoneIs is_memory_end filled.0)
-  never_filled rules items full before after never filled = never full (
+  never_filled workers rules items full before after never filled = never full (
     filled.0,
     record {
       account = filled.1.account;
@@ -168,7 +168,7 @@ module _ (sites : OneSite) (faultless : SiteOrFault) where
   pub gen_refuses_none : (count : ℕ) (journal : Bool) (around : Around) (status : Status)
       → ((site : Site) → IsAccepted count_files site → NeverFails (rules_for site (generated count)))
       → ((site : Site) → IsAccepted count_files site
-      → NeverFills (rules_for site (generated count)) (generated count).items)
+      → NeverFills gen_workers (rules_for site (generated count)) (generated count).items)
       → GenEnds count journal around status → GeneratesUnrefused count status
   gen_refuses_none count journal around Ok never little ends = tt
   gen_refuses_none count journal around Memory never little ends = tt
@@ -179,7 +179,7 @@ module _ (sites : OneSite) (faultless : SiteOrFault) where
   gen_refuses_none count journal around (JournalFull full) never little ends =
       let fills = ends.1.0 in (
         fills,
-        never_filled (rules_for fills.site (generated count)) (generated count).items full None None
+        never_filled gen_workers (rules_for fills.site (generated count)) (generated count).items full None None
             (little fills.site fills.accepted) fills.filled,
       )
   gen_refuses_none count journal around (StartFailed fail) never little ends =
@@ -253,32 +253,32 @@ module _ (sites : OneSite) (faultless : SiteOrFault) where
         (of_same around site fails.site recording fails.recording (λ site recording. HasNotStarted
         (rules_for site recording) fail around.sink.before around.sink.after) tells also fails.is_for fails.failed)
 
-    no_journal_full : (around : Around) (site : Site) (recording : Recording) (full : Full)
+    no_journal_full : (workers : ℕ) (around : Around) (site : Site) (recording : Recording) (full : Full)
         → TellsSite around site → TellsRecording around recording
-        → NeverFills (rules_for site recording) recording.items
-        → (fills : Fills around.files around.source around.sink full)
+        → NeverFills workers (rules_for site recording) recording.items
+        → (fills : Fills workers around.files around.source around.sink full)
         → ¬ (NoneIs is_memory_end fills.filled.0)
-    no_journal_full around site recording full tells also never fills =
-        of_same around site fills.site recording fills.recording (λ site recording. NeverFills
+    no_journal_full workers around site recording full tells also never fills =
+        of_same around site fills.site recording fills.recording (λ site recording. NeverFills workers
         (rules_for site recording) recording.items → ¬ (NoneIs is_memory_end fills.filled.0)) tells also fills.is_for
-        (λ nowhere. never_filled (rules_for fills.site fills.recording) fills.recording.items full
+        (λ nowhere. never_filled workers (rules_for fills.site fills.recording) fills.recording.items full
         around.sink.before around.sink.after nowhere fills.filled) never
 
-    pub replay_refuses_none : (journal : Bool) (around : Around) (site : Site) (recording : Recording)
+    pub replay_refuses_none : (workers : ℕ) (journal : Bool) (around : Around) (site : Site) (recording : Recording)
         (status : Status) → TellsSite around site → TellsRecording around recording
-        → NeverFails (rules_for site recording) → NeverFills (rules_for site recording) recording.items
-        → ReplayEnds journal around status → ReplaysUnrefused around status
-    replay_refuses_none journal around site recording Ok tells also never little ends = tt
-    replay_refuses_none journal around site recording Memory tells also never little ends = tt
-    replay_refuses_none journal around site recording ReadFault tells also never little ends = tt
-    replay_refuses_none journal around site recording WriteFault tells also never little ends = tt
-    replay_refuses_none journal around site recording AcceptFault tells also never little ends = tt
-    replay_refuses_none journal around site recording (SiteRefused fault) tells also never little ends =
+        → NeverFails (rules_for site recording) → NeverFills workers (rules_for site recording) recording.items
+        → ReplayEnds workers journal around status → ReplaysUnrefused workers around status
+    replay_refuses_none workers journal around site recording Ok tells also never little ends = tt
+    replay_refuses_none workers journal around site recording Memory tells also never little ends = tt
+    replay_refuses_none workers journal around site recording ReadFault tells also never little ends = tt
+    replay_refuses_none workers journal around site recording WriteFault tells also never little ends = tt
+    replay_refuses_none workers journal around site recording AcceptFault tells also never little ends = tt
+    replay_refuses_none workers journal around site recording (SiteRefused fault) tells also never little ends =
         no_folder_fault around site fault tells ends.0
-    replay_refuses_none journal around site recording (RecordRefused offset) tells also never little ends =
+    replay_refuses_none workers journal around site recording (RecordRefused offset) tells also never little ends =
         no_record_refused around recording offset also ends.0
-    replay_refuses_none journal around site recording (StartFailed fail) tells also never little ends =
+    replay_refuses_none workers journal around site recording (StartFailed fail) tells also never little ends =
         no_start_failed around site recording fail tells also never ends
-    replay_refuses_none journal around site recording (JournalFull full) tells also never little ends =
-        (ends, no_journal_full around site recording full tells also little ends)
-    replay_refuses_none journal around site recording Usage tells also never little ends = ends
+    replay_refuses_none workers journal around site recording (JournalFull full) tells also never little ends =
+        (ends, no_journal_full workers around site recording full tells also little ends)
+    replay_refuses_none workers journal around site recording Usage tells also never little ends = ends

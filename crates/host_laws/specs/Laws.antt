@@ -28,7 +28,7 @@ use Rattle.asp_host.specs.declared.status.Status.{Status}
 use Rattle.asp_host.specs.declared.status.Status.TheVariants.{Ok, Memory, ReadFault, WriteFault, JournalFull, AcceptFault}
 use Rattle.asp_host.specs.Around.{Around, Change}
 use Rattle.asp_host.specs.Check.{CheckEnds}
-use Rattle.asp_host.specs.Gen.{FillsGenerated, GenEnds, GeneratesAll}
+use Rattle.asp_host.specs.Gen.{FillsGenerated, GenEnds, GeneratesAll, gen_workers}
 use Rattle.asp_host.specs.Get.{GetEnds, site_rules}
 use Rattle.asp_host.specs.Replay.{Fills, ReplayEnds, ReplaysAll, rules_for}
 use Rattle.asp_host.specs.Replayed.{HasFilled}
@@ -96,17 +96,17 @@ NeverFails rules = (past : List Entry) (fail : Fail) → IsValidJournal rules pa
 abbrev pub NeverFailsToStart : Rules → Type 0
 NeverFailsToStart rules = (fail : Fail) → ¬ (HasFailedToStart rules fail)
 
--- in no valid journal that is fed with the items, or with the first of them, and in which no run ended because memory ran
--- out, was what could come next too much
-abbrev pub NeverFills : Rules → List Item → Type 0
-NeverFills rules items = (full : Full) (filled : HasFilled rules items full None None)
+-- in no valid journal that is fed with the items, or with the first of them, by so many workers, and in which no run ended
+-- because memory ran out, was what could come next too much
+abbrev pub NeverFills : ℕ → Rules → List Item → Type 0
+NeverFills workers rules items = (full : Full) (filled : HasFilled workers rules items full None None)
     → ¬ (NoneIs is_memory_end filled.0)
 
 -- a replay, or a `gen`, refused nothing, unless its journal came to be full after memory had run out for a run
-abbrev pub ReplaysUnrefused : Around → Status → Type 0
-ReplaysUnrefused around (JournalFull full) =
-    (fills : Fills around.files around.source around.sink full) × ¬ (NoneIs is_memory_end fills.filled.0)
-ReplaysUnrefused around status = IsNoRefusal status
+abbrev pub ReplaysUnrefused : ℕ → Around → Status → Type 0
+ReplaysUnrefused workers around (JournalFull full) =
+    (fills : Fills workers around.files around.source around.sink full) × ¬ (NoneIs is_memory_end fills.filled.0)
+ReplaysUnrefused workers around status = IsNoRefusal status
 
 abbrev pub GeneratesUnrefused : ℕ → Status → Type 0
 GeneratesUnrefused count (JournalFull full) =
@@ -130,12 +130,12 @@ GetRefusesNone = (path query : List ℕ) (around : Around) (site : Site) (answer
     → GetEnds path query around status → IsNoRefusal status
 
 -- `replay` refuses no recording for a site whose application never fails to begin with its seed, where no journal that
--- its items feed comes to be full before memory runs out for a run
+-- its items feed by as many workers comes to be full before memory runs out for a run
 abbrev pub ReplayRefusesNone : Type 0
-ReplayRefusesNone = (journal : Bool) (around : Around) (site : Site) (recording : Recording) (status : Status)
+ReplayRefusesNone = (workers : ℕ) (journal : Bool) (around : Around) (site : Site) (recording : Recording) (status : Status)
     → TellsSite around site → TellsRecording around recording → NeverFails (rules_for site recording)
-    → NeverFills (rules_for site recording) recording.items → ReplayEnds journal around status
-    → ReplaysUnrefused around status
+    → NeverFills workers (rules_for site recording) recording.items → ReplayEnds workers journal around status
+    → ReplaysUnrefused workers around status
 
 -- `gen` refuses nothing, where its one page is a site whose application never fails to begin, and no journal that its
 -- requests feed comes to be full before memory runs out for a run
@@ -143,7 +143,7 @@ abbrev pub GenRefusesNone : Type 0
 GenRefusesNone = (count : ℕ) (journal : Bool) (around : Around) (status : Status)
     → ((site : Site) → IsAccepted count_files site → NeverFails (rules_for site (generated count)))
     → ((site : Site) → IsAccepted count_files site
-    → NeverFills (rules_for site (generated count)) (generated count).items)
+    → NeverFills gen_workers (rules_for site (generated count)) (generated count).items)
     → GenEnds count journal around status → GeneratesUnrefused count status
 
 -- `serve` refuses no site whose application never fails to begin with its seed
@@ -154,9 +154,9 @@ ServeRefusesNone = (requests : ℕ) (around : Around) (site : Site) (status : St
 
 -- ---- what is written
 
--- a replay to the end, in whose journal no run ended because memory ran out
+-- a replay to the end by one worker, in whose journal no run ended because memory ran out
 pub record ReplaysWell (journal : Bool) (around : Around) : Type 0 where
-  pub all : ReplaysAll journal around.files around.source around.sink
+  pub all : ReplaysAll 1 journal around.files around.source around.sink
   pub enough : NoneIs is_memory_end all.replayed.past
 
 -- both leave the same bytes behind what their sinks held
@@ -178,13 +178,14 @@ pub record TellsOutput (around : Around) (bytes output : List ℕ) : Type 0 wher
   pub before : around.sink.before ≡ Some held
   pub after : around.sink.after ≡ Some (held ++ output)
 
--- Two replays to the end with `--journal` that read the same bytes and wrote the same, whatever their sites, have the
--- same entries in their journals, but for the answers that were handed out and halts, which have no line.
+-- Two replays to the end with `--journal` that read the same bytes and wrote the same, whatever their sites and however
+-- many workers each had, have the same entries in their journals, but for the answers that were handed out and halts, which
+-- have no line.
 abbrev pub OneReplayJournal : Type 0
-OneReplayJournal = (bytes output : List ℕ) (around other : Around) → TellsOutput around bytes output
-    → TellsOutput other bytes output → length output < 2 ^ 64
-    → (one : ReplaysAll true around.files around.source around.sink)
-    → (also : ReplaysAll true other.files other.source other.sink)
+OneReplayJournal = (workers others : ℕ) (bytes output : List ℕ) (around other : Around)
+    → TellsOutput around bytes output → TellsOutput other bytes output → length output < 2 ^ 64
+    → (one : ReplaysAll workers true around.files around.source around.sink)
+    → (also : ReplaysAll others true other.files other.source other.sink)
     → printed one.replayed.past ≡ printed also.replayed.past
 
 -- the sink was left with this output behind what it held

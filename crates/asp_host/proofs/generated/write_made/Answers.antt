@@ -1,4 +1,7 @@
+use denote.Param.Send.{sendable}
 use Rattle.std.proofs.Common.{sym, subst}
+use Rattle.asp_run.proofs.Moved.{run}
+use Rattle.asp_site.proofs.Shared.{site}
 use Rattle.asp_host.specs.declared.status.Status.{Status}
 use Rattle.asp_host.specs.Around.{Change}
 use Rattle.asp_host.specs.Gen.{GenWrites}
@@ -9,9 +12,15 @@ pub write_generated-requires : goal.write_generated-requires
 write_generated-requires g c =
     record { sound = rw c.requires.requests (c.generated_sound.ensures c.args.count c.requires.few) }
 
+pub write_generated-requires-send-R-State : goal.write_generated-requires-send-R-State
+write_generated-requires-send-R-State g c κs = search (run, sendable) depth 40 fits 20000
+
+pub write_generated-requires-sync-R-Site : goal.write_generated-requires-sync-R-Site
+write_generated-requires-sync-R-Site g c κs = search (site, sendable) depth 40 fits 20000
+
 pub returns-in-Ok-clause-writes : goal.returns-in-Ok-clause-writes
 returns-in-Ok-clause-writes g c =
-    gen_done c.args.count c.args.journal c.args.site.now c.args.recording.now
+    gen_done c.args.count c.args.journal c.args.site c.args.recording.now
     (record { before = g.K.Sink.held c.args.sink.now; after = g.K.Sink.held c.write_generated.new.sink })
     c.requires.requests c.requires.accepted c.in-Ok.ensures.ok
 
@@ -20,5 +29,5 @@ returns-in-Err-clause-writes g c =
     let held = g.K.Sink.held in
     let sink : Change = record { before = held c.args.sink.now; after = held c.write_generated.new.sink } in
     subst (λ (status : Status). GenWrites c.args.count c.args.journal sink status) (sym c.from.ensures)
-    (gen_stopped c.args.count c.args.journal c.args.site.now c.args.recording.now sink c.in-Err.stop
+    (gen_stopped c.args.count c.args.journal c.args.site c.args.recording.now sink c.in-Err.stop
     c.requires.requests c.requires.accepted c.in-Err.ensures.err)

@@ -1,14 +1,20 @@
 use Rattle.std.proofs.Common.{◌≡◌, refl, arith}
 use Rattle.asp_command.specs.declared.words.Command.TheVariants.{Gen, Replay, Serve}
 use Rattle.asp_command.proofs.OneCommand.{one_command}
-use Rattle.asp_command.proofs.Ranges.{serve_within}
+use Rattle.asp_command.proofs.Ranges.{replay_within, serve_within}
 use Rattle.asp_host.proofs.host.run_host.Goals as goal
+
+pub replay-requires-after_bounds : goal.replay-requires-after_bounds
+replay-requires-after_bounds g c κs within =
+    let said = rw c.in-Ok-Replay.field-0-is at c.in-Ok-Replay.ensures.ok in
+    let ranges = replay_within _ _ _ _ said in
+    (ranges.0, omega (arith, ranges.1))
 
 pub returns-in-Ok-Replay-clause-ends : goal.returns-in-Ok-Replay-clause-ends
 returns-in-Ok-Replay-clause-ends g c = λ command says.
     let said = rw c.in-Ok-Replay.field-0-is at c.in-Ok-Replay.ensures.ok in
-    let same : command ≡ Replay _ _ c.in-Ok-Replay.journal =
-    one_command _ command (Replay _ _ c.in-Ok-Replay.journal) says said in
+    let same : command ≡ Replay _ c.in-Ok-Replay.workers c.in-Ok-Replay.journal =
+    one_command _ command (Replay _ c.in-Ok-Replay.workers c.in-Ok-Replay.journal) says said in
     rw same c.replay.ensures.writes
 
 pub serve-requires-after_bounds : goal.serve-requires-after_bounds

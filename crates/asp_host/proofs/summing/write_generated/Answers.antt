@@ -7,24 +7,24 @@ use Rattle.asp_host.proofs.summing.write_generated.Goals as goal
 
 pub returns-in_err-core-clause-err : goal.returns-in_err-core-clause-err
 returns-in_err-core-clause-err g c =
-    let rules = rules_by (g.R.Runner.meaning c.args.runner.now c.args.site.now)
+    let rules = rules_by (g.R.Runner.meaning c.args.runner c.args.site)
     (setting_of c.args.recording.now.seed false) in
     let items = c.args.recording.now.items in
     let held = g.K.Sink.held c.args.sink.now in
     let ended = c.in_err-core.field-0.0 in
     handed_on c.from_residual.result ended
     (IsSumStop rules items c.args.count c.args.journal (record { before = held; after = held })) c.from_residual.ensures.1
-    (sum_stopped rules items c.args.count c.args.journal held c.feed.result ended c.feed.ensures.cause c.in_err-core.was
+    (sum_stopped rules items c.args.count c.args.journal held c.feed_by.result ended c.feed_by.ensures.cause c.in_err-core.was
     c.in_err-core.ensures.err)
 
 pub returns-in_err-core-clause-cause : goal.returns-in_err-core-clause-cause
 returns-in_err-core-clause-cause g c =
-    no_cause c.feed.result c.in_err-core.field-0.0 c.from_residual.result (g.K.Sink.faults c.args.sink.now)
-    c.feed.ensures.cause c.in_err-core.was c.from_residual.ensures.1
+    no_cause c.feed_by.result c.in_err-core.field-0.0 c.from_residual.result (g.K.Sink.faults c.args.sink.now)
+    c.feed_by.ensures.cause c.in_err-core.was c.from_residual.ensures.1
 
 pub returns-clause-ok : goal.returns-clause-ok
 returns-clause-ok g c =
-    sum_ok g.R.Runner.meaning c.in_ok-core.core c.args.runner.now c.args.site.now
+    sum_ok g.R.Runner.meaning c.in_ok-core.core c.args.runner c.args.site
     (setting_of c.args.recording.now.seed false)
     c.args.recording.now.items c.args.count c.args.journal (g.K.Sink.held c.args.sink.now)
     (g.K.Sink.held c.write_summary-written.new.sink) c.write_summary-written.result
@@ -33,7 +33,7 @@ returns-clause-ok g c =
 
 pub returns-clause-err : goal.returns-clause-err
 returns-clause-err g c =
-    sum_err g.R.Runner.meaning c.in_ok-core.core c.args.runner.now c.args.site.now
+    sum_err g.R.Runner.meaning c.in_ok-core.core c.args.runner c.args.site
     (setting_of c.args.recording.now.seed false)
     c.args.recording.now.items c.args.count c.args.journal (g.K.Sink.held c.args.sink.now)
     (g.K.Sink.held c.write_summary-written.new.sink) c.write_summary-written.result
