@@ -58,15 +58,18 @@ written_part rules past before after written = record {
 pub fed_strangely : (rules : Rules) (items : List Item) (past : List Entry) (before after : Option (List ℕ))
     → IsValidJournal rules past → IsAnswered rules past → HasFed rules items past before after
     → HasFedUntil 1 rules items stop.Memory before after
-fed_strangely rules items past before after account answered fed = inr (past, record {
-  account = account;
-  answered = answered;
-  fed = inl fed.whole.fed;
-  passed = inl fed.whole.started;
-  cause = tt;
-  written = written_part rules past before after fed.written;
-  wound_up = tt;
-})
+fed_strangely rules items past before after account answered fed = inr (
+  past,
+  record {
+    account = account;
+    answered = answered;
+    fed = inl fed.whole.fed;
+    passed = inl fed.whole.started;
+    cause = tt;
+    written = written_part rules past before after fed.written;
+    wound_up = tt;
+  },
+)
 
 cause_beside : (rules : Rules) (items : List Item) (past : List Entry) (ended : FeedStop)
     → HasCause rules items past ended → HasCauseBeside 1 rules items past ended
@@ -80,15 +83,18 @@ pub part_alone : (rules : Rules) (items : List Item) (ended : FeedStop) (before 
     → HasNotBegun ended before after ⊎ ((past : List Entry) × HasFedPart rules items past ended before after)
     → HasFedUntil 1 rules items ended before after
 part_alone rules items ended before after (inl none) = inl none
-part_alone rules items ended before after (inr part) = inr (part.0, record {
-  account = part.1.account;
-  answered = part.1.answered;
-  fed = part.1.fed;
-  passed = part.1.passed;
-  cause = cause_beside rules items part.0 ended part.1.cause;
-  written = part.1.written;
-  wound_up = part.1.wound_up;
-})
+part_alone rules items ended before after (inr part) = inr (
+  part.0,
+  record {
+    account = part.1.account;
+    answered = part.1.answered;
+    fed = part.1.fed;
+    passed = part.1.passed;
+    cause = cause_beside rules items part.0 ended part.1.cause;
+    written = part.1.written;
+    wound_up = part.1.wound_up;
+  },
+)
 
 -- ---- several
 

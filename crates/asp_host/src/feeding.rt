@@ -7,7 +7,7 @@ ghost use Rattle.asp_replay.specs.Underway.{IsCoreOf};
 ghost use Rattle.asp_host.specs.Replayed as spec;
 
 use asp_core::Core;
-use asp_desk::OpenGate;
+use asp_desk::Gate;
 use asp_io::Sink;
 use asp_job::{Entry, Runner};
 use asp_record::Recording;
@@ -60,13 +60,14 @@ where
 }
 
 /// Feeds a site with a recording by so many workers, each on a lane of its own, and writes the record of each answer when
-/// its run has ended. One worker feeds it by the history of one lane.
-pub fn feed_by<Rt, R, K>(
+/// its run has ended. Each run passes the gate. One worker feeds it by the history of one lane, and asks no gate.
+pub fn feed_by<Rt, R, G, K>(
     rt: &Rt,
     alloc: Global,
     runner: R,
     site: R::Site,
     recording: &Recording,
+    gate: &G,
     workers: u32,
     sink: &mut K,
 ) -> Result<Core<R>, FeedStop>
@@ -76,6 +77,7 @@ where
     R::Site: Sync + Drop,
     R::Store: Send + Drop,
     R::State: Send + Drop,
+    G: Gate + Sync,
     K: Sink,
     requires sound { IsSound recording.now }
     requires workers { (1 ≤ workers) × (workers ≤ 32) }
@@ -91,5 +93,5 @@ where
     if workers == 1 {
         return feed_alone(alloc, runner, site, recording, sink);
     }
-    feed_with(rt, alloc, runner, site, recording, &OpenGate, workers, sink)
+    feed_with(rt, alloc, runner, site, recording, gate, workers, sink)
 }

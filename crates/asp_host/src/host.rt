@@ -15,6 +15,7 @@ use crate::replay::replay;
 use crate::serve::serve;
 use crate::status::Status;
 use asp_command::{Command, WordStop, read_words};
+use asp_desk::OpenGate;
 use asp_io::{Clock, Folder, Sink, Source, Wire};
 use asp_serve::Terms;
 use std::alloc::Global;
@@ -85,7 +86,7 @@ where
                 workers,
                 journal,
             },
-        ) => replay(rt, alloc, workers, journal, folder, source, sink),
+        ) => replay(rt, alloc, workers, journal, folder, source, sink, &OpenGate),
         Ok(
             Command::Serve {
                 site: _,

@@ -21,4 +21,5 @@ mod summing;
 pub use asp_command::{Command, WordStop, one_command, read_words};
 pub use asp_serve::{LinkEnd, serve_link};
 pub use host::run_host;
+pub use replay::replay_with;
 pub use status::{Status, status_code, status_text};

@@ -14,6 +14,7 @@ ghost use Rattle.asp_host.specs.Replayed.{HasReplayed, HasStopped};
 use crate::answers::count_answers;
 use crate::feeding::feed_by;
 use asp_core::Core;
+use asp_desk::Gate;
 use asp_io::Sink;
 use asp_job::{Entry, Runner};
 use asp_record::Recording;
@@ -62,13 +63,14 @@ fn write_end<R: Runner, K: Sink>(
     write_done(alloc, sink, count)
 }
 
-/// Feeds a site with a recording by so many workers, and writes all that a replay writes.
-pub fn write_replay<Rt, R, K>(
+/// Feeds a site with a recording by so many workers, whose runs pass the gate, and writes all that a replay writes.
+pub fn write_replay<Rt, R, G, K>(
     rt: &Rt,
     alloc: Global,
     runner: R,
     site: R::Site,
     recording: &Recording,
+    gate: &G,
     workers: u32,
     journal: bool,
     sink: &mut K,
@@ -79,6 +81,7 @@ where
     R::Site: Sync + Drop,
     R::Store: Send + Drop,
     R::State: Send + Drop,
+    G: Gate + Sync,
     K: Sink,
     requires sound { IsSound recording.now }
     requires workers { (1 ≤ workers) × (workers ≤ 32) }
@@ -90,7 +93,7 @@ where
         recording.now.items journal (K.held sink.old) (K.held sink.new)) }
     ensures cause { HasCause FeedStop.WriteFault (K.faults sink.old) (K.faults sink.new) result }
 {
-    let core = feed_by(rt, alloc, runner, site, recording, workers, sink)?;
+    let core = feed_by(rt, alloc, runner, site, recording, gate, workers, sink)?;
     let written = write_end(alloc, &core, journal, sink);
     drop(core);
     written

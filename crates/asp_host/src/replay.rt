@@ -1,13 +1,19 @@
 //! The command `replay`.
-ghost use Rattle.std.specs.Prelude.{◌≡◌, ◌≤◌, ◌⊎◌};
+ghost use Rattle.std.specs.Prelude.{◌≡◌, ◌≤◌, ◌⊎◌, ℕ, Bool, List, map};
+ghost use Rattle.std.specs.String.{string_bytes};
+ghost use Rattle.asp_command.specs.Saying.{AreNoReplay};
+ghost use Rattle.asp_command.specs.Words.{SaysReplay};
 ghost use Rattle.asp_io.specs.Faults.{HasRisen};
 ghost use Rattle.asp_record.specs.Recorded.{IsSound};
 ghost use Rattle.asp_host.specs.Loaded.{RecordingWritesOf, ReplayWritesOf};
 ghost use Rattle.asp_host.specs.Replay.{ReplayWrites};
+ghost use Rattle.asp_host.specs.Status.{IsUnsaid};
 
 use crate::output::write_replay;
 use crate::recording::source_recording;
 use crate::status::Status;
+use asp_command::{Command, WordStop, read_words};
+use asp_desk::Gate;
 use asp_io::{Folder, Sink, Source};
 use asp_record::Recording;
 use asp_run::PlainRunner;
@@ -17,9 +23,53 @@ use std::alloc::Global;
 use std::sync::Wait;
 use std::thread::Threads;
 
-/// Replays the recording that the source has by so many workers, and writes its answers, and its journal where that is
-/// asked for.
-pub fn replay<Rt, F, S, K>(
+/// Runs the command `replay` that the words say, without the program's own name; other words are told that they are none.
+///
+/// The site, the recording and the output are as for `run_host`. Each run of more workers than one passes the gate: before
+/// each slice of its work it is asked whether the run goes on.
+pub fn replay_with<Rt, F, S, K, G>(
+    rt: &Rt,
+    alloc: Global,
+    words: &[String],
+    folder: &mut F,
+    source: &mut S,
+    sink: &mut K,
+    gate: &G,
+) -> Status
+where
+    Rt: Threads + Wait + Sync,
+    F: Folder,
+    S: Source,
+    K: Sink,
+    G: Gate + Sync,
+    ensures ends { (site : List ℕ) (workers : ℕ) (journal : Bool)
+        → SaysReplay (map string_bytes words.now) site workers journal
+        → ReplayWrites workers journal (F.files folder.old)
+        (record { before = S.left source.old; after = S.left source.new })
+        (record { before = K.held sink.old; after = K.held sink.new }) result }
+    ensures other { AreNoReplay (map string_bytes words.now)
+        → IsUnsaid result × (source.new ≡ source.old) × (K.held sink.new ≡ K.held sink.old) }
+    ensures read_fault { result ≡ Status.ReadFault → HasRisen (F.faults folder.old) (F.faults folder.new)
+        ⊎ HasRisen (S.faults source.old) (S.faults source.new) }
+    ensures write_fault { result ≡ Status.WriteFault → HasRisen (K.faults sink.old) (K.faults sink.new) }
+{
+    match read_words(alloc, words) {
+        Ok(
+            Command::Replay {
+                site: _,
+                workers,
+                journal,
+            },
+        ) => replay(rt, alloc, workers, journal, folder, source, sink, gate),
+        Ok(_) => Status::Usage,
+        Err(WordStop::Usage) => Status::Usage,
+        Err(WordStop::Memory) => Status::Memory,
+    }
+}
+
+/// Replays the recording that the source has by so many workers, whose runs pass the gate, and writes its answers, and its
+/// journal where that is asked for.
+pub fn replay<Rt, F, S, K, G>(
     rt: &Rt,
     alloc: Global,
     workers: u32,
@@ -27,12 +77,14 @@ pub fn replay<Rt, F, S, K>(
     folder: &mut F,
     source: &mut S,
     sink: &mut K,
+    gate: &G,
 ) -> Status
 where
     Rt: Threads + Wait + Sync,
     F: Folder,
     S: Source,
     K: Sink,
+    G: Gate + Sync,
     requires { (1 ≤ workers) × (workers ≤ 32) }
     ensures writes { ReplayWrites workers journal (F.files folder.old)
         (record { before = S.left source.old; after = S.left source.new })
@@ -42,13 +94,13 @@ where
     ensures write_fault { result ≡ Status.WriteFault → HasRisen (K.faults sink.old) (K.faults sink.new) }
 {
     match load(alloc, folder) {
-        Ok(site) => replay_source(rt, alloc, site, workers, journal, source, sink),
+        Ok(site) => replay_source(rt, alloc, site, workers, journal, source, sink, gate),
         Err(stop) => Status::from(stop),
     }
 }
 
 /// Replays the recording that the source has over the site.
-fn replay_source<Rt, S, K>(
+fn replay_source<Rt, S, K, G>(
     rt: &Rt,
     alloc: Global,
     site: Site,
@@ -56,11 +108,13 @@ fn replay_source<Rt, S, K>(
     journal: bool,
     source: &mut S,
     sink: &mut K,
+    gate: &G,
 ) -> Status
 where
     Rt: Threads + Wait + Sync,
     S: Source,
     K: Sink,
+    G: Gate + Sync,
     requires { (1 ≤ workers) × (workers ≤ 32) }
     ensures writes { ReplayWritesOf workers journal site
         (record { before = S.left source.old; after = S.left source.new })
@@ -69,7 +123,9 @@ where
     ensures write_fault { result ≡ Status.WriteFault → HasRisen (K.faults sink.old) (K.faults sink.new) }
 {
     match source_recording(alloc, source) {
-        Ok(recording) => replay_recording(rt, alloc, site, &recording, workers, journal, sink),
+        Ok(recording) => replay_recording(
+            rt, alloc, site, &recording, workers, journal, sink, gate,
+        ),
         Err(stop) => {
             drop(site);
             Status::from(stop)
@@ -78,7 +134,7 @@ where
 }
 
 /// Replays the recording over the site.
-fn replay_recording<Rt, K>(
+fn replay_recording<Rt, K, G>(
     rt: &Rt,
     alloc: Global,
     site: Site,
@@ -86,10 +142,12 @@ fn replay_recording<Rt, K>(
     workers: u32,
     journal: bool,
     sink: &mut K,
+    gate: &G,
 ) -> Status
 where
     Rt: Threads + Wait + Sync,
     K: Sink,
+    G: Gate + Sync,
     requires sound { IsSound recording.now }
     requires workers { (1 ≤ workers) × (workers ≤ 32) }
     ensures writes { RecordingWritesOf workers journal site recording.now
@@ -103,6 +161,7 @@ where
         PlainRunner { alloc },
         site,
         recording,
+        gate,
         workers,
         journal,
         sink,

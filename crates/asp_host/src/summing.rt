@@ -16,6 +16,7 @@ ghost use Rattle.asp_host.specs.Gen as spec;
 use crate::feeding::feed_by;
 use crate::output::write_journal;
 use asp_core::Core;
+use asp_desk::OpenGate;
 use asp_io::{Failed, Sink, SureSink, write_all};
 use asp_job::{Entry, Runner};
 use asp_record::Recording;
@@ -105,6 +106,7 @@ where
         runner,
         site,
         recording,
+        &OpenGate,
         GEN_WORKERS,
         &mut nowhere,
     )?;
