@@ -1,0 +1,85 @@
+"""Replays that come to no good end: a sink that fails, and a journal that is full."""
+
+import os
+import re
+import subprocess
+
+from .lines import NUMBER, read_records
+from .recordings import SEED, WITHOUT, request, written
+from .runs import LONGEST
+from .sites import COUNTS
+
+FULL = re.compile(rf"journal full: {NUMBER} entries, {NUMBER} bytes\n")
+MOST_ENTRIES, MOST_BYTES = 1_000_000, 268_435_456
+
+
+def on_full_device(check):
+    site, recording = check.site(COUNTS.files), written([request("/count.asp", 1 + at % 9) for at in range(300)])
+    for lanes in check.often((1, 4, 16)):
+        for words in (["replay", site, "--workers", str(lanes)], ["gen", "50"]):
+            with open("/dev/full", "wb") as full:
+                words = [*check.program, *map(str, words)]
+                ends = {"stdout": full, "stderr": subprocess.PIPE, "timeout": LONGEST, "check": False}
+                ran = subprocess.run(words, input=recording, **ends)
+            said = [it for it in ran.stderr.decode().splitlines() if not it.startswith("asp: ")]
+            check.same(f"{lanes} lanes, a full device", (ran.returncode, said), (5, ["write fault"]))
+
+
+def on_closed_pipe(check):
+    """The reader goes after the first answer: what it got is the beginning of an output, and the replay ends in good time."""
+    site = check.site(COUNTS.files)
+    with open(f"{check.folder}/pipe.rec", "wb") as file:
+        file.write(written([request("/count.asp", 1 + at % 9) for at in range(4000)]))
+    for lanes in check.often((1, 4, 16)):
+        words = [*check.program, "replay", str(site), "--workers", str(lanes)]
+        with open(file.name, "rb") as recording:
+            ends = {"stdin": recording, "stdout": subprocess.PIPE, "stderr": subprocess.PIPE}
+            ran = subprocess.Popen(words, **ends)
+        begun = os.read(ran.stdout.fileno(), 64)
+        ran.stdout.close()
+        said = [it for it in ran.stderr.read().decode().splitlines() if not it.startswith("asp: ")]
+        ran.stderr.close()
+        check.same(f"{lanes} lanes, a closed pipe", (ran.wait(LONGEST), said), (5, ["write fault"]))
+        check.holds(f"{begun!r}", re.match(rb"answer \d+ \d+\nHTTP/1.1 200 OK\r\n", begun))
+
+
+FILLS = {
+    "/p.asp": f"{WITHOUT}A<%= 1+2 %>B",
+    "/heavy.asp": f'{WITHOUT}<% s = String(1000000, "x") : Do : Application("s") = s : Loop %>',
+    "/calls.asp": f'{WITHOUT}<% For i = 1 To 480000 : x = Application("n") : Next %>done',
+    "/loop.asp": f"{WITHOUT}<% For i = 1 To 999990 : Next %>looped",
+}
+
+
+def full_journal(check):
+    """A page fills the journal while another is in work: the replay ends with the numbers that the journal would have come to,
+    and what is written are records of answers, that of the moment before first."""
+    site = check.site(FILLS)
+    kinds = {
+        "weight": ["/heavy.asp", "/loop.asp", "/p.asp", "/p.asp"],
+        "entries": ["/calls.asp", "/calls.asp", "/calls.asp", "/loop.asp", "/p.asp"],
+    }
+    for kind, paths in kinds.items():
+        for lanes in (1, 2, 4, 16):
+            items = [request("/p.asp"), *[request(path, 0, 1) for path in paths]]
+            end = check.ran("replay", site, "--journal", "--workers", str(lanes), recording=written(items, SEED))
+            found = FULL.fullmatch(end.said)
+            check.same(f"{kind}, {lanes} lanes: the status", end.status, 7)
+            check.holds(f"{kind}, {lanes} lanes: {end.said}", found)
+            if found:
+                entries, size = map(int, found.groups())
+                fits = entries <= MOST_ENTRIES and size <= MOST_BYTES
+                check.holds(f"{kind}, {lanes} lanes: {end.said} fit", not fits)
+            answers, rest = read_records(end.output)
+            numbers = [it.run for it in answers]
+            bodies = {it.body for it in answers}
+            check.same(f"{kind}, {lanes} lanes: what is behind the answers", rest, b"")
+            check.holds(f"{kind}, {lanes} lanes: {numbers}", numbers[:1] == [2] and len(set(numbers)) == len(numbers))
+            check.holds(f"{kind}, {lanes} lanes: {bodies}", bodies <= {b"A3B", b"looped", b"done"})
+
+
+CHECKS = {
+    "a full device": on_full_device,
+    "a pipe that is closed": on_closed_pipe,
+    "a journal that is full": full_journal,
+}
