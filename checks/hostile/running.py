@@ -8,6 +8,7 @@ import shutil
 import subprocess
 import tempfile
 import time
+import traceback
 from typing import NamedTuple
 
 TOP = pathlib.Path(__file__).resolve().parent.parent.parent
@@ -109,7 +110,7 @@ class Tally:
             return True
         self.failed += 1
         if self.failed <= 10:
-            print(f"differs: {what}", *([f"  {came!r:.600}"] if came != "" else []), sep="\n", flush=True)
+            print(f"differs: {what}", *([f"  {came!s:.900}"] if came != "" else []), sep="\n", flush=True)
         return False
 
     def ends(self, name, end, status, said=b"", output=b""):
@@ -152,7 +153,11 @@ def try_all(name, trials, found, needs_library=False, skips=0):
             chosen = {}
         for it, work in chosen.items():
             begun = time.monotonic()
-            said = work(program, tally)
+            try:
+                said = work(program, tally)
+            except Exception:
+                said = "failed"
+                tally.holds(it, False, traceback.format_exc())
             print(f"checks/{name}: {it}: {said or 'done'}, in {time.monotonic() - begun:.1f} seconds", flush=True)
     print(f"checks/{name}: {tally.passed} passed, {tally.failed} failed")
     return 1 if tally.failed else 0

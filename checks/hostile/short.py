@@ -28,9 +28,9 @@ SMALL = page(b"hi")
 class Host:
     """A host of the built program, whose calls may fail, for the time of a `with`."""
 
-    def __init__(self, program, folder, requests, failing=None):
+    def __init__(self, program, folder, requests, failing=None, workers=WORKERS):
         self.port = free_port()
-        words = ["serve", folder, "--requests", requests, "--workers", WORKERS, "--port", self.port]
+        words = ["serve", folder, "--requests", requests, "--workers", workers, "--port", self.port]
         ends = {"stdin": subprocess.DEVNULL, "stdout": subprocess.PIPE, "stderr": subprocess.PIPE}
         self.process = subprocess.Popen([program.path, *map(str, words)], env=failing or {}, **ends)
 
