@@ -9,6 +9,7 @@ import threading
 import time
 
 from serving.clients import Client, asked, page, request
+from serving.hosts import IS_OPEN, sockets, wait_until
 
 from .growths import GETS, WITHOUT
 from .running import TOP, recording
@@ -180,20 +181,21 @@ def sent(host, pieces):
 
 def ports(program, tally):
     """A host whose accept fails: at once, and while two pages run."""
-    site = program.folder({"/slow.asp": f"{WITHOUT}<% For i = 1 To 400000 : x = x + 1 : Next %>done", **SITE})
+    site = program.folder({"/slow.asp": f"{WITHOUT}<% For i = 1 To 300000 : x = x + 1 : Next %>done", **SITE})
     with Host(program, site, 1, program.failing("accept", 1)) as host:
         tally.holds("accept 1 fails", host.ends() == (9, b"", b"accept fault\n"))
     with Host(program, site, 100, program.failing("accept", 3)) as host:
         came = []
-        threads = [threading.Thread(target=lambda: came.append(asked(host.port, request("/slow.asp")))) for _ in range(2)]
+        threads = [threading.Thread(target=lambda: came.append(asked(host.port, request("/slow.asp", "Connection: close")))) for _ in range(2)]
         for thread in threads:
             thread.start()
-        # by now both pages run
-        time.sleep(0.15)
+        # both pages run a moment after the requests were read
+        wait_until(lambda: [it[1:] for it in sockets(host.port)].count((IS_OPEN, 0, 0)) == 2, 10)
+        time.sleep(0.1)
         tally.holds("the connection that is lost", not sent(host, [request("/n.asp")]))
         for thread in threads:
             thread.join()
-        tally.holds("both answers", [dated(text) for text in came] == [page(b"done")] * 2, came)
+        tally.holds("both answers", [dated(text) for text in came] == [page(b"done", close=True)] * 2, came)
         tally.holds("accept 3 fails while two pages run", host.ends() == (9, b"", b"accept fault\n"))
     return "accept 1, and accept 3"
 
@@ -208,6 +210,7 @@ POST = b"POST /count.asp HTTP/1.1\r\nHost: x\r\nContent-Length: 9\r\n\r\n12345"
 LARGE = request("/large.asp", "Connection: close")
 # The pieces of two requests on one connection, and what a client gets for both.
 PIECES = [POST[:20], POST[20:-2], POST[-2:] + b"6789", LARGE]
+NEXT = [request("/count.asp", "Connection: close")]
 BOTH = page(b"1") + page(b"x" * 1000000, close=True)
 
 
@@ -223,9 +226,9 @@ def links(program, tally):
                 tally.holds(f"{what} {at} fails: a part of the answers", BOTH.startswith(came), came[:200])
                 cut += came != BOTH
                 # a call of the next connection may be the one that fails
-                after = sent(host, [request("/count.asp")]) or sent(host, [request("/count.asp")])
+                after = sent(host, NEXT) or sent(host, NEXT)
                 runs = came.count(b"HTTP/1.1 200 OK")
-                fits = after in [page(b"%d" % (ended + 1)) for ended in range(runs, runs + 2)]
+                fits = after in [page(b"%d" % (ended + 1), close=True) for ended in range(runs, runs + 2)]
                 tally.holds(f"{what} {at} fails: the next connection", fits, (came[:100], after))
                 tally.holds(f"{what} {at} fails: the host goes on", host.process.poll() is None)
     return f"22 calls, by which {cut} connections were cut off"
