@@ -5,11 +5,17 @@ import re
 from .running import TOP
 
 GUIDE = TOP / "docs" / "GUIDE.md"
+LIMITS = TOP / "docs" / "LIMITS.md"
+DEFINITION = re.compile(r"\[(\w+)\]\(\.\./([\w/.]+)\)")
 
 
 def rows(title):
-    """Returns the cells of each row of the tables below a title of the guide, without the heads of tables."""
-    text = GUIDE.read_text(encoding="utf-8").partition(f"\n## {title}\n")[2].partition("\n## ")[0]
+    """Returns the cells of each row of the tables below a title of the guide."""
+    return rows_of(GUIDE.read_text(encoding="utf-8").partition(f"\n## {title}\n")[2].partition("\n## ")[0])
+
+
+def rows_of(text):
+    """Returns the cells of each row of the tables in a text, without the heads of tables."""
     lines = text.splitlines()
     found = []
     for at, line in enumerate(lines):
@@ -25,6 +31,15 @@ def limits():
         if name in found:
             raise ValueError(f"docs/GUIDE.md has two limits {name}")
         found[name] = (int(number.replace(",", "")), told.replace("`", ""))
+    return found
+
+
+def definitions():
+    """Returns each limit of docs/LIMITS.md by its name: its definition, and the text of the file in which that stands."""
+    found = {}
+    for name, definition, *_ in rows_of(LIMITS.read_text(encoding="utf-8").partition("\n## ")[0]):
+        word, path = DEFINITION.fullmatch(definition).groups()
+        found[name] = word, (TOP / path).read_text(encoding="utf-8")
     return found
 
 

@@ -132,6 +132,10 @@ def held_to_lists(program, tally):
         tally.holds(f"docs/GUIDE.md lists {name}, of which there is no trial", False)
     for name in sorted(state.ELSEWHERE.keys() & listed):
         tally.holds(f"{name}: its trial is not in {state.ELSEWHERE[name][0]}", state.stands(name, listed[name][0]))
+    defined = guide.definitions()
+    tally.holds("docs/LIMITS.md has the limits of docs/GUIDE.md", set(defined) == set(listed), sorted(set(defined) ^ set(listed)))
+    for name, (word, text) in defined.items():
+        tally.holds(f"{name}: {word} is defined there", re.search(rf"^(?:\S+ )*(?:pub )?{word}\b", text, re.MULTILINE))
     known, told = guide.kinds_of_program(), guide.kinds()
     tally.holds("the kinds of faults in docs/GUIDE.md are those of the program", known == told, sorted(known ^ told))
     held_statuses(program, tally)

@@ -5,11 +5,12 @@ from .running import TOP, recording
 from .rows import site
 
 PAGE = GETS.format("/p.asp").encode()
+FILE = GETS.format("/a.css").encode()
 # What an entry weighs by itself, and a name or a value.
 ENTRY, VALUE, CHARACTER = 64, 32, 4
-# What the request of that page weighs: the characters of its path and of its field's name, and the field's value.
-ASKED = CHARACTER * len("/p.asp" + "Host") + 1
-# The entries of a replay of pages that call nothing: three for each, and those of the begin and the end.
+# What the request of that file weighs: the characters of its path and of its field's name, and the field's value.
+ASKED = CHARACTER * len("/a.css" + "Host") + 1
+# The entries of a replay of requests that call nothing: three for each, and those of the begin and the end.
 AROUND, EACH = 7, 3
 
 
@@ -23,14 +24,14 @@ def done(count):
 
 def entries(program, tally, most):
     """As many requests as a journal has room for, and one more, with which the host's end doesn't fit."""
-    folder = program.folder(site(f"{WITHOUT}x"))
+    folder = program.folder({"/a.css": ""})
     count = (most - AROUND) // EACH
     words = ["replay", folder, "--workers", "4"]
-    ends(tally, "entries", program.run(*words, source=recording(*[(0, 0, PAGE)] * count)), 0, b"", done(count))
+    ends(tally, "entries", program.run(*words, source=recording(*[(0, 0, FILE)] * count)), 0, b"", done(count))
     # the first run's three entries, each request's, and then the stop's two
     total, weight = AROUND - 2 + EACH * (count + 1), ENTRY * (AROUND - 2 + EACH * (count + 1)) + ASKED * (count + 1)
     said = f"journal full: {total} entries, {weight} bytes\n".encode()
-    full = program.run(*words, source=recording(*[(0, 0, PAGE)] * (count + 1)))
+    full = program.run(*words, source=recording(*[(0, 0, FILE)] * (count + 1)))
     ends(tally, "entries, one more", full, 7, said, lambda output: output.count(b"HTTP/1.1 200") == count + 1)
 
 
@@ -52,10 +53,12 @@ LAST = {
 
 
 def weights(program, tally, most):
-    """A page puts texts, and its last calls leave as much as the end of the host weighs. One more, and that doesn't fit."""
-    around = ENTRY * 2 * EACH + ENTRY * (AROUND - EACH) + CHARACTER * len("/p.asp" + "Host") + len("host")
-    times = (most - around) // put(1, TEXT) - 1
-    room = most - around - times * put(1, TEXT)
+    """Requests for a page that puts a text, and one whose last calls leave as much as the end of the host weighs. One more, and
+    that doesn't fit."""
+    own = ENTRY * EACH + CHARACTER * len("/f.asp" + "Host") + len("host")
+    around = ENTRY * AROUND + own
+    times = (most - around) // (own + put(1, TEXT)) - 1
+    room = most - around - times * (own + put(1, TEXT))
     counts = {
         "a value": (room - put(1, TEXT) - put(1)) // 4,
         "a name": (room - put(1, TEXT) - put(0)) // 4,
@@ -63,41 +66,38 @@ def weights(program, tally, most):
         "a reply": (room - 3 * put(1)) // 8,
         "a query": (room - put(1, TEXT) - put(1) - QUERY) // 4,
     }
+    fill = f'{WITHOUT}<% Application("a") = String({TEXT}, "x") %>'
     for what, (calls, step, made) in LAST.items():
         by_query = what == "a query"
         for more in (0, 1):
             script = calls.format(counts[what] + (0 if by_query else more))
-            fill = f's = String({TEXT}, "x") : For i = 1 To {times} : Application("a") = s : Next'
-            folder = program.folder(site(f"{WITHOUT}<% {fill} : {script} %>x"))
-            target = "/p.asp?" + "q" * (QUERY + more) if by_query else "/p.asp"
-            asked = recording((0, 0, f"GET {target} HTTP/1.1\r\nHost: host\r\n\r\n".encode()))
-            end = program.run("replay", folder, source=asked)
+            folder = program.folder({"/f.asp": fill, "/l.asp": f'{WITHOUT}<% s = String({TEXT}, "x") : {script} %>x'})
+            target = "/l.asp?" + "q" * (QUERY + more) if by_query else "/l.asp"
+            asked = [f"GET {path} HTTP/1.1\r\nHost: host\r\n\r\n".encode() for path in [*["/f.asp"] * times, target]]
+            end = program.run("replay", folder, source=recording(*((0, 0, it) for it in asked)))
             if more:
-                said = f"journal full: {times + made + EACH + AROUND} entries, {most + step} bytes\n".encode()
-                ends(tally, f"weight by {what}, one more", end, 7, said, lambda output: b"HTTP/1.1 200" in output)
+                entries = AROUND + EACH * (times + 1) + times + made
+                said = f"journal full: {entries} entries, {most + step} bytes\n".encode()
+                right = lambda output: output.count(b"HTTP/1.1 200") == times + 1
+                ends(tally, f"weight by {what}, one more", end, 7, said, right)
             else:
-                ends(tally, f"weight by {what}", end, 0, b"", done(1))
+                ends(tally, f"weight by {what}", end, 0, b"", done(times + 1))
 
 
 def recordings(program, tally, most):
     """A recording of so many bytes, most of them bodies, and one of one more."""
     folder = program.folder(site(f"{WITHOUT}x"))
-    line = "POST /p.asp HTTP/1.1\r\nHost: x\r\nContent-Length: {}\r\n\r\n"
-    body = 1048576 - 200
-    asked = [(0, 0, line.format(body).encode() + b"a" * body)] * 63
-
-    def of(size):
-        # a last body makes up what is left; its length has as many digits in either case
-        room = size - len(recording(*asked, (0, 0, line.format(body).encode())))
-        return recording(*asked, (0, 0, line.format(room).encode() + b"a" * room))
-
+    line = "POST /p.asp HTTP/1.1\r\nHost: x\r\nContent-Length: {:06}\r\n\r\n"
+    body = 990000
+    asked = [(0, 0, line.format(body).encode() + b"a" * body)] * (most // (body + 1000))
     for size in (most, most + 1):
-        made = of(size)
-        made = of(2 * size - len(made)) if len(made) != size else made
-        tally.holds(f"a recording of {size} bytes was made", len(made) == size, len(made))
+        # a last body makes up what is left; its item's line is as long as with any of its size
+        last = size - len(recording(*asked, (0, 0, line.format(100000).encode() + b"a" * 100000))) + 100000
+        made = recording(*asked, (0, 0, line.format(last).encode() + b"a" * last))
+        tally.holds(f"a recording of {size} bytes was made", len(made) == size, (len(made), last))
         end = program.run("replay", folder, source=made)
         if size == most:
-            ends(tally, "a recording", end, 0, b"", done(64))
+            ends(tally, "a recording", end, 0, b"", done(len(asked) + 1))
         else:
             said = f"recording refused at byte {most}\n".encode()
             ends(tally, "a recording, one more", end, 6, said, lambda output: not output)
