@@ -186,7 +186,8 @@ def ports(program, tally):
         tally.holds("accept 1 fails", host.ends() == (9, b"", b"accept fault\n"))
     with Host(program, site, 100, program.failing("accept", 3)) as host:
         came = []
-        threads = [threading.Thread(target=lambda: came.append(asked(host.port, request("/slow.asp", "Connection: close")))) for _ in range(2)]
+        slow = request("/slow.asp", "Connection: close")
+        threads = [threading.Thread(target=lambda: came.append(asked(host.port, slow))) for _ in range(2)]
         for thread in threads:
             thread.start()
         # both pages run a moment after the requests were read

@@ -5,6 +5,7 @@
      FAILING_AT      the call that fails, counted from 1; 0 or nothing: none
      FAILING_ON      where it is set, all calls behind that one fail too
      FAILING_MOST    how many bytes a read of standard input or a write to standard output moves at most
+     FAILING_SECONDS how much processor time the program may use; with more it is ended by a signal
      FAILING_COUNT   a file into which the number of counted calls is written as the program ends
 
    A growth is a call that asks for memory, and fails as where there is none. The others fail as a broken device does. */
@@ -17,6 +18,7 @@
 #include <stdio.h>
 #include <stdlib.h>
 #include <string.h>
+#include <sys/resource.h>
 #include <sys/socket.h>
 #include <sys/stat.h>
 #include <sys/syscall.h>
@@ -48,6 +50,8 @@ __attribute__((constructor)) static void begin(void) {
   fails_at = number_in("FAILING_AT");
   fails_on = getenv("FAILING_ON") != NULL;
   most = number_in("FAILING_MOST");
+  rlim_t seconds = number_in("FAILING_SECONDS");
+  if (seconds) setrlimit(RLIMIT_CPU, &(struct rlimit){seconds, seconds});
   for (int at = GROWTH; text && at <= RANDOM; at++)
     if (!strcmp(text, names[at])) counted = at;
 }

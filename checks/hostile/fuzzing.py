@@ -6,6 +6,7 @@ import os
 import pathlib
 import random
 import re
+import threading
 import time
 
 from serving.answers import KEPT, recordings
@@ -20,11 +21,14 @@ from .running import TOP, write_site
 EACH, LONGEST = 20, 60
 ADDRESS = "GET {} HTTP/1.1\r\nHost: x\r\n\r\n"
 # What stands in scripts, so that it comes to other places too.
-WORDS = """If Then Else ElseIf End Do Loop While Until Wend For Each In Next To Step Select Case With Sub Function Class Property
-Get Let Set Dim ReDim Preserve Erase Const Public Private ByVal ByRef Exit Call On Error Resume GoTo 0 1 2147483647 -1 &HFFFF&
-"x" "" Nothing Null Empty True New Me Not And Or Xor Eqv Imp Mod Is = <> < > <= >= & + - * \\ ( ) , . : _ ' Rem [a] x a(1) Err
-Array(1,2) Response.Write Session("a") Application("a") Request("a") Server.CreateObject("Scripting.Dictionary") %> <%= <%
-<script runat="server"> </script> <!--#include file="b.inc"--> <%@ LANGUAGE=VBScript %> Option Explicit Response.End""".split(" ")
+WORDS = """
+If Then Else ElseIf End Do Loop While Until Wend For Each In Next To Step Select Case With Sub Function Class Property Get Let
+Set Dim ReDim Preserve Erase Const Public Private ByVal ByRef Exit Call On Error Resume GoTo 0 1 2147483647 -1 &HFFFF& "x" ""
+Nothing Null Empty True New Me Not And Or Xor Eqv Imp Mod Is = <> < > <= >= & + - * \\ ( ) , . : _ ' Rem [a] x a(1) Err
+Array(1,2) Response.Write Response.End Session("a") Application("a") Request("a") Option Explicit %> <%= <% </script>
+""".split()
+WORDS += ['<script runat="server">', '<!--#include file="b.inc"-->', "<%@ LANGUAGE=VBScript %>"]
+WORDS += ['Server.CreateObject("Scripting.Dictionary")']
 
 
 def scripts():
@@ -93,13 +97,17 @@ class Kind:
         return f"{count} by seed {seed}: status {told}"
 
 
+# What stands beside a page that is spoilt.
+BESIDE = {"/b.inc": "<% Sub inc(x) : x = x + 1 : End Sub %>b", "/n.asp": "n"}
+
+
 def in_folders(program):
     """Returns a run of a site's page, each thread's in a folder of its own."""
     folders = {}
 
     def run(page):
-        number = os.getpid(), concurrent.futures.thread.threading.get_ident()
-        folder = folders.setdefault(number, program.folder({"/b.inc": "<% Sub inc(x) : x = x + 1 : End Sub %>b", "/n.asp": "n"}))
+        number = threading.get_ident()
+        folder = folders.setdefault(number, program.folder(BESIDE))
         write_site(folder, {"/p.asp": page})
         return program.run("get", folder, "/p.asp?a=1&b=%C3%A9", seconds=LONGEST)
 

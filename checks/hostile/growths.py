@@ -1,8 +1,8 @@
 """Growths that are refused: the nth call for memory of a command fails, or all from the nth on.
 
-A command that is refused memory ends by itself within a second: with status 0 and what the rules of the program say where
-memory ran out for the runs that its journal names, or with status 1, `out of memory` or nothing on standard error, and a
-beginning of such an output.
+A command that is refused memory ends by itself within a second of the processor: with status 0 and what the rules of the
+program say where memory ran out for the runs that its journal names, or with status 1, `out of memory` or nothing on
+standard error, and a beginning of such an output.
 """
 
 import concurrent.futures
@@ -15,6 +15,8 @@ from .running import recording
 
 SEED = 14
 DRAWN = 100
+# How much processor time a command may use, and how long it may take on a machine that does other work too, in seconds.
+SECONDS, LONGEST = 1, 10
 WITHOUT = "<%@ ENABLESESSIONSTATE=False %>"
 SITE = {
     "/global.asa": '<script runat="server">\nSub Application_OnStart\nApplication("t") = "T"\nEnd Sub\n</script>',
@@ -135,7 +137,7 @@ def commands(folder):
 
 def ends_well(end, holds):
     """Whether a run that was refused memory ended as it may."""
-    if end.took > 1 or end.status not in (0, 1):
+    if end.status not in (0, 1):
         return False
     if end.said not in ((b"",) if end.status == 0 else (b"out of memory\n", b"")):
         return False
@@ -152,14 +154,12 @@ class Refused:
         self.told = {"a page": 0, "an event": 0, "an answer's bytes": 0}
 
     def once(self, at, on):
-        return at, on, self.program.run(*self.words, source=self.source, failing=self.program.failing("growth", at, on), seconds=10)
+        failing = self.program.failing("growth", at, on, seconds=SECONDS)
+        return at, on, self.program.run(*self.words, source=self.source, failing=failing, seconds=LONGEST)
 
     def look(self, at, on, end):
         """Counts how a run ended."""
         what = f"{self.name}, {'all growths from' if on else 'growth'} {at} refused"
-        if end.took > 1:
-            # other work on the machine may have held it up
-            end = self.once(at, on)[2]
         if self.tally.holds(what, ends_well(end, self.holds), end):
             self.ended[end.status] += 1
             text = end.output.decode()
@@ -181,7 +181,8 @@ def refuse(name):
     def work(program, tally):
         command = commands(program.folder(SITE))[name]
         count, end = program.calls("growth", *command[0], source=command[1])
-        tally.holds(f"{name}, nothing refused", end.status == 0 and not end.said and command[2](end.output.decode(), True), end)
+        whole = end.status == 0 and command[2](end.output.decode(), True)
+        tally.holds(f"{name}, nothing refused", whole and not end.said, end)
         numbers = range(1, count + 1)
         drawn = ""
         if "workers" in name:

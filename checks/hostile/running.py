@@ -61,11 +61,13 @@ class Program:
         """Returns a folder of its own with these files."""
         return write_site(pathlib.Path(tempfile.mkdtemp(dir=self.room)), files)
 
-    def failing(self, what, at=0, on=False, most=0, count=None):
-        """Returns the variables by which calls of a run fail."""
+    def failing(self, what, at=0, on=False, most=0, count=None, seconds=0):
+        """Returns the variables by which calls of a run fail, and which bound its processor time."""
         found = {"LD_PRELOAD": self.library, "FAILING_WHAT": what, "FAILING_AT": str(at), "FAILING_MOST": str(most)}
         if on:
             found["FAILING_ON"] = "1"
+        if seconds:
+            found["FAILING_SECONDS"] = str(seconds)
         if count:
             found["FAILING_COUNT"] = str(count)
         return found

@@ -89,8 +89,9 @@ def references(most):
     """An array of as many arrays of references is held four times in one statement."""
     side = round((most // 4) ** 0.5)
     page = (
-        f"<% Class C\nEnd Class\nDim b({side - 1}), d({side - 1})\nSet o = New C\nFor i = 0 To {side - 1} : Set b(i) = o : Next\n"
-        f"For i = 0 To {side - 1} : d(i) = b : Next\nResponse.Write IsArray(d) And IsArray(d) And IsArray(d) And IsArray(d){{}} %>"
+        f"<% Class C\nEnd Class\nDim b({side - 1}), d({side - 1})\nSet o = New C\n"
+        f"For i = 0 To {side - 1} : Set b(i) = o : Next\nFor i = 0 To {side - 1} : d(i) = b : Next\n"
+        "Response.Write IsArray(d) And IsArray(d) And IsArray(d) And IsArray(d){} %>"
     )
     return both("references", page.format(""), "True", page.format(" And IsObject(o)"), limit("Data", 7))
 

@@ -29,8 +29,8 @@ def entries(program, tally, most):
     words = ["replay", folder, "--workers", "4"]
     ends(tally, "entries", program.run(*words, source=recording(*[(0, 0, FILE)] * count)), 0, b"", done(count))
     # the first run's three entries, each request's, and then the stop's two
-    total, weight = AROUND - 2 + EACH * (count + 1), ENTRY * (AROUND - 2 + EACH * (count + 1)) + ASKED * (count + 1)
-    said = f"journal full: {total} entries, {weight} bytes\n".encode()
+    total = AROUND - 2 + EACH * (count + 1)
+    said = f"journal full: {total} entries, {ENTRY * total + ASKED * (count + 1)} bytes\n".encode()
     full = program.run(*words, source=recording(*[(0, 0, FILE)] * (count + 1)))
     ends(tally, "entries, one more", full, 7, said, lambda output: output.count(b"HTTP/1.1 200") == count + 1)
 
@@ -53,8 +53,8 @@ LAST = {
 
 
 def weights(program, tally, most):
-    """Requests for a page that puts a text, and one whose last calls leave as much as the end of the host weighs. One more, and
-    that doesn't fit."""
+    """Requests for a page that puts a text, and one whose last calls leave as much as the end of the host weighs. One more,
+    and that doesn't fit."""
     own = ENTRY * EACH + CHARACTER * len("/f.asp" + "Host") + len("host")
     around = ENTRY * AROUND + own
     times = (most - around) // (own + put(1, TEXT)) - 1
