@@ -2,6 +2,7 @@
 port and connections of a host."""
 
 import os
+import resource
 import socket
 import struct
 import subprocess
@@ -201,6 +202,28 @@ def ports(program, tally):
     return "accept 1, and accept 3"
 
 
+def descriptors(program, tally):
+    """A host that may open no more files takes connections again once it may, and gives up after ten seconds."""
+    site = program.folder(SITE)
+    for what, pause, status in (("for a second", 1, None), ("for longer", 15, 9)):
+        with Host(program, site, 100) as host:
+            hard = resource.getrlimit(resource.RLIMIT_NOFILE)[1]
+            taken = max(map(int, os.listdir(f"/proc/{host.process.pid}/fd"))) + 1
+            resource.prlimit(host.process.pid, resource.RLIMIT_NOFILE, (taken, hard))
+            # the accept that waits has its descriptor already
+            tally.holds("the connection before", sent(host, [request("/n.asp", "Connection: close")]))
+            with Client(host.port) as client:
+                client.send(request("/n.asp", "Connection: close"))
+                tally.holds(f"nothing comes {what}", client.heard(pause) == b"")
+                resource.prlimit(host.process.pid, resource.RLIMIT_NOFILE, (hard, hard))
+                if status is None:
+                    tally.holds("then the answer", dated(client.rest()) == page(b"hi", close=True))
+            if status:
+                end = host.ends()
+                tally.holds(f"no descriptor {what}", end == (status, b"", b"accept fault\n"), end)
+    return "for one second, and for ten"
+
+
 COUNTS = {
     "/count.asp": f'{WITHOUT}<% Application("n") = Application("n") + 1 %><%= Application("n") %>',
     "/large.asp": f'{WITHOUT}<% Application("n") = Application("n") + 1 %><%= String(1000000, "x") %>',
@@ -243,5 +266,6 @@ TRIALS = {
     "outputs that fail": outputs,
     "inputs that fail": inputs,
     "ports": ports,
+    "no descriptors": descriptors,
     "connections": links,
 }

@@ -14,8 +14,8 @@ from .short import Host, dated
 
 # KiB of stack in which each deep page is to run.
 STACK = 2048
-# A page with one more may take this many times as long as the one before it, and so many seconds besides.
-TIMES, BESIDE = 2, 1
+# A page with one more may use this many times as much processor time as the one before it, and so many seconds besides.
+TIMES, BESIDE = 2, 0.5
 WORKERS = 4
 
 
@@ -29,7 +29,8 @@ def body_of(output):
 
 
 def run_row(program, tally, row):
-    """Tries a page: by `get`, and a deep one with little stack too, and by a replay for workers. Returns how long it took."""
+    """Tries a page: by `get`, and a deep one with little stack too, and by a replay for workers. Returns how much time of the
+    processor `get` used."""
     folder = program.folder(row.files)
     wanted = row.wanted.encode()
     end = program.run("get", folder, "/p.asp")
@@ -40,7 +41,7 @@ def run_row(program, tally, row):
         replay = program.run("replay", folder, "--workers", WORKERS, source=asked, stack=STACK)
         came = (replay.status, body_of(replay.output))
         tally.holds(f"{row.what}, by workers", came == (0, wanted), (*replay[:2], came[1][:200]))
-    return end.took
+    return end.used
 
 
 def run_rows(program, tally, rows):
@@ -54,11 +55,11 @@ def run_rows(program, tally, rows):
             said = f"accepted {row.pages} pages, {row.statics} files\n".encode()
             tally.ends(row.what, program.run("check", program.folder(row.files)), 0, b"", said)
         else:
-            took = run_row(program, tally, row)
+            used = run_row(program, tally, row)
             if row.is_more:
-                fits = took <= TIMES * before + BESIDE
-                tally.holds(f"{row.what}: it took {took:.1f} seconds, and {before:.1f} without", fits)
-            before = took
+                fits = used <= TIMES * before + BESIDE
+                tally.holds(f"{row.what}: it used {used:.1f} seconds, and {before:.1f} without", fits)
+            before = used
 
 
 @contextlib.contextmanager

@@ -21,12 +21,18 @@ LONGEST = 120
 
 class End(NamedTuple):
     """How a run ended: its status, or less than 0 by a signal, or None where it did not end by itself; what it said and
-    wrote; and how long it took, in seconds."""
+    wrote; and how much processor time went by with it, in seconds."""
 
     status: int | None
     said: bytes
     output: bytes
-    took: float
+    used: float
+
+
+def used():
+    """Returns the processor time of all runs that have ended, in seconds."""
+    found = resource.getrusage(resource.RUSAGE_CHILDREN)
+    return found.ru_utime + found.ru_stime
 
 
 def write_site(folder, files):
@@ -83,12 +89,12 @@ class Program:
             how["input"] = source
         else:
             how["stdin"] = source or subprocess.DEVNULL
-        begun = time.monotonic()
+        begun = used()
         try:
             ran = subprocess.run([self.path, *map(str, words)], env=failing or {}, timeout=seconds, **how)
         except subprocess.TimeoutExpired as stopped:
-            return End(None, stopped.stderr or b"", stopped.stdout or b"", time.monotonic() - begun)
-        return End(ran.returncode, ran.stderr, ran.stdout or b"", time.monotonic() - begun)
+            return End(None, stopped.stderr or b"", stopped.stdout or b"", used() - begun)
+        return End(ran.returncode, ran.stderr, ran.stdout or b"", used() - begun)
 
     def calls(self, what, *words, **how):
         """Returns how many calls of a kind a run makes of which none fails, and how it ends."""

@@ -44,7 +44,7 @@ class Host:
 
     def ends(self):
         """Makes connections until the host has ended. Returns its status, what it wrote and what it said."""
-        end = time.monotonic() + 20
+        end = time.monotonic() + 120
         while self.process.poll() is None and time.monotonic() < end:
             try:
                 asked(self.port, request("/none") * 5)
@@ -173,4 +173,43 @@ def eaters(program, tally):
     return f"a page takes {one} bytes of address space; {right} answers were right, {full} told that memory ran out"
 
 
-TRIALS = {"serve on four workers": serve_refused, "pages that don't fit together": eaters}
+# What a host of as many workers as there may be is to stay below, with all at its limit at once, in bytes.
+MOST_MEMORY, MOST_WORKERS, MOST_SESSIONS, PUTS = 4 << 30, 16, 4096, 58
+FULL_SITE = {
+    "/eats.asp": EATS,
+    "/session.asp": '<% Session("s") = String(65519, "x") %>x',
+    "/all.asp": f'{WITHOUT}<% For i = 1 To 3 : Application("a" & i) = String(1048576, "x") : Next : '
+    'Application("a4") = String(1048504, "x") %>x',
+    "/put.asp": f'{WITHOUT}<% Application("a1") = String(1048576, "x") %>x',
+}
+
+
+def peak_of(host):
+    """Returns how much memory a host has taken at most, in bytes."""
+    with open(f"/proc/{host.process.pid}/status", encoding="ascii") as lines:
+        return next(int(line.split()[1]) * 1024 for line in lines if line.startswith("VmHWM:"))
+
+
+def together(program, tally):
+    """Sessions, the application, the journal's weight and a page of each worker are near their limits at once."""
+    requests = MOST_SESSIONS + PUTS + MOST_WORKERS + 2
+    with Host(program, program.folder(FULL_SITE), requests, workers=MOST_WORKERS) as host:
+        # answers that are asked for in one piece share the time of one
+        came = [asked(host.port, request("/session.asp") * 64) for _ in range(MOST_SESSIONS // 64)]
+        count = b"".join(came).count(b"\r\n\r\nx")
+        tally.holds("all sessions are full", count == MOST_SESSIONS, count)
+        refused = asked(host.port, request("/session.asp"))
+        tally.holds("there are no more sessions", refused.endswith(b"Too many sessions\n"), refused[-100:])
+        filled = [asked(host.port, request(path, "Connection: close")) for path in ["/all.asp", *["/put.asp"] * PUTS]]
+        tally.holds("the application and the journal", all(text.endswith(b"\r\n\r\nx") for text in filled), filled[-1][-200:])
+        with concurrent.futures.ThreadPoolExecutor(MOST_WORKERS) as threads:
+            came = list(threads.map(lambda _: asked(host.port, request("/eats.asp", "Connection: close")), range(MOST_WORKERS)))
+        right = [dated(text) for text in came].count(EATEN)
+        tally.holds("a page of each worker", right == MOST_WORKERS, right)
+        most = peak_of(host)
+        tally.holds("it took less than 4 GiB", most < MOST_MEMORY, most)
+        tally.holds("the host ends well", host.ends()[0] == 0)
+    return f"it took {most >> 20:,} MiB"
+
+
+TRIALS = {"serve on four workers": serve_refused, "pages that don't fit together": eaters, "all limits together": together}
