@@ -9,8 +9,8 @@ import re
 import socket
 import time
 
-from .clients import Client, asked, cookie, masked, page, request
-from .hosts import COUNT, FAILS, SITE, USAGE, WITHOUT, Host, free_port, wait_until
+from .clients import FORM, Client, asked, cookie, masked, page, request
+from .hosts import COUNT, FAILS, SITE, USAGE, WITHOUT, Host, free_port, sockets, wait_until
 from .patience import large
 
 A3B = page(b"A3B")
@@ -29,6 +29,23 @@ WRONG = [
     "--requests 5 --journal",
     "--requests",
 ]
+# Pages that count their runs: at once, after a while, and with a long answer.
+ADD = f'{WITHOUT}<% Application("n") = Application("n") + 1 %>'
+RUNS = {
+    "/runs.asp": f'{ADD}<%= Application("n") %>',
+    "/slow.asp": f"{ADD}<% For i = 1 To 200000 : Next %>",
+    "/long.asp": f'{ADD}<% s = String(1000000, "x") : Response.Write s : Response.Write s %>',
+}
+POSTED = request("/runs.asp", FORM, method="POST", body=b"a=1")
+# Where a connection is broken off: what was sent, and how many runs had begun.
+BREAKS = {
+    "in a head": (request("/runs.asp")[:20], 0),
+    "in a body": (POSTED[:-2], 0),
+    "behind a request": (POSTED, 1),
+    "in a head behind a request": (POSTED + request("/runs.asp")[:20], 1),
+    "while a page runs": (request("/slow.asp"), 1),
+    "in the middle of an answer": (request("/long.asp"), 1),
+}
 # A page that calls the Application object 30 times, so that a journal is soon full.
 CALLS = {"/calls.asp": f'{WITHOUT}<% For i = 1 To 30 : x = Application("n") : Next %>A3B'}
 
@@ -122,6 +139,25 @@ def broken_off(check):
         check.same("an answer", masked(asked(host.port, request("/p.asp"))), A3B)
 
 
+def resets(check):
+    """One worker serves the next connection once one was broken off, at each place; each run that had begun has ended."""
+    with check.host(RUNS, 1000, workers=1) as host:
+        runs = 0
+        for what, (sent, begun) in BREAKS.items():
+            client = Client(host.port, room=4096)
+            here = client.link.getsockname()[1]
+            client.send(sent)
+            # what was not read is lost with a reset
+            wait_until(lambda: all(it[3] == 0 for it in sockets(host.port) if it[0] == here), 10)
+            if what == "in the middle of an answer":
+                client.more()
+            time.sleep(0.05)
+            client.reset()
+            runs += begun + 1
+            came = masked(asked(host.port, request("/runs.asp", "Connection: close")))
+            check.same(f"behind a reset {what}", came, page(b"%d" % runs, close=True))
+
+
 def same_port(check):
     """The next host listens at the port of one that has just ended, though its closed connections linger there."""
     port = free_port()
@@ -182,6 +218,7 @@ CHECKS = {
     "a connection past the last request": to_the_end_of_a_connection,
     "a stop between two requests": stopped_between,
     "connections that are broken off": broken_off,
+    "resets that one worker meets": resets,
     "the next host at the same port": same_port,
     "one session on many connections": counted,
     "a full journal": full_journal,
