@@ -1,18 +1,14 @@
 //! What is told of a site by its paths alone.
 
 use crate::finding::Findings;
-use crate::folding::folded;
-use crate::kind::Kind;
-use crate::table::Table;
-use crate::telling::tell_whole;
 use crate::walk::Oddity;
+use file_survey::{Kind, Table, folded};
 use std::alloc::Global;
 use std::collections::BTreeMap;
 use vb_value::{Memory, Text};
 
 /// Tells of links, special files and names that are not UTF-8.
 pub fn tell_oddities(
-    alloc: Global,
     table: &Table,
     oddities: &[(Text, Oddity)],
     found: &mut Findings,
@@ -23,7 +19,7 @@ pub fn tell_oddities(
             Oddity::Special => "special file",
             Oddity::Name => "name that is not UTF-8",
         };
-        tell_whole(alloc, table, found, path, (Kind::File, word))?;
+        found.tell_whole(table, path, (Kind::File, word))?;
     }
     Ok(())
 }
@@ -55,7 +51,7 @@ fn tell_folders(
         folder.push(*character)?;
         if *character == '/' {
             let small = folded(alloc, name.as_str())?;
-            if let Some(row) = table.row(Kind::Folder, small.as_str())? {
+            if let Some(row) = table.row(Kind::Folder, small.as_str()) {
                 let (word, way) = (row.word.as_str(), row.way.as_str());
                 found.tell(&folder, (0, 0), (Kind::Folder, word), way)?;
             }
@@ -80,7 +76,7 @@ fn tell_ending(
     };
     let small = folded(alloc, ending)?;
     let ending = format!(in alloc; ".{small}")?;
-    if let Some(row) = table.row(Kind::Ending, ending.as_str())? {
+    if let Some(row) = table.row(Kind::Ending, ending.as_str()) {
         let (word, way) = (row.word.as_str(), row.way.as_str());
         found.tell(path, (0, 0), (Kind::Ending, word), way)?;
     }

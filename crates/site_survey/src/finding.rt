@@ -1,6 +1,6 @@
 //! What a survey has found.
 
-use crate::kind::Kind;
+use file_survey::{Kind, Table};
 use std::alloc::Global;
 use std::collections::BTreeMap;
 use vb_value::{Copied, Memory, Text, fold};
@@ -70,5 +70,16 @@ impl Findings {
         };
         self.told.insert(spot, remark)?;
         Ok(())
+    }
+
+    /// Adds what is told of a file or a folder as a whole.
+    pub fn tell_whole(
+        &mut self,
+        table: &Table,
+        path: &Text,
+        (kind, word): (Kind, &str),
+    ) -> Result<(), Memory> {
+        let way = table.way_out(kind, word)?;
+        self.tell(path, (0, 0), (kind, word), way.as_str())
     }
 }

@@ -3,38 +3,25 @@
 #![tactic(auto)]
 
 mod around;
-mod encoding;
-mod faulty;
-mod file;
 mod finding;
-mod folding;
-mod include;
-mod kind;
 mod others;
 mod pages;
-mod pieces;
-mod plain;
 mod reach;
 mod reading;
 mod refusing;
 mod report;
-mod scan;
 mod scanning;
 mod stop;
 mod survey;
-mod table;
-mod telling;
-mod uses;
 mod walk;
-mod words;
 
+use file_survey::Table;
 use std::io::ErrorKind;
 use std::process::ExitCode;
 use std::rt::Runtime;
 use std::{env, fs};
 use stop::SurveyStop;
 use survey::survey_folder;
-use table::Table;
 
 fn main(rt: HostRuntime) -> ExitCode {
     ExitCode::from(run(&rt))
@@ -93,7 +80,7 @@ fn command_words<R: Runtime + AllocGlobal>(rt: &R) -> Result<Vec<String>, Survey
 
 fn read_table<R: Runtime + AllocGlobal>(rt: &R, path: &str) -> Result<Table, SurveyStop> {
     match fs::read_to_string(rt, path) {
-        Ok(text) => Table::read(rt.alloc(), text.as_str()),
+        Ok(text) => Ok(Table::read(rt.alloc(), text.as_str())?),
         Err(error) if error.kind() == ErrorKind::OutOfMemory => Err(SurveyStop::Memory),
         Err(_) => Err(SurveyStop::NoTable),
     }

@@ -1,11 +1,9 @@
 //! What is told of files, whatever page has them.
 
 use crate::finding::Findings;
-use crate::kind::Kind;
 use crate::pages::{Judged, Site};
-use crate::scan::{Scan, Sight};
-use crate::telling::{tell_whole, way_out};
 use asp_site::is_static;
+use file_survey::{Kind, Scan, Sight};
 use std::alloc::Global;
 use std::collections::BTreeSet;
 use vb_value::{FaultKind, Memory, SiteFile};
@@ -72,7 +70,7 @@ fn tell_scan(
         if let Some(other) = site.files.get(*include) {
             if is_static(other.path.as_slice()) {
                 let said = (Kind::File, "include that is served");
-                tell_whole(alloc, site.table, found, &other.path, said)?;
+                found.tell_whole(site.table, &other.path, said)?;
             }
         }
     }
@@ -88,7 +86,7 @@ fn tell_fault(
     found: &mut Findings,
 ) -> Result<(), Memory> {
     let word = format!(in alloc; "{fault:?}")?;
-    let mut way = way_out(alloc, site.table, Kind::Fault, word.as_str())?;
+    let mut way = site.table.way_out(Kind::Fault, word.as_str())?;
     if fault == FaultKind::OpenBlock {
         way.push_str("; the rest of the file is passed over")?;
     }

@@ -3,14 +3,11 @@ ghost use Rattle.std.specs.List.{All};
 ghost use Rattle.page_read.specs.Reading.{IsShort};
 
 use crate::finding::Findings;
-use crate::kind::Kind;
 use crate::reach::{included, is_declared, reached};
 use crate::refusing::{are_short, page_fault};
-use crate::scan::Sight;
 use crate::scanning::Scans;
-use crate::table::Table;
-use crate::telling::way_out;
 use asp_site::{is_global, is_page};
+use file_survey::{Kind, Sight, Table};
 use std::alloc::Global;
 use std::collections::{BTreeMap, BTreeSet};
 use vb_value::{FaultKind, List, Memory, SiteFault, SiteFile, Text, fold};
@@ -136,7 +133,7 @@ fn tell_refused(
     if own.is_inner && is_own && fault.kind == FaultKind::Unexpected {
         said = (Kind::Form, "included page");
     }
-    let way = way_out(alloc, site.table, said.0, said.1)?;
+    let way = site.table.way_out(said.0, said.1)?;
     tell_noted(
         alloc,
         fault,

@@ -1,11 +1,9 @@
 //! The files of a site, read into memory.
 
 use crate::finding::Findings;
-use crate::kind::Kind;
 use crate::stop::SurveyStop;
-use crate::table::Table;
-use crate::telling::tell_whole;
 use asp_io::{Folder, IoStop, StdFolder};
+use file_survey::{Kind, Table};
 use std::alloc::Global;
 use std::collections::BTreeMap;
 use std::rt::Files;
@@ -45,7 +43,7 @@ pub fn site_paths(
     for path in paths {
         let small = fold(alloc, &path)?;
         if chosen.contains_key(&small) {
-            tell_whole(alloc, table, found, &path, (Kind::File, "twin"))?;
+            found.tell_whole(table, &path, (Kind::File, "twin"))?;
         } else {
             chosen.insert(small, path)?;
         }
@@ -71,11 +69,11 @@ pub fn read_sources<R: Files + AllocGlobal + Clone + Drop>(
         let bytes = read_file(alloc, folder, &path)?;
         total = total.saturating_add(bytes.len());
         if total > MOST_OF_SITE || sources.files.len() >= MOST_FILES {
-            tell_whole(alloc, table, found, &path, (Kind::File, "last"))?;
+            found.tell_whole(table, &path, (Kind::File, "last"))?;
             return Ok(sources);
         }
         if bytes.len() > MOST_OF_FILE {
-            tell_whole(alloc, table, found, &path, (Kind::Fault, "TooLarge"))?;
+            found.tell_whole(table, &path, (Kind::Fault, "TooLarge"))?;
         }
         add_source(alloc, &mut sources, small, path, bytes)?;
     }

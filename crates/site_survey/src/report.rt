@@ -1,8 +1,8 @@
 //! A survey as text.
 
 use crate::finding::Findings;
-use crate::kind::{KINDS, Kind};
 use crate::pages::{Judged, Site};
+use file_survey::{KINDS, Kind};
 use std::alloc::Global;
 use std::collections::BTreeSet;
 use vb_value::Memory;

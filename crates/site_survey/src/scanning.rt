@@ -1,14 +1,9 @@
 //! The files of a site that hold script, each scanned once.
 
-use crate::encoding::{Encoding, encoding_of, repaired};
-use crate::file::{Around, scan_file};
 use crate::finding::Findings;
-use crate::kind::Kind;
 use crate::reading::Sources;
-use crate::scan::Scan;
-use crate::table::Table;
-use crate::telling::way_out;
 use asp_site::{has_ending, is_page};
+use file_survey::{Around, Encoding, Kind, Scan, Table, encoding_of, repaired, scan_file};
 use std::alloc::Global;
 use std::collections::BTreeMap;
 use vb_value::{Bytes, Memory, SiteFile};
@@ -100,7 +95,7 @@ fn make_text(
         Encoding::Utf16 => (1, "UTF-16"),
         Encoding::Other { line } => (line, "windows-1252"),
     };
-    let way = way_out(alloc, table, Kind::File, word)?;
+    let way = table.way_out(Kind::File, word)?;
     found.tell(&file.path, (line, 0), (Kind::File, word), way.as_str())?;
     file.bytes = match word {
         "UTF-16" => Bytes::new(alloc),

@@ -1,20 +1,8 @@
 //! Why a survey ends before its last line.
 
+use file_survey::{TableFault, TableStop};
 use std::alloc::{AllocError, AllocFailed, Global};
-use vb_value::{Memory, Text};
-
-/// What is wrong with a line of the table.
-#[derive(Clone, Copy)]
-pub enum TableFault {
-    /// The line is no row.
-    NoRow,
-    /// The row's kind is none.
-    NoKind,
-    /// A row before it has the same kind and word.
-    Twice,
-    /// The table has no row with the word `*` for a kind that wants one. The line is the table's last.
-    NoRest,
-}
+use vb_value::{Memory, Stop, Text};
 
 /// Why a survey ends before its last line.
 #[derive(Drop)]
@@ -24,7 +12,7 @@ pub enum SurveyStop {
     /// The table was not read.
     NoTable,
     /// A line of the table is wrong, counted from 1.
-    Table { line: usize, fault: TableFault },
+    Table { line: u32, fault: TableFault },
     /// The folder, or what stands in it at this path, was not read.
     Unread(Text),
     /// The output was not taken.
@@ -51,6 +39,15 @@ impl<T: Drop> From<AllocFailed<T>> for SurveyStop {
     }
 }
 
+impl From<TableStop> for SurveyStop {
+    fn from(stop: TableStop) -> SurveyStop {
+        match stop {
+            Stop::Fault { kind: fault, line } => SurveyStop::Table { line, fault },
+            Stop::Memory => SurveyStop::Memory,
+        }
+    }
+}
+
 impl SurveyStop {
     /// The exit status, as those of the host's commands.
     pub fn code(&self) -> u8 {
@@ -69,27 +66,12 @@ impl SurveyStop {
         match self {
             SurveyStop::Memory => String::from_str(alloc, "out of memory"),
             SurveyStop::Usage => String::from_str(alloc, "usage: survey SITE"),
-            SurveyStop::Table { line, fault } => table_text(alloc, table, *line, *fault),
+            SurveyStop::Table { line, fault } => format!(in alloc; "{table}:{line}: {fault}"),
             SurveyStop::NoTable => format!(in alloc; "read fault: {table}"),
             SurveyStop::Unread(path) => unread_text(alloc, site, path),
             SurveyStop::Unwritten => String::from_str(alloc, "write fault"),
         }
     }
-}
-
-fn table_text(
-    alloc: Global,
-    table: &str,
-    line: usize,
-    fault: TableFault,
-) -> Result<String, AllocError> {
-    let why = match fault {
-        TableFault::NoRow => "no row",
-        TableFault::NoKind => "no such kind",
-        TableFault::Twice => "a row that stands there twice",
-        TableFault::NoRest => "no row `*` of fault, form, file or component",
-    };
-    format!(in alloc; "{table}:{line}: {why}")
 }
 
 fn unread_text(alloc: Global, site: &str, path: &Text) -> Result<String, AllocError> {

@@ -8,9 +8,9 @@ use crate::reading::{Sources, read_sources, site_paths};
 use crate::report::report_text;
 use crate::scanning::scan_all;
 use crate::stop::SurveyStop;
-use crate::table::Table;
 use crate::walk::{Walk, base_path, walk_below};
 use asp_io::StdFolder;
+use file_survey::Table;
 use std::rt::Files;
 use vb_value::List;
 
@@ -29,7 +29,7 @@ pub fn survey_folder<R: Files + AllocGlobal + Clone + Drop>(
         files,
         oddities,
     } = walk_below(rt, root)?;
-    tell_oddities(alloc, table, oddities.as_slice(), &mut found)?;
+    tell_oddities(table, oddities.as_slice(), &mut found)?;
     let paths = site_paths(alloc, table, files, &mut found)?;
     tell_paths(alloc, table, &paths, &mut found)?;
     let mut folder = StdFolder::new(rt.clone()?, String::from_str(alloc, root)?);

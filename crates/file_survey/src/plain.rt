@@ -4,7 +4,6 @@ use crate::folding::folded_characters;
 use crate::kind::Kind;
 use crate::scan::Scan;
 use crate::table::Table;
-use crate::telling::way_out;
 use std::alloc::Global;
 use vb_value::{Memory, ends_line};
 
@@ -52,11 +51,11 @@ fn add_form(
 ) -> Result<(), Memory> {
     if begins(text, "<!--") {
         let word = comment_word(alloc, text)?;
-        if let Some(row) = table.row(Kind::Comment, word.as_str())? {
+        if let Some(row) = table.row(Kind::Comment, word.as_str()) {
             scan.see(Kind::Comment, line, row.word.as_str(), row.way.as_str())?;
         }
     } else if (begins(text, "<script") || begins(text, "<object")) && runs(alloc, text)? {
-        let way = way_out(alloc, table, Kind::Form, "tag")?;
+        let way = table.way_out(Kind::Form, "tag")?;
         scan.see(Kind::Form, line, "tag", way.as_str())?;
     }
     Ok(())

@@ -8,7 +8,6 @@ use crate::pieces::{Cut, Slip, cut_file};
 use crate::plain::add_plain;
 use crate::scan::Scan;
 use crate::table::Table;
-use crate::telling::way_out;
 use crate::uses::add_uses;
 use crate::words::words_of;
 use page_read::{Fragment, PageFault};
@@ -42,7 +41,7 @@ pub fn scan_file(alloc: Global, around: &Around<'_>, file: &SiteFile) -> Result<
         add_slip(alloc, around.table, &slip, &mut scan)?;
     }
     if let Some(line) = passed {
-        let way = way_out(alloc, around.table, Kind::File, "rest")?;
+        let way = around.table.way_out(Kind::File, "rest")?;
         scan.see(Kind::File, line, "rest", way.as_str())?;
     }
     Ok(scan)
@@ -69,7 +68,7 @@ fn add_piece(
             )
         }
         Fragment::Script { text, line } => {
-            add_written(alloc, table, text, before.saturating_add(*line), scan)?;
+            add_written(table, text, before.saturating_add(*line), scan)?;
             add_script(alloc, table, text, before.saturating_add(*line), scan)
         }
         Fragment::Write { text, line } | Fragment::Element { text, line } => {
@@ -99,19 +98,13 @@ fn add_script(
 }
 
 /// Adds a block that begins with `=` behind a blank.
-fn add_written(
-    alloc: Global,
-    table: &Table,
-    text: &Text,
-    first: u32,
-    scan: &mut Scan,
-) -> Result<(), Memory> {
+fn add_written(table: &Table, text: &Text, first: u32, scan: &mut Scan) -> Result<(), Memory> {
     let mut line = first;
     let mut last = ' ';
     for character in text.as_slice() {
         match *character {
             '=' => {
-                let way = way_out(alloc, table, Kind::Form, "<% =")?;
+                let way = table.way_out(Kind::Form, "<% =")?;
                 let way = way.as_str();
                 return scan.see_refused(Kind::Form, line, "<% =", way, FaultKind::Unexpected);
             }
@@ -136,7 +129,7 @@ fn add_backslash(
     if !path.as_slice().contains(&'\\') {
         return Ok(());
     }
-    let way = way_out(alloc, table, Kind::Form, "backslash")?;
+    let way = table.way_out(Kind::Form, "backslash")?;
     let path = path.to_string(alloc)?;
     let word = format!(in alloc; "backslash in {path}")?;
     scan.see_refused(
@@ -180,7 +173,7 @@ fn add_slip(alloc: Global, table: &Table, slip: &Slip, scan: &mut Scan) -> Resul
     let fault = kind_of(slip.kind);
     let small = folded(alloc, slip.form.as_str())?;
     if slip.kind == PageFault::BadDirective {
-        if let Some(row) = table.row_within(Kind::Attribute, small.as_str())? {
+        if let Some(row) = table.row_within(Kind::Attribute, small.as_str()) {
             let (word, way) = (row.word.as_str(), row.way.as_str());
             return scan.see_refused(Kind::Attribute, slip.line, word, way, fault);
         }

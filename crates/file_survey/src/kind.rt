@@ -1,7 +1,7 @@
 //! Kinds of what a survey tells.
 
 /// What is told of a place.
-#[derive(Clone, Copy, PartialEq, Eq)]
+#[derive(Clone, Copy, Debug, PartialEq, Eq, PartialOrd, Ord)]
 pub enum Kind {
     /// What `check` refuses.
     Fault,
@@ -61,12 +61,7 @@ impl Kind {
     }
 
     /// The kind with this word.
-    pub fn of_word(word: &str) -> Option<Kind> {
-        for kind in KINDS {
-            if kind.word() == word {
-                return Some(kind);
-            }
-        }
-        None
+    pub(crate) fn of_word(word: &str) -> Option<Kind> {
+        KINDS.iter().copied().find(|kind| kind.word() == word)
     }
 }

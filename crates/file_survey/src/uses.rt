@@ -4,7 +4,6 @@ use crate::folding::folded;
 use crate::kind::Kind;
 use crate::scan::Scan;
 use crate::table::Table;
-use crate::telling::way_out;
 use crate::words::{Word, WordKind};
 use std::alloc::Global;
 use vb_value::{FaultKind, Memory};
@@ -124,7 +123,7 @@ fn pass_name(
 
 /// Adds a name that the host has not, or that it is declared here.
 fn add_name(table: &Table, word: &Word, is_declared: bool, scan: &mut Scan) -> Result<(), Memory> {
-    if let Some(row) = table.row(Kind::Name, word.text.as_str())? {
+    if let Some(row) = table.row(Kind::Name, word.text.as_str()) {
         if is_declared {
             scan.declare(row.word.as_str())?;
         } else {
@@ -141,7 +140,7 @@ fn known_path(
     path: String,
     scan: &mut Scan,
 ) -> Result<Option<String>, Memory> {
-    if let Some(row) = table.row(Kind::Member, path.as_str())? {
+    if let Some(row) = table.row(Kind::Member, path.as_str()) {
         let (name, way) = (row.word.as_str(), row.way.as_str());
         scan.see_refused(Kind::Member, word.line, name, way, FaultKind::BadMember)?;
         return Ok(None);
@@ -188,9 +187,9 @@ fn add_component(
         .as_str()
         .split_once('.')
         .unwrap_or((small.as_str(), ""));
-    let way = match table.row(Kind::Component, small.as_str())? {
+    let way = match table.row(Kind::Component, small.as_str()) {
         Some(row) => row.way.clone()?,
-        None => way_out(alloc, table, Kind::Component, library)?,
+        None => table.way_out(Kind::Component, library)?,
     };
     scan.see(Kind::Component, line, name, way.as_str())
 }
@@ -203,7 +202,7 @@ fn add_variable(
     scan: &mut Scan,
 ) -> Result<(), Memory> {
     let small = folded(alloc, name)?;
-    if let Some(row) = table.row(Kind::Variable, small.as_str())? {
+    if let Some(row) = table.row(Kind::Variable, small.as_str()) {
         scan.see(Kind::Variable, line, row.word.as_str(), row.way.as_str())?;
     }
     Ok(())

@@ -41,7 +41,7 @@ pub struct Scan {
 
 impl Scan {
     /// Nothing yet.
-    pub fn new(alloc: Global) -> Scan {
+    pub(crate) fn new(alloc: Global) -> Scan {
         Scan {
             alloc,
             sights: Vec::new(alloc),
@@ -66,14 +66,20 @@ impl Scan {
     }
 
     /// Adds what is told.
-    pub fn see(&mut self, kind: Kind, line: u32, word: &str, way: &str) -> Result<(), Memory> {
+    pub(crate) fn see(
+        &mut self,
+        kind: Kind,
+        line: u32,
+        word: &str,
+        way: &str,
+    ) -> Result<(), Memory> {
         let sight = self.sight(kind, line, word, way)?;
         self.sights.push(sight)?;
         Ok(())
     }
 
     /// Adds what is told, which the host refuses.
-    pub fn see_refused(
+    pub(crate) fn see_refused(
         &mut self,
         kind: Kind,
         line: u32,
@@ -95,7 +101,7 @@ impl Scan {
     }
 
     /// Adds a name that the host has not.
-    pub fn see_name(&mut self, line: u32, word: &str, way: &str) -> Result<(), Memory> {
+    pub(crate) fn see_name(&mut self, line: u32, word: &str, way: &str) -> Result<(), Memory> {
         let sight = self.sight(Kind::Name, line, word, way)?;
         self.names.push(sight)?;
         Ok(())
@@ -107,7 +113,7 @@ impl Scan {
     }
 
     /// Adds a name that the file declares.
-    pub fn declare(&mut self, word: &str) -> Result<(), Memory> {
+    pub(crate) fn declare(&mut self, word: &str) -> Result<(), Memory> {
         if !self.declares(word) {
             self.declared.push(String::from_str(self.alloc, word)?)?;
         }
