@@ -4,7 +4,7 @@
 #
 # `asp build` proves and builds both programs, unless that was done and no source has changed since. Before that, and once
 # a source has changed since, the words run by the toolchain's build that proves nothing, which one line on standard
-# error says. `asp test` tries all cases and tests by that build.
+# error says. `asp test` tries all cases and tests by that build. Behind the program's own help `asp --help` names the survey.
 set -u
 unset CDPATH
 top=$(dirname "$(readlink -f "${BASH_SOURCE[0]}")")
@@ -161,6 +161,12 @@ run_unproved() {
   return 70
 }
 
+# Runs the words by the proved program where it is built.
+run() {
+  if is_built; then exec "$program" "$@"; fi
+  run_unproved "$@"
+}
+
 # The crates that try something: programs with a stored output, and those with tests. The one that takes longest is first.
 trying() {
   local name names
@@ -255,6 +261,10 @@ else
     set -- "$crate/data/table.txt" "${@:2}"
   fi
   case "$* " in serve\ *\ --requests\ *) tell_address "$@" ;; esac
-  if is_built; then exec "$program" "$@"; fi
-  run_unproved "$@"
+  if [ $# = 1 ] && [ "$1" = --help ]; then
+    (run --help) || exit
+    printf '\n%s\n' "./asp survey SITE writes each place of an old site that this host can't run or runs differently, with the way out"
+  else
+    run "$@"
+  fi
 fi
