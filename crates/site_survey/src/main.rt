@@ -2,10 +2,10 @@
 //! with the way out, by the table that its first word names.
 #![tactic(auto)]
 
-mod around;
 mod finding;
 mod others;
 mod pages;
+mod paths;
 mod reach;
 mod reading;
 mod refusing;

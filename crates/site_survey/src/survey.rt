@@ -1,9 +1,9 @@
 //! A survey of a site's folder.
 
-use crate::around::{tell_oddities, tell_paths};
 use crate::finding::Findings;
 use crate::others::tell_others;
 use crate::pages::{Site, judge_pages};
+use crate::paths::{tell_oddities, tell_paths};
 use crate::reading::{Sources, read_sources, site_paths};
 use crate::report::report_text;
 use crate::scanning::scan_all;
