@@ -97,6 +97,14 @@ impl Scanner {
         }
     }
 
+    /// Ends a statement, if one is there.
+    fn end_statement(&mut self) -> Result<(), Memory> {
+        if self.last_kind() == WordKind::End {
+            return Ok(());
+        }
+        self.push(WordKind::End)
+    }
+
     fn take(&mut self, character: char) -> Result<(), Memory> {
         match self.state {
             State::Between => self.begin(character),
@@ -129,7 +137,7 @@ impl Scanner {
             '.' => return self.push(WordKind::Point),
             '(' => return self.push(WordKind::Open),
             ')' => return self.push(WordKind::Close),
-            ':' => return self.push(WordKind::End),
+            ':' => return self.end_statement(),
             _ => return self.begin_word(character),
         }
         Ok(())
@@ -199,7 +207,7 @@ impl Scanner {
         self.state = State::Between;
         if !self.continues {
             self.current.clear();
-            self.push(WordKind::End)?;
+            self.end_statement()?;
         }
         self.continues = false;
         self.line = self.line.saturating_add(1);
