@@ -263,7 +263,7 @@ else
   case "$* " in serve\ *\ --requests\ *) tell_address "$@" ;; esac
   if [ $# = 1 ] && [ "$1" = --help ]; then
     (run --help) || exit
-    printf '\n%s\n' "./asp survey SITE writes each place of an old site that this host can't run or runs differently, with the way out"
+    printf '\n%s\n' "./asp survey SITE tells each place of an old site that this host can't run or runs differently, with the way out"
   else
     run "$@"
   fi
