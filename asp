@@ -1,33 +1,51 @@
 #!/usr/bin/env bash
-# Runs the program with the words given, in the folder where it is called, and ends with its status.
+# Runs the program with the words given, in the folder where it is called, and ends with its status. The word `survey` runs
+# another program, on the table of what old sites have and the words behind it.
 #
-# `asp build` proves and builds the program, unless that was done and no source has changed since. Before that, and once
+# `asp build` proves and builds both programs, unless that was done and no source has changed since. Before that, and once
 # a source has changed since, the words run by the toolchain's build that proves nothing, which one line on standard
-# error says. `asp test` tries all cases and tests by that build.
+# error says. `asp test` tries all cases and tests by that build. Behind the program's own help `asp --help` names the survey.
 set -u
 unset CDPATH
 top=$(dirname "$(readlink -f "${BASH_SOURCE[0]}")")
-crate=$top/crates/classic_asp
-program=$crate/out/classic_asp
-proved=$program.proved
+programs=(classic_asp site_survey)
 
-# The crates that the program is made of, each behind those that it stands on.
-made_of() { "$top/checks/crates" below classic_asp; }
+# Takes up the program with this name.
+take() {
+  name=$1
+  crate=$top/crates/$name
+  program=$crate/out/$name
+  proved=$program.proved
+}
+
+# The crates that these programs are made of, each behind those that it stands on.
+made_of() {
+  local one listed=
+  for one in "$@"; do listed+=$("$top/checks/crates" below "$one")$'\n' || return; done
+  awk 'NF && !seen[$0]++' <<<"$listed"
+}
 
 # Whether the program was built by `asp build` and no source has changed since that build began.
 is_built() {
-  local name names sources=("$top/crates.txt" "$top/HANDLES")
-  [ -x "$program" ] && [ -e "$proved" ] && names=$(made_of) || return 1
-  for name in $names; do
-    sources+=("$top/crates/$name/src" "$top/crates/$name/specs" "$top/crates/$name/proofs")
+  local one names sources=("$top/crates.txt" "$top/HANDLES")
+  [ -x "$program" ] && [ -e "$proved" ] && names=$(made_of "$name") || return 1
+  for one in $names; do
+    sources+=("$top/crates/$one/src" "$top/crates/$one/specs" "$top/crates/$one/proofs")
   done
   [ -z "$(find "${sources[@]}" -newer "$proved" -print -quit 2>/dev/null)" ]
+}
+
+# Whether all programs are built.
+are_built() {
+  local one
+  for one in "${programs[@]}"; do take "$one" && is_built || return; done
 }
 
 # Proves one crate and builds its library or, of the last, the program. Leaves the log, and the status where it ended.
 build_crate() {
   local name=$1 words=(lib)
   [ "$name" = classic_asp ] && words=(run -- --version)
+  [ "$name" = site_survey ] && words=(run -- "$top/crates/$name/data/table.txt" "$top/crates/$name/data/site")
   (cd "$top/crates/$name" && rt "${words[@]}") >"$logs/$name.log" 2>&1 </dev/null
   echo $? >"$logs/$name.status"
 }
@@ -68,7 +86,7 @@ stop_runs() {
 build_once() {
   local names running=0 ended=0 most=$((($(nproc) + 1) / 2)) name others
   local -A below=()
-  mapfile -t names < <(made_of)
+  mapfile -t names < <(made_of "${programs[@]}")
   [ "${#names[@]}" -gt 0 ] || return 1
   while read -r name others; do below[${name%:}]=$others; done < <("$top/checks/crates")
   rm -rf "${logs:?}"/*
@@ -87,7 +105,7 @@ build_once() {
       return 1
     fi
   done
-  cp -p "$logs/begun" "$proved"
+  for name in "${programs[@]}"; do cp -p "$logs/begun" "$top/crates/$name/out/$name.proved"; done
 }
 
 # Builds, and once more where a source has changed meanwhile.
@@ -97,9 +115,9 @@ build() {
   set -m
   trap 'stop_runs; exit 130' INT TERM
   build_once || return 70
-  is_built && return
+  are_built && return
   echo "asp: a source has changed during the build, which begins anew" >&2
-  build_once && is_built && return
+  build_once && are_built && return
   echo "asp: the program is older than its sources" >&2
   return 70
 }
@@ -141,6 +159,12 @@ run_unproved() {
   cat "$errors" >&2
   echo "asp: the unproved build did not run" >&2
   return 70
+}
+
+# Runs the words by the proved program where it is built.
+run() {
+  if is_built; then exec "$program" "$@"; fi
+  run_unproved "$@"
 }
 
 # The crates that try something: programs with a stored output, and those with tests. The one that takes longest is first.
@@ -227,11 +251,20 @@ try_all() {
 }
 
 if [ $# = 1 ] && [ "$1" = build ]; then
-  is_built || build
+  are_built || build
 elif [ $# = 1 ] && [ "$1" = test ]; then
   try_all
 else
+  take classic_asp
+  if [ "${1-}" = survey ]; then
+    take site_survey
+    set -- "$crate/data/table.txt" "${@:2}"
+  fi
   case "$* " in serve\ *\ --requests\ *) tell_address "$@" ;; esac
-  if is_built; then exec "$program" "$@"; fi
-  run_unproved "$@"
+  if [ $# = 1 ] && [ "$1" = --help ]; then
+    (run --help) || exit
+    printf '\n%s\n' "./asp survey SITE tells each place of an old site that this host can't run or runs differently, with the way out"
+  else
+    run "$@"
+  fi
 fi

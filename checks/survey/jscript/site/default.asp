@@ -1,0 +1,3 @@
+<%@ LANGUAGE="JScript" %>
+<% var now = new Date(); %>
+<%= now.getYear() %>

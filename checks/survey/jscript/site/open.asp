@@ -1,0 +1,3 @@
+<p><%= Rnd %></p>
+<% Response.Write "no end"
+x = Now

@@ -1,0 +1,1 @@
+<p>All is well here.</p>

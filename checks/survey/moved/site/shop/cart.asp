@@ -1,0 +1,2 @@
+<!--#include virtual="/myshop/top.inc"-->
+<!--#include file="../../outside.inc"-->

@@ -1,0 +1,3 @@
+</div>
+<% End If %>
+</body></html>

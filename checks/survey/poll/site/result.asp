@@ -1,0 +1,4 @@
+<% = Application("vote1") %> to
+<%
+   = Application("vote2")
+%>

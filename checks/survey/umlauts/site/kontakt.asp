@@ -1,0 +1,2 @@
+<!--#include file="adresse.inc"-->
+<!--#include file="utf.inc"-->

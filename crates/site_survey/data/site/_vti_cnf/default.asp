@@ -1,0 +1,1 @@
+vti_encoding:SR|utf8-nl
