@@ -1,8 +1,9 @@
 -- What a feed by one lane, or by several, comes to.
-use Rattle.std.proofs.Common.{◌≡◌, ◌⊎◌, ◌<◌, ℕ, All, List, [], ◌++◌, Option, refl, sym, reverse, append-nil}
-use Rattle.std.proofs.Common.{Result, Ok, Err, IfErr, IfOk, inl, inr, subst, arith}
+use Rattle.std.proofs.Common.{◌≡◌, ◌⊎◌, ◌<◌, ℕ, All, List, [], Option, sym, reverse, append-nil}
+use Rattle.std.proofs.Common.{Result, Ok, Err, IfOk, inl, inr}
 use Rattle.std.proofs.lemmas.List.Sorted.{All-permutation, IsPermutation-reverse}
 use Rattle.asp_core.specs.Ready.{IsAnswered}
+use Rattle.asp_io.specs.Faults.{HasCause as HasCauseOf}
 use Rattle.asp_job.specs.declared.entry.Entry.{Entry}
 use Rattle.asp_job.specs.Journal.{IsValidJournal}
 use Rattle.asp_job.specs.Rules.{Rules}
@@ -12,14 +13,14 @@ use Rattle.asp_replay.specs.declared.stop.FeedStop.{FeedStop}
 use Rattle.asp_replay.specs.declared.stop.FeedStop.TheVariants as stop
 use Rattle.asp_replay.specs.Feed.{ArePartWritten, AreWritten, HasCause, HasFed, HasFedPart}
 use Rattle.asp_replay.specs.Underway.{HasNotBegun}
-use Rattle.asp_replay.specs.Workers.{HasCauseBeside, HasFedBeside, HasFedPartBeside}
+use Rattle.asp_replay.specs.Workers.{HasCauseBeside, HasFedBeside}
 use Rattle.asp_replay.proofs.Pieces.{part_whole}
-use Rattle.asp_host.specs.Replayed.{HasFedBy, HasFedUntil, IsFedBy}
+use Rattle.asp_host.specs.Replayed.{HasFedBy, HasFedUntil}
 
 -- ---- lanes
 
 -- the lanes of a journal are those of its entries in their order
-pub lanes_past : (workers : ℕ) (journal : List Entry) → All (λ (entry : Entry). entry.lane < workers) journal
+lanes_past : (workers : ℕ) (journal : List Entry) → All (λ (entry : Entry). entry.lane < workers) journal
     → All (λ (entry : Entry). entry.lane < workers) (reverse journal)
 lanes_past workers journal all = All-permutation (λ (entry : Entry). entry.lane < workers) journal (reverse journal)
     (IsPermutation-reverse journal) all
@@ -113,4 +114,21 @@ fed_by workers rules items journal before after many fed lanes = record {
     sequential = λ one. absurd (many one);
   };
   written = fed.written;
+}
+
+-- ---- what is handed on
+
+-- what is told of what is given, from two things that are told
+pub ok_both : {T E : Type 0} (result : Result T E) (P Q S : T → Type 0) → ((given : T) → P given → Q given → S given)
+    → IfOk result P → IfOk result Q → IfOk result S
+ok_both (Ok given) P Q S both one other = both given one other
+ok_both (Err ended) P Q S both one other = tt
+
+-- memory that is said to have run out is no fault of the sink
+pub memory_cause : {S T : Type 0} (old new : ℕ) (first : Result S FeedStop) → HasCauseOf stop.WriteFault old new first
+    → HasCauseOf {T = T} stop.WriteFault old new (Err stop.Memory)
+memory_cause {S} {T} old new first cause = record {
+  later = cause.later;
+  within = cause.within;
+  failed = λ e. absurd (let is : ◌≡◌ {A = Result T FeedStop} (Err stop.Memory) (Err stop.WriteFault) = e in cc);
 }

@@ -1,6 +1,7 @@
 -- What `replay` ran and wrote.
-use Rattle.std.proofs.Common.{ℕ, Bool, List, Option, IfSome, refl, inl, inr}
+use Rattle.std.proofs.Common.{◌≡◌, ℕ, Bool, List, Option, IfSome, refl, inl, inr}
 use Rattle.vb_value.specs.declared.site_file.SiteFile.{SiteFile}
+use Rattle.asp_command.specs.declared.words.Command.TheVariants.{Replay}
 use Rattle.asp_record.specs.declared.recording.Recording.{Recording}
 use Rattle.asp_replay.specs.declared.stop.FeedStop.{FeedStop}
 use Rattle.asp_replay.specs.declared.stop.FeedStop.TheVariants as feed
@@ -57,3 +58,10 @@ replay_stopped workers journal files site source sink recording feed.WriteFault 
     record { site = site; recording = recording; is_for = is_for; replayed = stopped }
 replay_stopped workers journal files site source sink recording feed.Memory is_for stopped =
     inr (record { site = site; recording = recording; is_for = is_for; replayed = stopped })
+
+-- ---- words
+
+-- two commands `replay` that are the same have the same options
+pub same_replay : (site other : List ℕ) (workers others : ℕ) (journal also : Bool)
+    → Replay site workers journal ≡ Replay other others also → (workers ≡ others) × (journal ≡ also)
+same_replay site other workers others journal also e = (cc, cc)

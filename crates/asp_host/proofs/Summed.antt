@@ -1,5 +1,5 @@
 -- What a recording that is made comes to, whose answers are let go.
-use Rattle.std.proofs.Common.{◌≡◌, ◌⊎◌, ℕ, Bool, true, List, ◌++◌, refl, ap, ◌∙◌, subst, inl, inr, arith, Option, None}
+use Rattle.std.proofs.Common.{◌≡◌, ℕ, Bool, true, List, ◌++◌, refl, ap, ◌∙◌, subst, inl, inr, arith, Option, None}
 use Rattle.std.proofs.Common.{Result, Ok, Err, IfErr, IsErrAnd, OnOk}
 use Rattle.std.proofs.lemmas.Result.{err_from_is_err_and}
 use Rattle.asp_core.specs.Kernel.{CoreView, past_of, rules_by, rules_of}

@@ -1,5 +1,5 @@
 //! A recording is fed to a site by as many workers as are asked for.
-ghost use Rattle.std.specs.Prelude.{◌≡◌, ◌≤◌, ◌<◌, All, Err, IfErr, IfOk, IsTrue, false};
+ghost use Rattle.std.specs.Prelude.{◌≤◌, ◌<◌, ◌↔◌, All, IfErr, IfOk, IsTrue, false};
 ghost use Rattle.asp_core.specs.Kernel.{past_of, rules_by, setting_of};
 ghost use Rattle.asp_io.specs.Faults.{HasCause};
 ghost use Rattle.asp_record.specs.Recorded.{IsSound};

@@ -8,10 +8,6 @@ use Rattle.asp_host.specs.Gen.{GenWrites}
 use Rattle.asp_host.proofs.GenEnds.{gen_done, gen_stopped}
 use Rattle.asp_host.proofs.generated.write_made.Goals as goal
 
-pub write_generated-requires : goal.write_generated-requires
-write_generated-requires g c =
-    record { sound = rw c.requires.requests (c.generated_sound.ensures c.args.count c.requires.few) }
-
 pub write_generated-requires-send-R-State : goal.write_generated-requires-send-R-State
 write_generated-requires-send-R-State g c κs = search (run, sendable) depth 40 fits 20000
 
