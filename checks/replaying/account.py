@@ -59,7 +59,7 @@ class Account:
         self.waiting, self.unfinished, self.busy = {}, {}, {}
         self.answers = []  # the page runs in the order in which they ended or were refused
         self.owed = [("start", 0)]
-        self.is_stopped = False
+        self.is_stopped = self.has_abandoned = False
         self.begun = False  # the first run has ended
 
     def wants(self, fact, why):
@@ -214,6 +214,7 @@ class Account:
         del self.unfinished[run.number], self.busy[run.lane]
         self.application.ended(run.number)
         self.begun = True
+        self.has_abandoned |= run.has_abandoned
         if run.word == "page":
             self.answers.append(run)
         if run.key:

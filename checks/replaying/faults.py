@@ -5,12 +5,17 @@ import re
 import subprocess
 
 from .lines import NUMBER, read_records
-from .recordings import SEED, WITHOUT, request, written
+from .recordings import WITHOUT, request, written
 from .runs import LONGEST
 from .sites import COUNTS
 
+# What is said of a journal that is full.
 FULL = re.compile(rf"journal full: {NUMBER} entries, {NUMBER} bytes\n")
 MOST_ENTRIES, MOST_BYTES = 1_000_000, 268_435_456
+
+
+def too_much(entries, size):
+    return entries > MOST_ENTRIES or size > MOST_BYTES
 
 
 def on_full_device(check):
@@ -51,31 +56,31 @@ FILLS = {
 }
 
 
+# What fills a journal, with the pages beside it, and on how many lanes that is tried.
+FILLING = {
+    "weight": (["/heavy.asp", "/loop.asp", "/p.asp", "/p.asp"], (2, 4)),
+    "entries": (["/calls.asp", "/calls.asp", "/calls.asp", "/loop.asp", "/p.asp"], (4,)),
+}
+
+
 def full_journal(check):
     """A page fills the journal while another is in work: the replay ends with the numbers that the journal would have come to,
     and what is written are records of answers, that of the moment before first."""
     site = check.site(FILLS)
-    kinds = {
-        "weight": ["/heavy.asp", "/loop.asp", "/p.asp", "/p.asp"],
-        "entries": ["/calls.asp", "/calls.asp", "/calls.asp", "/loop.asp", "/p.asp"],
-    }
-    for kind, paths in kinds.items():
-        for lanes in (1, 2, 4, 16):
-            items = [request("/p.asp"), *[request(path, 0, 1) for path in paths]]
-            end = check.ran("replay", site, "--journal", "--workers", str(lanes), recording=written(items, SEED))
+    for kind, (paths, counts) in FILLING.items():
+        recording = written([request("/p.asp"), *[request(path, 0, 1) for path in paths]])
+        for lanes in counts:
+            end = check.ran("replay", site, "--journal", "--workers", str(lanes), recording=recording)
+            what = f"{kind}, {lanes} lanes"
             found = FULL.fullmatch(end.said)
-            check.same(f"{kind}, {lanes} lanes: the status", end.status, 7)
-            check.holds(f"{kind}, {lanes} lanes: {end.said}", found)
-            if found:
-                entries, size = map(int, found.groups())
-                fits = entries <= MOST_ENTRIES and size <= MOST_BYTES
-                check.holds(f"{kind}, {lanes} lanes: {end.said} fit", not fits)
+            check.same(f"{what}: the status", end.status, 7)
+            check.holds(f"{what}: {end.said}", found and too_much(*map(int, found.groups())))
             answers, rest = read_records(end.output)
             numbers = [it.run for it in answers]
             bodies = {it.body for it in answers}
-            check.same(f"{kind}, {lanes} lanes: what is behind the answers", rest, b"")
-            check.holds(f"{kind}, {lanes} lanes: {numbers}", numbers[:1] == [2] and len(set(numbers)) == len(numbers))
-            check.holds(f"{kind}, {lanes} lanes: {bodies}", bodies <= {b"A3B", b"looped", b"done"})
+            check.same(f"{what}: what is behind the answers", rest, b"")
+            check.holds(f"{what}: {numbers}", numbers[:1] == [2] and len(set(numbers)) == len(numbers))
+            check.holds(f"{what}: {bodies}", bodies <= {b"A3B", b"looped", b"done"})
 
 
 CHECKS = {

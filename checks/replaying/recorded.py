@@ -78,7 +78,8 @@ def refused_on_any(check):
 
 def on_many_lanes(check):
     """Each recording that is replayed, on 1 to 16 lanes, often: the journal is a legal one, with its answers. Where pages share
-    no state the answers are those that are wanted, in another order perhaps."""
+    no state, and none abandons its session before the client's next request has come, the answers are those that are wanted,
+    in another order perhaps."""
     folder, found = cases()
     tried = set()
     for case in found:
@@ -90,8 +91,8 @@ def on_many_lanes(check):
         wanted = case.output and sorted(read_records(case.output)[0])
         for lanes in check.often():
             end = case.ran(check, folder, "--journal", "--workers", str(lanes))
-            _, output = check.right(site, recording, lanes, end)
-            if output and wanted and not site.shares:
+            account, output = check.right(site, recording, lanes, end)
+            if account and wanted and not site.shares and not account.has_abandoned:
                 check.same(f"{case.name}, on {lanes} lanes", sorted(output.answers), wanted)
             if check.differences:
                 check.differences.append(f"that was {case.name}")
