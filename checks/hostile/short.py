@@ -192,7 +192,8 @@ def peak_of(host):
 
 def together(program, tally):
     """Sessions, the application, the journal's weight and a page of each worker are near their limits at once."""
-    requests = MOST_SESSIONS + PUTS + MOST_WORKERS + 2
+    # one more than are asked for below, so that it does not end before
+    requests = MOST_SESSIONS + PUTS + MOST_WORKERS + 3
     with Host(program, program.folder(FULL_SITE), requests, workers=MOST_WORKERS) as host:
         # answers that are asked for in one piece share the time of one
         came = [asked(host.port, request("/session.asp") * 64) for _ in range(MOST_SESSIONS // 64)]
