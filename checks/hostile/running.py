@@ -16,7 +16,7 @@ PROGRAM = TOP / "crates" / "classic_asp" / "out" / "classic_asp"
 SOURCE = pathlib.Path(__file__).with_name("failing.c")
 COMPILERS = ["cc", "gcc", "clang"]
 # How long a run may take that does much, in seconds: none is to hang.
-LONGEST = 120
+LONGEST = 300
 
 
 class End(NamedTuple):
