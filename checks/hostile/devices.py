@@ -264,3 +264,5 @@ TRIALS = {
     "no descriptors": descriptors,
     "connections": links,
 }
+# Those that do without a library that has calls fail.
+ALONE = {"outputs that fail", "inputs that fail", "no descriptors"}

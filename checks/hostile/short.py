@@ -219,3 +219,5 @@ def together(program, tally):
 
 
 TRIALS = {"serve on four workers": serve_refused, "pages that don't fit together": eaters, "all limits together": together}
+# Those that do without calls that fail.
+ALONE = {"pages that don't fit together", "all limits together"}
