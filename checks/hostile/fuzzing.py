@@ -45,7 +45,7 @@ def scripts():
 def spoilt_page(draw, pages):
     """Returns a page with one to three places spoilt: by words, by pieces of others, by characters, by what is left out."""
     text = draw.choice(pages)
-    for _ in range(draw.randint(1, 3)):
+    for _ in range(draw.choice((1, 1, 1, 2, 3))):
         at = draw.randrange(len(text) + 1)
         to = min(len(text), at + draw.choice((0, 0, 1, 3, 20)))
         kind = draw.randrange(6)

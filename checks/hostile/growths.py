@@ -16,7 +16,7 @@ from .running import recording
 SEED = 14
 DRAWN = 100
 # How much processor time a command may use, and how long it may take on a machine that does other work too, in seconds.
-SECONDS, LONGEST = 1, 10
+SECONDS, LONGEST = 1, 30
 WITHOUT = "<%@ ENABLESESSIONSTATE=False %>"
 SITE = {
     "/global.asa": '<script runat="server">\nSub Application_OnStart\nApplication("t") = "T"\nEnd Sub\n</script>',

@@ -97,6 +97,34 @@ def on_threads(program, tally, numbers):
     return len(wanted)
 
 
+def least_stack(program, row):
+    """Returns with how many KiB of stack a page still gives what it is to, to within 64."""
+    folder, little, enough = program.folder(row.files), 0, 65536
+    while enough - little > 64:
+        middle = (enough + little) // 2
+        end = program.run("get", folder, "/p.asp", stack=middle)
+        if end[:3] == (0, b"", row.wanted.encode()):
+            enough = middle
+        else:
+            little = middle
+    return enough
+
+
+def stacks(program, tally, numbers):
+    """How much stack the deepest pages take: of calls, of a script's grammar, and of values."""
+    told = []
+    for what, name, makers in (
+        ("a page", "statements, operators, paths and calls open at once", [scripts.levels, scripts.levels_of_terminator]),
+        ("a script", "blocks and parentheses open at one place", [scripts.syntax]),
+        ("a value", "arrays in arrays", [scripts.nest]),
+    ):
+        rows = [row for make in makers for row in make(numbers[name][0]) if getattr(row, "is_deep", False)]
+        most = max(least_stack(program, row) for row in rows)
+        tally.holds(f"the deepest of {what} takes {most} KiB of stack", most <= STACK)
+        told.append(f"{what} {most:,} KiB")
+    return "the deepest took of " + ", of ".join(told)
+
+
 def without_key(text):
     """Returns an answer without the line of its session's key."""
     return re.sub(rb"Set-Cookie: ASPSESSIONIDPROFILE=[^\r]*\r\n", b"", text)
@@ -174,5 +202,6 @@ def trials():
     for name in all_limits():
         if name in numbers:
             found[name] = try_limit(name, numbers[name][0])
+    found["the least stack"] = lambda program, tally: stacks(program, tally, numbers)
     found["deep pages on four threads"] = lambda program, tally: f"{on_threads(program, tally, numbers)} pages"
     return found

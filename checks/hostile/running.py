@@ -16,7 +16,7 @@ PROGRAM = TOP / "crates" / "classic_asp" / "out" / "classic_asp"
 SOURCE = pathlib.Path(__file__).with_name("failing.c")
 COMPILERS = ["cc", "gcc", "clang"]
 # How long a run may take that does much, in seconds: none is to hang.
-LONGEST = 120
+LONGEST = 300
 
 
 class End(NamedTuple):
@@ -150,15 +150,17 @@ def arguments(description):
     return found
 
 
-def try_all(name, trials, found, needs_library=False, skips=0):
-    """Runs the trials of which a part of the name is asked for, each over the program, and returns the exit status."""
+def try_all(name, trials, found, alone=None):
+    """Runs the trials of which a part of the name is asked for, each over the program, and returns the exit status. Where
+    there is no C compiler, only those run that do without calls that fail, if these are said."""
     tally = Tally()
     chosen = {it: work for it, work in trials.items() if any(part in it for part in found.parts or [""])}
     with tempfile.TemporaryDirectory(prefix=f"checks-{name}-") as room:
         program = Program(found.program, room)
-        if needs_library and not program.library:
-            skipped(f"checks/{name}", "C compiler", skips)
-            chosen = {}
+        if alone is not None and not program.library:
+            kept = {it: work for it, work in chosen.items() if it in alone}
+            skipped(f"checks/{name}", "C compiler", len(chosen) - len(kept))
+            chosen = kept
         for it, work in chosen.items():
             begun = time.monotonic()
             try:

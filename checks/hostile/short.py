@@ -35,22 +35,27 @@ class Host:
         self.process = subprocess.Popen([program.path, *map(str, words)], env=failing or {}, **ends)
 
     def __enter__(self):
-        wait_until(lambda: listens(self.port) or self.process.poll() is not None, 10)
+        wait_until(lambda: listens(self.port) or not self.runs(), 60)
+        if not self.runs():
+            raise RuntimeError(f"there is no host: {self.process.returncode}, {self.process.communicate()}")
         return self
 
     def __exit__(self, *_):
         self.process.kill()
         self.process.communicate()
 
+    def runs(self):
+        return self.process.poll() is None
+
     def ends(self):
         """Makes connections until the host has ended. Returns its status, what it wrote and what it said."""
         end = time.monotonic() + 120
-        while self.process.poll() is None and time.monotonic() < end:
+        while self.runs() and time.monotonic() < end:
             try:
                 asked(self.port, request("/none") * 5)
             except OSError:
                 time.sleep(0.01)
-        if self.process.poll() is None:
+        if self.runs():
             return None, b"", b""
         return self.process.returncode, *self.process.communicate()
 
@@ -192,7 +197,8 @@ def peak_of(host):
 
 def together(program, tally):
     """Sessions, the application, the journal's weight and a page of each worker are near their limits at once."""
-    requests = MOST_SESSIONS + PUTS + MOST_WORKERS + 2
+    # one more than are asked for below, so that it does not end before
+    requests = MOST_SESSIONS + PUTS + MOST_WORKERS + 3
     with Host(program, program.folder(FULL_SITE), requests, workers=MOST_WORKERS) as host:
         # answers that are asked for in one piece share the time of one
         came = [asked(host.port, request("/session.asp") * 64) for _ in range(MOST_SESSIONS // 64)]
@@ -213,3 +219,5 @@ def together(program, tally):
 
 
 TRIALS = {"serve on four workers": serve_refused, "pages that don't fit together": eaters, "all limits together": together}
+# Those that do without calls that fail.
+ALONE = {"pages that don't fit together", "all limits together"}
