@@ -8,11 +8,11 @@ import struct
 import subprocess
 import time
 
-from serving.clients import Client, asked, page, request
+from serving.clients import Client, page, request
 from serving.hosts import IS_OPEN, sockets, wait_until
 
 from .growths import GETS, WITHOUT
-from .running import TOP, recording
+from .running import recording
 from .short import Host, dated
 
 READ, WRITE = b"read fault\n", b"write fault\n"

@@ -6,21 +6,22 @@ import random
 import re
 import resource
 import subprocess
-import threading
 import time
 
-from serving.clients import PLAIN, Client, answer, asked, page, request
+from serving.clients import PLAIN, answer, asked, page, request
 from serving.hosts import free_port, listens, wait_until
 
 from .growths import DRAWN, SEED, SITE, WITHOUT
 
 FULL = answer("503 Service Unavailable", PLAIN, body=b"Out of memory\n")
-WORKERS, HUNDRED, ROUNDS = 4, 100, 10
-# A page with nearly 16 MiB of data and a body of 4 MiB.
+WORKERS, HUNDRED, ROUNDS = 4, 100, 6
+# A page with nearly 16 MiB of data and a body of 4 MiB, which it keeps for a while.
 EATS = (
-    f'{WITHOUT}<% s = String(1048568, "x") : t = s : u = s : v = String(1040000, "x") : For i = 1 To 4 : Response.Write s : '
-    "Next %>"
+    f'{WITHOUT}<% s = String(1048568, "x") : t = s : u = s : v = String(1040000, "x")\n'
+    "For i = 1 To 4 : Response.Write s : Next\nFor i = 1 To 50000 : Next %>"
 )
+# The C library gives back large pieces of memory at once, so that what a host takes is what its pages hold.
+GIVES_BACK = {"MALLOC_MMAP_THRESHOLD_": "131072", "MALLOC_ARENA_MAX": "1"}
 EATEN = page(b"x" * (4 * 1048568), close=True)
 SMALL = page(b"hi")
 
@@ -36,8 +37,6 @@ class Host:
 
     def __enter__(self):
         wait_until(lambda: listens(self.port) or not self.runs(), 60)
-        if not self.runs():
-            raise RuntimeError(f"there is no host: {self.process.returncode}, {self.process.communicate()}")
         return self
 
     def __exit__(self, *_):
@@ -123,54 +122,34 @@ def space_of(host):
         return int(line.read().split()[0]) * resource.getpagesize()
 
 
-def peak(host, count):
-    """Asks for the page so often at once. Returns how much address space the host took more than before, at most."""
+def ask_at_once(host, count=WORKERS):
+    """Asks for the page on some connections at once. Returns how many answers were right, how many told that memory ran out,
+    and how many neither; and how much address space the host took more than before, at most."""
     before, most = space_of(host), 0
     with concurrent.futures.ThreadPoolExecutor(count) as threads:
         asking = [threads.submit(asked, host.port, request("/eats.asp", "Connection: close")) for _ in range(count)]
         while not all(it.done() for it in asking):
             most = max(most, space_of(host))
-    return most - before
-
-
-def ask_at_once(host):
-    """Asks for the page on four connections at once, each of which is being served. Returns how many answers were right, how
-    many told that memory ran out, and how many neither."""
-    begun = threading.Barrier(WORKERS)
-
-    def ask(_):
-        with Client(host.port) as link:
-            link.send(request("/p.asp"))
-            small = dated(link.answer())
-            begun.wait()
-            link.send(request("/eats.asp", "Connection: close"))
-            return small, dated(link.rest())
-
-    with concurrent.futures.ThreadPoolExecutor(WORKERS) as threads:
-        came = list(threads.map(ask, range(WORKERS)))
-    right, full = came.count((SMALL, EATEN)), came.count((SMALL, SHUT))
-    return right, full, len(came) - right - full
+            time.sleep(0.001)
+    came = [dated(it.result()) for it in asking]
+    right, full = came.count(EATEN), came.count(SHUT)
+    return right, full, len(came) - right - full, most - before
 
 
 def eaters(program, tally):
     """Four workers are asked at once for pages of which two fit into the address space that is left, and four don't."""
     folder = program.folder({"/eats.asp": EATS, "/p.asp": f"{WITHOUT}hi"})
-    with Host(program, folder, 100000) as host:
-        one = peak(host, 1)
-    with Host(program, folder, 100000) as host:
-        # all threads are there once four connections were served at once
-        with concurrent.futures.ThreadPoolExecutor(WORKERS) as threads:
-            links = list(threads.map(lambda _: Client(host.port), range(WORKERS)))
-        for link in links:
-            link.send(request("/p.asp", "Connection: close"))
-        tally.holds("four workers", all(dated(link.rest()) == page(b"hi", close=True) for link in links))
-        room = space_of(host) + one * 9 // 4
+    with Host(program, folder, 100000, GIVES_BACK) as host:
+        # by then each thread is there
+        tally.holds("all fit", ask_at_once(host)[0] == WORKERS)
+        one = max(ask_at_once(host, 1)[3] for _ in range(WORKERS))
+        room = space_of(host) + one * 2
         resource.prlimit(host.process.pid, resource.RLIMIT_AS, (room, room))
         # how far the four are in step is the system's
         rounds = [ask_at_once(host)]
         while len(rounds) < ROUNDS and not all(map(sum, list(zip(*rounds))[:2])):
             rounds.append(ask_at_once(host))
-        right, full, neither = map(sum, zip(*rounds))
+        right, full, neither, _ = map(sum, zip(*rounds))
         tally.holds("each answer is right or tells that memory ran out", not neither, rounds)
         tally.holds("some are right, and some tell that memory ran out", right and full, rounds)
         after = dated(asked(host.port, request("/p.asp") * HUNDRED))
@@ -209,8 +188,8 @@ def together(program, tally):
         filled = [asked(host.port, request(path, "Connection: close")) for path in ["/all.asp", *["/put.asp"] * PUTS]]
         tally.holds("the application and the journal", all(text.endswith(b"\r\n\r\nx") for text in filled), filled[-1][-200:])
         with concurrent.futures.ThreadPoolExecutor(MOST_WORKERS) as threads:
-            came = list(threads.map(lambda _: asked(host.port, request("/eats.asp", "Connection: close")), range(MOST_WORKERS)))
-        right = [dated(text) for text in came].count(EATEN)
+            asking = [threads.submit(asked, host.port, request("/eats.asp", "Connection: close")) for _ in range(MOST_WORKERS)]
+        right = [dated(it.result()) for it in asking].count(EATEN)
         tally.holds("a page of each worker", right == MOST_WORKERS, right)
         most = peak_of(host)
         tally.holds("it took less than 4 GiB", most < MOST_MEMORY, most)
