@@ -12,8 +12,8 @@ from .rows import Accepted, Refused
 from .running import recording
 from .short import Host, dated
 
-# KiB of stack in which each deep page is to run.
-STACK = 2048
+# KiB of stack in which each deep page is to run: what a process and its threads have where nothing else is set.
+STACK = 8192
 # A page with one more may use this many times as much processor time as the one before it, and so many seconds besides.
 TIMES, BESIDE = 2, 0.5
 WORKERS = 4
@@ -29,7 +29,7 @@ def body_of(output):
 
 
 def run_row(program, tally, row):
-    """Tries a page: by `get`, and a deep one with little stack too, and by a replay for workers. Returns how much time of the
+    """Tries a page: by `get`, and a deep one with a set stack too, and by a replay for workers. Returns how much time of the
     processor `get` used."""
     folder = program.folder(row.files)
     wanted = row.wanted.encode()
@@ -63,8 +63,8 @@ def run_rows(program, tally, rows):
 
 
 @contextlib.contextmanager
-def little_stack():
-    """Has runs begin with little stack, for the main thread and for others."""
+def set_stack():
+    """Has runs begin with that stack, for the main thread and for others."""
     before = resource.getrlimit(resource.RLIMIT_STACK)
     resource.setrlimit(resource.RLIMIT_STACK, (STACK * 1024, before[1]))
     try:
@@ -83,7 +83,7 @@ def on_threads(program, tally, numbers):
             told = row.wanted.replace("/p.asp", path).encode()
             status = "500 Internal Server Error" if "/p.asp" in row.wanted else "200 OK"
             wanted.append((path, page(told, status=status)))
-    with little_stack(), Host(program, program.folder(pages), 100000, workers=WORKERS) as host:
+    with set_stack(), Host(program, program.folder(pages), 100000, workers=WORKERS) as host:
         links = [Client(host.port) for _ in range(WORKERS)]
         for path, right in wanted:
             for link in links:

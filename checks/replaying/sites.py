@@ -21,6 +21,8 @@ def number(value):
 
 def text(value):
     """Returns a value as a page writes it."""
+    if value == "e":
+        return ""
     return bytes.fromhex(value[1:]).decode() if value[:1] == "s" else str(number(value))
 
 
