@@ -6,16 +6,12 @@ import subprocess
 
 from .lines import NUMBER, read_records
 from .recordings import WITHOUT, request, written
-from .runs import LONGEST
+from .runs import LANES, LONGEST
 from .sites import COUNTS
 
 # What is said of a journal that is full.
 FULL = re.compile(rf"journal full: {NUMBER} entries, {NUMBER} bytes\n")
 MOST_ENTRIES, MOST_BYTES = 1_000_000, 268_435_456
-
-
-def too_much(entries, size):
-    return entries > MOST_ENTRIES or size > MOST_BYTES
 
 
 def on_full_device(check):
@@ -48,39 +44,34 @@ def on_closed_pipe(check):
         check.holds(f"{begun!r}", re.match(rb"answer \d+ \d+\nHTTP/1.1 200 OK\r\n", begun))
 
 
+# A page of which nine store more than a journal holds, and one that is in work beside them.
 FILLS = {
     "/p.asp": f"{WITHOUT}A<%= 1+2 %>B",
-    "/heavy.asp": f'{WITHOUT}<% s = String(1000000, "x") : Do : Application("s") = s : Loop %>',
-    "/calls.asp": f'{WITHOUT}<% For i = 1 To 480000 : x = Application("n") : Next %>done',
+    "/fill.asp": f'{WITHOUT}<% s = String(1000000, "x") : For i = 1 To 8 : Application("s") = s : Next %>stored',
     "/loop.asp": f"{WITHOUT}<% For i = 1 To 999990 : Next %>looped",
 }
 
 
-# What fills a journal, with the pages beside it, and on how many lanes that is tried.
-FILLING = {
-    "weight": (["/heavy.asp", "/loop.asp", "/p.asp", "/p.asp"], (2, 4)),
-    "entries": (["/calls.asp", "/calls.asp", "/calls.asp", "/loop.asp", "/p.asp"], (4,)),
-}
+def too_much(entries, size):
+    return entries > MOST_ENTRIES or size > MOST_BYTES
 
 
 def full_journal(check):
-    """A page fills the journal while another is in work: the replay ends with the numbers that the journal would have come to,
+    """Pages fill the journal while another is in work: the replay ends with the numbers that the journal would have come to,
     and what is written are records of answers, that of the moment before first."""
-    site = check.site(FILLS)
-    for kind, (paths, counts) in FILLING.items():
-        recording = written([request("/p.asp"), *[request(path, 0, 1) for path in paths]])
-        for lanes in counts:
-            end = check.ran("replay", site, "--journal", "--workers", str(lanes), recording=recording)
-            what = f"{kind}, {lanes} lanes"
-            found = FULL.fullmatch(end.said)
-            check.same(f"{what}: the status", end.status, 7)
-            check.holds(f"{what}: {end.said}", found and too_much(*map(int, found.groups())))
-            answers, rest = read_records(end.output)
-            numbers = [it.run for it in answers]
-            bodies = {it.body for it in answers}
-            check.same(f"{what}: what is behind the answers", rest, b"")
-            check.holds(f"{what}: {numbers}", numbers[:1] == [2] and len(set(numbers)) == len(numbers))
-            check.holds(f"{what}: {bodies}", bodies <= {b"A3B", b"looped", b"done"})
+    paths = ["/loop.asp", *["/fill.asp"] * 12, *["/p.asp"] * 20]
+    site, recording = check.site(FILLS), written([request("/p.asp"), *[request(path, 0, 1) for path in paths]])
+    for lanes in LANES:
+        end = check.ran("replay", site, "--journal", "--workers", str(lanes), recording=recording)
+        found = FULL.fullmatch(end.said)
+        check.same(f"{lanes} lanes: the status", end.status, 7)
+        check.holds(f"{lanes} lanes: {end.said}", found and too_much(*map(int, found.groups())))
+        answers, rest = read_records(end.output)
+        numbers = [it.run for it in answers]
+        bodies = [it.body for it in answers]
+        check.same(f"{lanes} lanes: what is behind the answers", rest, b"")
+        check.holds(f"{lanes} lanes: {numbers}", numbers[:1] == [2] and len(set(numbers)) == len(numbers))
+        check.holds(f"{lanes} lanes: {bodies}", {*bodies} <= {b"A3B", b"looped", b"stored"} and bodies.count(b"stored") <= 8)
 
 
 CHECKS = {
