@@ -58,7 +58,8 @@ def too_much(entries, size):
 
 def full_journal(check):
     """Pages fill the journal while another is in work: the replay ends with the numbers that the journal would have come to,
-    and what is written are records of answers, that of the moment before first."""
+    and what is written are records of answers, that of the moment before first. A page that the full journal ended may have its
+    answer written too, where lane 0 hands it out before it knows that another lane's entry didn't fit."""
     paths = ["/loop.asp", *["/fill.asp"] * 12, *["/p.asp"] * 20]
     site, recording = check.site(FILLS), written([request("/p.asp"), *[request(path, 0, 1) for path in paths]])
     for lanes in LANES:
@@ -71,7 +72,8 @@ def full_journal(check):
         bodies = [it.body for it in answers]
         check.same(f"{lanes} lanes: what is behind the answers", rest, b"")
         check.holds(f"{lanes} lanes: {numbers}", numbers[:1] == [2] and len(set(numbers)) == len(numbers))
-        check.holds(f"{lanes} lanes: {bodies}", {*bodies} <= {b"A3B", b"looped", b"stored"} and bodies.count(b"stored") <= 8)
+        ended = {b"A3B", b"looped", b"stored", b"Journal full\n"}
+        check.holds(f"{lanes} lanes: {bodies}", {*bodies} <= ended and bodies.count(b"stored") <= 8)
 
 
 CHECKS = {
