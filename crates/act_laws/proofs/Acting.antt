@@ -1,5 +1,5 @@
 -- An act, in two environments side by side.
-use Rattle.std.proofs.Common.{List, [], Option, Some, None, slice_get}
+use Rattle.std.proofs.Common.{ℕ, List, [], Option, Some, None, slice_get}
 use Rattle.vb_value.specs.declared.application.AppCall.{AppCall}
 use Rattle.vb_value.specs.declared.application.AppReply.{AppReply}
 use Rattle.vb_value.specs.declared.value.Value.{Value}
@@ -15,7 +15,7 @@ use Rattle.vb_syntax.specs.declared.program.unit.Procedure.{Procedure}
 use Rattle.vb_meaning.specs.declared.plain_end.PlainEnd.{PlainEnd}
 use Rattle.vb_meaning.specs.declared.plain_end.PlainEnd.TheVariants.{Wants, Ends as Ended}
 use Rattle.vb_meaning.specs.declared.stop.Stop.TheVariants as stop
-use Rattle.vb_meaning.specs.declared.world.World.{World}
+use Rattle.vb_meaning.specs.World.{World}
 use Rattle.vb_meaning.specs.Acts as acts
 use Rattle.vb_meaning.specs.Asking.{ask}
 use Rattle.vb_meaning.specs.Errors.{raised_by}
@@ -27,7 +27,7 @@ use Rattle.act_laws.proofs.Calling.{block_fits}
 use Rattle.act_laws.proofs.Inside.{Inners, one, two, Same}
 use Rattle.act_laws.proofs.Joined.{Link, Alike, Joined, Past, gives, ends, gone, then_joined}
 use Rattle.act_laws.proofs.Linked.{Fits, turned, then_fits, value_fits}
-use Rattle.act_laws.specs.Ticks.{state_of}
+use Rattle.vb_meaning.specs.Step.{state_of}
 use Rattle.act_laws.proofs.Keeping.{ask_keeps}
 use Rattle.act_laws.proofs.Spending.{ask_spends}
 use Rattle.act_laws.proofs.Linked.{fails_fit, world_fits}
@@ -38,7 +38,7 @@ use Rattle.act_laws.proofs.WantlessScopes.{page_begins_wantless}
 
 -- what an act says of itself that ended so in this world
 abbrev done_of : ActEnd → World → ActDone
-done_of how world = record { end = how; made = world.heap.objects_made; finished = world.finished }
+done_of how world = record { end = how; made = world.store.objects_made; finished = world.finished }
 
 -- how an act ends in the one, and how in the other
 pub data ActsAlike (l : Link) : Option PlainEnd × l.E → Option PlainEnd × l.F → Type 0 where
@@ -67,17 +67,17 @@ module _ (l : Link) (i : Inners l) where
   closed_alike : (how : ActEnd) (first : Step (State l.E) (Unit {0})) (second : Step (State l.F) (Unit {0}))
       → Alike l first second
       → ActsAlike l (acts.closed l.E (one i) how first) (acts.closed l.F (two i) how second)
-  closed_alike how _ _ (gives done world env replies other_env others now) =
+  closed_alike how _ _ (gives done world ticks env replies other_env others now) =
       both_end (done_of how world) env replies other_env others now
-  closed_alike how _ _ (ends (stop.Limit kind line) world env replies other_env others now) =
+  closed_alike how _ _ (ends (stop.Limit kind line) world ticks env replies other_env others now) =
       both_end (done_of (end.Limit kind (acts.line_or_none line)) world) env replies other_env others now
-  closed_alike how _ _ (ends (stop.Error what line) world env replies other_env others now) =
+  closed_alike how _ _ (ends (stop.Error what line) world ticks env replies other_env others now) =
       both_end (done_of (acts.error_end (raised_by what) (acts.line_or_none line)) world) env replies other_env others now
-  closed_alike how _ _ (ends stop.Page world env replies other_env others now) =
+  closed_alike how _ _ (ends stop.Page world ticks env replies other_env others now) =
       both_end (done_of end.Stopped world) env replies other_env others now
-  closed_alike how _ _ (ends (stop.Wants call) world env replies other_env others want) =
+  closed_alike how _ _ (ends (stop.Wants call) world ticks env replies other_env others want) =
       both_want call env replies other_env others want
-  closed_alike how _ _ (ends stop.Memory world env replies other_env others now) =
+  closed_alike how _ _ (ends stop.Memory world ticks env replies other_env others now) =
       both_lack env replies other_env others now
   closed_alike how _ second (gone call s _ past) = one_wants call s.env (acts.closed l.F (two i) how second)
       (state_of second).replies (closed_past how call second past)
@@ -86,12 +86,13 @@ module _ (l : Link) (i : Inners l) where
       (settle_last l.F (two i) >> end_all l.F (two i))
   ending_joined = then_joined (settle_last_joined l i) (λ done. end_all_joined l i)
 
-  page_alike : (how : ActEnd) (world : World) (env : l.E) (replies : List AppReply) (other_env : l.F)
+  page_alike : (how : ActEnd) (world : World) (ticks : ℕ) (env : l.E) (replies : List AppReply) (other_env : l.F)
       (others : List AppReply) → l.now env replies other_env others
-      → ActsAlike l (acts.page_ends l.E (one i) how (record { world = world; env = env; replies = replies }))
-      (acts.page_ends l.F (two i) how (record { world = world; env = other_env; replies = others }))
-  page_alike how world env replies other_env others now =
-      closed_alike how _ _ (ending_joined.alike (acts.page_left world) env replies other_env others now)
+      → ActsAlike l
+      (acts.page_ends l.E (one i) how (record { world = world; ticks = ticks; env = env; replies = replies }))
+      (acts.page_ends l.F (two i) how (record { world = world; ticks = ticks; env = other_env; replies = others }))
+  page_alike how world ticks env replies other_env others now =
+      closed_alike how _ _ (ending_joined.alike (acts.page_left world) ticks env replies other_env others now)
 
   -- ---- the act
 
@@ -101,7 +102,7 @@ module _ (l : Link) (i : Inners l) where
       let after = (settle_last l.F (two i) >> end_all l.F (two i)) (record s { world = acts.page_left s.world }) in (
         (state_of after).replies,
         closed_past how call after
-            (ending_joined.goes_on call (acts.page_left s.world) s.env s.replies past),
+            (ending_joined.goes_on call (acts.page_left s.world) s.ticks s.env s.replies past),
       )
 
   act_past : (call : AppCall) (second : Step (State l.F) (Unit {0})) → Past l call second
@@ -116,17 +117,17 @@ module _ (l : Link) (i : Inners l) where
 
   ends_alike : (first : Step (State l.E) (Unit {0})) (second : Step (State l.F) (Unit {0})) → Alike l first second
       → ActsAlike l (acts.ends_act l.E (one i) first) (acts.ends_act l.F (two i) second)
-  ends_alike _ _ (gives done world env replies other_env others now) =
-      page_alike end.Done world env replies other_env others now
-  ends_alike _ _ (ends stop.Page world env replies other_env others now) =
-      page_alike end.Stopped world env replies other_env others now
-  ends_alike _ _ (ends (stop.Error what line) world env replies other_env others now) =
-      page_alike (acts.error_end (raised_by what) (acts.line_or_none line)) world env replies other_env others now
-  ends_alike _ _ (ends (stop.Limit kind line) world env replies other_env others now) =
+  ends_alike _ _ (gives done world ticks env replies other_env others now) =
+      page_alike end.Done world ticks env replies other_env others now
+  ends_alike _ _ (ends stop.Page world ticks env replies other_env others now) =
+      page_alike end.Stopped world ticks env replies other_env others now
+  ends_alike _ _ (ends (stop.Error what line) world ticks env replies other_env others now) =
+      page_alike (acts.error_end (raised_by what) (acts.line_or_none line)) world ticks env replies other_env others now
+  ends_alike _ _ (ends (stop.Limit kind line) world ticks env replies other_env others now) =
       both_end (done_of (end.Limit kind (acts.line_or_none line)) world) env replies other_env others now
-  ends_alike _ _ (ends (stop.Wants call) world env replies other_env others want) =
+  ends_alike _ _ (ends (stop.Wants call) world ticks env replies other_env others want) =
       both_want call env replies other_env others want
-  ends_alike _ _ (ends stop.Memory world env replies other_env others now) =
+  ends_alike _ _ (ends stop.Memory world ticks env replies other_env others now) =
       both_lack env replies other_env others now
   ends_alike _ second (gone call s _ past) =
       let after = act_past call second past in
@@ -145,12 +146,13 @@ module _ (l : Link) (i : Inners l) where
   pub runs_fits : (which : Act) → Same l i (λ E m. on_world (acts.page_begins m.program.unit) >> acts.part E m which)
   runs_fits which = then_fits (world_fits l (page_begins_wantless i.program.unit)) (λ done. part_fits which)
 
-  pub act_alike : (which : Act) (world : World) (env : l.E) (replies : List AppReply) (other_env : l.F)
+  pub act_alike : (which : Act) (world : World) (ticks : ℕ) (env : l.E) (replies : List AppReply) (other_env : l.F)
       (others : List AppReply) → l.now env replies other_env others
-      → ActsAlike l (acts.act_in l.E (one i) which (record { world = world; env = env; replies = replies }))
-      (acts.act_in l.F (two i) which (record { world = world; env = other_env; replies = others }))
-  act_alike which world env replies other_env others now =
-      ends_alike _ _ ((runs_fits which).joined.alike world env replies other_env others now)
+      → ActsAlike l
+      (acts.act_in l.E (one i) which (record { world = world; ticks = ticks; env = env; replies = replies }))
+      (acts.act_in l.F (two i) which (record { world = world; ticks = ticks; env = other_env; replies = others }))
+  act_alike which world ticks env replies other_env others now =
+      ends_alike _ _ ((runs_fits which).joined.alike world ticks env replies other_env others now)
 
 -- a question in the one and in the other
 pub asks_fit : (l : Link) → (l.tells → ⊥) → ((member : Member) (arguments : List Value)
@@ -175,4 +177,4 @@ unfolding acts.act_of
 acts_alike l silent asks program which env replies other_env others now =
     act_alike l (inners l silent (asks_fit l silent asks) program most_levels
     (each_level l silent (asks_fit l silent asks) program most_levels)) which acts.fresh_world
-    env replies other_env others now
+    acts.most_ticks env replies other_env others now

@@ -1,5 +1,5 @@
 -- An environment beside itself: what each question keeps true of it, an act keeps.
-use Rattle.std.proofs.Common.{◌≡◌, Bool, IsTrue, List, [], ◌∷◌, Option, Ok, Err, refl, sym, subst}
+use Rattle.std.proofs.Common.{ℕ, ◌≡◌, Bool, IsTrue, List, [], ◌∷◌, Option, Ok, Err, refl, sym, subst}
 use Rattle.vb_value.specs.declared.application.AppReply.{AppReply}
 use Rattle.vb_value.specs.declared.value.Value.{Value}
 use Rattle.vb_syntax.specs.declared.act.Act.{Act}
@@ -9,7 +9,7 @@ use Rattle.vb_syntax.specs.declared.program.Program.{Program}
 use Rattle.vb_heap.specs.DictionaryCalls.{array_of}
 use Rattle.vb_meaning.specs.declared.plain_end.PlainEnd.{PlainEnd}
 use Rattle.vb_meaning.specs.declared.stop.Stop.TheVariants as stop
-use Rattle.vb_meaning.specs.declared.world.World.{World}
+use Rattle.vb_meaning.specs.World.{World}
 use Rattle.vb_meaning.specs.Acts.{act_of}
 use Rattle.vb_meaning.specs.Asking.{Host, Said, ask, heard, name_values}
 use Rattle.act_laws.specs.Calls.{LeavesOnly}
@@ -42,36 +42,37 @@ module _ (E : Type 0) (host : Host E) (Holds : E → Type 0)
     telling = λ none. absurd none;
   }
 
-  heard_alike : (member : Member) (arguments : List Value) (world : World) (replies : List AppReply) (said : Said E)
-      → Leaves Holds said → Alike beside_itself (heard host member arguments world replies said)
-      (heard host member arguments world replies said)
-  heard_alike member arguments world replies (Ok (given.Value value, env)) holds =
-      gives value world env replies env replies (refl, refl, holds)
-  heard_alike member arguments world replies (Ok (given.Names names, env)) holds =
-      gives (array_of (name_values names)) world env replies env replies (refl, refl, holds)
-  heard_alike member arguments world [] (Ok (given.Call call, env)) holds =
-      ends (stop.Wants call) world env [] env [] holds
-  heard_alike member arguments world (reply ∷ replies) (Ok (given.Call call, env)) holds =
-      heard_alike member arguments world replies (host.answered member arguments reply env)
+  heard_alike : (member : Member) (arguments : List Value) (world : World) (ticks : ℕ) (replies : List AppReply)
+      (said : Said E)
+      → Leaves Holds said → Alike beside_itself (heard host member arguments world ticks replies said)
+      (heard host member arguments world ticks replies said)
+  heard_alike member arguments world ticks replies (Ok (given.Value value, env)) holds =
+      gives value world ticks env replies env replies (refl, refl, holds)
+  heard_alike member arguments world ticks replies (Ok (given.Names names, env)) holds =
+      gives (array_of (name_values names)) world ticks env replies env replies (refl, refl, holds)
+  heard_alike member arguments world ticks [] (Ok (given.Call call, env)) holds =
+      ends (stop.Wants call) world ticks env [] env [] holds
+  heard_alike member arguments world ticks (reply ∷ replies) (Ok (given.Call call, env)) holds =
+      heard_alike member arguments world ticks replies (host.answered member arguments reply env)
       (answered member arguments reply env holds)
-  heard_alike member arguments world replies (Err (reason, env)) holds =
-      ends_for beside_itself reason world env replies env replies (refl, refl, holds) (λ is. holds)
+  heard_alike member arguments world ticks replies (Err (reason, env)) holds =
+      ends_for beside_itself reason world ticks env replies env replies (refl, refl, holds) (λ is. holds)
 
   asks_alike : (member : Member) (arguments : List Value)
       → Joined beside_itself (ask host member arguments) (ask host member arguments)
   unfolding ask
   asks_alike member arguments = record {
-    alike = λ world env replies other others now.
+    alike = λ world ticks env replies other others now.
         let holds : Holds other = subst (λ found. Holds found) (sym now.0) now.2 in
         subst (λ found. Alike beside_itself
-        (heard host member arguments world replies (host.asked member arguments found))
-        (heard host member arguments world others (host.asked member arguments other)))
+        (heard host member arguments world ticks replies (host.asked member arguments found))
+        (heard host member arguments world ticks others (host.asked member arguments other)))
         now.0 (subst (λ left. Alike beside_itself
-        (heard host member arguments world replies (host.asked member arguments other))
-        (heard host member arguments world left (host.asked member arguments other)))
-        (sym now.1) (heard_alike member arguments world replies (host.asked member arguments other)
+        (heard host member arguments world ticks replies (host.asked member arguments other))
+        (heard host member arguments world ticks left (host.asked member arguments other)))
+        (sym now.1) (heard_alike member arguments world ticks replies (host.asked member arguments other)
         (asked member arguments other holds)));
-    goes_on = λ call world other others past. absurd past;
+    goes_on = λ call world ticks other others past. absurd past;
   }
 
   holds_after : (first : Option PlainEnd × E) (second : Option PlainEnd × E) → ActsAlike beside_itself first second

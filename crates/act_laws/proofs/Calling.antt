@@ -9,14 +9,15 @@ use Rattle.vb_meaning.specs.declared.reached.Argument.{Argument}
 use Rattle.vb_meaning.specs.declared.stop.Stop.TheVariants as stop
 use Rattle.vb_meaning.specs.declared.world.Exit.{Exit}
 use Rattle.vb_meaning.specs.declared.world.Exit.TheVariants.{Next, Leave}
-use Rattle.vb_meaning.specs.declared.world.World.{World}
+use Rattle.vb_meaning.specs.World.{World}
 use Rattle.vb_meaning.specs.Blocks as blocks
 use Rattle.vb_meaning.specs.Calling as calling
 use Rattle.vb_meaning.specs.Errors.{tick, too_deep}
 use Rattle.vb_meaning.specs.Inner.{Owner}
+use Rattle.vb_meaning.specs.Places.{holding, letting_go}
 use Rattle.vb_meaning.specs.Releases.{in_world, settle}
 use Rattle.vb_meaning.specs.State.{State, Does, on_world}
-use Rattle.vb_meaning.specs.Step.{Step, Returns, Ends, ◌>>◌, ends as step_ends}
+use Rattle.vb_meaning.specs.Step.{Step, Returns, Ends, ◌>>=◌, ◌>>◌, pure, ends as step_ends}
 use Rattle.act_laws.proofs.Inside.{Inners, one, two, Same, seen_fits}
 use Rattle.act_laws.specs.Objects.{Account, Kept, Settled, account_at, account_of}
 use Rattle.act_laws.proofs.Joined.{Link, Alike, JoinedTurn, Past, gives, ends, gone}
@@ -24,11 +25,11 @@ use Rattle.act_laws.proofs.Keeping.{kept_from, kept_moved, told, told_of}
 use Rattle.act_laws.proofs.Linked.{Fits, Turns, turned, then_fits, letting_fits, next_turns, value_fits}
 use Rattle.act_laws.proofs.Telling.{TellsOn, changed_told}
 use Rattle.act_laws.proofs.Marks.{dropped_still}
-use Rattle.act_laws.proofs.Linked.{fails_fit, error_fits, moved_fits, world_fits, choice_fits, either_fits}
+use Rattle.act_laws.proofs.Linked.{fails_fit, error_fits, moved_fits, tick_fits, world_fits, choice_fits, either_fits}
 use Rattle.act_laws.proofs.Releasing.{settle_fits}
 use Rattle.act_laws.proofs.Spending.{SpendsOn, no_less, ticks_at}
-use Rattle.act_laws.proofs.Wantless.{seeing_wantless, tick_wantless, deep_wantless}
-use Rattle.act_laws.proofs.WantlessPlaces.{hold_wantless}
+use Rattle.act_laws.proofs.Wantless.{seeing_wantless, deep_wantless, then_wantless}
+use Rattle.act_laws.proofs.WantlessPlaces.{holding_wantless}
 use Rattle.act_laws.proofs.WantlessScopes.{begins_wantless, result_wantless}
 
 module _ (l : Link) (i : Inners l) where
@@ -44,50 +45,47 @@ module _ (l : Link) (i : Inners l) where
   -- ---- how a procedure is left
 
   left_still : (caller world : World) → told (calling.left caller world) ≡ told world
-  left_still caller world = ap (λ seen. told_of seen.0 world.ticks seen.1)
-      (dropped_still (world.frame.own ++ calling.cell_of world.frame.result) world.heap world.finished)
+  left_still caller world = ap (λ seen. told_of seen.0 seen.1)
+      (dropped_still (world.frame.own ++ calling.cell_of world.frame.result) world.store world.finished)
 
   left_same : (caller world : World) → account_of (calling.left caller world) ≡ account_of world
   left_same caller world = ap (λ found. found.0) (left_still caller world)
 
-  returned_fits : (caller : World) → Same l i (λ E m. calling.returned E m caller)
-  returned_fits caller = letting_fits (then_fits
-      (world_fits l (seeing_wantless (λ world. calling.result_value world.frame.result)
-      (λ world. result_wantless world.frame.result))) (λ value.
-      then_fits (then_fits (then_fits (world_fits l (hold_wantless value))
-      (λ done. moved_fits (calling.left caller) (left_still caller) (value_fits l tt)))
-      (λ done. settle_fits l i)) (λ done. value_fits l value)))
+  -- objects end, and then the value is given
+  settled_fits : (value : Value) → Same l i (λ E m. settle E m >> pure value)
+  settled_fits value = then_fits (settle_fits l i) (λ done. value_fits l value)
 
   abandoned_joined : (caller : World)
       → JoinedTurn l (calling.abandoned l.E (one i) caller) (calling.abandoned l.F (two i) caller)
   abandoned_joined caller = record { alike = alike; goes_on = goes_on }
     where
-      goes_on : (call : AppCall) (second : Step (State l.F) Exit) → Past l call second
+      goes_on : (call : AppCall) (second : Step (State l.F) Value) → Past l call second
           → Past l call (calling.abandoned l.F (two i) caller second)
-      goes_on call (Returns exit s) past = (returned_fits caller).joined.goes_on call s.world s.env s.replies past
+      goes_on call (Returns value s) past =
+          (settled_fits value).joined.goes_on call (calling.left caller s.world) s.ticks s.env s.replies past
       goes_on call (Ends (stop.Error what line) s) past =
           (then_fits (settle_fits l i) (λ done. error_fits {A = Value} l what line)).joined.goes_on
-          call (calling.left caller s.world) s.env s.replies past
+          call (calling.left caller s.world) s.ticks s.env s.replies past
       goes_on call (Ends (stop.Limit kind line) s) past = past
       goes_on call (Ends stop.Page s) past = past
       goes_on call (Ends (stop.Wants other) s) past = past
       goes_on call (Ends stop.Memory s) past = past
 
-      alike : (first : Step (State l.E) Exit) (second : Step (State l.F) Exit) → Alike l first second
+      alike : (first : Step (State l.E) Value) (second : Step (State l.F) Value) → Alike l first second
           → Alike l (calling.abandoned l.E (one i) caller first) (calling.abandoned l.F (two i) caller second)
-      alike _ _ (gives exit world env replies other_env others now) =
-          (returned_fits caller).joined.alike world env replies other_env others now
-      alike _ _ (ends (stop.Error what line) world env replies other_env others now) =
+      alike _ _ (gives value world ticks env replies other_env others now) =
+          (settled_fits value).joined.alike (calling.left caller world) ticks env replies other_env others now
+      alike _ _ (ends (stop.Error what line) world ticks env replies other_env others now) =
           (then_fits (settle_fits l i) (λ done. error_fits {A = Value} l what line)).joined.alike
-          (calling.left caller world) env replies other_env others now
-      alike _ _ (ends (stop.Limit kind line) world env replies other_env others now) =
-          ends (stop.Limit kind line) world env replies other_env others now
-      alike _ _ (ends (stop.Wants call) world env replies other_env others want) =
-          ends (stop.Wants call) world env replies other_env others want
-      alike _ _ (ends stop.Page world env replies other_env others now) =
-          ends stop.Page (calling.left caller world) env replies other_env others now
-      alike _ _ (ends stop.Memory world env replies other_env others now) =
-          ends stop.Memory world env replies other_env others now
+          (calling.left caller world) ticks env replies other_env others now
+      alike _ _ (ends (stop.Limit kind line) world ticks env replies other_env others now) =
+          ends (stop.Limit kind line) world ticks env replies other_env others now
+      alike _ _ (ends (stop.Wants call) world ticks env replies other_env others want) =
+          ends (stop.Wants call) world ticks env replies other_env others want
+      alike _ _ (ends stop.Page world ticks env replies other_env others now) =
+          ends stop.Page (calling.left caller world) ticks env replies other_env others now
+      alike _ _ (ends stop.Memory world ticks env replies other_env others now) =
+          ends stop.Memory world ticks env replies other_env others now
       alike _ second (gone call s _ past) =
           gone call s (calling.abandoned l.F (two i) caller second) (goes_on call second past)
 
@@ -96,10 +94,14 @@ module _ (l : Link) (i : Inners l) where
   abandoned_turns caller =
       record { joined = abandoned_joined caller; keeps = keeps; spends = spends; tells = tells }
     where
-      keeps : (before : Account) (step : Step (State l.F) Exit) → Kept account_at before step
+      keeps : (before : Account) (step : Step (State l.F) Value) → Kept account_at before step
           → Kept account_at before (calling.abandoned l.F (two i) caller step)
-      keeps before (Returns exit s) kept = kept_from account_at kept (calling.returned l.F (two i) caller s)
-          ((returned_fits caller).keeps s kept.onward.adds_up)
+      keeps before (Returns value s) kept =
+          let t = in_world l.F (calling.left caller s.world) s in
+          let after = (settled_fits value).keeps t in
+          kept_from account_at kept ((settle l.F (two i) >> pure value) t)
+          (kept_moved account_at (account_at s) (account_at t) (left_same caller s.world)
+          ((settle l.F (two i) >> pure value) t) after kept.onward.adds_up)
       keeps before (Ends (stop.Error what line) s) kept =
           let t = in_world l.F (calling.left caller s.world) s in
           let after = (then_fits (settle_fits l i) (λ done. error_fits {A = Value} l what line)).keeps t in
@@ -113,7 +115,7 @@ module _ (l : Link) (i : Inners l) where
       keeps before (Ends stop.Memory s) kept = kept
 
       spends : SpendsOn ticks_at (calling.abandoned l.F (two i) caller)
-      spends (Returns exit s) = (returned_fits caller).spends s
+      spends (Returns value s) = (settled_fits value).spends (in_world l.F (calling.left caller s.world) s)
       spends (Ends (stop.Error what line) s) =
           (then_fits (settle_fits l i) (λ done. error_fits {A = Value} l what line)).spends
           (in_world l.F (calling.left caller s.world) s)
@@ -123,8 +125,9 @@ module _ (l : Link) (i : Inners l) where
       spends (Ends stop.Memory s) = no_less (ticks_at s)
 
       tells : (noting : l.tells) → TellsOn (l.telling noting) (calling.abandoned l.F (two i) caller)
-      tells noting s (Returns exit after) right kept before =
-          (next_turns {A = Exit} (λ exit. returned_fits caller)).tells noting s (Returns exit after) right kept before
+      tells noting s (Returns value after) right kept before =
+          (next_turns {A = Value} (λ given. moved_fits (calling.left caller) (left_still caller)
+          (settled_fits given))).tells noting s (Returns value after) right kept before
       tells noting s (Ends (stop.Error what line) after) right kept before =
           (next_turns {A = Exit} (λ exit. moved_fits (calling.left caller) (left_still caller)
           (then_fits (settle_fits l i) (λ done. error_fits {A = Value} l what line)))).tells noting s
@@ -140,12 +143,13 @@ module _ (l : Link) (i : Inners l) where
   runs_fits : (procedure : Procedure) (arguments : List Argument)
       → Same l i (λ E m. calling.runs E m procedure arguments)
   runs_fits procedure arguments =
-      then_fits (world_fits l (begins_wantless procedure arguments)) (λ done. block_fits procedure.body)
+      then_fits (then_fits (world_fits l (begins_wantless procedure arguments)) (λ done. block_fits procedure.body))
+      (λ exit. world_fits l (seeing_wantless (λ world. calling.result_value world.frame.result >>= holding)
+      (λ world. then_wantless (result_wantless world.frame.result) holding_wantless)))
 
-  inside_fits : (owner : Owner) (procedure : Procedure) (arguments : List Argument)
-      → Same l i (λ E m s. calling.abandoned E m s.world
-      (calling.runs E m procedure arguments (in_world E (calling.entered owner s.world) s)))
-  inside_fits owner procedure arguments = seen_fits l i
+  called_fits : (owner : Owner) (procedure : Procedure) (arguments : List Argument)
+      → Same l i (λ E m. calling.called E m owner procedure arguments)
+  called_fits owner procedure arguments = seen_fits l i
       (λ E m world s. calling.abandoned E m world
       (calling.runs E m procedure arguments (in_world E (calling.entered owner s.world) s)))
       (λ world. turned (abandoned_turns world) (moved_fits (calling.entered owner) (λ world. refl)
@@ -155,11 +159,9 @@ module _ (l : Link) (i : Inners l) where
       → Same l i (λ E m. calling.opened E m owner procedure arguments)
   opened_fits owner procedure arguments = seen_fits l i
       (λ E m world s. if nat_lt world.calls calling.most_calls
-      then (on_world tick >> (λ t. calling.abandoned E m t.world
-      (calling.runs E m procedure arguments (in_world E (calling.entered owner t.world) t)))) s
-      else on_world too_deep s)
+      then (tick >> letting_go (calling.called E m owner procedure arguments)) s else on_world too_deep s)
       (λ world. either_fits (nat_lt world.calls calling.most_calls)
-      (then_fits (world_fits l tick_wantless) (λ done. inside_fits owner procedure arguments))
+      (then_fits (tick_fits l) (λ done. letting_fits (called_fits owner procedure arguments)))
       (world_fits l deep_wantless))
 
   pub enter_of_fits : (owner : Owner) (procedure : Procedure) (arguments : List Argument)

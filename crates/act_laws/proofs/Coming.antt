@@ -2,7 +2,7 @@
 use Rattle.std.proofs.Common.{ℕ, ◌+◌, ◌≡◌, ◌<◌, Bool, true, false, Some, None, sym, subst, arith}
 use Rattle.vb_value.specs.declared.value.Value.{Value}
 use Rattle.vb_meaning.specs.declared.stop.Stop.TheVariants as stop
-use Rattle.vb_meaning.specs.declared.world.World.{World}
+use Rattle.vb_meaning.specs.World.{World}
 use Rattle.vb_meaning.specs.Errors.{in_line}
 use Rattle.vb_meaning.specs.Releases.{ended, in_world, stopped, terminated}
 use Rattle.vb_meaning.specs.State.{State, Does}
@@ -22,7 +22,7 @@ ended_ran : (object : ℕ) (before : World) (a : Account) (world : World) → Is
 ended_ran object before a world ends kept = record {
   last = account_of world;
   settled = kept;
-  is = ended_gone world.heap object world.finished (world.finished + 1) (kept.stays object ends);
+  is = ended_gone world.store object world.finished (world.finished + 1) (kept.stays object ends);
 }
 
 -- an object has ended, and more have ended than before

@@ -7,15 +7,15 @@ use Rattle.vb_syntax.specs.declared.program.unit.Procedure.{Procedure}
 use Rattle.vb_heap.specs.Limits.{most_objects}
 use Rattle.vb_heap.specs.declared.object.Object.{Object}
 use Rattle.vb_heap.specs.Releases.{is_loose, oldest, oldest_live, oldest_loose, with_ending}
-use Rattle.vb_heap.specs.Store.{numbered}
 use Rattle.vb_meaning.specs.declared.reached.Argument.{Argument}
-use Rattle.vb_meaning.specs.declared.world.World.{World}
+use Rattle.vb_meaning.specs.World.{World}
 use Rattle.vb_meaning.specs.Errors.{in_line}
 use Rattle.vb_meaning.specs.Inner.{Inner, Owner}
 use Rattle.vb_meaning.specs.Objects.{class_at}
 use Rattle.vb_meaning.specs.Releases as releases
-use Rattle.vb_meaning.specs.State.{State, Does, with_heap}
+use Rattle.vb_meaning.specs.State.{State, Does, with_store}
 use Rattle.vb_meaning.specs.Step.{◌>>◌}
+use Rattle.vb_meaning.specs.Stored.{class_number}
 use Rattle.act_laws.specs.Objects.{AddsUp, IsEnding, IsLive, Settled, account_at, account_of, marks}
 use Rattle.act_laws.proofs.Accounts.{mark_onward, marked, settled_still, with_mark}
 use Rattle.act_laws.proofs.Coming.{Comes, One, Outcome, comes_kept, comes_then, one_closes, one_comes, one_out}
@@ -29,7 +29,7 @@ IsEmptied s = ((number : ℕ) → IsEnding number (account_at s) → ⊥) → (a
 
 -- no live object is without references
 abbrev pub HasNoneLoose : {E : Type 0} → State E → Type 0
-HasNoneLoose s = oldest_loose s.world.heap ≡ None
+HasNoneLoose s = oldest_loose s.world.store ≡ None
 
 no_length : {T : Type 0} (things : List T) → length things ≡ 0 → things ≡ []
 no_length [] is = refl
@@ -43,7 +43,7 @@ no_oldest test (first ∷ others) is = absurd (omega (arith, is))
 -- where as many objects have ended as may be made, none is there
 pub none_loose : {E : Type 0} (s : State E) → AddsUp (account_at s) → most_objects ≤ s.world.finished + 0
     → HasNoneLoose s
-none_loose s right enough = no_oldest (is_loose s.world.heap) s.world.heap.objects
+none_loose s right enough = no_oldest (is_loose s.world.store) s.world.store.objects
     (omega (arith, right.count, right.most, enough))
 
 module _ (E : Type 0) (m : Inner E)
@@ -59,7 +59,7 @@ module _ (E : Type 0) (m : Inner E)
       → Outcome object (account_at s) (releases.terminate E m object s)
   unfolding releases.terminate
   terminate_out object s right ends =
-      let class = releases.class_number (numbered object s.world.heap.objects) in
+      let class = class_number object s.world.store in
       let t = releases.in_world E (releases.terminating s.world) s in
       terminated_out object s.world (account_at s) ends (releases.terminator_of E m object class t)
       (terminator_keeps object class (releases.terminator_in (class_at m.program class)) t right)
@@ -68,22 +68,22 @@ module _ (E : Type 0) (m : Inner E)
       → NoStop (releases.terminate E m object s)
   unfolding releases.terminate
   terminates_alone object s is =
-      let class = releases.class_number (numbered object s.world.heap.objects) in
+      let class = class_number object s.world.store in
       ends_alone object s.world
       (releases.terminator_of E m object class (releases.in_world E (releases.terminating s.world) s)) is
 
   -- a live object's terminator begins and is run, in a world that has the same account of objects
   abbrev pub ended_in : (World → World) → ℕ → Does E (Unit {0})
   ended_in change object s = releases.terminate E m object
-      (releases.in_world E (change (with_heap (with_ending (Some object)) s.world)) s)
+      (releases.in_world E (change (with_store (with_ending (Some object)) s.world)) s)
 
   pub one_ends : (change : World → World) → ((world : World) → account_of (change world) ≡ account_of world)
       → (object : ℕ) (s : State E) → AddsUp (account_at s) → IsLive object (account_at s)
       → One (account_at s) (ended_in change object s)
   one_ends change same object s right live =
-      let t = releases.in_world E (change (with_heap (with_ending (Some object)) s.world)) s in
+      let t = releases.in_world E (change (with_store (with_ending (Some object)) s.world)) s in
       let is : account_at t ≡ with_mark object (account_at s) =
-      same (with_heap (with_ending (Some object)) s.world) ∙ ending_marks s.world.heap object s.world.finished live in
+      same (with_store (with_ending (Some object)) s.world) ∙ ending_marks s.world.store object s.world.finished live in
       let mid = mark_onward (account_at s) object right live in
       one_out object (account_at s) right live (ended_in change object s)
       (subst (λ account. Outcome object account (ended_in change object s)) is (terminate_out object t
@@ -115,8 +115,8 @@ module _ (E : Type 0) (m : Inner E)
       → Comes (Unit {0}) HasNoneLoose (account_at s) (releases.settle_times E m times s)
   settle_times_comes zero s right enough = (settled_still (account_at s) right, none_loose s right enough)
   settle_times_comes (suc more) s right enough = one_released HasNoneLoose (releases.settle_times E m more)
-      (oldest_loose s.world.heap) s right
-      (λ object is. loose_is_live s.world.heap object s.world.finished right.differ is) (λ none. none)
+      (oldest_loose s.world.store) s right
+      (λ object is. loose_is_live s.world.store object s.world.finished right.differ is) (λ none. none)
       (λ t settled later. settle_times_comes more t settled.onward.adds_up (omega (arith, enough, later)))
 
   pub settle_comes : (s : State E) → AddsUp (account_at s)
@@ -143,15 +143,15 @@ module _ (E : Type 0) (m : Inner E)
       (one_closes (releases.line_of E m object s.world) (account_at s) (ended_last object s)
       (one_ends releases.behind_page (λ world. refl) object s right (live object refl))
       (terminates_alone object
-      (releases.in_world E (releases.behind_page (with_heap (with_ending (Some object)) s.world)) s) refl)) after
+      (releases.in_world E (releases.behind_page (with_store (with_ending (Some object)) s.world)) s) refl)) after
 
   settle_last_times_comes : (times : ℕ) (s : State E) → AddsUp (account_at s)
       → most_objects ≤ s.world.finished + times
       → Comes ⊥ HasNoneLoose (account_at s) (releases.settle_last_times E m times s)
   settle_last_times_comes zero s right enough = (settled_still (account_at s) right, none_loose s right enough)
   settle_last_times_comes (suc more) s right enough = one_closed HasNoneLoose (releases.settle_last_times E m more)
-      (oldest_loose s.world.heap) s right
-      (λ object is. loose_is_live s.world.heap object s.world.finished right.differ is) (λ none. none)
+      (oldest_loose s.world.store) s right
+      (λ object is. loose_is_live s.world.store object s.world.finished right.differ is) (λ none. none)
       (λ t settled later. settle_last_times_comes more t settled.onward.adds_up (omega (arith, enough, later)))
 
   pub settle_last_comes : (s : State E) → AddsUp (account_at s)
@@ -166,9 +166,9 @@ module _ (E : Type 0) (m : Inner E)
     λ none. no_length (account_at s).objects (omega (arith, right.count, right.most, enough)),
   )
   end_times_comes (suc more) s right enough = one_closed IsEmptied
-      (releases.settle_last E m >> releases.end_times E m more) (oldest_live s.world.heap) s right
-      (λ object is. oldest_is_live s.world.heap object s.world.finished right.differ is)
-      (λ none. none_is_left s.world.heap.objects none)
+      (releases.settle_last E m >> releases.end_times E m more) (oldest_live s.world.store) s right
+      (λ object is. oldest_is_live s.world.store object s.world.finished right.differ is)
+      (λ none. none_is_left s.world.store.objects none)
       (λ t settled later. comes_then ⊥ HasNoneLoose IsEmptied (releases.end_times E m more) (account_at t)
       (releases.settle_last E m t) (settle_last_comes t settled.onward.adds_up) (λ u next done.
       end_times_comes more u next.onward.adds_up

@@ -13,17 +13,18 @@ use Rattle.vb_heap.specs.Releases.{oldest_loose, with_ending}
 use Rattle.vb_heap.specs.Store.{Store, numbered, replaced, without}
 use Rattle.vb_meaning.specs.declared.reached.Argument.{Argument}
 use Rattle.vb_meaning.specs.declared.stop.Stop.TheVariants as stop
-use Rattle.vb_meaning.specs.declared.world.World.{World}
+use Rattle.vb_meaning.specs.World.{World}
 use Rattle.vb_meaning.specs.Errors.{in_line}
 use Rattle.vb_meaning.specs.Inner.{Inner, Owner}
 use Rattle.vb_meaning.specs.Objects.{class_at}
 use Rattle.vb_meaning.specs.Places.{let_go}
 use Rattle.vb_meaning.specs.Releases as releases
-use Rattle.vb_meaning.specs.State.{State, Does, with_heap}
+use Rattle.vb_meaning.specs.State.{State, Does, with_store}
 use Rattle.vb_meaning.specs.Step.{Step, Returns, Ends, ◌>>◌, pure, ends as step_ends}
+use Rattle.vb_meaning.specs.Stored.{class_found, class_number}
 use Rattle.act_laws.specs.Entries.{AreOf, EntersEach, is_among, noted_entry, standing, standings}
 use Rattle.act_laws.specs.Objects.{AddsUp, IsEnding, IsLive, Kept, Onward, Settled, account_at, account_of}
-use Rattle.act_laws.specs.Ticks.{state_of}
+use Rattle.vb_meaning.specs.Step.{state_of}
 use Rattle.act_laws.proofs.Accounts.{onward_then, settled_still, with_mark}
 use Rattle.act_laws.proofs.Coming.{Comes, comes_kept, comes_then, one_comes}
 use Rattle.act_laws.proofs.Ending as ends
@@ -59,7 +60,7 @@ ending_told objects object class (Some thing) is live = standings_replaced objec
 
 class_told : (objects : List (ℕ × Object)) (object : ℕ) (begun : Bool) (class : Option ℕ) (found : Option Object)
     → numbered object objects ≡ found → numbered object (standings objects) ≡ Some (looks begun class)
-    → releases.class_number found ≡ class
+    → class_found found ≡ class
 class_told objects object begun class None is told =
     let none = looked_at objects object ∙ ap (λ thing. option_map look thing) is in absurd (cc)
 class_told objects object begun class (Some thing) is told =
@@ -94,12 +95,12 @@ module _ {F : Type 0} (t : Telling F) where
   ended_step object before s u settled is =
       let right = settled.onward.adds_up in
       let there = settled.stays object is in
-      let now : ends_now (numbered object u.world.heap.objects) ≡ true =
-      ended_at u.world.heap object u.world.finished (numbered object u.world.heap.objects) refl there in
-      let told : standings (releases.ended object before u.world).heap.objects
-      ≡ without object (standings u.world.heap.objects) =
-      rw now (standings_without u.world.heap.objects object) in
-      let account = ended_gone u.world.heap object u.world.finished (u.world.finished + 1) there in (
+      let now : ends_now (numbered object u.world.store.objects) ≡ true =
+      ended_at u.world.store object u.world.finished (numbered object u.world.store.objects) refl there in
+      let told : standings (releases.ended object before u.world).store.objects
+      ≡ without object (standings u.world.store.objects) =
+      rw now (standings_without u.world.store.objects object) in
+      let account = ended_gone u.world.store object u.world.finished (u.world.finished + 1) there in (
         ended_enters t.program object u.world (releases.ended object before u.world) (t.notes u.env) right there told
             account,
         ended_onward t.program object u.world (releases.ended object before u.world) (t.notes u.env) right there told
@@ -116,7 +117,7 @@ module _ {F : Type 0} (t : Telling F) (m : Inner F) (same_program : t.program �
 
   module _ (object : ℕ) (class : Option ℕ) (s : State F) (right : Right t s)
       (live : standing object s.world ≡ Some (false, class)) (begun : World)
-      (told : standings begun.heap.objects ≡ replaced object (looks true class) (standings s.world.heap.objects))
+      (told : standings begun.store.objects ≡ replaced object (looks true class) (standings s.world.store.objects))
       (account : account_of begun ≡ with_mark object (account_at s)) where
     -- the state in which its terminator begins
     abbrev first : State F
@@ -184,8 +185,8 @@ module _ {F : Type 0} (t : Telling F) (m : Inner F) (same_program : t.program �
     pub one_told : Told t s (state_of (releases.terminate F m object (releases.in_world F begun s)))
     unfolding releases.terminate
     one_told =
-        let kind = releases.class_number (numbered object begun.heap.objects) in
-        let is : kind ≡ class = class_told begun.heap.objects object true class (numbered object begun.heap.objects)
+        let kind = class_number object begun.store in
+        let is : kind ≡ class = class_told begun.store.objects object true class (numbered object begun.store.objects)
         refl
         (own_told t.program object class s.world first.world (t.notes s.env) right live told account) in
         let step = releases.terminator_of F m object kind first in
@@ -199,17 +200,17 @@ module _ {F : Type 0} (t : Telling F) (m : Inner F) (same_program : t.program �
 
   -- the same of a live object, in a world that has the same objects
   one_live : (object : ℕ) (s : State F) → Right t s → IsLive object (account_at s)
-      → (begun : World) → begun.heap ≡ with_ending (Some object) s.world.heap
+      → (begun : World) → begun.store ≡ with_ending (Some object) s.world.store
       → begun.finished ≡ s.world.finished
       → Told t s (state_of (releases.terminate F m object (releases.in_world F begun s)))
   one_live object s right live begun heap finished =
       let known = standing_of object s.world false live in
       one_told object known.0 s right known.1 begun
       (ap (λ (store : Store). standings store.objects) heap
-      ∙ ending_told s.world.heap.objects object known.0 (numbered object s.world.heap.objects) refl known.1)
+      ∙ ending_told s.world.store.objects object known.0 (numbered object s.world.store.objects) refl known.1)
       (ap (λ store. account_in store begun.finished) heap
-      ∙ ap (λ count. account_in (with_ending (Some object) s.world.heap) count) finished
-      ∙ ending_marks s.world.heap object s.world.finished live)
+      ∙ ap (λ count. account_in (with_ending (Some object) s.world.store) count) finished
+      ∙ ending_marks s.world.store object s.world.finished live)
 
   -- ---- a release point
 
@@ -222,7 +223,7 @@ module _ {F : Type 0} (t : Telling F) (m : Inner F) (same_program : t.program �
       (comes_kept (Unit {0}) (λ after. s.world.finished < after.world.finished) (account_at s) step
       (one_comes (account_at s) step
       (ends.one_ends F m keeps (λ world. world) (λ world. refl) object s right.adds_up live)))
-      (one_live object s right live (with_heap (with_ending (Some object)) s.world) refl refl)
+      (one_live object s right live (with_store (with_ending (Some object)) s.world) refl refl)
 
   abbrev Any : State F → Type 0
   Any s = Unit {0}
@@ -231,8 +232,8 @@ module _ {F : Type 0} (t : Telling F) (m : Inner F) (same_program : t.program �
       → Comes (Unit {0}) Any (account_at s) (releases.settle_times F m times s)
   settle_times_goes zero s right = (settled_still (account_at s) right, tt)
   settle_times_goes (suc more) s right = ends.one_released F m keeps Any (releases.settle_times F m more)
-      (oldest_loose s.world.heap) s right
-      (λ object is. loose_is_live s.world.heap object s.world.finished right.differ is) (λ none. tt)
+      (oldest_loose s.world.store) s right
+      (λ object is. loose_is_live s.world.store object s.world.finished right.differ is) (λ none. tt)
       (λ after settled later. settle_times_goes more after settled.onward.adds_up)
 
   settle_times_keeps : (times : ℕ) → Keeps account_at (releases.settle_times F m times)
@@ -247,8 +248,8 @@ module _ {F : Type 0} (t : Telling F) (m : Inner F) (same_program : t.program �
 
   settle_times_tells : (times : ℕ) → Tells t (releases.settle_times F m times)
   settle_times_tells zero s right = still_told t s
-  settle_times_tells (suc more) s right = released_tells (oldest_loose s.world.heap) s right
-      (λ object is. loose_is_live s.world.heap object s.world.finished right.adds_up.differ is)
+  settle_times_tells (suc more) s right = released_tells (oldest_loose s.world.store) s right
+      (λ object is. loose_is_live s.world.store object s.world.finished right.adds_up.differ is)
       (releases.settle_times F m more) (settle_times_keeps more) (settle_times_tells more)
 
   pub settle_tells : Tells t (releases.settle F m)
@@ -303,7 +304,7 @@ module _ {F : Type 0} (t : Telling F) (m : Inner F) (same_program : t.program �
       next_tells t (λ done. more) (λ done. kept) (λ done. tells) s step right
       (line_keeps account_at line (account_at s) ran kept_one)
       (line_tells t line s ran right kept_one
-      (one_live object s right live (releases.behind_page (with_heap (with_ending (Some object)) s.world)) refl refl))
+      (one_live object s right live (releases.behind_page (with_store (with_ending (Some object)) s.world)) refl refl))
 
   last_tells : (found : Option ℕ) (s : State F) → Right t s
       → ((object : ℕ) → found ≡ Some object → IsLive object (account_at s)) → (more : Does F (Unit {0}))
@@ -315,8 +316,8 @@ module _ {F : Type 0} (t : Telling F) (m : Inner F) (same_program : t.program �
       → Comes ⊥ Any (account_at s) (releases.settle_last_times F m times s)
   settle_last_times_goes zero s right = (settled_still (account_at s) right, tt)
   settle_last_times_goes (suc more) s right = ends.one_closed F m keeps Any (releases.settle_last_times F m more)
-      (oldest_loose s.world.heap) s right
-      (λ object is. loose_is_live s.world.heap object s.world.finished right.differ is) (λ none. tt)
+      (oldest_loose s.world.store) s right
+      (λ object is. loose_is_live s.world.store object s.world.finished right.differ is) (λ none. tt)
       (λ after settled later. settle_last_times_goes more after settled.onward.adds_up)
 
   settle_last_times_keeps : (times : ℕ) → Keeps account_at (releases.settle_last_times F m times)
@@ -325,8 +326,8 @@ module _ {F : Type 0} (t : Telling F) (m : Inner F) (same_program : t.program �
 
   settle_last_times_tells : (times : ℕ) → Tells t (releases.settle_last_times F m times)
   settle_last_times_tells zero s right = still_told t s
-  settle_last_times_tells (suc more) s right = last_tells (oldest_loose s.world.heap) s right
-      (λ object is. loose_is_live s.world.heap object s.world.finished right.adds_up.differ is)
+  settle_last_times_tells (suc more) s right = last_tells (oldest_loose s.world.store) s right
+      (λ object is. loose_is_live s.world.store object s.world.finished right.adds_up.differ is)
       (releases.settle_last_times F m more) (settle_last_times_keeps more) (settle_last_times_tells more)
 
   pub settle_last_keeps : Keeps account_at (releases.settle_last F m)
@@ -352,8 +353,8 @@ module _ {F : Type 0} (t : Telling F) (m : Inner F) (same_program : t.program �
       → Comes ⊥ Any (account_at s) (releases.end_times F m times s)
   end_times_goes zero s right = (settled_still (account_at s) right, tt)
   end_times_goes (suc more) s right = ends.one_closed F m keeps Any
-      (releases.settle_last F m >> releases.end_times F m more) (oldest_live s.world.heap) s right
-      (λ object is. oldest_is_live s.world.heap object s.world.finished right.differ is) (λ none. tt)
+      (releases.settle_last F m >> releases.end_times F m more) (oldest_live s.world.store) s right
+      (λ object is. oldest_is_live s.world.store object s.world.finished right.differ is) (λ none. tt)
       (λ after settled later. comes_then ⊥ ends.HasNoneLoose Any (releases.end_times F m more) (account_at after)
       (releases.settle_last F m after) (ends.settle_last_comes F m keeps after settled.onward.adds_up)
       (λ u next done. end_times_goes more u next.onward.adds_up))
@@ -364,8 +365,8 @@ module _ {F : Type 0} (t : Telling F) (m : Inner F) (same_program : t.program �
 
   end_times_tells : (times : ℕ) → Tells t (releases.end_times F m times)
   end_times_tells zero s right = still_told t s
-  end_times_tells (suc more) s right = last_tells (oldest_live s.world.heap) s right
-      (λ object is. oldest_is_live s.world.heap object s.world.finished right.adds_up.differ is)
+  end_times_tells (suc more) s right = last_tells (oldest_live s.world.store) s right
+      (λ object is. oldest_is_live s.world.store object s.world.finished right.adds_up.differ is)
       (releases.settle_last F m >> releases.end_times F m more)
       (after_last_keeps (releases.end_times F m more) (end_times_keeps more))
       (after_last_tells (releases.end_times F m more) (end_times_keeps more) (end_times_tells more))

@@ -7,7 +7,7 @@ use Rattle.std.specs.Option.{option_map}
 use Rattle.vb_syntax.specs.declared.program.Program.{Program}
 use Rattle.vb_syntax.specs.declared.program.unit.Procedure.{Procedure}
 use Rattle.vb_heap.specs.Store.{is_number, numbered, replaced, without}
-use Rattle.vb_meaning.specs.declared.world.World.{World}
+use Rattle.vb_meaning.specs.World.{World}
 use Rattle.vb_meaning.specs.Objects.{class_at}
 use Rattle.vb_meaning.specs.Releases.{terminator_in}
 use Rattle.act_laws.specs.Entries.{AreOf, EntersEach, Notes, entries_of, is_among, listed, noted_entry, standing}
@@ -54,7 +54,7 @@ module _ (program : Program) (a b c : World) (first second third : Notes) (right
       → entries_of number third.entered ≡ entries_of number first.entered ++ terminators program class
   both_once number class live has (inl before) = other.no_more number before ∙ one.once number class live before
   both_once number class live has (inr not) =
-      let below : number < a.heap.objects_made = there_below (account_of a).objects a.heap.objects_made number false
+      let below : number < a.store.objects_made = there_below (account_of a).objects a.store.objects_made number false
       right.below (live_by number a class live) in
       let made = onward.made in
       let now = standing_of number b false (not_begun_live number (account_of b) (omega (arith, below, made)) not) in
@@ -62,13 +62,13 @@ module _ (program : Program) (a b c : World) (first second third : Notes) (right
       other.once number now.0 now.1 has ∙ ap (λ found. found ++ terminators program now.0) (one.not_yet number not)
       ∙ ap (λ found. entries_of number first.entered ++ terminators program found) same
 
-  both_made : (number : ℕ) → a.heap.objects_made ≤ number → HasBegun number (account_of c)
+  both_made : (number : ℕ) → a.store.objects_made ≤ number → HasBegun number (account_of c)
       → HasBegun number (account_of b) ⊎ (HasBegun number (account_of b) → ⊥)
       → (class : Option ℕ)
       × (entries_of number third.entered ≡ entries_of number first.entered ++ terminators program class)
   both_made number above has (inl before) = let found = one.made number above before in
       (found.0, other.no_more number before ∙ found.1)
-  both_made number above has (inr not) = elim (cases_lt number b.heap.objects_made) [
+  both_made number above has (inr not) = elim (cases_lt number b.store.objects_made) [
     | inl below ↦ let now = standing_of number b false (not_begun_live number (account_of b) below not) in (
       now.0,
       other.once number now.0 now.1 has
@@ -87,16 +87,16 @@ module _ (program : Program) (a b c : World) (first second third : Notes) (right
       other.classes number found.0 again found.1 end there later_is
       ∙ one.classes number begun found.0 class found.1 is there
   both_classes number begun again class end is later_is None there =
-      let marked = mark_of a.heap.objects number ∙ ap (λ found. option_map (λ (told : Bool × Option ℕ). told.0) found)
+      let marked = mark_of a.store.objects number ∙ ap (λ found. option_map (λ (told : Bool × Option ℕ). told.0) found)
       is in
-      let below = there_below (account_of a).objects a.heap.objects_made number begun right.below marked in
+      let below = there_below (account_of a).objects a.store.objects_made number begun right.below marked in
       let made = onward.made in
       let gone = later.ended number (
         omega (arith, below, made),
-        mark_of b.heap.objects number
+        mark_of b.store.objects number
             ∙ ap (λ found. option_map (λ (told : Bool × Option ℕ). told.0) found) there,
       ) in
-      let there_still = mark_of c.heap.objects number
+      let there_still = mark_of c.store.objects number
       ∙ ap (λ found. option_map (λ (told : Bool × Option ℕ). told.0) found) later_is in
       let both : None ≡ Some again = sym gone.1 ∙ there_still in absurd (cc)
 
@@ -172,7 +172,7 @@ end_grows object None notes = ([], sym (append-nil notes.entered))
 
 module _ (program : Program) (object : ℕ) (class : Option ℕ) (a m : World) (notes : Notes) (right : AreOf a notes)
     (live : standing object a ≡ Some (false, class))
-    (told : standings m.heap.objects ≡ replaced object (true, class) (standings a.heap.objects))
+    (told : standings m.store.objects ≡ replaced object (true, class) (standings a.store.objects))
     (account : account_of m ≡ with_mark object (account_of a)) where
   abbrev ends_as : Option Procedure
   ends_as = terminator_in (class_at program class)
@@ -189,20 +189,20 @@ module _ (program : Program) (object : ℕ) (class : Option ℕ) (a m : World) (
 
   has_begun : HasBegun object (account_of m)
   has_begun = (
-    there_below (account_of m).objects m.heap.objects_made object true begins_onward.adds_up.below is_ending,
+    there_below (account_of m).objects m.store.objects_made object true begins_onward.adds_up.below is_ending,
     λ again. let both : Some true ≡ Some false = sym is_ending ∙ again in absurd (cc),
   )
 
-  same_made : m.heap.objects_made ≡ a.heap.objects_made
+  same_made : m.store.objects_made ≡ a.store.objects_made
   same_made = ap (λ (found : Account). found.made) account
 
   other_told : (number : ℕ) → is_number number object ≡ false → standing number m ≡ standing number a
   other_told number apart = ap (λ found. numbered number found) told
-      ∙ other_replaced (standings a.heap.objects) object number (true, class) apart
+      ∙ other_replaced (standings a.store.objects) object number (true, class) apart
 
   pub own_told : standing object m ≡ Some (true, class)
   own_told = ap (λ found. numbered object found) told
-      ∙ there_replaced (standings a.heap.objects) object (false, class) (true, class) live
+      ∙ there_replaced (standings a.store.objects) object (false, class) (true, class) live
 
   pub begins_enters : EntersEach program a notes m (noted_end object ends_as notes)
   begins_enters = record {
@@ -273,8 +273,8 @@ module _ (program : Program) (object : ℕ) (class : Option ℕ) (a m : World) (
 -- ---- an object has ended
 
 module _ (program : Program) (object : ℕ) (u f : World) (notes : Notes) (right : AddsUp (account_of u))
-    (ends : IsEnding object (account_of u)) (told : standings f.heap.objects
-    ≡ without object (standings u.heap.objects))
+    (ends : IsEnding object (account_of u)) (told : standings f.store.objects
+    ≡ without object (standings u.store.objects))
     (account : account_of f ≡ with_end object (account_of u)) where
   pub ended_onward : Onward (account_of u) (account_of f)
   ended_onward = subst (λ found. Onward (account_of u) found) (sym account)
@@ -282,7 +282,7 @@ module _ (program : Program) (object : ℕ) (u f : World) (notes : Notes) (right
 
   others_told : (number : ℕ) → is_number number object ≡ false → standing number f ≡ standing number u
   others_told number apart = ap (λ found. numbered number found) told
-      ∙ other_without (standings u.heap.objects) object number apart
+      ∙ other_without (standings u.store.objects) object number apart
 
   gone : numbered object (account_of f).objects ≡ None
   gone = ap (λ (found : Account). numbered object found.objects) account ∙ not_there (account_of u) object right
@@ -300,7 +300,7 @@ module _ (program : Program) (object : ℕ) (u f : World) (notes : Notes) (right
     made = λ number above has. (None, sym (append-nil (entries_of number notes.entered)));
     classes = λ number begun again class end is now. elim (compared number object) [
       | inl same ↦ let both : None ≡ Some again = sym gone ∙ ap (λ n. numbered n (account_of f).objects) (sym same)
-          ∙ mark_of f.heap.objects number ∙ ap (λ found. option_map (λ (told : Bool × Option ℕ). told.0) found) now in
+          ∙ mark_of f.store.objects number ∙ ap (λ found. option_map (λ (told : Bool × Option ℕ). told.0) found) now in
           absurd (cc)
       | inr away ↦ same_class begun again class end (sym is ∙ sym (others_told number away.1) ∙ now)
     ];

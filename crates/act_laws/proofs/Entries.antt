@@ -24,7 +24,7 @@ use Rattle.act_laws.specs.Entries.{AreOf, EntersAll, EntersBy, EntersEach, Noted
 use Rattle.act_laws.specs.Entries.{noted_act, noted_inside, terminators}
 use Rattle.act_laws.specs.Laws.{EntriesChangeNothing, NoneEnteredTwice, TerminatorsAreEntered}
 use Rattle.act_laws.specs.Objects.{HasBegun, Kept, Settled, account_at}
-use Rattle.act_laws.specs.Ticks.{state_of}
+use Rattle.vb_meaning.specs.Step.{state_of}
 use Rattle.act_laws.proofs.Acting.{ActsAlike, act_alike, both_end, both_lack, both_want, one_wants, runs_fits}
 use Rattle.act_laws.proofs.Entered.{page_end_keeps, page_end_tells, settle_tells}
 use Rattle.act_laws.proofs.Ending.{settle_keeps}
@@ -51,7 +51,7 @@ module _ (E : Type 0) (host : Host E) (program : Program) where
       (noted_act E host program which env replies)
   unfolding acts.act_of
   noted_alike which env replies = act_alike (beside E host program) (levels_noted E host program most_levels) which
-      acts.fresh_world env replies (env, no_notes) replies (refl, refl)
+      acts.fresh_world acts.most_ticks env replies (env, no_notes) replies (refl, refl)
 
 pub entries_nothing : (E : Type 0) → EntriesChangeNothing E
 entries_nothing E host program which env replies = same_act E host program
@@ -148,11 +148,11 @@ module _ (E : Type 0) (host : Host E) (program : Program) where
   page_comes how s after right kept told =
       let left = in_world (Noted E) (acts.page_left after.world) after in
       let before = changed_told t s after (acts.page_left after.world) right.adds_up kept.onward
-      (ap (λ seen. told_of seen.0 after.world.ticks seen.1)
-      (emptied_still after.world.page (let_go_to 0 after.world.heap) after.world.finished)) told in
+      (ap (λ seen. told_of seen.0 seen.1)
+      (emptied_still after.world.page (let_go_to 0 after.world.store) after.world.finished)) told in
       let still : Kept account_at (account_at s) (Returns (tt {0}) left) =
       subst (λ account. Settled (account_at s) account)
-      (sym (ap (λ seen. seen.0) (emptied_still after.world.page (let_go_to 0 after.world.heap) after.world.finished)))
+      (sym (ap (λ seen. seen.0) (emptied_still after.world.page (let_go_to 0 after.world.store) after.world.finished)))
       kept in
       let run = settle_last (Noted E) m >> end_all (Noted E) m in
       record {
@@ -177,7 +177,8 @@ module _ (E : Type 0) (host : Host E) (program : Program) where
 
   -- the state in which an act begins, and what comes of it
   abbrev begun : E → List AppReply → State (Noted E)
-  begun env replies = record { world = acts.fresh_world; env = (env, no_notes); replies = replies }
+  begun env replies =
+      record { world = acts.fresh_world; ticks = acts.most_ticks; env = (env, no_notes); replies = replies }
 
   fresh_right : (env : E) (replies : List AppReply) → Right t (begun env replies)
   fresh_right env replies = fresh_notes
@@ -191,7 +192,7 @@ module _ (E : Type 0) (host : Host E) (program : Program) where
       act_comes s ((on_world (acts.page_begins program.unit) >> acts.part (Noted E) m which) s) right
       (fits.keeps s right.adds_up) (fits.tells tt s right)
 
-  once : (object : ℕ) (s : State (Noted E)) (env : Noted E) (comes : Comes s env) → s.world.heap.objects_made ≡ 0
+  once : (object : ℕ) (s : State (Noted E)) (env : Noted E) (comes : Comes s env) → s.world.store.objects_made ≡ 0
       → s.env.1.entered ≡ [] → (class : Option ℕ)
       × (entries_of object env.1.entered ≡ terminators program class)
   once object s env comes made none = by (begun_or_not object (account_at comes.last))

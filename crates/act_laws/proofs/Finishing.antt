@@ -51,8 +51,8 @@ alone E host = record {
 pub asks_alone : (E : Type 0) (host : Host E) (member : Member) (arguments : List Value)
     → Joined (alone E host) (ask host member arguments) (ask host member arguments)
 asks_alone E host member arguments = record {
-  alike = λ world env replies other others now. absurd now;
-  goes_on = λ call world other others past. tt;
+  alike = λ world ticks env replies other others now. absurd now;
+  goes_on = λ call world ticks other others past. tt;
 }
 
 -- the constructs of a program, of which so many more may be begun
@@ -94,12 +94,12 @@ module _ (E : Type 0) (m : Inner E)
   closed_tells : (how : ActEnd) (before : Account) → ((number : ℕ) → IsEnding number before → ⊥)
       → (step : Step (State E) (Unit {0})) → Comes ⊥ IsEmptied before step → (done : ActDone)
       → (acts.closed E m how step).0 ≡ Some (Ended done) → HaveEnded done.end done.made done.finished
-  closed_tells how before none (Returns left s) comes = told how s.world.heap.objects_made s.world.finished
-      (all_ended how s.world.heap.objects_made s.world.finished
+  closed_tells how before none (Returns left s) comes = told how s.world.store.objects_made s.world.finished
+      (all_ended how s.world.store.objects_made s.world.finished
       (none_left (account_at s) comes.0.onward.adds_up
       (comes.1 (λ number ends. none number (comes.0.stood number ends)))))
   closed_tells how before none (Ends (stop.Limit kind line) s) comes =
-      told (end.Limit kind (acts.line_or_none line)) s.world.heap.objects_made s.world.finished
+      told (end.Limit kind (acts.line_or_none line)) s.world.store.objects_made s.world.finished
       (no_more (account_at s) comes.adds_up)
   closed_tells how before none (Ends (stop.Error what line) s) comes = absurd comes
   closed_tells how before none (Ends stop.Page s) comes = absurd comes.0
@@ -112,7 +112,7 @@ module _ (E : Type 0) (m : Inner E)
   page_tells how before none s settled =
       let t = in_world E (acts.page_left s.world) s in
       let same : account_at t ≡ account_at s =
-      ap (λ seen. seen.0) (emptied_still s.world.page (let_go_to 0 s.world.heap) s.world.finished) in
+      ap (λ seen. seen.0) (emptied_still s.world.page (let_go_to 0 s.world.store) s.world.finished) in
       let still : Settled before (account_at t) = subst (λ account. Settled before account) (sym same) settled in
       closed_tells how (account_at t) (λ number ends. none number (still.stood number ends))
       ((settle_last E m >> end_all E m) t) (page_comes E m enter t still.onward.adds_up)
@@ -125,7 +125,7 @@ module _ (E : Type 0) (m : Inner E)
   ends_tell before none (Ends (stop.Error what line) s) kept =
       page_tells (acts.error_end (raised_by what) (acts.line_or_none line)) before none s kept
   ends_tell before none (Ends (stop.Limit kind line) s) kept =
-      told (end.Limit kind (acts.line_or_none line)) s.world.heap.objects_made s.world.finished
+      told (end.Limit kind (acts.line_or_none line)) s.world.store.objects_made s.world.finished
       (no_more (account_at s) kept.adds_up)
   ends_tell before none (Ends (stop.Wants call) s) kept = λ done is. absurd (cc)
   ends_tell before none (Ends stop.Memory s) kept = λ done is. absurd (cc)
@@ -133,7 +133,7 @@ module _ (E : Type 0) (m : Inner E)
 pub objects_ended : (E : Type 0) → ObjectsEnd E
 unfolding acts.act_of
 objects_ended E host program which env replies =
-    let s : State E = record { world = acts.fresh_world; env = env; replies = replies } in
+    let s : State E = record { world = acts.fresh_world; ticks = acts.most_ticks; env = env; replies = replies } in
     let i = levels_alone E host program most_levels in
     let m = inside E host program most_levels in
     ends_tell E m (λ owner procedure arguments. (i.enter_fits owner procedure arguments).keeps)

@@ -1,5 +1,5 @@
 -- What the rules of a construct stand on, in two environments side by side.
-use Rattle.std.proofs.Common.{List, ◌≡◌}
+use Rattle.std.proofs.Common.{ℕ, List, ◌≡◌}
 use Rattle.vb_value.specs.declared.value.Value.{Value}
 use Rattle.vb_syntax.specs.declared.member.Member.{Member}
 use Rattle.vb_syntax.specs.declared.program.Program.{Program}
@@ -10,13 +10,13 @@ use Rattle.vb_syntax.specs.declared.program.unit.Procedure.{Procedure}
 use Rattle.vb_meaning.specs.declared.reached.Argument.{Argument}
 use Rattle.vb_meaning.specs.declared.reached.Assigned.{Assigned}
 use Rattle.vb_meaning.specs.declared.world.Exit.{Exit}
-use Rattle.vb_meaning.specs.declared.world.World.{World}
+use Rattle.vb_meaning.specs.World.{World}
 use Rattle.vb_meaning.specs.Asking.{ask}
 use Rattle.vb_meaning.specs.Inner.{Inner, Owner}
 use Rattle.vb_meaning.specs.State.{Does}
 use Rattle.act_laws.proofs.Joined.{Link}
 use Rattle.act_laws.proofs.Entered.{NotesEntries}
-use Rattle.act_laws.proofs.Linked.{Fits, seeing_fits}
+use Rattle.act_laws.proofs.Linked.{Fits, counting_fits, seeing_fits}
 
 -- what the constructs inside do in the one and in the other
 pub record Inners (l : Link) : Type 0 where
@@ -76,6 +76,11 @@ two {l} i = record {
 -- a rule does in the one what it does in the other
 abbrev pub Same : {A : Type 0} (l : Link) → Inners l → ((E : Type 0) → Inner E → Does E A) → Type 0
 Same l i rule = Fits l (rule l.E (one i)) (rule l.F (two i))
+
+-- a rule by how many ticks are left
+pub counted_fits : {A : Type 0} (l : Link) (i : Inners l) (rule : (E : Type 0) → Inner E → ℕ → Does E A)
+    → ((ticks : ℕ) → Same l i (λ E m. rule E m ticks)) → Same l i (λ E m s. rule E m s.ticks s)
+counted_fits l i rule each = counting_fits (rule l.E (one i)) (rule l.F (two i)) each
 
 -- a rule as the world has it
 pub seen_fits : {A : Type 0} (l : Link) (i : Inners l) (rule : (E : Type 0) → Inner E → World → Does E A)

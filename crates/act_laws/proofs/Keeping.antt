@@ -1,22 +1,23 @@
 -- What is done keeps the account of objects.
-use Rattle.std.proofs.Common.{ℕ, ◌≡◌, List, [], ◌∷◌, Bool, true, false, if◌then◌else◌}
+use Rattle.std.proofs.Common.{ℕ, ◌-◌, nat_lt, ◌≡◌, List, [], ◌∷◌, Bool, true, false, if◌then◌else◌}
 use Rattle.std.proofs.Common.{Option, Some, None, Ok, Err, subst, sym}
 use Rattle.vb_value.specs.declared.application.AppReply.{AppReply}
+use Rattle.vb_value.specs.declared.limit.LimitKind.TheVariants.{Ticks}
 use Rattle.vb_value.specs.declared.value.Value.{Value}
 use Rattle.vb_syntax.specs.declared.act.Given.TheVariants as given
 use Rattle.vb_syntax.specs.declared.member.Member.{Member}
 use Rattle.vb_meaning.specs.declared.cause.Cause.{Cause}
 use Rattle.vb_meaning.specs.declared.stop.Stop.{Stop}
 use Rattle.vb_meaning.specs.declared.stop.Stop.TheVariants as stop
-use Rattle.vb_meaning.specs.declared.world.World.{World}
+use Rattle.vb_meaning.specs.World.{World}
 use Rattle.vb_meaning.specs.Asking.{Host, Said, ask, heard}
-use Rattle.vb_meaning.specs.Errors.{in_line, resumed, with_err, raised_by}
+use Rattle.vb_meaning.specs.Errors.{in_line, resumed, tick, with_err, raised_by}
 use Rattle.vb_meaning.specs.State.{State, lifted}
 use Rattle.vb_meaning.specs.Step.{Step, Returns, Ends, Run, and_then}
 use Rattle.vb_meaning.specs.Stops.{ask_stop}
 use Rattle.act_laws.specs.Entries.{standings}
 use Rattle.act_laws.specs.Objects.{Account, AddsUp, Goes, Kept, Onward, Settled, account_at, account_of}
-use Rattle.act_laws.specs.Ticks.{state_of}
+use Rattle.vb_meaning.specs.Step.{state_of}
 use Rattle.act_laws.proofs.Accounts.{onward_still, onward_then, settled_still, settled_then}
 
 -- something that is done from any account that adds up
@@ -83,10 +84,10 @@ resumed_keeps instead a (Ends (stop.Wants call) s) kept = kept
 resumed_keeps instead a (Ends stop.Memory s) kept = kept
 
 -- a step of the world, in a state
-pub lifted_keeps : {E A : Type 0} (env : E) (replies : List AppReply) (a : Account) (step : Step World A)
-    → Kept account_of a step → Kept account_at a (lifted env replies step)
-lifted_keeps env replies a (Returns value world) kept = kept
-lifted_keeps env replies a (Ends why world) kept = kept
+pub lifted_keeps : {E A : Type 0} (s : State E) (a : Account) (step : Step World A) → Kept account_of a step
+    → Kept account_at a (lifted s step)
+lifted_keeps s a (Returns value world) kept = kept
+lifted_keeps s a (Ends why world) kept = kept
 
 -- ---- what is done
 
@@ -97,24 +98,35 @@ pub still_ends : {S : Type 0} (A : Type 0) (of : S → Account) (why : Stop) →
 still_ends A of why s right = goes_settled why (settled_still (of s) right)
 
 heard_keeps : {E : Type 0} (host : Host E) (member : Member) (arguments : List Value) (world : World)
-    (replies : List AppReply) (said : Said E) → AddsUp (account_of world)
-    → Kept account_at (account_of world) (heard host member arguments world replies said)
-heard_keeps host member arguments world replies (Ok (given.Value value, env)) right =
+    (ticks : ℕ) (replies : List AppReply) (said : Said E) → AddsUp (account_of world)
+    → Kept account_at (account_of world) (heard host member arguments world ticks replies said)
+heard_keeps host member arguments world ticks replies (Ok (given.Value value, env)) right =
     settled_still (account_of world) right
-heard_keeps host member arguments world replies (Ok (given.Names names, env)) right =
+heard_keeps host member arguments world ticks replies (Ok (given.Names names, env)) right =
     settled_still (account_of world) right
-heard_keeps host member arguments world [] (Ok (given.Call call, env)) right = onward_still (account_of world) right
-heard_keeps host member arguments world (reply ∷ replies) (Ok (given.Call call, env)) right =
-    heard_keeps host member arguments world replies (host.answered member arguments reply env) right
-heard_keeps host member arguments world replies (Err (reason, env)) right =
+heard_keeps host member arguments world ticks [] (Ok (given.Call call, env)) right =
+    onward_still (account_of world) right
+heard_keeps host member arguments world ticks (reply ∷ replies) (Ok (given.Call call, env)) right =
+    heard_keeps host member arguments world ticks replies (host.answered member arguments reply env) right
+heard_keeps host member arguments world ticks replies (Err (reason, env)) right =
     goes_settled (ask_stop reason) (settled_still (account_of world) right)
+
+-- a tick
+pub tick_keeps : {E : Type 0} → Keeps {S = State E} account_at tick
+unfolding tick
+tick_keeps {E} s right = kept (nat_lt 0 s.ticks)
+  where
+    kept : (left : Bool) → Kept {S = State E} {A = Unit {0}} account_at (account_at s)
+        (if left then Returns tt (record s { ticks = s.ticks - 1 }) else Ends (stop.Limit Ticks None) s)
+    kept true = settled_still (account_at s) right
+    kept false = onward_still (account_at s) right
 
 -- a question to the objects of the page
 pub ask_keeps : {E : Type 0} (host : Host E) (member : Member) (arguments : List Value)
     → Keeps account_at (ask host member arguments)
 unfolding ask
 ask_keeps host member arguments s right =
-    heard_keeps host member arguments s.world s.replies (host.asked member arguments s.env) right
+    heard_keeps host member arguments s.world s.ticks s.replies (host.asked member arguments s.env) right
 
 -- from a state with the same account
 pub kept_moved : {S A : Type 0} (of : S → Account) (a b : Account) → b ≡ a → (step : Step S A)
@@ -122,12 +134,12 @@ pub kept_moved : {S A : Type 0} (of : S → Account) (a b : Account) → b ≡ a
 kept_moved of a b same step kept right =
     subst (λ c. Kept of c step) same (kept (subst AddsUp (sym same) right))
 
--- what is read off a world: its account, the ticks that are left, and what is said of its objects
-abbrev pub told_of : Account → ℕ → List (ℕ × (Bool × Option ℕ)) → Account × ℕ × List (ℕ × (Bool × Option ℕ))
-told_of account ticks objects = (account, ticks, objects)
+-- what is read off a world: its account, and what is said of its objects
+abbrev pub told_of : Account → List (ℕ × (Bool × Option ℕ)) → Account × List (ℕ × (Bool × Option ℕ))
+told_of account objects = (account, objects)
 
-abbrev pub told : World → Account × ℕ × List (ℕ × (Bool × Option ℕ))
-told world = told_of (account_of world) world.ticks (standings world.heap.objects)
+abbrev pub told : World → Account × List (ℕ × (Bool × Option ℕ))
+told world = told_of (account_of world) (standings world.store.objects)
 
 -- how the account goes on, whether a step gives a value or ends
 pub kept_onward : {S A : Type 0} (of : S → Account) (a : Account) (step : Step S A) → Kept of a step

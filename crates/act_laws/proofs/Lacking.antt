@@ -1,5 +1,5 @@
 -- An environment beside itself: memory runs out in an act only where it does for its objects.
-use Rattle.std.proofs.Common.{◌≡◌, ◌≢◌, List, [], ◌∷◌, Option, None, Ok, Err, refl, ap, subst, sym}
+use Rattle.std.proofs.Common.{ℕ, ◌≡◌, ◌≢◌, List, [], ◌∷◌, Option, None, Ok, Err, refl, ap, subst, sym}
 use Rattle.vb_value.specs.declared.application.AppReply.{AppReply}
 use Rattle.vb_value.specs.declared.value.Value.{Value}
 use Rattle.vb_syntax.specs.declared.act.AskStop.TheVariants as why
@@ -8,7 +8,7 @@ use Rattle.vb_syntax.specs.declared.member.Member.{Member}
 use Rattle.vb_heap.specs.DictionaryCalls.{array_of}
 use Rattle.vb_meaning.specs.declared.plain_end.PlainEnd.{PlainEnd}
 use Rattle.vb_meaning.specs.declared.stop.Stop.TheVariants as stop
-use Rattle.vb_meaning.specs.declared.world.World.{World}
+use Rattle.vb_meaning.specs.World.{World}
 use Rattle.vb_meaning.specs.Acts.{act_of}
 use Rattle.vb_meaning.specs.Asking.{Host, Said, ask, heard, name_values}
 use Rattle.act_laws.specs.Laws.{OnlyObjectsLack}
@@ -38,36 +38,37 @@ module _ (E : Type 0) (host : Host E)
     telling = λ none. absurd none;
   }
 
-  heard_alike : (member : Member) (arguments : List Value) (world : World) (replies : List AppReply) (said : Said E)
-      → Remembers said → Alike beside_itself (heard host member arguments world replies said)
-      (heard host member arguments world replies said)
-  heard_alike member arguments world replies (Ok (given.Value value, env)) remembers =
-      gives value world env replies env replies (refl, refl)
-  heard_alike member arguments world replies (Ok (given.Names names, env)) remembers =
-      gives (array_of (name_values names)) world env replies env replies (refl, refl)
-  heard_alike member arguments world [] (Ok (given.Call call, env)) remembers =
-      ends (stop.Wants call) world env [] env [] tt
-  heard_alike member arguments world (reply ∷ replies) (Ok (given.Call call, env)) remembers =
-      heard_alike member arguments world replies (host.answered member arguments reply env)
+  heard_alike : (member : Member) (arguments : List Value) (world : World) (ticks : ℕ) (replies : List AppReply)
+      (said : Said E)
+      → Remembers said → Alike beside_itself (heard host member arguments world ticks replies said)
+      (heard host member arguments world ticks replies said)
+  heard_alike member arguments world ticks replies (Ok (given.Value value, env)) remembers =
+      gives value world ticks env replies env replies (refl, refl)
+  heard_alike member arguments world ticks replies (Ok (given.Names names, env)) remembers =
+      gives (array_of (name_values names)) world ticks env replies env replies (refl, refl)
+  heard_alike member arguments world ticks [] (Ok (given.Call call, env)) remembers =
+      ends (stop.Wants call) world ticks env [] env [] tt
+  heard_alike member arguments world ticks (reply ∷ replies) (Ok (given.Call call, env)) remembers =
+      heard_alike member arguments world ticks replies (host.answered member arguments reply env)
       (answered member arguments reply env)
-  heard_alike member arguments world replies (Err (reason, env)) remembers =
-      ends_for beside_itself reason world env replies env replies (refl, refl)
+  heard_alike member arguments world ticks replies (Err (reason, env)) remembers =
+      ends_for beside_itself reason world ticks env replies env replies (refl, refl)
       (λ is. remembers env (ap (λ found. Err (found, env)) is))
 
   asks_alike : (member : Member) (arguments : List Value)
       → Joined beside_itself (ask host member arguments) (ask host member arguments)
   unfolding ask
   asks_alike member arguments = record {
-    alike = λ world env replies other others now.
+    alike = λ world ticks env replies other others now.
         subst (λ found. Alike beside_itself
-        (heard host member arguments world replies (host.asked member arguments found))
-        (heard host member arguments world others (host.asked member arguments other)))
+        (heard host member arguments world ticks replies (host.asked member arguments found))
+        (heard host member arguments world ticks others (host.asked member arguments other)))
         now.0 (subst (λ left. Alike beside_itself
-        (heard host member arguments world replies (host.asked member arguments other))
-        (heard host member arguments world left (host.asked member arguments other)))
-        (sym now.1) (heard_alike member arguments world replies (host.asked member arguments other)
+        (heard host member arguments world ticks replies (host.asked member arguments other))
+        (heard host member arguments world ticks left (host.asked member arguments other)))
+        (sym now.1) (heard_alike member arguments world ticks replies (host.asked member arguments other)
         (asked member arguments other)));
-    goes_on = λ call world other others past. absurd past;
+    goes_on = λ call world ticks other others past. absurd past;
   }
 
   there : (first : Option PlainEnd × E) (second : Option PlainEnd × E) → ActsAlike beside_itself first second

@@ -36,6 +36,7 @@ pub mod Replies
 pub mod Wanting
 pub mod Asking
 pub mod Lacking
+pub mod Placing
 pub mod Settled
 pub mod NoneBack
 pub mod OneText

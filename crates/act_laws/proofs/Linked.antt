@@ -6,18 +6,19 @@ use Rattle.vb_value.specs.declared.limit.LimitKind.{LimitKind}
 use Rattle.vb_meaning.specs.declared.cause.Cause.{Cause}
 use Rattle.vb_meaning.specs.declared.cause.Cause.TheVariants.{Language}
 use Rattle.vb_meaning.specs.declared.stop.Stop.TheVariants as stop
-use Rattle.vb_meaning.specs.declared.world.World.{World}
+use Rattle.vb_meaning.specs.World.{World}
+use Rattle.vb_meaning.specs.Errors.{tick}
 use Rattle.vb_meaning.specs.Places.{held_so_far, let_go, letting_go}
 use Rattle.vb_meaning.specs.State.{State, Does, on_world}
 use Rattle.vb_meaning.specs.Step.{Step, Returns, Run, and_then, ◌>>=◌, pure, ends as step_ends, given, fails}
 use Rattle.act_laws.specs.Objects.{Account, Kept, account_at, account_of}
 use Rattle.act_laws.proofs.Joined as sides
 use Rattle.act_laws.proofs.Joined.{Link, Joined, JoinedTurn}
-use Rattle.act_laws.specs.Ticks.{state_of}
-use Rattle.act_laws.proofs.Keeping.{Keeps, kept_moved, lifted_keeps, next_keeps, still_ends, still_gives, told}
-use Rattle.act_laws.proofs.Spending.{Spends, SpendsOn, lifted_spends, next_spends, no_less, still_spends, ticks_at}
-use Rattle.act_laws.proofs.Spending.{ticks_moved, turned_spends}
-use Rattle.act_laws.proofs.Telling.{Tells, TellsOn, lifted_tells, moved_tells, next_tells, still_told}
+use Rattle.act_laws.proofs.Keeping.{Keeps, kept_moved, lifted_keeps, next_keeps, still_ends, still_gives, tick_keeps}
+use Rattle.act_laws.proofs.Keeping.{told}
+use Rattle.act_laws.proofs.Spending.{Spends, SpendsOn, lifted_spends, next_spends, no_less, still_spends, tick_spends}
+use Rattle.act_laws.proofs.Spending.{ticks_at, turned_spends}
+use Rattle.act_laws.proofs.Telling.{Tells, TellsOn, lifted_tells, moved_tells, next_tells, still_told, tick_tells}
 use Rattle.act_laws.proofs.Wantless.{Wantless}
 
 -- something that is done in the one as in the other, keeps the account of objects, gives no tick back, and enters
@@ -113,8 +114,8 @@ pub world_fits : {A : Type 0} (l : Link) {change : Run World A} → Wantless cha
     → Fits l (on_world change) (on_world change)
 world_fits l {change} wantless = record {
   joined = sides.world_joined l wantless;
-  keeps = λ s right. lifted_keeps s.env s.replies (account_at s) (change s.world) (wantless.keeps s.world right);
-  spends = λ s. lifted_spends s.env s.replies s.world.ticks (change s.world) (wantless.spends s.world);
+  keeps = λ s right. lifted_keeps s (account_at s) (change s.world) (wantless.keeps s.world right);
+  spends = λ s. lifted_spends s (change s.world);
   tells = λ noting s right. lifted_tells (l.telling noting) s (change s.world) (wantless.stays s.world);
 }
 
@@ -132,7 +133,7 @@ pub either_fits : {A : Type 0} {l : Link} (test : Bool) {one other : Does l.E A}
 either_fits true one other = one
 either_fits false one other = other
 
--- what is done in a changed world, whose account of objects is the same, and which has the same ticks
+-- what is done in a changed world, whose account of objects is the same
 pub moved_fits : {A : Type 0} {l : Link} (change : World → World)
     → ((world : World) → told (change world) ≡ told world) → {first : Does l.E A} {second : Does l.F A}
     → Fits l first second
@@ -142,10 +143,28 @@ moved_fits {l} change same {first} {second} fit = record {
   keeps = λ s right. kept_moved account_at (account_of s.world) (account_of (change s.world))
       (ap (λ found. found.0) (same s.world))
       (second (record s { world = change s.world })) (fit.keeps (record s { world = change s.world })) right;
-  spends = λ s. ticks_moved s.world (change s.world) (same s.world)
-      (state_of (second (record s { world = change s.world }))).world.ticks
-      (fit.spends (record s { world = change s.world }));
+  spends = λ s. fit.spends (record s { world = change s.world });
   tells = λ noting. moved_tells (l.telling noting) change same second fit.keeps (fit.tells noting);
+}
+
+-- what is done by how many ticks are left
+pub counting_fits : {A : Type 0} {l : Link} (first : ℕ → Does l.E A) (second : ℕ → Does l.F A)
+    → ((ticks : ℕ) → Fits l (first ticks) (second ticks))
+    → Fits l (λ s. first s.ticks s) (λ s. second s.ticks s)
+counting_fits first second each = record {
+  joined = sides.counting_joined first second (λ ticks. (each ticks).joined);
+  keeps = λ s right. (each s.ticks).keeps s right;
+  spends = λ s. (each s.ticks).spends s;
+  tells = λ noting s right. (each s.ticks).tells noting s right;
+}
+
+-- a tick
+pub tick_fits : (l : Link) → Fits l tick tick
+tick_fits l = record {
+  joined = sides.tick_joined l;
+  keeps = tick_keeps;
+  spends = tick_spends;
+  tells = λ noting s right. tick_tells (l.telling noting) s;
 }
 
 -- what is done as the world has it

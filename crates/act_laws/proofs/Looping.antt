@@ -19,13 +19,13 @@ use Rattle.vb_meaning.specs.Statements.{condition}
 use Rattle.vb_meaning.specs.Step.{given}
 use Rattle.vb_meaning.specs.Values.{copied}
 use Rattle.act_laws.proofs.Calling.{block_fits}
-use Rattle.act_laws.proofs.Inside.{Inners, one, two, Same, seen_fits}
+use Rattle.act_laws.proofs.Inside.{Inners, one, two, Same, counted_fits}
 use Rattle.act_laws.proofs.Joined.{Link}
 use Rattle.act_laws.proofs.Linked.{Fits, turned, then_fits, value_fits, limit_fits, given_fits, world_fits}
-use Rattle.act_laws.proofs.Linked.{choice_fits}
+use Rattle.act_laws.proofs.Linked.{choice_fits, tick_fits}
 use Rattle.act_laws.proofs.Statements.{in_head_fits, condition_fits}
 use Rattle.act_laws.proofs.Turning.{line_turns}
-use Rattle.act_laws.proofs.Wantless.{seeing_wantless, given_wantless, tick_wantless}
+use Rattle.act_laws.proofs.Wantless.{seeing_wantless, given_wantless}
 use Rattle.act_laws.proofs.WantlessScopes.{within_wantless, set_variable_wantless, add_step_wantless}
 
 module _ (l : Link) (i : Inners l) where
@@ -40,7 +40,7 @@ module _ (l : Link) (i : Inners l) where
       → Fits l first second
       → Fits l (loops.turn l.E (one i) leaves body first) (loops.turn l.F (two i) leaves body second)
   turn_fits leaves body fit = then_fits
-      (then_fits (world_fits l tick_wantless) (λ done. block_fits l i body)) (next_turn_fits leaves fit)
+      (then_fits (tick_fits l) (λ done. block_fits l i body)) (next_turn_fits leaves fit)
 
   -- ---- Do and While
 
@@ -74,15 +74,15 @@ module _ (l : Link) (i : Inners l) where
   pub do_fits : (repeated : Repetition) (body : List Statement)
       → Same l i (λ E m. loops.do_statement E m repeated body)
   unfolding loops.do_statement
-  do_fits repeated body = seen_fits l i (λ E m world. loops.do_turns E m (world.ticks + 1) repeated body)
-      (λ world. do_turns_fit (world.ticks + 1) repeated body)
+  do_fits repeated body = counted_fits l i (λ E m ticks. loops.do_turns E m (ticks + 1) repeated body)
+      (λ ticks. do_turns_fit (ticks + 1) repeated body)
 
   pub while_fits : (test : Expression) (body : List Statement)
       → Same l i (λ E m. loops.while_statement E m test body)
   unfolding loops.while_statement
-  while_fits test body = seen_fits l i
-      (λ E m world. loops.before_turns E m (world.ticks + 1) loops.leaves_none (condition E m test) body)
-      (λ world. before_turns_fit (world.ticks + 1) loops.leaves_none body (condition_fits l i test))
+  while_fits test body = counted_fits l i
+      (λ E m ticks. loops.before_turns E m (ticks + 1) loops.leaves_none (condition E m test) body)
+      (λ ticks. before_turns_fit (ticks + 1) loops.leaves_none body (condition_fits l i test))
 
   -- ---- For
 
@@ -106,9 +106,9 @@ module _ (l : Link) (i : Inners l) where
       → Same l i (λ E m. loops.for_statement E m variable from to step body)
   unfolding loops.for_statement
   for_fits variable from to step body = then_fits (range_fits from to step) (λ found.
-      then_fits (world_fits l (set_variable_wantless variable (number_value found.from))) (λ done. seen_fits l i
-      (λ E m world. loops.for_turns E m (world.ticks + 1) variable found body)
-      (λ world. for_turns_fit (world.ticks + 1) variable found body)))
+      then_fits (world_fits l (set_variable_wantless variable (number_value found.from))) (λ done. counted_fits l i
+      (λ E m ticks. loops.for_turns E m (ticks + 1) variable found body)
+      (λ ticks. for_turns_fit (ticks + 1) variable found body)))
 
   -- ---- For Each
 
@@ -123,6 +123,6 @@ module _ (l : Link) (i : Inners l) where
       → Same l i (λ E m. loops.for_each_statement E m variable group body)
   unfolding loops.for_each_statement
   for_each_fits variable group body = then_fits (i.value_fits group) (λ value.
-      then_fits (world_fits l (seeing_wantless (λ world. given (loops.items_of world.heap (out-Value value)))
-      (λ world. given_wantless (loops.items_of world.heap (out-Value value)))))
+      then_fits (world_fits l (seeing_wantless (λ world. given (loops.items_of world.store (out-Value value)))
+      (λ world. given_wantless (loops.items_of world.store (out-Value value)))))
       (λ items. each_turns_fit variable items body))

@@ -16,7 +16,7 @@ use Rattle.vb_meaning.specs.declared.reached.Assigned.{Assigned}
 use Rattle.vb_meaning.specs.declared.reached.Assigned.TheVariants.{Let as ByLet, Set as BySet}
 use Rattle.vb_meaning.specs.declared.world.Exit.{Exit}
 use Rattle.vb_meaning.specs.declared.world.Exit.TheVariants.{Next, Leave}
-use Rattle.vb_meaning.specs.declared.world.World.{World}
+use Rattle.vb_meaning.specs.World.{World}
 use Rattle.vb_meaning.specs.Asking.{ask}
 use Rattle.vb_meaning.specs.Errors.{in_line, resumed, cleared}
 use Rattle.vb_meaning.specs.Executing as executing
@@ -33,18 +33,18 @@ use Rattle.act_laws.proofs.Calling.{enter_of_fits}
 use Rattle.act_laws.proofs.Expressions.{valued_fits, argument_of_fits, written_or_fits}
 use Rattle.act_laws.proofs.Inside.{Inners, one, two, Same}
 use Rattle.act_laws.proofs.Joined.{Link}
-use Rattle.act_laws.proofs.Linked.{Fits, turned, then_fits, value_fits, world_fits, seeing_fits}
+use Rattle.act_laws.proofs.Linked.{Fits, turned, then_fits, value_fits, tick_fits, world_fits, seeing_fits}
 use Rattle.act_laws.proofs.Looping.{do_fits, while_fits, for_fits, for_each_fits}
 use Rattle.act_laws.proofs.Releasing.{release_turns}
 use Rattle.act_laws.proofs.Statements.{redim_fits, assignment_fits, if_fits, select_fits, with_fits, call_of_fits}
 use Rattle.act_laws.proofs.Statements.{write_fits, handles_fit}
 use Rattle.act_laws.proofs.Turning.{line_turns, resumed_turns}
-use Rattle.act_laws.proofs.Wantless.{tick_wantless, deep_wantless, change_wantless}
+use Rattle.act_laws.proofs.Wantless.{deep_wantless, change_wantless}
 use Rattle.act_laws.proofs.WantlessScopes.{erase_all_wantless}
 
 -- ---- statements
 
--- what an Exit does to Err leaves the account of objects, and the ticks
+-- what an Exit does to Err leaves the account of objects
 left_still : (kind : ExitKind) (world : World)
     → told (if clears_err kind then cleared world else world) ≡ told world
 left_still kind world = elim (clears_err kind)
@@ -88,7 +88,7 @@ module _ (l : Link) (i : Inners l) where
 
   executed_fits : (line : ℕ) (said : executing.Said) → Same l i (λ E m. executing.executed E m line said)
   executed_fits line StatementKind-F.Declaration = value_fits l Next
-  executed_fits line said = whole_fits line (then_fits (world_fits l tick_wantless) (λ done. does_fits said))
+  executed_fits line said = whole_fits line (then_fits (tick_fits l) (λ done. does_fits said))
 
   pub statement_of_fits : (found : Statement) → Same l i (λ E m. executing.statement_of E m found)
   unfolding executing.statement_of

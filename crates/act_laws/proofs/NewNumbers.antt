@@ -20,14 +20,14 @@ use Rattle.vb_heap.specs.Objects.{new_object_of, with_new_object}
 use Rattle.vb_heap.specs.Releases.{object_of}
 use Rattle.vb_heap.specs.Store.{numbered}
 use Rattle.vb_meaning.specs.declared.reached.Argument.{Argument}
-use Rattle.vb_meaning.specs.declared.world.World.{World}
+use Rattle.vb_meaning.specs.World.{World}
 use Rattle.vb_meaning.specs.Inner.{Inner, Owner}
 use Rattle.vb_meaning.specs.Making as making
 use Rattle.vb_meaning.specs.Meaning.{inside}
 use Rattle.vb_meaning.specs.Objects.{class_at}
 use Rattle.vb_meaning.specs.Places.{hold}
 use Rattle.vb_meaning.specs.Reading.{create_object, created}
-use Rattle.vb_meaning.specs.State.{State, heap_answer, lifted, on_heap, with_heap}
+use Rattle.vb_meaning.specs.State.{State, store_answer, lifted, on_store, with_store}
 use Rattle.vb_meaning.specs.Step.{Step, Returns, Ends, Run, and_then, ◌>>=◌, ◌>>◌, pure, given, fails}
 use Rattle.act_laws.specs.Laws.{NewNumbersAreFree}
 use Rattle.act_laws.specs.Numbers.{Gives, IsNext}
@@ -44,8 +44,8 @@ use Rattle.act_laws.proofs.WantlessScopes.{fields_made_wantless}
 
 -- it has that number, and others were not made before it
 abbrev IsMade : World → ObjNo → World → Type 0
-IsMade before object after = (object ≡ object_of before.heap.objects_made)
-    × (before.heap.objects_made < after.heap.objects_made) × AddsUp (account_of after)
+IsMade before object after = (object ≡ object_of before.store.objects_made)
+    × (before.store.objects_made < after.store.objects_made) × AddsUp (account_of after)
 
 -- what is made of it keeps the account, and gives the object itself
 abbrev behind : ObjNo → List Field → Run World ObjNo
@@ -64,27 +64,27 @@ behind_gives before world object fields made =
     by (Ends why after) kept = tt
 
 object_gives : (number : ℕ) (fields : List Field) (world : World) → AddsUp (account_of world)
-    → Gives (IsMade world) ((on_heap (new_object_of number (length fields)) (with_new_object number (length fields))
+    → Gives (IsMade world) ((on_store (new_object_of number (length fields)) (with_new_object number (length fields))
     >>= (λ object. behind object fields)) world)
-object_gives number fields world right = by (new_object_of number (length fields) world.heap) refl
+object_gives number fields world right = by (new_object_of number (length fields) world.store) refl
   where
     changed : World
-    changed = with_heap (with_new_object number (length fields)) world
+    changed = with_store (with_new_object number (length fields)) world
 
     is_it : (fitting : Bool) (object : ObjNo) (made : ObjNo) (why : HeapStop)
         → (if fitting then Ok made else Err why) ≡ Ok object → object ≡ made
     is_it true object made why is = cc
     is_it false object made why is = absurd (cc)
 
-    by : (found : Result ObjNo HeapStop) → new_object_of number (length fields) world.heap ≡ found
-        → Gives (IsMade world) (and_then (heap_answer found changed world) (λ object. behind object fields))
+    by : (found : Result ObjNo HeapStop) → new_object_of number (length fields) world.store ≡ found
+        → Gives (IsMade world) (and_then (store_answer found changed world) (λ object. behind object fields))
     by (Err why) is = tt
     by (Ok object) is =
-        let settled = object_settles number (length fields) world.heap world.finished right
+        let settled = object_settles number (length fields) world.store world.finished right
         (subst (λ (answer : Result ObjNo HeapStop). IsTrue (is_ok answer)) (sym is) refl) in
         behind_gives world changed object fields (
-          is_it (fits (with_new_object number (length fields) world.heap)) object
-              (record { 0 = world.heap.objects_made }) _ is,
+          is_it (fits (with_new_object number (length fields) world.store)) object
+              (record { 0 = world.store.objects_made }) _ is,
           omega arith,
           settled.onward.adds_up,
         )
@@ -111,7 +111,7 @@ module _ (E : Type 0) (m : Inner E)
       by (Ends why after) kept = tt
 
   let_go_gives : (before : World) (change : World → World)
-      → ((world : World) → (change world).heap.objects_made ≡ world.heap.objects_made) → (step : Step (State E) Value)
+      → ((world : World) → (change world).store.objects_made ≡ world.store.objects_made) → (step : Step (State E) Value)
       → Gives (λ value after. IsNext before value after.world) step
       → Gives (λ value after. IsNext before value after.world)
       (and_then step (λ value s. Returns value (record s { world = change s.world })))
@@ -122,7 +122,7 @@ module _ (E : Type 0) (m : Inner E)
   made_gives : (number : ℕ) (class : Class) (s : State E) → AddsUp (account_at s)
       → Gives (λ value after. IsNext s.world value after.world) (making.made E m number class s)
   made_gives number class s right = let_go_gives s.world _ (λ world. refl) _
-      (by ((on_heap (new_object_of number (length class.fields)) (with_new_object number (length class.fields))
+      (by ((on_store (new_object_of number (length class.fields)) (with_new_object number (length class.fields))
       >>= (λ object. behind object class.fields)) s.world) (object_gives number class.fields s.world right))
     where
       initialize : Option Procedure
@@ -130,9 +130,9 @@ module _ (E : Type 0) (m : Inner E)
 
       by : (step : Step World ObjNo) → Gives (IsMade s.world) step
           → Gives (λ (value : Value) (after : State E). IsNext s.world value after.world)
-          (and_then (lifted s.env s.replies step) (λ object. making.initialized E m object number initialize))
+          (and_then (lifted s step) (λ object. making.initialized E m object number initialize))
       by (Returns object world) made = initialized_gives s.world
-          (record { world = world; env = s.env; replies = s.replies }) object number initialize made
+          (record s { world = world }) object number initialize made
       by (Ends why world) made = tt
 
   made_of_gives : (number : Option ℕ) (class : Option Class) (s : State E) → AddsUp (account_at s)
@@ -151,12 +151,12 @@ module _ (E : Type 0) (m : Inner E)
 created_gives : (name : List ℕ) (world : World) → Gives (IsNext world) (created name world)
 created_gives name world = by (same_name (codes "scripting.dictionary") name)
   where
-    table : (found : Result ObjNo HeapStop) → new_table_of world.heap ≡ found → Gives (IsNext world)
-        (and_then (heap_answer found (with_heap with_new_table world) world) (λ object. pure (Obj object)))
+    table : (found : Result ObjNo HeapStop) → new_table_of world.store ≡ found → Gives (IsNext world)
+        (and_then (store_answer found (with_store with_new_table world) world) (λ object. pure (Obj object)))
     table (Err why) is = tt
     table (Ok object) is = record {
-      is = ap (λ found. Obj found) (is_it (fits (with_new_table world.heap)) object
-          (record { 0 = world.heap.objects_made }) _ is);
+      is = ap (λ found. Obj found) (is_it (fits (with_new_table world.store)) object
+          (record { 0 = world.store.objects_made }) _ is);
       later = omega arith;
     }
       where
@@ -166,9 +166,9 @@ created_gives name world = by (same_name (codes "scripting.dictionary") name)
         is_it false object made why is = absurd (cc)
 
     by : (is_dictionary : Bool) → Gives (IsNext world) ((if is_dictionary
-        then on_heap new_table_of with_new_table >>= (λ object. pure (Obj object))
+        then on_store new_table_of with_new_table >>= (λ object. pure (Obj object))
         else fails cannot_create_object) world)
-    by true = table (new_table_of world.heap) refl
+    by true = table (new_table_of world.store) refl
     by false = tt
 
 create_gives : (arguments : List Value) (world : World) → Gives (IsNext world) (create_object arguments world)
@@ -182,10 +182,10 @@ create_gives (name ∷ more ∷ others) world = tt
 
 -- no object that is there has the number that the next is to have
 none_there : {E : Type 0} (s : State E) → AddsUp (account_at s)
-    → numbered s.world.heap.objects_made s.world.heap.objects ≡ None
-none_there s right = unmarked_none (numbered s.world.heap.objects_made s.world.heap.objects)
-    (sym (marked_by s.world.heap.objects s.world.heap.objects_made)
-    ∙ none_above (marks s.world.heap.objects) s.world.heap.objects_made s.world.heap.objects_made right.below
+    → numbered s.world.store.objects_made s.world.store.objects ≡ None
+none_there s right = unmarked_none (numbered s.world.store.objects_made s.world.store.objects)
+    (sym (marked_by s.world.store.objects s.world.store.objects_made)
+    ∙ none_above (marks s.world.store.objects) s.world.store.objects_made s.world.store.objects_made right.below
     (omega arith))
   where
     unmarked_none : (found : Option Object) → option_map (λ (object : Object). object.ending) found ≡ None

@@ -20,7 +20,7 @@ use Rattle.vb_meaning.specs.declared.reached.Argument.{Argument}
 use Rattle.vb_meaning.specs.declared.reached.Argument.TheVariants.{Value as OfValue}
 use Rattle.vb_meaning.specs.declared.reached.Assigned.{Assigned}
 use Rattle.vb_meaning.specs.declared.stop.Stop.TheVariants as stop
-use Rattle.vb_meaning.specs.declared.world.World.{World}
+use Rattle.vb_meaning.specs.World.{World}
 use Rattle.vb_meaning.specs.Asking.{Host, Said, ask, heard, name_values}
 use Rattle.vb_meaning.specs.Expressions.{bare}
 use Rattle.vb_meaning.specs.Inner.{Owner}
@@ -30,7 +30,7 @@ use Rattle.vb_meaning.specs.Step.{Step, Returns, Ends}
 use Rattle.act_laws.specs.Entries.{AreOf, EntersEach, Noted, Notes, beside_notes, ends_by, entering, is_among}
 use Rattle.act_laws.specs.Entries.{noted_entry, noted_levels, running_again, said_beside}
 use Rattle.act_laws.specs.Objects.{Account, IsEnding, Kept, account_at, account_of}
-use Rattle.act_laws.specs.Ticks.{state_of}
+use Rattle.vb_meaning.specs.Step.{state_of}
 use Rattle.act_laws.proofs.Assigning.{assign_to_fits}
 use Rattle.act_laws.proofs.Calling.{enter_of_fits}
 use Rattle.act_laws.proofs.Entered.{HasEntered, NotesEntries}
@@ -72,9 +72,10 @@ ends_found found running there object = by (ends_now found) refl
     by true is = ap (λ b. if b then None else Some object) (there is)
 
 -- an object that is found ending is marked so
-marked_as : {F : Type 0} (number : ℕ) (s : State F) (thing : Object) → numbered number s.world.heap.objects ≡ Some thing
+marked_as : {F : Type 0} (number : ℕ) (s : State F) (thing : Object)
+    → numbered number s.world.store.objects ≡ Some thing
     → thing.ending ≡ true → IsEnding number (account_at s)
-marked_as number s thing is now = marked_by s.world.heap.objects number
+marked_as number s thing is now = marked_by s.world.store.objects number
     ∙ ap (λ found. option_map (λ (object : Object). object.ending) found) is ∙ ap (λ (b : Bool). Some b) now
 
 module _ (E : Type 0) (host : Host E) (program : Program) where
@@ -97,35 +98,36 @@ module _ (E : Type 0) (host : Host E) (program : Program) where
 
   -- ---- questions
 
-  heard_beside : (member : Member) (arguments : List Value) (world : World) (replies : List AppReply) (said : Said E)
-      (notes : Notes) → Alike beside (heard host member arguments world replies said)
-      (heard (beside_notes host) member arguments world replies (said_beside notes said))
-  heard_beside member arguments world replies (Ok (given.Value value, env)) notes =
-      gives value world env replies (env, notes) replies (refl, refl)
-  heard_beside member arguments world replies (Ok (given.Names names, env)) notes =
-      gives (array_of (name_values names)) world env replies (env, notes) replies (refl, refl)
-  heard_beside member arguments world [] (Ok (given.Call call, env)) notes =
-      ends (stop.Wants call) world env [] (env, notes) [] (refl, refl)
-  heard_beside member arguments world (reply ∷ replies) (Ok (given.Call call, env)) notes =
-      heard_beside member arguments world replies (host.answered member arguments reply env) notes
-  heard_beside member arguments world replies (Err (reason, env)) notes =
-      ends_for beside reason world env replies (env, notes) replies (refl, refl) (λ is. (refl, refl))
+  heard_beside : (member : Member) (arguments : List Value) (world : World) (ticks : ℕ) (replies : List AppReply)
+      (said : Said E)
+      (notes : Notes) → Alike beside (heard host member arguments world ticks replies said)
+      (heard (beside_notes host) member arguments world ticks replies (said_beside notes said))
+  heard_beside member arguments world ticks replies (Ok (given.Value value, env)) notes =
+      gives value world ticks env replies (env, notes) replies (refl, refl)
+  heard_beside member arguments world ticks replies (Ok (given.Names names, env)) notes =
+      gives (array_of (name_values names)) world ticks env replies (env, notes) replies (refl, refl)
+  heard_beside member arguments world ticks [] (Ok (given.Call call, env)) notes =
+      ends (stop.Wants call) world ticks env [] (env, notes) [] (refl, refl)
+  heard_beside member arguments world ticks (reply ∷ replies) (Ok (given.Call call, env)) notes =
+      heard_beside member arguments world ticks replies (host.answered member arguments reply env) notes
+  heard_beside member arguments world ticks replies (Err (reason, env)) notes =
+      ends_for beside reason world ticks env replies (env, notes) replies (refl, refl) (λ is. (refl, refl))
 
   asks_joined : (member : Member) (arguments : List Value)
       → Joined beside (ask host member arguments) (ask (beside_notes host) member arguments)
   unfolding ask
   asks_joined member arguments = record {
-    alike = λ world env replies other others now.
+    alike = λ world ticks env replies other others now.
         subst (λ found. Alike beside
-        (heard host member arguments world replies (host.asked member arguments found))
-        (heard (beside_notes host) member arguments world others
+        (heard host member arguments world ticks replies (host.asked member arguments found))
+        (heard (beside_notes host) member arguments world ticks others
         (said_beside other.1 (host.asked member arguments other.0))))
         now.0 (subst (λ left. Alike beside
-        (heard host member arguments world replies (host.asked member arguments other.0))
-        (heard (beside_notes host) member arguments world left
+        (heard host member arguments world ticks replies (host.asked member arguments other.0))
+        (heard (beside_notes host) member arguments world ticks left
         (said_beside other.1 (host.asked member arguments other.0))))
-        (sym now.1) (heard_beside member arguments world replies (host.asked member arguments other.0) other.1));
-    goes_on = λ call world other others past. absurd past;
+        (sym now.1) (heard_beside member arguments world ticks replies (host.asked member arguments other.0) other.1));
+    goes_on = λ call world ticks other others past. absurd past;
   }
 
   same_told : (s after : State (Noted E)) → after.world ≡ s.world → after.env.1 ≡ s.env.1 → Told telling_of s after
@@ -138,7 +140,7 @@ module _ (E : Type 0) (host : Host E) (program : Program) where
 
   heard_told : (s : State (Noted E)) (member : Member) (arguments : List Value) (replies : List AppReply)
       (said : Said E) → Told telling_of s
-      (state_of (heard (beside_notes host) member arguments s.world replies (said_beside s.env.1 said)))
+      (state_of (heard (beside_notes host) member arguments s.world s.ticks replies (said_beside s.env.1 said)))
   heard_told s member arguments replies (Ok (given.Value value, env)) = same_told s _ refl refl
   heard_told s member arguments replies (Ok (given.Names names, env)) = same_told s _ refl refl
   heard_told s member arguments [] (Ok (given.Call call, env)) = same_told s _ refl refl
@@ -164,18 +166,18 @@ module _ (E : Type 0) (host : Host E) (program : Program) where
 
   again_alike : {A : Type 0} (running : List ℕ) (first : Step (State E) A) (second : Step (State (Noted E)) A)
       → Alike beside first second → Alike beside first (running_again running second)
-  again_alike running _ _ (gives value world env replies other others now) =
-      gives value world env replies (other.0, record other.1 { running = running }) others now
-  again_alike running _ _ (ends (stop.Error what line) world env replies other others now) =
-      ends (stop.Error what line) world env replies (other.0, record other.1 { running = running }) others now
-  again_alike running _ _ (ends (stop.Limit kind line) world env replies other others now) =
-      ends (stop.Limit kind line) world env replies (other.0, record other.1 { running = running }) others now
-  again_alike running _ _ (ends (stop.Wants call) world env replies other others now) =
-      ends (stop.Wants call) world env replies (other.0, record other.1 { running = running }) others now
-  again_alike running _ _ (ends stop.Page world env replies other others now) =
-      ends stop.Page world env replies (other.0, record other.1 { running = running }) others now
-  again_alike running _ _ (ends stop.Memory world env replies other others now) =
-      ends stop.Memory world env replies (other.0, record other.1 { running = running }) others now
+  again_alike running _ _ (gives value world ticks env replies other others now) =
+      gives value world ticks env replies (other.0, record other.1 { running = running }) others now
+  again_alike running _ _ (ends (stop.Error what line) world ticks env replies other others now) =
+      ends (stop.Error what line) world ticks env replies (other.0, record other.1 { running = running }) others now
+  again_alike running _ _ (ends (stop.Limit kind line) world ticks env replies other others now) =
+      ends (stop.Limit kind line) world ticks env replies (other.0, record other.1 { running = running }) others now
+  again_alike running _ _ (ends (stop.Wants call) world ticks env replies other others now) =
+      ends (stop.Wants call) world ticks env replies (other.0, record other.1 { running = running }) others now
+  again_alike running _ _ (ends stop.Page world ticks env replies other others now) =
+      ends stop.Page world ticks env replies (other.0, record other.1 { running = running }) others now
+  again_alike running _ _ (ends stop.Memory world ticks env replies other others now) =
+      ends stop.Memory world ticks env replies (other.0, record other.1 { running = running }) others now
   again_alike running _ second (gone call s _ past) = absurd past
 
   again_kept : {A : Type 0} (running : List ℕ) (before : Account) (step : Step (State (Noted E)) A)
@@ -211,20 +213,20 @@ module _ (E : Type 0) (host : Host E) (program : Program) where
     entering_joined : (owner : Owner) (procedure : Procedure) (arguments : List Argument)
         → Joined beside (first owner procedure arguments) (entering second owner procedure arguments)
     entering_joined owner procedure arguments = record {
-      alike = λ world env replies other others now. again_alike other.1.running _ _
-          ((fits owner procedure arguments).joined.alike world env replies
+      alike = λ world ticks env replies other others now. again_alike other.1.running _ _
+          ((fits owner procedure arguments).joined.alike world ticks env replies
           (other.0, noted_entry (ends_by owner world other.1) procedure other.1) others now);
-      goes_on = λ call world other others past. absurd past;
+      goes_on = λ call world ticks other others past. absurd past;
     }
 
     -- in a state whose notes are right no procedure is entered as a terminator
     not_noted : (owner : Owner) (s : State (Noted E)) → AreOf s.world s.env.1 → ends_by owner s.world s.env.1 ≡ None
     not_noted None s right = refl
-    not_noted (Some (object, class)) s right = ends_found (numbered object.0 s.world.heap.objects)
+    not_noted (Some (object, class)) s right = ends_found (numbered object.0 s.world.store.objects)
         (is_among object.0 s.env.1.running)
-        (λ now. right.ending object.0 (ending_by (numbered object.0 s.world.heap.objects) refl now)) object.0
+        (λ now. right.ending object.0 (ending_by (numbered object.0 s.world.store.objects) refl now)) object.0
       where
-        ending_by : (found : Option Object) → numbered object.0 s.world.heap.objects ≡ found → ends_now found ≡ true
+        ending_by : (found : Option Object) → numbered object.0 s.world.store.objects ≡ found → ends_now found ≡ true
             → IsEnding object.0 (account_of s.world)
         ending_by None is now = absurd (cc)
         ending_by (Some thing) is now = marked_as object.0 s thing is now
@@ -253,8 +255,8 @@ module _ (E : Type 0) (host : Host E) (program : Program) where
     pub entering_notes : NotesEntries telling_of (entering second)
     entering_notes object class procedure s is apart right =
         let owner : Owner = Some (object_of object, class) in
-        let now : ends_now (numbered object s.world.heap.objects) ≡ true =
-        ended_at s.world.heap object s.world.finished (numbered object s.world.heap.objects) refl is in
+        let now : ends_now (numbered object s.world.store.objects) ≡ true =
+        ended_at s.world.store object s.world.finished (numbered object s.world.store.objects) refl is in
         let note : ends_by owner s.world s.env.1 ≡ Some object = rw now (rw apart refl) in
         subst (λ note. HasEntered telling_of object (Some procedure) s (state_of (running_again s.env.1.running
         (second owner procedure [] (noting_in note procedure s))))) (sym note)

@@ -7,7 +7,7 @@ use Rattle.vb_meaning.specs.declared.stop.Stop.TheVariants as stop
 use Rattle.vb_meaning.specs.Inner.{Inner, Owner}
 use Rattle.vb_meaning.specs.Meaning.{inside}
 use Rattle.vb_meaning.specs.Releases.{end_all, settle, settle_last, terminate}
-use Rattle.vb_meaning.specs.State.{State, with_heap}
+use Rattle.vb_meaning.specs.State.{State, with_store}
 use Rattle.vb_meaning.specs.Step.{Step, Returns, Ends, ◌>>◌}
 use Rattle.act_laws.specs.Laws.{TerminatorsRunOnce}
 use Rattle.act_laws.specs.Objects.{Account, AddsUp, HasBegun, HasEnded, IsEnding, IsLive, account_at, account_of}
@@ -59,17 +59,17 @@ leaves_none stops before (Returns done s) comes = comes.1
 leaves_none stops before (Ends why s) comes = tt
 
 begins : {E : Type 0} (s : State E) (object : ℕ) → AddsUp (account_at s) → IsLive object (account_at s)
-    → IsEnding object (account_of (with_heap (with_ending (Some object)) s.world))
+    → IsEnding object (account_of (with_store (with_ending (Some object)) s.world))
 begins s object right live = subst (λ account. IsEnding object account)
-    (sym (ending_marks s.world.heap object s.world.finished live)) (marked (account_at s) object right live)
+    (sym (ending_marks s.world.store object s.world.finished live)) (marked (account_at s) object right live)
 
 module _ (E : Type 0) (m : Inner E)
     (enter : (owner : Owner) (procedure : Procedure) (arguments : List Argument)
     → Keeps account_at (m.enter owner procedure arguments)) where
   runs_each : (s : State E) → AddsUp (account_at s) → RunsEach E m s
   runs_each s right = record {
-    loose = λ object is. loose_is_live s.world.heap object s.world.finished right.differ is;
-    last = λ object is. oldest_is_live s.world.heap object s.world.finished right.differ is;
+    loose = λ object is. loose_is_live s.world.store object s.world.finished right.differ is;
+    last = λ object is. oldest_is_live s.world.store object s.world.finished right.differ is;
     begins = λ object live. begins s object right live;
     ends = λ object ends. comes_out object (account_at s) right ends (terminate E m object s)
         (terminate_out E m enter object s right ends);

@@ -1,5 +1,5 @@
 -- A page of one text writes it and ends.
-use Rattle.std.proofs.Common.{ℕ, ◌-◌, ◌≡◌, List, [], ◌∷◌, Option, Some, Ok, refl, ap, ◌∙◌}
+use Rattle.std.proofs.Common.{ℕ, ◌-◌, ◌≡◌, List, [], ◌∷◌, Some, Ok, refl, ap, ◌∙◌}
 use Rattle.vb_value.specs.declared.application.AppReply.{AppReply}
 use Rattle.vb_value.specs.declared.value.Value.{Value, Str}
 use Rattle.vb_syntax.specs.declared.act.Act.TheVariants as act
@@ -11,10 +11,10 @@ use Rattle.vb_syntax.specs.declared.program.statement.Statement.{Statement}
 use Rattle.vb_syntax.specs.declared.program.statement.StatementKind.{out-StatementKind}
 use Rattle.vb_syntax.specs.declared.program.statement.StatementKind.TheOpen.{StatementKind-F}
 use Rattle.vb_syntax.specs.declared.program.unit.Constant.{Constant}
-use Rattle.vb_syntax.specs.declared.program.unit.DeclaredArray.{DeclaredArray}
+use Rattle.vb_syntax.specs.declared.program.unit.Variable.{Variable}
 use Rattle.vb_meaning.specs.declared.plain_end.PlainEnd.TheVariants.{Ends as Ended}
 use Rattle.vb_meaning.specs.declared.world.Exit.TheVariants.{Next}
-use Rattle.vb_meaning.specs.declared.world.World.{World}
+use Rattle.vb_meaning.specs.World.{World}
 use Rattle.vb_meaning.specs.Acts as acts
 use Rattle.vb_meaning.specs.Asking.{Host, ask, heard}
 use Rattle.vb_meaning.specs.Blocks.{after, block}
@@ -29,23 +29,19 @@ use Rattle.vb_meaning.specs.Statements.{write}
 use Rattle.vb_meaning.specs.Step.{Returns, Run, and_then, ◌>>=◌, ◌>>◌, pure}
 use Rattle.act_laws.specs.Laws.{IsOneText, OneTextIsWritten}
 
--- the world behind one statement
-abbrev ticked : World
-ticked = record acts.fresh_world { ticks = acts.most_ticks - 1 }
-
 module _ (E : Type 0) (m : Inner E) (env behind : E) (replies : List AppReply) (value : Value) (text : List ℕ)
     (asked : m.host.asked ResponseWrite (Str text ∷ []) env ≡ Ok (given.Value value, behind)) where
   -- the state before, and the state behind it
   abbrev first : State E
-  first = record { world = acts.fresh_world; env = env; replies = replies }
+  first = record { world = acts.fresh_world; ticks = acts.most_ticks; env = env; replies = replies }
 
   abbrev last : State E
-  last = record { world = ticked; env = behind; replies = replies }
+  last = record { world = acts.fresh_world; ticks = acts.most_ticks - 1; env = behind; replies = replies }
 
-  written : write E m (Str text) (record { world = ticked; env = env; replies = replies }) ≡ Returns Next last
+  written : write E m (Str text) (record first { ticks = acts.most_ticks - 1 }) ≡ Returns Next last
   unfolding ask
-  written = ap (λ said. and_then (heard m.host ResponseWrite (Str text ∷ []) ticked replies said) (λ done. pure Next))
-      asked
+  written = ap (λ said. and_then (heard m.host ResponseWrite (Str text ∷ []) acts.fresh_world (acts.most_ticks - 1)
+      replies said) (λ done. pure Next)) asked
 
   text_executed : (line : ℕ) → executed E m line (StatementKind-F.PageText text) first ≡ Returns Next last
   unfolding tick settle
@@ -62,11 +58,11 @@ module _ (E : Type 0) (m : Inner E) (env behind : E) (replies : List AppReply) (
   page_ended = refl
 
 -- what is made where nothing is declared
-abbrev makes : List (Option DeclaredArray) → List Constant → Run World (Unit {0})
+abbrev makes : List Variable → List Constant → Run World (Unit {0})
 makes variables constants = declared_cells [] (first_fault constants) variables >>= (λ cells world.
     (constants_made constants >> pure tt) (record world { page = cells }))
 
-nothing_made : (variables : List (Option DeclaredArray)) (constants : List Constant) → variables ≡ [] → constants ≡ []
+nothing_made : (variables : List Variable) (constants : List Constant) → variables ≡ [] → constants ≡ []
     → makes variables constants acts.fresh_world ≡ Returns tt acts.fresh_world
 nothing_made [] [] none bare = refl
 nothing_made (first ∷ others) constants none bare = absurd (cc)
@@ -79,10 +75,10 @@ module _ (E : Type 0) (host : Host E) (program : Program) (env behind : E) (repl
   m = inside E host program most_levels
 
   abbrev begun : State E
-  begun = record { world = acts.fresh_world; env = env; replies = replies }
+  begun = record { world = acts.fresh_world; ticks = acts.most_ticks; env = env; replies = replies }
 
   abbrev left : State E
-  left = record { world = ticked; env = behind; replies = replies }
+  left = record { world = acts.fresh_world; ticks = acts.most_ticks - 1; env = behind; replies = replies }
 
   stated : m.statement page.statement begun ≡ Returns Next left
   unfolding statement
@@ -93,7 +89,7 @@ module _ (E : Type 0) (host : Host E) (program : Program) (env behind : E) (repl
       ∙ ap (λ step. and_then (and_then step (after E m (block E m []))) (λ done. pure tt)) stated
 
   all_run : (on_world (acts.page_begins program.unit) >> acts.part E m act.Body) begun ≡ Returns tt left
-  all_run = ap (λ step. and_then (lifted env replies step) (λ done. acts.part E m act.Body))
+  all_run = ap (λ step. and_then (lifted begun step) (λ done. acts.part E m act.Body))
       (nothing_made program.unit.variables program.unit.constants page.variables page.constants) ∙ body_run
 
   pub one_act : acts.act_of E host program act.Body env replies

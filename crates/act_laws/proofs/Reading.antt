@@ -21,7 +21,7 @@ use Rattle.vb_heap.specs.Store.{numbered}
 use Rattle.vb_meaning.specs.declared.reached.Argument.{Argument}
 use Rattle.vb_meaning.specs.declared.reached.Reached.{Reached}
 use Rattle.vb_meaning.specs.declared.reached.Reached.TheVariants.{Place as AtPlace, Value as AtValue}
-use Rattle.vb_meaning.specs.declared.world.World.{World}
+use Rattle.vb_meaning.specs.World.{World}
 use Rattle.vb_meaning.specs.Accesses.{Access, Group, Member, accesses, member_before, given_arguments, call_split}
 use Rattle.vb_meaning.specs.ErrObject.{err_value}
 use Rattle.vb_meaning.specs.Inner.{Owner}
@@ -74,8 +74,8 @@ module _ (l : Link) (i : Inners l) where
 
   pub field_fits : (object : ObjNo) (number : ℕ) → Same l i (λ E m. reading.field_place E m object number)
   field_fits object number = world_fits l (then_wantless
-      (seeing_wantless (λ world. given (field_of number (numbered object.0 world.heap.objects)))
-      (λ world. given_wantless (field_of number (numbered object.0 world.heap.objects))))
+      (seeing_wantless (λ world. given (field_of number (numbered object.0 world.store.objects)))
+      (λ world. given_wantless (field_of number (numbered object.0 world.store.objects))))
       (λ cell. pure_wantless (AtPlace (cell_place cell))))
 
   field_reached_fits : (object : ObjNo) (number : ℕ) (supplied : Option (List Expression))
@@ -110,10 +110,10 @@ module _ (l : Link) (i : Inners l) where
       world_fits l (then_wantless (hold_wantless whole) (λ done. given_wantless (object_in whole)))
 
   pub class_fits : (object : ObjNo)
-      → Same l i (λ E m. on_world (λ world. given (class_of (numbered object.0 world.heap.objects)) world))
+      → Same l i (λ E m. on_world (λ world. given (class_of (numbered object.0 world.store.objects)) world))
   class_fits object = world_fits l
-      (seeing_wantless (λ world. given (class_of (numbered object.0 world.heap.objects)))
-      (λ world. given_wantless (class_of (numbered object.0 world.heap.objects))))
+      (seeing_wantless (λ world. given (class_of (numbered object.0 world.store.objects)))
+      (λ world. given_wantless (class_of (numbered object.0 world.store.objects))))
 
   member_fits : (whole : Value) (name : ℕ) (supplied : Option (List Expression))
       → Same l i (λ E m. reading.member_of E m whole name supplied)

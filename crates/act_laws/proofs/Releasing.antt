@@ -5,16 +5,16 @@ use Rattle.vb_value.specs.declared.value.Value.{Empty}
 use Rattle.vb_syntax.specs.declared.program.unit.Procedure.{Procedure}
 use Rattle.vb_heap.specs.Limits.{most_objects}
 use Rattle.vb_heap.specs.Releases.{oldest_loose, oldest_live, with_ending, object_of}
-use Rattle.vb_heap.specs.Store.{numbered}
 use Rattle.vb_meaning.specs.declared.stop.Stop.TheVariants as stop
-use Rattle.vb_meaning.specs.declared.world.World.{World}
+use Rattle.vb_meaning.specs.World.{World}
 use Rattle.vb_meaning.specs.Errors.{in_line}
 use Rattle.vb_meaning.specs.Inner.{Inner}
 use Rattle.vb_meaning.specs.Objects.{class_at}
 use Rattle.vb_meaning.specs.Places.{let_go}
 use Rattle.vb_meaning.specs.Releases as releases
-use Rattle.vb_meaning.specs.State.{State, Does, with_heap}
+use Rattle.vb_meaning.specs.State.{State, Does, with_store}
 use Rattle.vb_meaning.specs.Step.{Step, Returns, Ends, and_then, ◌>>◌, pure, ends as step_ends}
+use Rattle.vb_meaning.specs.Stored.{class_number}
 use Rattle.act_laws.proofs.Inside.{Inners, one, two, Same}
 use Rattle.act_laws.specs.Objects.{Account, Kept, account_at}
 use Rattle.act_laws.proofs.Ending.{settle_keeps}
@@ -46,9 +46,9 @@ module _ (l : Link) (i : Inners l) where
   unfolding releases.terminate
   terminate_joined object = seen_joined
       (λ E m world s. releases.terminated E object world
-      (releases.terminator_of E m object (releases.class_number (numbered object world.heap.objects))
+      (releases.terminator_of E m object (class_number object world.store)
       (releases.in_world E (releases.terminating s.world) s)))
-      (λ world. let class = releases.class_number (numbered object world.heap.objects) in
+      (λ world. let class = class_number object world.store in
       turn_joined (terminated_joined l object world) (moved_joined releases.terminating
       (terminator_joined object class (releases.terminator_in (class_at i.program class)))))
 
@@ -58,14 +58,14 @@ module _ (l : Link) (i : Inners l) where
       → Joined l first second
       → Joined l (releases.released_one l.E (one i) first found) (releases.released_one l.F (two i) second found)
   released_one_joined (Some object) fit =
-      moved_joined (with_heap (with_ending (Some object))) (then_joined (terminate_joined object) (λ done. fit))
+      moved_joined (with_store (with_ending (Some object))) (then_joined (terminate_joined object) (λ done. fit))
   released_one_joined None fit = value_joined l tt
 
   settle_times_joined : (times : ℕ) → Both (λ E m. releases.settle_times E m times)
   settle_times_joined zero = value_joined l tt
   settle_times_joined (suc more) = seen_joined
-      (λ E m world. releases.released_one E m (releases.settle_times E m more) (oldest_loose world.heap))
-      (λ world. released_one_joined (oldest_loose world.heap) (settle_times_joined more))
+      (λ E m world. releases.released_one E m (releases.settle_times E m more) (oldest_loose world.store))
+      (λ world. released_one_joined (oldest_loose world.store) (settle_times_joined more))
 
   settle_joined : Both (λ E m. releases.settle E m)
   unfolding releases.settle
@@ -88,10 +88,10 @@ module _ (l : Link) (i : Inners l) where
       goes_on : (call : AppCall) (second : Step (State l.F) A) → Past l call second
           → Past l call (releases.release l.F (two i) mark second)
       goes_on call (Returns value s) past = (then_fits settle_fits (λ done. value_fits l value)).joined.goes_on
-          call (let_go mark s.world) s.env s.replies past
+          call (let_go mark s.world) s.ticks s.env s.replies past
       goes_on call (Ends (stop.Error what line) s) past =
           (then_fits settle_fits (λ done. error_fits {A = A} l what line)).joined.goes_on
-          call (let_go mark s.world) s.env s.replies past
+          call (let_go mark s.world) s.ticks s.env s.replies past
       goes_on call (Ends (stop.Limit kind line) s) past = past
       goes_on call (Ends stop.Page s) past = past
       goes_on call (Ends (stop.Wants other) s) past = past
@@ -99,20 +99,20 @@ module _ (l : Link) (i : Inners l) where
 
       alike : (first : Step (State l.E) A) (second : Step (State l.F) A) → Alike l first second
           → Alike l (releases.release l.E (one i) mark first) (releases.release l.F (two i) mark second)
-      alike _ _ (gives value world env replies other_env others now) =
+      alike _ _ (gives value world ticks env replies other_env others now) =
           (then_fits settle_fits (λ done. value_fits l value)).joined.alike
-          (let_go mark world) env replies other_env others now
-      alike _ _ (ends (stop.Error what line) world env replies other_env others now) =
+          (let_go mark world) ticks env replies other_env others now
+      alike _ _ (ends (stop.Error what line) world ticks env replies other_env others now) =
           (then_fits settle_fits (λ done. error_fits {A = A} l what line)).joined.alike
-          (let_go mark world) env replies other_env others now
-      alike _ _ (ends (stop.Limit kind line) world env replies other_env others now) =
-          ends (stop.Limit kind line) world env replies other_env others now
-      alike _ _ (ends (stop.Wants call) world env replies other_env others want) =
-          ends (stop.Wants call) world env replies other_env others want
-      alike _ _ (ends stop.Page world env replies other_env others now) =
-          ends stop.Page world env replies other_env others now
-      alike _ _ (ends stop.Memory world env replies other_env others now) =
-          ends stop.Memory world env replies other_env others now
+          (let_go mark world) ticks env replies other_env others now
+      alike _ _ (ends (stop.Limit kind line) world ticks env replies other_env others now) =
+          ends (stop.Limit kind line) world ticks env replies other_env others now
+      alike _ _ (ends (stop.Wants call) world ticks env replies other_env others want) =
+          ends (stop.Wants call) world ticks env replies other_env others want
+      alike _ _ (ends stop.Page world ticks env replies other_env others now) =
+          ends stop.Page world ticks env replies other_env others now
+      alike _ _ (ends stop.Memory world ticks env replies other_env others now) =
+          ends stop.Memory world ticks env replies other_env others now
       alike _ second (gone call s _ past) =
           gone call s (releases.release l.F (two i) mark second) (goes_on call second past)
 
@@ -156,14 +156,14 @@ module _ (l : Link) (i : Inners l) where
       (moved_joined ends_last (terminate_joined object))) (λ done. fit))
     where
       ends_last : World → World
-      ends_last world = releases.behind_page (with_heap (with_ending (Some object)) world)
+      ends_last world = releases.behind_page (with_store (with_ending (Some object)) world)
   end_one_joined None fit = value_joined l tt
 
   settle_last_times_joined : (times : ℕ) → Both (λ E m. releases.settle_last_times E m times)
   settle_last_times_joined zero = value_joined l tt
   settle_last_times_joined (suc more) = seen_joined
-      (λ E m world. releases.end_one E m (releases.settle_last_times E m more) (oldest_loose world.heap))
-      (λ world. end_one_joined (oldest_loose world.heap) (settle_last_times_joined more))
+      (λ E m world. releases.end_one E m (releases.settle_last_times E m more) (oldest_loose world.store))
+      (λ world. end_one_joined (oldest_loose world.store) (settle_last_times_joined more))
 
   pub settle_last_joined : Both (λ E m. releases.settle_last E m)
   unfolding releases.settle_last
@@ -174,8 +174,8 @@ module _ (l : Link) (i : Inners l) where
   end_times_joined zero = value_joined l tt
   end_times_joined (suc more) = seen_joined
       (λ E m world. releases.end_one E m (releases.settle_last E m >> releases.end_times E m more)
-      (oldest_live world.heap))
-      (λ world. end_one_joined (oldest_live world.heap)
+      (oldest_live world.store))
+      (λ world. end_one_joined (oldest_live world.store)
       (then_joined settle_last_joined (λ done. end_times_joined more)))
 
   pub end_all_joined : Both (λ E m. releases.end_all E m)

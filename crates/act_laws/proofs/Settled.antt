@@ -6,15 +6,15 @@ use Rattle.vb_value.specs.declared.value.Value.{Value}
 use Rattle.vb_syntax.specs.declared.program.unit.Procedure.{Procedure}
 use Rattle.vb_heap.specs.Limits.{most_objects}
 use Rattle.vb_heap.specs.Releases.{oldest_loose, with_ending}
-use Rattle.vb_heap.specs.Store.{numbered}
 use Rattle.vb_meaning.specs.declared.reached.Argument.{Argument}
 use Rattle.vb_meaning.specs.declared.stop.Stop.TheVariants as stop
 use Rattle.vb_meaning.specs.Inner.{Inner, Owner}
 use Rattle.vb_meaning.specs.Meaning.{inside}
 use Rattle.vb_meaning.specs.Releases as releases
 use Rattle.vb_meaning.specs.Releases.{released_one, settle, settle_times, terminate}
-use Rattle.vb_meaning.specs.State.{Does, State, with_heap}
+use Rattle.vb_meaning.specs.State.{Does, State, with_store}
 use Rattle.vb_meaning.specs.Step.{Step, Returns, Ends, ◌>>◌, and_then}
+use Rattle.vb_meaning.specs.Stored.{class_number}
 use Rattle.act_laws.specs.Laws.{LeavesErr, ReleasePointsSettle}
 use Rattle.act_laws.specs.Objects.{Account, AddsUp, IsLive, account_at}
 use Rattle.act_laws.specs.Terminators.{NoneLoose}
@@ -24,15 +24,16 @@ use Rattle.act_laws.proofs.Finishing.{levels_alone}
 use Rattle.act_laws.proofs.Keeping.{Keeps}
 use Rattle.act_laws.proofs.Marks.{loose_is_live}
 use Rattle.act_laws.proofs.Once.{run_once}
+use Rattle.act_laws.proofs.Placing.{enter_place, settle_place}
 
 -- ---- nothing is loose
 
 module _ (E : Type 0) (m : Inner E) (s : State E) where
-  no_times : (times : ℕ) → oldest_loose s.world.heap ≡ None → settle_times E m times s ≡ Returns tt s
+  no_times : (times : ℕ) → oldest_loose s.world.store ≡ None → settle_times E m times s ≡ Returns tt s
   no_times zero none = refl
   no_times (suc more) none = ap (λ found. released_one E m (settle_times E m more) found s) none
 
-  still : oldest_loose s.world.heap ≡ None → settle E m s ≡ Returns tt s
+  still : oldest_loose s.world.store ≡ None → settle E m s ≡ Returns tt s
   unfolding settle
   still none = no_times (most_objects - s.world.finished) none
 
@@ -46,17 +47,17 @@ same_then before (Ends why s) later one other same = refl
 
 module _ (E : Type 0) (m : Inner E) (enter : (owner : Owner) (procedure : Procedure) (arguments : List Argument)
     → Keeps account_at (m.enter owner procedure arguments)) where
-  loose_live : (s : State E) → AddsUp (account_at s) → (object : ℕ) → oldest_loose s.world.heap ≡ Some object
+  loose_live : (s : State E) → AddsUp (account_at s) → (object : ℕ) → oldest_loose s.world.store ≡ Some object
       → IsLive object (account_at s)
-  loose_live s right object is = loose_is_live s.world.heap object s.world.finished right.differ is
+  loose_live s right object is = loose_is_live s.world.store object s.world.finished right.differ is
 
-  one_of : (s : State E) → AddsUp (account_at s) → (object : ℕ) → oldest_loose s.world.heap ≡ Some object
+  one_of : (s : State E) → AddsUp (account_at s) → (object : ℕ) → oldest_loose s.world.store ≡ Some object
       → One (account_at s) (ended_one E m enter object s)
   one_of s right object is = one_ends E m enter (λ world. world) (λ world. refl) object s right
       (loose_live s right object is)
 
   released_same : (s : State E) → AddsUp (account_at s) → (one other : Does E (Unit {0})) → (found : Option ℕ)
-      → oldest_loose s.world.heap ≡ found
+      → oldest_loose s.world.store ≡ found
       → ((u : State E) → Later (account_at s) (account_at u) → one u ≡ other u)
       → released_one E m one found s ≡ released_one E m other found s
   released_same s right one other None is same = refl
@@ -72,15 +73,15 @@ module _ (E : Type 0) (m : Inner E) (enter : (owner : Owner) (procedure : Proced
   same_times (suc times) zero s right enough more =
       no_times E m s (suc times) (none_loose s right (omega (arith, more)))
   same_times (suc times) (suc others) s right enough more =
-      released_same s right (settle_times E m times) (settle_times E m others) (oldest_loose s.world.heap) refl
+      released_same s right (settle_times E m times) (settle_times E m others) (oldest_loose s.world.store) refl
       (λ u later.
       let more_ended = later.1 in
       same_times times others u later.0.onward.adds_up (omega (arith, enough, more_ended))
       (omega (arith, more, more_ended)))
 
-  goes_on : (s : State E) → AddsUp (account_at s) → (object : ℕ) → oldest_loose s.world.heap ≡ Some object
+  goes_on : (s : State E) → AddsUp (account_at s) → (object : ℕ) → oldest_loose s.world.store ≡ Some object
       → settle E m s
-      ≡ (terminate E m object >> settle E m) (releases.in_world E (with_heap (with_ending (Some object)) s.world) s)
+      ≡ (terminate E m object >> settle E m) (releases.in_world E (with_store (with_ending (Some object)) s.world) s)
   unfolding settle
   goes_on s right object is = elim (cases_lt s.world.finished most_objects) [
     | inr all ↦ let none : None ≡ Some object = sym (none_loose s right (omega (arith, all))) ∙ is in absurd (cc)
@@ -135,20 +136,20 @@ module _ (E : Type 0) (m : Inner E) where
   terminate_leaves : (object : ℕ) (s : State E) → LeavesErr s (terminate E m object s)
   unfolding terminate
   terminate_leaves object s = terminated_leaves s object (releases.terminator_of E m object
-      (releases.class_number (numbered object s.world.heap.objects))
+      (class_number object s.world.store)
       (releases.in_world E (releases.terminating s.world) s))
 
   released_leaves : (more : Does E (Unit {0})) → ((s : State E) → LeavesErr s (more s)) → (found : Option ℕ)
       (s : State E) → LeavesErr s (released_one E m more found s)
   released_leaves more each None s = (refl, refl)
   released_leaves more each (Some object) s =
-      let t = releases.in_world E (with_heap (with_ending (Some object)) s.world) s in
+      let t = releases.in_world E (with_store (with_ending (Some object)) s.world) s in
       leaves_from s t refl refl (released_one E m more (Some object) s)
       (then_leaves t (terminate E m object t) more (terminate_leaves object t) each)
 
   times_leave : (times : ℕ) (s : State E) → LeavesErr s (settle_times E m times s)
   times_leave zero s = (refl, refl)
-  times_leave (suc more) s = released_leaves (settle_times E m more) (times_leave more) (oldest_loose s.world.heap) s
+  times_leave (suc more) s = released_leaves (settle_times E m more) (times_leave more) (oldest_loose s.world.store) s
 
   settle_leaves : (s : State E) → LeavesErr s (settle E m s)
   unfolding settle
@@ -162,6 +163,7 @@ settles_once E host program levels s =
       still = still E m s;
       next = goes_on E m (λ owner procedure arguments. (i.enter_fits owner procedure arguments).keeps) s;
       leaves = settle_leaves E m s;
+      place = settle_place E m (enter_place E host program levels) s;
       again = λ right after is. still E m after
           (subst NoneLoose is (((run_once E).1 host program levels s right).0.settles));
     }

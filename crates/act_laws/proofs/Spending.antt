@@ -1,26 +1,23 @@
 -- What is done gives no tick back.
-use Rattle.std.proofs.Common.{ℕ, ◌≡◌, ◌≤◌, List, [], ◌∷◌, Bool, true, false, if◌then◌else◌, Option, Ok, Err}
-use Rattle.std.proofs.Common.{ap, arith, subst}
+use Rattle.std.proofs.Common.{ℕ, ◌-◌, ◌≤◌, List, [], ◌∷◌, Bool, true, false, if◌then◌else◌, Option, Ok, Err}
+use Rattle.std.proofs.Common.{None, arith, nat_lt}
 use Rattle.vb_value.specs.declared.application.AppReply.{AppReply}
+use Rattle.vb_value.specs.declared.limit.LimitKind.TheVariants.{Ticks}
 use Rattle.vb_value.specs.declared.value.Value.{Value}
 use Rattle.vb_syntax.specs.declared.act.Given.TheVariants as given
 use Rattle.vb_syntax.specs.declared.member.Member.{Member}
 use Rattle.vb_meaning.specs.declared.cause.Cause.{Cause}
 use Rattle.vb_meaning.specs.declared.stop.Stop.TheVariants as stop
-use Rattle.vb_meaning.specs.declared.world.World.{World}
+use Rattle.vb_meaning.specs.World.{World}
 use Rattle.vb_meaning.specs.Asking.{Host, Said, ask, heard}
-use Rattle.vb_meaning.specs.Errors.{in_line, raised_by, resumed, with_err}
+use Rattle.vb_meaning.specs.Errors.{in_line, raised_by, resumed, tick, with_err}
 use Rattle.vb_meaning.specs.State.{State, lifted}
 use Rattle.vb_meaning.specs.Step.{Step, Returns, Ends, Run, and_then, ◌>>=◌}
-use Rattle.act_laws.specs.Ticks.{state_of}
-use Rattle.act_laws.proofs.Keeping.{told}
+use Rattle.vb_meaning.specs.Step.{state_of}
 
--- how many ticks are left in a world, and in a state
-abbrev pub ticks_of : World → ℕ
-ticks_of world = world.ticks
-
+-- how many ticks are left in a state
 abbrev pub ticks_at : {E : Type 0} → State E → ℕ
-ticks_at s = s.world.ticks
+ticks_at s = s.ticks
 
 -- what is done gives none back
 abbrev pub Spends : {S A : Type 0} → (S → ℕ) → Run S A → Type 0
@@ -35,11 +32,6 @@ at_most a b c first second = omega (arith, first, second)
 
 pub no_less : (a : ℕ) → a ≤ a
 no_less a = omega arith
-
--- from a world with the same ticks
-pub ticks_moved : (world changed : World) → told changed ≡ told world → (left : ℕ) → left ≤ changed.ticks
-    → left ≤ world.ticks
-ticks_moved world changed same left few = subst (λ ticks. left ≤ ticks) (ap (λ found. found.1) same) few
 
 -- ---- steps
 
@@ -82,10 +74,10 @@ resumed_spends instead (Ends (stop.Wants call) s) = no_less (ticks_at s)
 resumed_spends instead (Ends stop.Memory s) = no_less (ticks_at s)
 
 -- a step of the world, in a state
-pub lifted_spends : {E A : Type 0} (env : E) (replies : List AppReply) (most : ℕ) (step : Step World A)
-    → ticks_of (state_of step) ≤ most → ticks_at (state_of (lifted env replies step)) ≤ most
-lifted_spends env replies most (Returns value world) few = few
-lifted_spends env replies most (Ends why world) few = few
+pub lifted_spends : {E A : Type 0} (s : State E) (step : Step World A)
+    → ticks_at (state_of (lifted s step)) ≤ ticks_at s
+lifted_spends s (Returns value world) = no_less (ticks_at s)
+lifted_spends s (Ends why world) = no_less (ticks_at s)
 
 -- ---- what is done
 
@@ -93,18 +85,28 @@ pub still_spends : {S A : Type 0} (left : S → ℕ) (value : A) → Spends left
 still_spends left value s = no_less (left s)
 
 heard_spends : {E : Type 0} (host : Host E) (member : Member) (arguments : List Value) (world : World)
-    (replies : List AppReply) (said : Said E)
-    → ticks_at (state_of (heard host member arguments world replies said)) ≤ world.ticks
-heard_spends host member arguments world replies (Ok (given.Value value, env)) = no_less world.ticks
-heard_spends host member arguments world replies (Ok (given.Names names, env)) = no_less world.ticks
-heard_spends host member arguments world [] (Ok (given.Call call, env)) = no_less world.ticks
-heard_spends host member arguments world (reply ∷ replies) (Ok (given.Call call, env)) =
-    heard_spends host member arguments world replies (host.answered member arguments reply env)
-heard_spends host member arguments world replies (Err (reason, env)) = no_less world.ticks
+    (ticks : ℕ) (replies : List AppReply) (said : Said E)
+    → ticks_at (state_of (heard host member arguments world ticks replies said)) ≤ ticks
+heard_spends host member arguments world ticks replies (Ok (given.Value value, env)) = no_less ticks
+heard_spends host member arguments world ticks replies (Ok (given.Names names, env)) = no_less ticks
+heard_spends host member arguments world ticks [] (Ok (given.Call call, env)) = no_less ticks
+heard_spends host member arguments world ticks (reply ∷ replies) (Ok (given.Call call, env)) =
+    heard_spends host member arguments world ticks replies (host.answered member arguments reply env)
+heard_spends host member arguments world ticks replies (Err (reason, env)) = no_less ticks
+
+-- a tick
+pub tick_spends : {E : Type 0} → Spends {S = State E} ticks_at tick
+unfolding tick
+tick_spends {E} s = fewer (nat_lt 0 s.ticks)
+  where
+    fewer : (left : Bool) → ticks_at (state_of {S = State E} {A = Unit {0}}
+        (if left then Returns tt (record s { ticks = s.ticks - 1 }) else Ends (stop.Limit Ticks None) s)) ≤ ticks_at s
+    fewer true = omega arith
+    fewer false = no_less (ticks_at s)
 
 -- a question to the objects of the page
 pub ask_spends : {E : Type 0} (host : Host E) (member : Member) (arguments : List Value)
     → Spends ticks_at (ask host member arguments)
 unfolding ask
 ask_spends host member arguments s =
-    heard_spends host member arguments s.world s.replies (host.asked member arguments s.env)
+    heard_spends host member arguments s.world s.ticks s.replies (host.asked member arguments s.env)

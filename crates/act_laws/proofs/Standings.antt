@@ -7,7 +7,7 @@ use Rattle.std.specs.Option.{option_map}
 use Rattle.vb_heap.specs.declared.object.Object.{Object}
 use Rattle.vb_heap.specs.Objects.{class_in}
 use Rattle.vb_heap.specs.Store.{is_number, numbered, replaced, without}
-use Rattle.vb_meaning.specs.declared.world.World.{World}
+use Rattle.vb_meaning.specs.World.{World}
 use Rattle.act_laws.specs.Entries.{standing, standings}
 use Rattle.act_laws.specs.Objects.{Account, HasBegun, IsLive, account_of, marks}
 
@@ -105,7 +105,7 @@ same_class begun again class other same = sym (ap class_told same)
 
 pub live_by : (number : ℕ) (world : World) (class : Option ℕ) → standing number world ≡ Some (false, class)
     → IsLive number (account_of world)
-live_by number world class is = mark_of world.heap.objects number
+live_by number world class is = mark_of world.store.objects number
     ∙ ap (λ found. option_map (λ (told : Bool × Option ℕ). told.0) found) is
 
 -- what is marked has a standing
@@ -122,7 +122,7 @@ pub standing_of : (number : ℕ) (world : World) (mark : Bool)
     → numbered number (account_of world).objects ≡ Some mark
     → (class : Option ℕ) × (standing number world ≡ Some (mark, class))
 standing_of number world mark is = marked_standing mark (standing number world)
-    (sym (mark_of world.heap.objects number) ∙ is)
+    (sym (mark_of world.store.objects number) ∙ is)
 
 -- an object has begun to end, or it has not
 pub begun_or_not : (number : ℕ) (account : Account)

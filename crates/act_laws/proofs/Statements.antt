@@ -1,5 +1,5 @@
 -- Statements but for loops, in two environments side by side.
-use Rattle.std.proofs.Common.{Bool, true, false, List, [], ◌∷◌, ◌++◌, Option, Some, None, refl}
+use Rattle.std.proofs.Common.{ℕ, ◌+◌, Bool, true, false, List, [], ◌∷◌, ◌++◌, Option, Some, None, refl}
 use Rattle.vb_value.specs.declared.operator.Op2.TheVariants.{Equal}
 use Rattle.vb_value.specs.declared.value.Value.{Value}
 use Rattle.vb_value.specs.Errors.{type_mismatch}
@@ -81,19 +81,19 @@ module _ (l : Link) (i : Inners l) where
       then_fits (given_fits l (truth_of equal)) (λ holds.
       choice_fits holds (value_fits l true) (is_among_fits subject others))))
 
-  first_case_fits : (subject : Value) (cases : List Case) (otherwise : Option (List Statement))
-      → Same l i (λ E m. statements.first_case E m subject cases otherwise)
-  first_case_fits subject [] otherwise = value_fits l otherwise
-  first_case_fits subject (first ∷ others) otherwise = then_fits
+  first_case_fits : (number : ℕ) (subject : Value) (cases : List Case)
+      → Same l i (λ E m. statements.first_case E m number subject cases)
+  first_case_fits number subject [] = value_fits l None
+  first_case_fits number subject (first ∷ others) = then_fits
       (turned (line_turns l (out-Case first).line) (is_among_fits subject (out-Case first).values)) (λ holds.
-      choice_fits holds (value_fits l (Some (out-Case first).body)) (first_case_fits subject others otherwise))
+      choice_fits holds (value_fits l (Some number)) (first_case_fits (number + 1) subject others))
 
   pub select_fits : (subject : Expression) (cases : List Case) (otherwise : Option (List Statement))
       → Same l i (λ E m. statements.select_statement E m subject cases otherwise)
   unfolding statements.select_statement
   select_fits subject cases otherwise = then_fits
-      (in_head_fits (then_fits (i.value_fits subject) (λ value. first_case_fits value cases otherwise)))
-      otherwise_fits
+      (in_head_fits (then_fits (i.value_fits subject) (λ value. first_case_fits 0 value cases)))
+      (λ chosen. otherwise_fits (statements.case_block cases otherwise chosen))
 
   -- ---- With
 

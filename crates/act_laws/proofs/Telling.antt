@@ -1,17 +1,18 @@
 -- Environments that note the terminators that are entered: what is done enters them as it should.
-use Rattle.std.proofs.Common.{ℕ, ◌≡◌, Bool, true, false, if◌then◌else◌, Option}
+use Rattle.std.proofs.Common.{ℕ, ◌-◌, nat_lt, ◌≡◌, Bool, true, false, if◌then◌else◌, Option, None}
 use Rattle.std.proofs.Common.{refl, sym, ap, subst, ◌∙◌}
+use Rattle.vb_value.specs.declared.limit.LimitKind.TheVariants.{Ticks}
 use Rattle.vb_syntax.specs.declared.program.Program.{Program}
 use Rattle.vb_heap.specs.Store.{numbered}
 use Rattle.vb_meaning.specs.declared.cause.Cause.{Cause}
 use Rattle.vb_meaning.specs.declared.stop.Stop.TheVariants as stop
-use Rattle.vb_meaning.specs.declared.world.World.{World}
-use Rattle.vb_meaning.specs.Errors.{in_line, raised_by, resumed, with_err}
+use Rattle.vb_meaning.specs.World.{World}
+use Rattle.vb_meaning.specs.Errors.{in_line, raised_by, resumed, tick, with_err}
 use Rattle.vb_meaning.specs.State.{Does, State, lifted}
 use Rattle.vb_meaning.specs.Step.{Step, Returns, Ends, and_then}
 use Rattle.act_laws.specs.Entries.{AreOf, EntersEach, Notes}
 use Rattle.act_laws.specs.Objects.{AddsUp, Kept, Onward, Settled, account_at}
-use Rattle.act_laws.specs.Ticks.{state_of}
+use Rattle.vb_meaning.specs.Step.{state_of}
 use Rattle.act_laws.proofs.Accounts.{onward_still, settled_still}
 use Rattle.act_laws.proofs.Entering.{Stay, enters_then, right_on, stay_enters, still_enters}
 use Rattle.act_laws.proofs.Keeping.{Keeps, kept_onward, told}
@@ -63,7 +64,7 @@ module _ {F : Type 0} (t : Telling F) where
   -- ---- a changed world, of which the same is told
 
   told_stays : (world changed : World) → told changed ≡ told world → Stay world changed
-  told_stays world changed same number found is = ap (λ seen. numbered number seen.2) same ∙ is
+  told_stays world changed same number found is = ap (λ seen. numbered number seen.1) same ∙ is
 
   pub changed_told : (s after : State F) (world : World) → AddsUp (account_at s)
       → Onward (account_at s) (account_at after) → told world ≡ told after.world → Told s after
@@ -120,6 +121,16 @@ module _ {F : Type 0} (t : Telling F) where
 
   -- a step of the world, in a state
   pub lifted_tells : {A : Type 0} (s : State F) (step : Step World A) → Stay s.world (state_of step)
-      → Told s (state_of (lifted s.env s.replies step))
+      → Told s (state_of (lifted s step))
   lifted_tells s (Returns value world) stay = stay_told s world stay
   lifted_tells s (Ends why world) stay = stay_told s world stay
+
+  -- a tick
+  pub tick_tells : (s : State F) → Told s (state_of (tick s))
+  unfolding tick
+  tick_tells s = taken (nat_lt 0 s.ticks)
+    where
+      taken : (left : Bool) → Told s (state_of {S = State F} {A = Unit {0}}
+          (if left then Returns tt (record s { ticks = s.ticks - 1 }) else Ends (stop.Limit Ticks None) s))
+      taken true = record { enters = still_enters t.program s.world (t.notes s.env); running = refl }
+      taken false = still_told s

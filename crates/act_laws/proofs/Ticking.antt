@@ -4,18 +4,18 @@ use Rattle.vb_value.specs.declared.value.Value.{Empty}
 use Rattle.vb_syntax.specs.declared.program.unit.Procedure.{Procedure}
 use Rattle.vb_heap.specs.Limits.{most_objects}
 use Rattle.vb_heap.specs.Releases.{oldest_live, oldest_loose, with_ending}
-use Rattle.vb_heap.specs.Store.{numbered}
 use Rattle.vb_meaning.specs.declared.reached.Argument.{Argument}
 use Rattle.vb_meaning.specs.declared.stop.Stop.TheVariants as stop
-use Rattle.vb_meaning.specs.declared.world.World.{World}
+use Rattle.vb_meaning.specs.World.{World}
 use Rattle.vb_meaning.specs.Errors.{in_line}
 use Rattle.vb_meaning.specs.Inner.{Inner, Owner}
 use Rattle.vb_meaning.specs.Objects.{class_at}
 use Rattle.vb_meaning.specs.Places.{let_go}
 use Rattle.vb_meaning.specs.Releases as releases
-use Rattle.vb_meaning.specs.State.{State, Does, with_heap}
+use Rattle.vb_meaning.specs.State.{State, Does, with_store}
 use Rattle.vb_meaning.specs.Step.{Returns, Ends, ◌>>◌, pure, ends as step_ends}
-use Rattle.act_laws.specs.Ticks.{state_of}
+use Rattle.vb_meaning.specs.Stored.{class_number}
+use Rattle.vb_meaning.specs.Step.{state_of}
 use Rattle.act_laws.proofs.Spending.{Spends, SpendsOn, line_spends, no_less, still_spends, then_spends, ticks_at}
 use Rattle.act_laws.proofs.Spending.{turned_spends}
 
@@ -46,7 +46,7 @@ module _ (E : Type 0) (m : Inner E)
   pub terminate_spends : (object : ℕ) → Spends ticks_at (releases.terminate E m object)
   unfolding releases.terminate
   terminate_spends object s =
-      let class = releases.class_number (numbered object s.world.heap.objects) in
+      let class = class_number object s.world.store in
       turned_spends ticks_at (releases.terminated E object s.world)
       (λ t. releases.terminator_of E m object class (releases.in_world E (releases.terminating t.world) t))
       (terminated_spends E object s.world)
@@ -59,13 +59,13 @@ module _ (E : Type 0) (m : Inner E)
       → Spends ticks_at (releases.released_one E m more found)
   released_one_spends more spends (Some object) s = then_spends ticks_at (releases.terminate E m object) (λ done. more)
       (terminate_spends object) (λ done. spends)
-      (releases.in_world E (with_heap (with_ending (Some object)) s.world) s)
+      (releases.in_world E (with_store (with_ending (Some object)) s.world) s)
   released_one_spends more spends None s = no_less (ticks_at s)
 
   settle_times_spends : (times : ℕ) → Spends ticks_at (releases.settle_times E m times)
   settle_times_spends zero s = no_less (ticks_at s)
   settle_times_spends (suc more) s = released_one_spends (releases.settle_times E m more) (settle_times_spends more)
-      (oldest_loose s.world.heap) s
+      (oldest_loose s.world.store) s
 
   pub settle_spends : Spends ticks_at (releases.settle E m)
   unfolding releases.settle
@@ -95,14 +95,14 @@ module _ (E : Type 0) (m : Inner E)
       then_spends ticks_at (λ t. in_line line (releases.terminate E m object t)) (λ done. more)
       (turned_spends ticks_at (in_line line) (releases.terminate E m object) (line_spends ticks_at line)
       (terminate_spends object)) (λ done. spends)
-      (releases.in_world E (releases.behind_page (with_heap (with_ending (Some object)) s.world)) s)
+      (releases.in_world E (releases.behind_page (with_store (with_ending (Some object)) s.world)) s)
   end_one_spends more spends None s = no_less (ticks_at s)
 
   settle_last_times_spends : (times : ℕ) → Spends ticks_at (releases.settle_last_times E m times)
   settle_last_times_spends zero s = no_less (ticks_at s)
   settle_last_times_spends (suc more) s =
       end_one_spends (releases.settle_last_times E m more) (settle_last_times_spends more)
-      (oldest_loose s.world.heap) s
+      (oldest_loose s.world.store) s
 
   settle_last_spends : Spends ticks_at (releases.settle_last E m)
   unfolding releases.settle_last
@@ -116,7 +116,7 @@ module _ (E : Type 0) (m : Inner E)
   end_times_spends : (times : ℕ) → Spends ticks_at (releases.end_times E m times)
   end_times_spends zero s = no_less (ticks_at s)
   end_times_spends (suc more) s = end_one_spends (releases.settle_last E m >> releases.end_times E m more)
-      (last_spends (releases.end_times E m more) (end_times_spends more)) (oldest_live s.world.heap) s
+      (last_spends (releases.end_times E m more) (end_times_spends more)) (oldest_live s.world.store) s
 
   end_all_spends : Spends ticks_at (releases.end_all E m)
   unfolding releases.end_all

@@ -5,7 +5,7 @@ use Rattle.vb_value.specs.declared.application.AppReply.{AppReply}
 use Rattle.vb_value.specs.declared.value.Value.{Value}
 use Rattle.vb_meaning.specs.declared.cause.Cause.{Cause}
 use Rattle.vb_meaning.specs.declared.stop.Stop.TheVariants as stop
-use Rattle.vb_meaning.specs.declared.world.World.{World}
+use Rattle.vb_meaning.specs.World.{World}
 use Rattle.vb_meaning.specs.Errors.{in_line, resumed, with_err, raised_by}
 use Rattle.vb_meaning.specs.Inner.{Inner}
 use Rattle.vb_meaning.specs.Releases.{terminated, ended, stopped}
@@ -29,21 +29,22 @@ line_joined {A} l line = record { alike = alike; goes_on = goes_on }
 
     alike : (first : Step (State l.E) A) (second : Step (State l.F) A) → Alike l first second
         → Alike l (in_line line first) (in_line line second)
-    alike _ _ (gives value world env replies other_env others now) = gives value world env replies other_env others now
-    alike _ _ (ends (stop.Error what None) world env replies other_env others now) =
-        ends (stop.Error what (Some line)) world env replies other_env others now
-    alike _ _ (ends (stop.Error what (Some at)) world env replies other_env others now) =
-        ends (stop.Error what (Some at)) world env replies other_env others now
-    alike _ _ (ends (stop.Limit kind None) world env replies other_env others now) =
-        ends (stop.Limit kind (Some line)) world env replies other_env others now
-    alike _ _ (ends (stop.Limit kind (Some at)) world env replies other_env others now) =
-        ends (stop.Limit kind (Some at)) world env replies other_env others now
-    alike _ _ (ends (stop.Wants call) world env replies other_env others want) =
-        ends (stop.Wants call) world env replies other_env others want
-    alike _ _ (ends stop.Page world env replies other_env others now) =
-        ends stop.Page world env replies other_env others now
-    alike _ _ (ends stop.Memory world env replies other_env others now) =
-        ends stop.Memory world env replies other_env others now
+    alike _ _ (gives value world ticks env replies other_env others now) =
+        gives value world ticks env replies other_env others now
+    alike _ _ (ends (stop.Error what None) world ticks env replies other_env others now) =
+        ends (stop.Error what (Some line)) world ticks env replies other_env others now
+    alike _ _ (ends (stop.Error what (Some at)) world ticks env replies other_env others now) =
+        ends (stop.Error what (Some at)) world ticks env replies other_env others now
+    alike _ _ (ends (stop.Limit kind None) world ticks env replies other_env others now) =
+        ends (stop.Limit kind (Some line)) world ticks env replies other_env others now
+    alike _ _ (ends (stop.Limit kind (Some at)) world ticks env replies other_env others now) =
+        ends (stop.Limit kind (Some at)) world ticks env replies other_env others now
+    alike _ _ (ends (stop.Wants call) world ticks env replies other_env others want) =
+        ends (stop.Wants call) world ticks env replies other_env others want
+    alike _ _ (ends stop.Page world ticks env replies other_env others now) =
+        ends stop.Page world ticks env replies other_env others now
+    alike _ _ (ends stop.Memory world ticks env replies other_env others now) =
+        ends stop.Memory world ticks env replies other_env others now
     alike _ second (gone call s _ past) = gone call s (in_line line second) (goes_on call second past)
 
 pub line_turns : {A : Type 0} (l : Link) (line : ℕ) → Turns {A = A} l (in_line line) (in_line line)
@@ -74,33 +75,37 @@ resumed_joined {A} l instead = record { alike = alike; goes_on = goes_on }
     goes_on call (Ends (stop.Wants other) s) past = past
     goes_on call (Ends stop.Memory s) past = past
 
-    errs : (what : Cause) (line : Option ℕ) (world : World) (env : l.E) (replies : List AppReply) (other_env : l.F)
+    errs : (what : Cause) (line : Option ℕ) (world : World) (ticks : ℕ) (env : l.E) (replies : List AppReply)
+        (other_env : l.F)
         (others : List AppReply) (resumes : Bool) → l.now env replies other_env others
         → Alike l
         (if resumes
-        then Returns instead (record { world = with_err (raised_by what) world; env = env; replies = replies })
-        else Ends (stop.Error what line) (record { world = world; env = env; replies = replies }))
+        then Returns instead
+        (record { world = with_err (raised_by what) world; ticks = ticks; env = env; replies = replies })
+        else Ends (stop.Error what line) (record { world = world; ticks = ticks; env = env; replies = replies }))
         (if resumes
-        then Returns instead (record { world = with_err (raised_by what) world; env = other_env; replies = others })
-        else Ends (stop.Error what line) (record { world = world; env = other_env; replies = others }))
-    errs what line world env replies other_env others true now =
-        gives instead (with_err (raised_by what) world) env replies other_env others now
-    errs what line world env replies other_env others false now =
-        ends (stop.Error what line) world env replies other_env others now
+        then Returns instead
+        (record { world = with_err (raised_by what) world; ticks = ticks; env = other_env; replies = others })
+        else Ends (stop.Error what line) (record { world = world; ticks = ticks; env = other_env; replies = others }))
+    errs what line world ticks env replies other_env others true now =
+        gives instead (with_err (raised_by what) world) ticks env replies other_env others now
+    errs what line world ticks env replies other_env others false now =
+        ends (stop.Error what line) world ticks env replies other_env others now
 
     alike : (first : Step (State l.E) A) (second : Step (State l.F) A) → Alike l first second
         → Alike l (resumed instead first) (resumed instead second)
-    alike _ _ (gives value world env replies other_env others now) = gives value world env replies other_env others now
-    alike _ _ (ends (stop.Error what line) world env replies other_env others now) =
-        errs what line world env replies other_env others world.frame.resumes now
-    alike _ _ (ends (stop.Limit kind line) world env replies other_env others now) =
-        ends (stop.Limit kind line) world env replies other_env others now
-    alike _ _ (ends (stop.Wants call) world env replies other_env others want) =
-        ends (stop.Wants call) world env replies other_env others want
-    alike _ _ (ends stop.Page world env replies other_env others now) =
-        ends stop.Page world env replies other_env others now
-    alike _ _ (ends stop.Memory world env replies other_env others now) =
-        ends stop.Memory world env replies other_env others now
+    alike _ _ (gives value world ticks env replies other_env others now) =
+        gives value world ticks env replies other_env others now
+    alike _ _ (ends (stop.Error what line) world ticks env replies other_env others now) =
+        errs what line world ticks env replies other_env others world.frame.resumes now
+    alike _ _ (ends (stop.Limit kind line) world ticks env replies other_env others now) =
+        ends (stop.Limit kind line) world ticks env replies other_env others now
+    alike _ _ (ends (stop.Wants call) world ticks env replies other_env others want) =
+        ends (stop.Wants call) world ticks env replies other_env others want
+    alike _ _ (ends stop.Page world ticks env replies other_env others now) =
+        ends stop.Page world ticks env replies other_env others now
+    alike _ _ (ends stop.Memory world ticks env replies other_env others now) =
+        ends stop.Memory world ticks env replies other_env others now
     alike _ second (gone call s _ past) = gone call s (resumed instead second) (goes_on call second past)
 
 pub resumed_turns : {A : Type 0} (l : Link) (instead : A) → Turns {A = A} l (resumed instead) (resumed instead)
@@ -131,27 +136,28 @@ terminated_joined l object before = record { alike = alike; goes_on = goes_on }
     goes_on call (Ends (stop.Wants other) s) past = past
     goes_on call (Ends stop.Memory s) past = past
 
-    stops : (page_ended : Bool) (world : World) (env : l.E) (replies : List AppReply) (other_env : l.F)
+    stops : (page_ended : Bool) (world : World) (ticks : ℕ) (env : l.E) (replies : List AppReply) (other_env : l.F)
         (others : List AppReply) → l.now env replies other_env others
-        → Alike l (stopped l.E page_ended (record { world = world; env = env; replies = replies }))
-        (stopped l.F page_ended (record { world = world; env = other_env; replies = others }))
-    stops true world env replies other_env others now = gives tt world env replies other_env others now
-    stops false world env replies other_env others now = ends stop.Page world env replies other_env others now
+        → Alike l (stopped l.E page_ended (record { world = world; ticks = ticks; env = env; replies = replies }))
+        (stopped l.F page_ended (record { world = world; ticks = ticks; env = other_env; replies = others }))
+    stops true world ticks env replies other_env others now = gives tt world ticks env replies other_env others now
+    stops false world ticks env replies other_env others now =
+        ends stop.Page world ticks env replies other_env others now
 
     alike : (first : Step (State l.E) Value) (second : Step (State l.F) Value) → Alike l first second
         → Alike l (terminated l.E object before first) (terminated l.F object before second)
-    alike _ _ (gives value world env replies other_env others now) =
-        gives tt (ended object before world) env replies other_env others now
-    alike _ _ (ends (stop.Error what line) world env replies other_env others now) =
-        gives tt (ended object before world) env replies other_env others now
-    alike _ _ (ends (stop.Limit kind line) world env replies other_env others now) =
-        ends (stop.Limit kind line) world env replies other_env others now
-    alike _ _ (ends (stop.Wants call) world env replies other_env others want) =
-        ends (stop.Wants call) world env replies other_env others want
-    alike _ _ (ends stop.Page world env replies other_env others now) =
-        stops before.page_ended (ended object before world) env replies other_env others now
-    alike _ _ (ends stop.Memory world env replies other_env others now) =
-        ends stop.Memory world env replies other_env others now
+    alike _ _ (gives value world ticks env replies other_env others now) =
+        gives tt (ended object before world) ticks env replies other_env others now
+    alike _ _ (ends (stop.Error what line) world ticks env replies other_env others now) =
+        gives tt (ended object before world) ticks env replies other_env others now
+    alike _ _ (ends (stop.Limit kind line) world ticks env replies other_env others now) =
+        ends (stop.Limit kind line) world ticks env replies other_env others now
+    alike _ _ (ends (stop.Wants call) world ticks env replies other_env others want) =
+        ends (stop.Wants call) world ticks env replies other_env others want
+    alike _ _ (ends stop.Page world ticks env replies other_env others now) =
+        stops before.page_ended (ended object before world) ticks env replies other_env others now
+    alike _ _ (ends stop.Memory world ticks env replies other_env others now) =
+        ends stop.Memory world ticks env replies other_env others now
     alike _ second (gone call s _ past) =
         gone call s (terminated l.F object before second) (goes_on call second past)
 
@@ -167,10 +173,10 @@ with_joined {A} l m other subjects = record { alike = alike; goes_on = goes_on }
 
     alike : (first : Step (State l.E) A) (second : Step (State l.F) A) → Alike l first second
         → Alike l (out_of_with l.E m subjects first) (out_of_with l.F other subjects second)
-    alike _ _ (gives value world env replies other_env others now) =
-        gives value (with_subjects l.E m subjects world) env replies other_env others now
-    alike _ _ (ends why world env replies other_env others same) =
-        ends why (with_subjects l.E m subjects world) env replies other_env others same
+    alike _ _ (gives value world ticks env replies other_env others now) =
+        gives value (with_subjects l.E m subjects world) ticks env replies other_env others now
+    alike _ _ (ends why world ticks env replies other_env others same) =
+        ends why (with_subjects l.E m subjects world) ticks env replies other_env others same
     alike _ second (gone call s _ past) = gone call (record s { world = with_subjects l.E m subjects s.world })
         (out_of_with l.F other subjects second) (goes_on call second past)
 

@@ -1,5 +1,5 @@
 -- An environment beside itself: an act wants only calls that the environment wants.
-use Rattle.std.proofs.Common.{◌≡◌, Bool, IsTrue, List, [], ◌∷◌, Option, Some, Ok, Err, refl, sym, subst}
+use Rattle.std.proofs.Common.{ℕ, ◌≡◌, Bool, IsTrue, List, [], ◌∷◌, Option, Some, Ok, Err, refl, sym, subst}
 use Rattle.vb_value.specs.declared.application.AppCall.{AppCall}
 use Rattle.vb_value.specs.declared.application.AppReply.{AppReply}
 use Rattle.vb_value.specs.declared.value.Value.{Value}
@@ -7,7 +7,7 @@ use Rattle.vb_syntax.specs.declared.act.Given.TheVariants as given
 use Rattle.vb_syntax.specs.declared.member.Member.{Member}
 use Rattle.vb_heap.specs.DictionaryCalls.{array_of}
 use Rattle.vb_meaning.specs.declared.plain_end.PlainEnd.{PlainEnd}
-use Rattle.vb_meaning.specs.declared.world.World.{World}
+use Rattle.vb_meaning.specs.World.{World}
 use Rattle.vb_meaning.specs.Acts.{act_of}
 use Rattle.vb_meaning.specs.Asking.{Host, Said, ask, heard, name_values}
 use Rattle.act_laws.specs.Calls.{WantsOnly, wanted}
@@ -34,36 +34,37 @@ module _ (E : Type 0) (host : Host E) (test : AppCall → Bool)
     telling = λ none. absurd none;
   }
 
-  heard_alike : (member : Member) (arguments : List Value) (world : World) (replies : List AppReply) (said : Said E)
-      → WantsOnly test said → Alike beside_itself (heard host member arguments world replies said)
-      (heard host member arguments world replies said)
-  heard_alike member arguments world replies (Ok (given.Value value, env)) only =
-      gives value world env replies env replies (refl, refl)
-  heard_alike member arguments world replies (Ok (given.Names names, env)) only =
-      gives (array_of (name_values names)) world env replies env replies (refl, refl)
-  heard_alike member arguments world [] (Ok (given.Call call, env)) only =
-      gone call (record { world = world; env = env; replies = [] })
-      (heard host member arguments world [] (Ok (given.Call call, env))) only
-  heard_alike member arguments world (reply ∷ replies) (Ok (given.Call call, env)) only =
-      heard_alike member arguments world replies (host.answered member arguments reply env)
+  heard_alike : (member : Member) (arguments : List Value) (world : World) (ticks : ℕ) (replies : List AppReply)
+      (said : Said E)
+      → WantsOnly test said → Alike beside_itself (heard host member arguments world ticks replies said)
+      (heard host member arguments world ticks replies said)
+  heard_alike member arguments world ticks replies (Ok (given.Value value, env)) only =
+      gives value world ticks env replies env replies (refl, refl)
+  heard_alike member arguments world ticks replies (Ok (given.Names names, env)) only =
+      gives (array_of (name_values names)) world ticks env replies env replies (refl, refl)
+  heard_alike member arguments world ticks [] (Ok (given.Call call, env)) only =
+      gone call (record { world = world; ticks = ticks; env = env; replies = [] })
+      (heard host member arguments world ticks [] (Ok (given.Call call, env))) only
+  heard_alike member arguments world ticks (reply ∷ replies) (Ok (given.Call call, env)) only =
+      heard_alike member arguments world ticks replies (host.answered member arguments reply env)
       (answered member arguments reply env)
-  heard_alike member arguments world replies (Err (reason, env)) only =
-      ends_for beside_itself reason world env replies env replies (refl, refl) (λ is. tt)
+  heard_alike member arguments world ticks replies (Err (reason, env)) only =
+      ends_for beside_itself reason world ticks env replies env replies (refl, refl) (λ is. tt)
 
   asks_alike : (member : Member) (arguments : List Value)
       → Joined beside_itself (ask host member arguments) (ask host member arguments)
   unfolding ask
   asks_alike member arguments = record {
-    alike = λ world env replies other others now.
+    alike = λ world ticks env replies other others now.
         subst (λ found. Alike beside_itself
-        (heard host member arguments world replies (host.asked member arguments found))
-        (heard host member arguments world others (host.asked member arguments other)))
+        (heard host member arguments world ticks replies (host.asked member arguments found))
+        (heard host member arguments world ticks others (host.asked member arguments other)))
         now.0 (subst (λ left. Alike beside_itself
-        (heard host member arguments world replies (host.asked member arguments other))
-        (heard host member arguments world left (host.asked member arguments other)))
-        (sym now.1) (heard_alike member arguments world replies (host.asked member arguments other)
+        (heard host member arguments world ticks replies (host.asked member arguments other))
+        (heard host member arguments world ticks left (host.asked member arguments other)))
+        (sym now.1) (heard_alike member arguments world ticks replies (host.asked member arguments other)
         (asked member arguments other)));
-    goes_on = λ call world other others past. past;
+    goes_on = λ call world ticks other others past. past;
   }
 
   passes : (first : Option PlainEnd × E) (second : Option PlainEnd × E) → ActsAlike beside_itself first second

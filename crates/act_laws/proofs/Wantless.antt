@@ -1,30 +1,28 @@
 -- What scripts do to the world alone wants no call, lacks no memory, and keeps the account of objects.
-use Rattle.std.proofs.Common.{ℕ, ◌-◌, nat_lt, pos, Bool, true, false, if◌then◌else◌}
+use Rattle.std.proofs.Common.{ℕ, pos, Bool, true, false, if◌then◌else◌}
 use Rattle.std.proofs.Common.{Option, Some, None, Result, Ok, Err}
-use Rattle.std.proofs.Common.{◌≡◌, ◌≤◌, IsTrue, refl, subst, sym, ap, ◌∙◌, arith, is_ok}
+use Rattle.std.proofs.Common.{◌≡◌, IsTrue, refl, subst, sym, ap, ◌∙◌, is_ok}
 use Rattle.vb_value.specs.declared.fault.VbError.{VbError}
 use Rattle.vb_heap.specs.declared.fault.HeapStop.{HeapStop}
 use Rattle.vb_heap.specs.declared.fault.HeapStop.TheVariants as heap
 use Rattle.vb_heap.specs.Store.{Store, numbered}
-use Rattle.vb_value.specs.declared.limit.LimitKind.TheVariants.{Ticks, Depth}
+use Rattle.vb_value.specs.declared.limit.LimitKind.TheVariants.{Depth}
 use Rattle.vb_meaning.specs.declared.cause.Cause.{Cause}
 use Rattle.vb_meaning.specs.declared.cause.Cause.TheVariants as cause
 use Rattle.vb_meaning.specs.declared.stop.Stop.TheVariants as stop
 use Rattle.vb_meaning.specs.declared.world.Frame.{Frame}
-use Rattle.vb_meaning.specs.declared.world.World.{World}
+use Rattle.vb_meaning.specs.World.{World}
 use Rattle.vb_meaning.specs.Calling.{in_frame}
-use Rattle.vb_meaning.specs.Errors.{in_line, tick, too_deep, depth_stop}
-use Rattle.vb_meaning.specs.State.{on_heap, heap_answer, with_frame, with_heap}
+use Rattle.vb_meaning.specs.Errors.{in_line, too_deep, depth_stop}
+use Rattle.vb_meaning.specs.State.{on_store, store_answer, with_frame, with_store}
 use Rattle.vb_meaning.specs.Step.{Step, Returns, Ends, Run, and_then, ◌>>=◌, pure, given, ends, fails}
 use Rattle.vb_meaning.specs.Stops.{heap_stop}
 use Rattle.act_laws.specs.Entries.{standings}
 use Rattle.act_laws.specs.Objects.{AddsUp, Kept, Settled, account_of}
-use Rattle.act_laws.proofs.Accounts.{onward_still, settled_still}
+use Rattle.act_laws.proofs.Accounts.{settled_still}
 use Rattle.act_laws.proofs.Keeping.{Keeps, goes_settled, kept_moved, line_keeps, next_keeps, still_ends}
 use Rattle.act_laws.proofs.Keeping.{still_gives, told}
-use Rattle.act_laws.specs.Ticks.{state_of}
-use Rattle.act_laws.proofs.Spending.{Spends, line_spends, next_spends, no_less, still_spends, ticks_moved, ticks_of}
-use Rattle.act_laws.proofs.Spending.{turned_spends}
+use Rattle.vb_meaning.specs.Step.{state_of}
 use Rattle.act_laws.proofs.Entering.{Stay}
 use Rattle.act_laws.proofs.Marks.{seen_in}
 use Rattle.act_laws.proofs.Roomy.{IsRoomy}
@@ -38,12 +36,10 @@ NoWant (Ends (stop.Limit kind line) s) = Unit {0}
 NoWant (Ends stop.Page s) = Unit {0}
 NoWant (Ends stop.Memory s) = ⊥
 
--- what neither a call nor memory stops, what keeps the account of objects and what is said of each, and what gives no
--- tick back
+-- what neither a call nor memory stops, and what keeps the account of objects and what is said of each
 pub record Wantless {A : Type 0} (run : Run World A) : Type 0 where
   pub no_want : (world : World) → NoWant (run world)
   pub keeps : Keeps account_of run
-  pub spends : Spends ticks_of run
   pub stays : (world : World) → Stay world (state_of (run world))
 
 -- one after the other
@@ -53,8 +49,6 @@ then_wantless {A} {B} {first} {next} one other = record {
   no_want = λ world. go (first world) (one.no_want world);
   keeps = λ world right. next_keeps account_of next (λ value. (other value).keeps) (account_of world) (first world)
       (one.keeps world right);
-  spends = turned_spends ticks_of (λ (step : Step World A). and_then step next) first
-      (next_spends ticks_of next (λ value. (other value).spends)) one.spends;
   stays = λ world. on (first world) world (one.stays world);
 }
   where
@@ -75,7 +69,6 @@ pub pure_wantless : {A : Type 0} (value : A) → Wantless (pure value)
 pure_wantless value = record {
   no_want = λ world. tt;
   keeps = still_gives account_of value;
-  spends = still_spends ticks_of value;
   stays = λ world number found is. is;
 }
 
@@ -83,7 +76,6 @@ pub error_wantless : {A : Type 0} (what : Cause) (line : Option ℕ) → Wantles
 error_wantless {A} what line = record {
   no_want = λ world. tt;
   keeps = still_ends A account_of (stop.Error what line);
-  spends = λ world. no_less world.ticks;
   stays = λ world number found is. is;
 }
 
@@ -100,11 +92,10 @@ pub seeing_wantless : {A : Type 0} (run : World → Run World A) → ((world : W
 seeing_wantless run each = record {
   no_want = λ world. (each world).no_want world;
   keeps = λ world right. (each world).keeps world right;
-  spends = λ world. (each world).spends world;
   stays = λ world. (each world).stays world;
 }
 
--- what is done in a changed world, whose account of objects is the same, and which has the same ticks
+-- what is done in a changed world, whose account of objects is the same
 pub changing_wantless : {A : Type 0} (change : World → World)
     → ((world : World) → told (change world) ≡ told world) → {run : Run World A} → Wantless run
     → Wantless (λ world. run (change world))
@@ -112,10 +103,8 @@ changing_wantless change same {run} one = record {
   no_want = λ world. one.no_want (change world);
   keeps = λ world right. kept_moved account_of (account_of world) (account_of (change world))
       (ap (λ found. found.0) (same world)) (run (change world)) (one.keeps (change world)) right;
-  spends = λ world. ticks_moved world (change world) (same world) (state_of (run (change world))).ticks
-      (one.spends (change world));
   stays = λ world number found is. one.stays (change world) number found
-      (ap (λ seen. numbered number seen.2) (same world) ∙ is);
+      (ap (λ seen. numbered number seen.1) (same world) ∙ is);
 }
 
 -- a value, and such a changed world
@@ -124,7 +113,7 @@ pub change_wantless : {A : Type 0} (value : A) (change : World → World)
 change_wantless value change same = changing_wantless change same (pure_wantless value)
 
 heap_no_want : {A : Type 0} (world changed : World) (found : Result A HeapStop) → IsRoomy found
-    → NoWant (heap_answer found changed world)
+    → NoWant (store_answer found changed world)
 heap_no_want world changed (Ok value) roomy = tt
 heap_no_want world changed (Err (heap.Error number)) roomy = tt
 heap_no_want world changed (Err (heap.Limit kind)) roomy = tt
@@ -132,18 +121,13 @@ heap_no_want world changed (Err heap.Memory) roomy = roomy
 
 heap_keeps : {A : Type 0} (world changed : World) (found : Result A HeapStop) → AddsUp (account_of world)
     → (IsTrue (is_ok found) → Settled (account_of world) (account_of changed))
-    → Kept account_of (account_of world) (heap_answer found changed world)
+    → Kept account_of (account_of world) (store_answer found changed world)
 heap_keeps world changed (Ok value) right settled = settled refl
 heap_keeps world changed (Err why) right settled =
     goes_settled (heap_stop why) (settled_still (account_of world) right)
 
-heap_spends : {A : Type 0} (world changed : World) → changed.ticks ≡ world.ticks → (found : Result A HeapStop)
-    → (state_of (heap_answer found changed world)).ticks ≤ world.ticks
-heap_spends world changed same (Ok value) = omega (arith, same)
-heap_spends world changed same (Err why) = no_less world.ticks
-
 heap_stays : {A : Type 0} (world changed : World) → Stay world changed → (found : Result A HeapStop)
-    → Stay world (state_of (heap_answer found changed world))
+    → Stay world (state_of (store_answer found changed world))
 heap_stays world changed stay (Ok value) = stay
 heap_stays world changed stay (Err why) = λ number found is. is
 
@@ -154,24 +138,23 @@ framed_wantless change = change_wantless tt (with_frame change) (λ world. refl)
 -- a call on the data of the page that settles its objects where it is not refused
 pub settling_wantless : {A : Type 0} (answer : Store → Result A HeapStop) (change : Store → Store)
     → ((store : Store) → IsRoomy (answer store))
-    → ((world : World) → AddsUp (account_of world) → IsTrue (is_ok (answer world.heap))
-    → Settled (account_of world) (account_of (with_heap change world)))
+    → ((world : World) → AddsUp (account_of world) → IsTrue (is_ok (answer world.store))
+    → Settled (account_of world) (account_of (with_store change world)))
     → ((store : Store) (number : ℕ) (found : Bool × Option ℕ) → numbered number (standings store.objects) ≡ Some found
-    → numbered number (standings (change store).objects) ≡ Some found) → Wantless (on_heap answer change)
+    → numbered number (standings (change store).objects) ≡ Some found) → Wantless (on_store answer change)
 settling_wantless answer change roomy settles stay = record {
-  no_want = λ world. heap_no_want world (with_heap change world) (answer world.heap) (roomy world.heap);
-  keeps = λ world right. heap_keeps world (with_heap change world) (answer world.heap) right (settles world right);
-  spends = λ world. heap_spends world (with_heap change world) refl (answer world.heap);
-  stays = λ world. heap_stays world (with_heap change world) (stay world.heap) (answer world.heap);
+  no_want = λ world. heap_no_want world (with_store change world) (answer world.store) (roomy world.store);
+  keeps = λ world right. heap_keeps world (with_store change world) (answer world.store) right (settles world right);
+  stays = λ world. heap_stays world (with_store change world) (stay world.store) (answer world.store);
 }
 
 -- one that leaves the account of objects, and what is said of each
 pub heap_wantless : {A : Type 0} (answer : Store → Result A HeapStop) (change : Store → Store)
     → ((store : Store) → IsRoomy (answer store))
     → ((store : Store) (count : ℕ) → seen_in (change store) count ≡ seen_in store count)
-    → Wantless (on_heap answer change)
+    → Wantless (on_store answer change)
 heap_wantless answer change roomy same = settling_wantless answer change roomy (λ world right done.
-    subst (λ account. Settled (account_of world) account) (sym (ap (λ seen. seen.0) (same world.heap world.finished)))
+    subst (λ account. Settled (account_of world) account) (sym (ap (λ seen. seen.0) (same world.store world.finished)))
     (settled_still (account_of world) right))
     (λ store number found is. ap (λ seen. numbered number seen.1) (same store 0) ∙ is)
 
@@ -181,7 +164,6 @@ pub line_wantless : {A : Type 0} (line : ℕ) {run : Run World A} → Wantless r
 line_wantless {A} line {run} one = record {
   no_want = λ world. go (run world) (one.no_want world);
   keeps = λ world right. line_keeps account_of line (account_of world) (run world) (one.keeps world right);
-  spends = turned_spends ticks_of (in_line line) run (line_spends ticks_of line) one.spends;
   stays = λ world. on (run world) world (one.stays world);
 }
   where
@@ -205,46 +187,12 @@ pub choice_wantless : {A : Type 0} (test : Bool) {one other : Run World A} → W
 choice_wantless true first second = first
 choice_wantless false first second = second
 
--- ---- ticks and levels
-
-pub tick_wantless : Wantless tick
-unfolding tick
-tick_wantless = record {
-  no_want = λ world. go world (nat_lt 0 world.ticks);
-  keeps = λ world right. kept world right (nat_lt 0 world.ticks);
-  spends = λ world. fewer world (nat_lt 0 world.ticks);
-  stays = λ world. still world (nat_lt 0 world.ticks);
-}
-  where
-    go : (world : World) (left : Bool) → NoWant {S = World} {A = Unit {0}}
-        (if left then Returns tt (record world { ticks = world.ticks - 1 })
-        else Ends (stop.Limit Ticks None) world)
-    go world true = tt
-    go world false = tt
-
-    still : (world : World) (left : Bool) → Stay world (state_of {S = World} {A = Unit {0}}
-        (if left then Returns tt (record world { ticks = world.ticks - 1 })
-        else Ends (stop.Limit Ticks None) world))
-    still world true = λ number found is. is
-    still world false = λ number found is. is
-
-    fewer : (world : World) (left : Bool) → ticks_of (state_of {S = World} {A = Unit {0}}
-        (if left then Returns tt (record world { ticks = world.ticks - 1 })
-        else Ends (stop.Limit Ticks None) world)) ≤ world.ticks
-    fewer world true = omega arith
-    fewer world false = no_less world.ticks
-
-    kept : (world : World) → AddsUp (account_of world) → (left : Bool) → Kept {S = World} {A = Unit {0}} account_of
-        (account_of world) (if left then Returns tt (record world { ticks = world.ticks - 1 })
-        else Ends (stop.Limit Ticks None) world)
-    kept world right true = settled_still (account_of world) right
-    kept world right false = onward_still (account_of world) right
+-- ---- levels
 
 pub deep_wantless : {A : Type 0} → Wantless (too_deep {A = A})
 deep_wantless {A} = record {
   no_want = λ world. go world world.terminates;
   keeps = λ world right. goes_settled (depth_stop world) (settled_still (account_of world) right);
-  spends = λ world. no_less world.ticks;
   stays = λ world number found is. is;
 }
   where

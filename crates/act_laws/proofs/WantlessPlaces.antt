@@ -68,8 +68,8 @@ target_wantless named.Unknown = fails_wantless undefined_variable
 target_wantless _ = fails_wantless illegal_assignment
 
 pub held_wantless : (place : Place) → Wantless (held_at place)
-held_wantless place = seeing_wantless (λ world. given (read_of place world.heap))
-    (λ world. given_wantless (read_of place world.heap))
+held_wantless place = seeing_wantless (λ world. given (read_of place world.store))
+    (λ world. given_wantless (read_of place world.store))
 
 pub read_wantless : (place : Place) → Wantless (read_place place)
 unfolding read_place
@@ -84,8 +84,8 @@ store_wantless place value = then_wantless (held_wantless place) (λ old.
 -- ---- dictionaries
 
 pub asking_wantless : {A : Type 0} (question : Store → Result A VbError) → Wantless (asking question)
-asking_wantless question = seeing_wantless (λ world. given (question world.heap))
-    (λ world. given_wantless (question world.heap))
+asking_wantless question = seeing_wantless (λ world. given (question world.store))
+    (λ world. given_wantless (question world.store))
 
 pub item_wantless : (object : ObjNo) (key : Value) → Wantless (item object key)
 unfolding item

@@ -1,7 +1,7 @@
 -- Declarations, procedures and statements that change the world alone want no call, and keep the account of
 -- objects.
 use Rattle.std.proofs.Common.{ℕ, ◌+◌, nat_lt, codes, drop, length, Bool, true, false, List, [], ◌∷◌, ◌++◌, slice_get}
-use Rattle.std.proofs.Common.{Option, Some, None, Ok, refl}
+use Rattle.std.proofs.Common.{ℤ, Option, Some, None, Ok, refl}
 use Rattle.vb_value.specs.declared.value.ObjNo.{ObjNo}
 use Rattle.vb_value.specs.declared.value.Value.{Value, Obj, Nothing, Empty, Str, out-Value}
 use Rattle.vb_value.specs.declared.value.Value.TheViews.{Arr}
@@ -17,10 +17,10 @@ use Rattle.vb_syntax.specs.declared.program.expression.Head.TheVariants as head
 use Rattle.vb_syntax.specs.declared.program.name.Named.{Named}
 use Rattle.vb_syntax.specs.declared.program.name.Named.TheVariants as named
 use Rattle.vb_syntax.specs.declared.program.unit.Constant.{Constant}
-use Rattle.vb_syntax.specs.declared.program.unit.DeclaredArray.{DeclaredArray}
 use Rattle.vb_syntax.specs.declared.program.unit.Field.{Field}
 use Rattle.vb_syntax.specs.declared.program.unit.Procedure.{Procedure}
 use Rattle.vb_syntax.specs.declared.program.unit.Unit.{Unit as Code}
+use Rattle.vb_syntax.specs.declared.program.unit.Variable.{Variable}
 use Rattle.vb_funcs.specs.TypeNames.{type_name_of}
 use Rattle.vb_ops.specs.Operators.{apply2_of, truth_of}
 use Rattle.vb_heap.specs.declared.place.CellNo.{CellNo}
@@ -31,13 +31,14 @@ use Rattle.vb_heap.specs.declared.object.Content.TheVariants.{Entries, Fields}
 use Rattle.vb_heap.specs.Dictionary.{no_entries}
 use Rattle.vb_heap.specs.Objects.{cells_from, field_of, new_object_of, with_fields, with_new_object}
 use Rattle.vb_heap.specs.Store.{numbered}
+use Rattle.vb_meaning.specs.declared.constant_fault.ConstantFault.{ConstantFault}
 use Rattle.vb_meaning.specs.declared.range.Range.{Range}
 use Rattle.vb_meaning.specs.declared.reached.Argument.{Argument}
 use Rattle.vb_meaning.specs.declared.reached.Argument.TheVariants.{Place as OfPlace, Value as OfValue}
 use Rattle.vb_meaning.specs.Acts.{page_begins}
 use Rattle.vb_meaning.specs.Calling.{own_variable, parameter, parameters, variables, result_cell, begins, result_value}
 use Rattle.vb_meaning.specs.Calling.{gives_value, with_own, with_place}
-use Rattle.vb_meaning.specs.Declaring.{Faulty, fault_before, first_fault, declared_cell}
+use Rattle.vb_meaning.specs.Declaring.{fault_before, first_fault, first_value, declared_cell}
 use Rattle.vb_meaning.specs.Declaring.{declared_cells, constants_from}
 use Rattle.vb_meaning.specs.Expressions.{Said, constant_at, written_value}
 use Rattle.vb_meaning.specs.Loops.{comparison_by, is_within, set_variable, add_step}
@@ -46,7 +47,7 @@ use Rattle.vb_meaning.specs.Objects.{name_of_class}
 use Rattle.vb_meaning.specs.Places.{cell_place, hold, indices_of}
 use Rattle.vb_meaning.specs.Reading.{created, create_object, type_name_in, constant_of, value_of_constant}
 use Rattle.vb_meaning.specs.Statements as statements
-use Rattle.vb_meaning.specs.State.{on_heap}
+use Rattle.vb_meaning.specs.State.{on_store}
 use Rattle.vb_meaning.specs.Step.{◌>>=◌, ◌>>◌, pure, given}
 use Rattle.vb_meaning.specs.Values.{constant_value, declared_array, literal_value}
 use Rattle.act_laws.proofs.Wantless.{Wantless, then_wantless, pure_wantless, fails_wantless, given_wantless}
@@ -59,23 +60,20 @@ use Rattle.act_laws.proofs.WantlessPlaces.{target_wantless, held_wantless, read_
 
 -- ---- declarations
 
-fault_before_wantless : (fault : Faulty) (array : Option DeclaredArray) → Wantless (fault_before fault array)
-fault_before_wantless (Some (line, error)) (Some array) =
-    choice_wantless (nat_lt line array.line) (line_wantless line (fails_wantless error)) (pure_wantless tt)
-fault_before_wantless (Some fault) None = pure_wantless tt
-fault_before_wantless None array = pure_wantless tt
+fault_before_wantless : (fault : Option ConstantFault) (number : ℕ) → Wantless (fault_before fault number)
+fault_before_wantless (Some fault) number = choice_wantless (nat_lt number fault.before) (pure_wantless tt)
+    (line_wantless fault.line (fails_wantless fault.error))
+fault_before_wantless None number = pure_wantless tt
 
-declared_cell_wantless : (array : Option DeclaredArray) → Wantless (declared_cell array)
-declared_cell_wantless (Some array) =
-    then_wantless (line_wantless array.line (given_wantless (declared_array array.bounds)))
-    (λ value. line_wantless array.line (new_cell_wantless value))
-declared_cell_wantless None = then_wantless (pure_wantless Empty) new_cell_wantless
+declared_cell_wantless : (variable : Variable) → Wantless (declared_cell variable)
+declared_cell_wantless variable = line_wantless variable.line
+    (then_wantless (given_wantless (first_value variable.bounds)) new_cell_wantless)
 
-declared_cells_wantless : (done : List CellNo) (fault : Faulty) (arrays : List (Option DeclaredArray))
-    → Wantless (declared_cells done fault arrays)
+declared_cells_wantless : (done : List CellNo) (fault : Option ConstantFault) (variables : List Variable)
+    → Wantless (declared_cells done fault variables)
 declared_cells_wantless done fault [] = pure_wantless done
 declared_cells_wantless done fault (first ∷ others) =
-    then_wantless (then_wantless (fault_before_wantless fault first) (λ done. declared_cell_wantless first))
+    then_wantless (then_wantless (fault_before_wantless fault (length done)) (λ done. declared_cell_wantless first))
     (λ cell. declared_cells_wantless (done ++ cell ∷ []) fault others)
 
 constants_from_wantless : (done : List Value) (constants : List Constant) → Wantless (constants_from done constants)
@@ -107,11 +105,13 @@ parameters_wantless (by_value ∷ others) (argument ∷ rest) =
 parameters_wantless [] arguments = pure_wantless tt
 parameters_wantless (by_value ∷ others) [] = pure_wantless tt
 
-variables_wantless : (fault : Faulty) (arrays : List (Option DeclaredArray)) → Wantless (variables fault arrays)
-variables_wantless fault [] = pure_wantless tt
-variables_wantless fault (first ∷ others) = then_wantless (then_wantless (fault_before_wantless fault first) (λ done.
+variables_wantless : (fault : Option ConstantFault) (number : ℕ) (all : List Variable)
+    → Wantless (variables fault number all)
+variables_wantless fault number [] = pure_wantless tt
+variables_wantless fault number (first ∷ others) =
+    then_wantless (then_wantless (fault_before_wantless fault number) (λ done.
     then_wantless (declared_cell_wantless first) (λ cell. framed_wantless (with_own cell))))
-    (λ done. variables_wantless fault others)
+    (λ done. variables_wantless fault (number + 1) others)
 
 result_cell_wantless : (gives : Bool) → Wantless (result_cell gives)
 result_cell_wantless true =
@@ -123,7 +123,7 @@ pub begins_wantless : (procedure : Procedure) (arguments : List Argument) → Wa
 begins_wantless procedure arguments = then_wantless
     (then_wantless (then_wantless (then_wantless (result_cell_wantless (gives_value procedure.kind))
     (λ done. parameters_wantless procedure.by_value arguments))
-    (λ done. variables_wantless (first_fault procedure.constants)
+    (λ done. variables_wantless (first_fault procedure.constants) (length procedure.by_value)
     (drop (length procedure.by_value) procedure.variables)))
     (λ done. constants_from_wantless [] procedure.constants))
     (λ constants. framed_wantless (λ frame. record frame { constants = constants }))
@@ -137,7 +137,7 @@ result_wantless None = pure_wantless Empty
 created_wantless : (name : List ℕ) → Wantless (created name)
 created_wantless name = choice_wantless (same_name (codes "scripting.dictionary") name)
     (then_wantless (settling_wantless new_table_of with_new_table table_roomy (λ world right fitting.
-    table_settles world.heap world.finished right fitting) (object_stays (Entries no_entries)))
+    table_settles world.store world.finished right fitting) (object_stays (Entries no_entries)))
     (λ object. pure_wantless (Obj object)))
     (fails_wantless cannot_create_object)
 
@@ -149,35 +149,40 @@ create_object_wantless (name ∷ more ∷ others) = fails_wantless wrong_number
 pub type_name_wantless : (program : Program) (arguments : List Value) → Wantless (type_name_in program arguments)
 type_name_wantless program [] = fails_wantless wrong_number
 type_name_wantless program (value ∷ []) = seeing_wantless
-    (λ world. given (and_then (name_of_class program world.heap value) (λ class. Ok (Str (type_name_of value class)))))
+    (λ world. given (and_then (name_of_class program world.store value) (λ class. Ok (Str (type_name_of value class)))))
     (λ world. given_wantless
-    (and_then (name_of_class program world.heap value) (λ class. Ok (Str (type_name_of value class)))))
+    (and_then (name_of_class program world.store value) (λ class. Ok (Str (type_name_of value class)))))
 type_name_wantless program (value ∷ more ∷ others) = fails_wantless wrong_number
 
-field_made_wantless : (object : ObjNo) (field : ℕ) (array : Option DeclaredArray)
-    → Wantless (making.field_made object field array)
-field_made_wantless object field (Some array) = line_wantless array.line
-    (then_wantless (seeing_wantless (λ world. given (field_of field (numbered object.0 world.heap.objects)))
-    (λ world. given_wantless (field_of field (numbered object.0 world.heap.objects)))) (λ cell.
-    then_wantless (given_wantless (declared_array array.bounds)) (λ value.
+field_sized_wantless : (object : ObjNo) (field : ℕ) (bounds : Option (List ℤ))
+    → Wantless (making.field_sized object field bounds)
+field_sized_wantless object field (Some bounds) =
+    then_wantless (seeing_wantless (λ world. given (field_of field (numbered object.0 world.store.objects)))
+    (λ world. given_wantless (field_of field (numbered object.0 world.store.objects)))) (λ cell.
+    then_wantless (given_wantless (declared_array bounds)) (λ value.
     heap_wantless (store_of (cell_place cell) value) (with_stored (cell_place cell) value)
-    (store_roomy (cell_place cell) value) (λ store count. refl))))
-field_made_wantless object field None = pure_wantless tt
+    (store_roomy (cell_place cell) value) (λ store count. refl)))
+field_sized_wantless object field None = pure_wantless tt
+
+field_made_wantless : (object : ObjNo) (field : ℕ) (variable : Variable)
+    → Wantless (making.field_made object field variable)
+field_made_wantless object field variable =
+    line_wantless variable.line (field_sized_wantless object field variable.bounds)
 
 pub fields_made_wantless : (object : ObjNo) (number : ℕ) (fields : List Field)
     → Wantless (making.fields_made object number fields)
 fields_made_wantless object number [] = pure_wantless tt
 fields_made_wantless object number (field ∷ fields) =
-    then_wantless (field_made_wantless object number field.array)
+    then_wantless (field_made_wantless object number field.variable)
     (λ done. fields_made_wantless object (number + 1) fields)
 
 pub object_made_wantless : (number : ℕ) (fields : List Field) → Wantless (
-    on_heap (new_object_of number (length fields)) (with_new_object number (length fields)) >>= (λ object.
+    on_store (new_object_of number (length fields)) (with_new_object number (length fields)) >>= (λ object.
     hold (Obj object) >> making.fields_made object 0 fields >> pure object))
 object_made_wantless number fields =
     then_wantless (settling_wantless (new_object_of number (length fields)) (with_new_object number (length fields))
     (object_roomy number (length fields)) (λ world right fitting.
-    object_settles number (length fields) world.heap world.finished right fitting) (λ store.
+    object_settles number (length fields) world.store world.finished right fitting) (λ store.
     object_stays (Fields number (cells_from store.cells_made (length fields)))
     (with_fields (cells_from store.cells_made (length fields)) (length fields) store)))
     (λ object. then_wantless (then_wantless (hold_wantless (Obj object)) (λ done. fields_made_wantless object 0 fields))

@@ -19,8 +19,8 @@ use Rattle.vb_meaning.specs.declared.reached.Argument.{Argument}
 use Rattle.vb_meaning.specs.declared.reached.Argument.TheVariants.{Value as OfValue}
 use Rattle.vb_meaning.specs.declared.reached.Assigned.{Assigned}
 use Rattle.vb_meaning.specs.declared.stop.Stop.TheVariants as stop
-use Rattle.vb_meaning.specs.declared.world.World.{World}
-use Rattle.vb_meaning.specs.Acts.{act_in, fresh_world, page_begins, part}
+use Rattle.vb_meaning.specs.World.{World}
+use Rattle.vb_meaning.specs.Acts.{act_in, fresh_world, most_ticks, page_begins, part}
 use Rattle.vb_meaning.specs.Asking.{Host, Said}
 use Rattle.vb_meaning.specs.Assigning.{assign_to}
 use Rattle.vb_meaning.specs.Calling.{enter_of}
@@ -35,7 +35,7 @@ use Rattle.vb_meaning.specs.State.{Does, State, on_world}
 use Rattle.vb_meaning.specs.Statements.{call_of}
 use Rattle.vb_meaning.specs.Step.{Step, Returns, Ends, ◌>>=◌, ◌>>◌, pure}
 use Rattle.act_laws.specs.Objects.{AddsUp, HasBegun, IsEnding, account_of}
-use Rattle.act_laws.specs.Ticks.{state_of}
+use Rattle.vb_meaning.specs.Step.{state_of}
 
 -- ---- notes
 
@@ -74,7 +74,7 @@ is_among number (first ∷ others) = if is_number number first then true else is
 -- terminator.
 abbrev pub ends_by : Owner → World → Notes → Option ℕ
 ends_by None world notes = None
-ends_by (Some (object, class)) world notes = if ends_now (numbered object.0 world.heap.objects)
+ends_by (Some (object, class)) world notes = if ends_now (numbered object.0 world.store.objects)
     then (if is_among object.0 notes.running then None else Some object.0) else None
 
 -- the notes with that
@@ -142,7 +142,7 @@ noted_inside E host program levels = of_program host program (noted_levels E hos
 -- an act with its notes
 abbrev pub noted_act : (E : Type 0) → Host E → Program → Act → E → List AppReply → Option PlainEnd × Noted E
 noted_act E host program which env replies = act_in (Noted E) (noted_inside E host program most_levels) which
-    (record { world = fresh_world; env = (env, no_notes); replies = replies })
+    (record { world = fresh_world; ticks = most_ticks; env = (env, no_notes); replies = replies })
 
 -- ---- what the notes say
 
@@ -166,7 +166,7 @@ abbrev pub standings : List (ℕ × Object) → List (ℕ × (Bool × Option ℕ
 standings objects = map (λ object. (object.0, (object.1.ending, class_in object.1.content))) objects
 
 abbrev pub standing : ℕ → World → Option (Bool × Option ℕ)
-standing number world = numbered number (standings world.heap.objects)
+standing number world = numbered number (standings world.store.objects)
 
 -- Notes that belong to a world: the objects whose terminators have begun and that have not ended are those whose
 -- terminators are being run.
@@ -191,7 +191,7 @@ pub record EntersEach (program : Program) (before : World) (noted : Notes) (afte
       → HasBegun number (account_of after)
       → entries_of number notes.entered ≡ entries_of number noted.entered ++ terminators program class
   -- and so is that of an object that was made and began to end since
-  pub made : (number : ℕ) → before.heap.objects_made ≤ number → HasBegun number (account_of after)
+  pub made : (number : ℕ) → before.store.objects_made ≤ number → HasBegun number (account_of after)
       → (class : Option ℕ)
       × (entries_of number notes.entered ≡ entries_of number noted.entered ++ terminators program class)
   -- an object keeps its class

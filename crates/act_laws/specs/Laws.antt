@@ -25,7 +25,7 @@ use Rattle.vb_meaning.specs.Asking.{Host}
 use Rattle.vb_meaning.specs.Inner.{Inner}
 use Rattle.vb_meaning.specs.Meaning.{inside}
 use Rattle.vb_meaning.specs.Releases.{in_world, settle, terminate}
-use Rattle.vb_meaning.specs.State.{State, with_heap}
+use Rattle.vb_meaning.specs.State.{State, with_store}
 use Rattle.vb_meaning.specs.Step.{Step, Returns, Ends as Ends_of, ◌>>◌}
 use Rattle.act_laws.specs.Calls.{LeavesOnly, Noting, WantsOnly, calls_of, noting, wanted}
 use Rattle.act_laws.specs.Entries.{AreOf, EntersAll, Noted, entries_of, noted_act, noted_inside, terminators, no_notes}
@@ -114,15 +114,29 @@ LeavesErr before (Ends_of (stop.Limit kind line) s) = Unit {0}
 LeavesErr before (Ends_of (stop.Wants call) s) = Unit {0}
 LeavesErr before (Ends_of stop.Memory s) = Unit {0}
 
+-- a step that comes to its end, or to an error, or stops the page, leaves the procedure that runs, with its names, and how
+-- many procedures are open
+abbrev pub LeavesPlace : {E A : Type 0} → State E → Step (State E) A → Type 0
+LeavesPlace before (Returns value s) =
+    (s.world.frame ≡ before.world.frame) × (s.world.calls ≡ before.world.calls)
+LeavesPlace before (Ends_of stop.Page s) =
+    (s.world.frame ≡ before.world.frame) × (s.world.calls ≡ before.world.calls)
+LeavesPlace before (Ends_of (stop.Error what line) s) =
+    (s.world.frame ≡ before.world.frame) × (s.world.calls ≡ before.world.calls)
+LeavesPlace before (Ends_of (stop.Limit kind line) s) = Unit {0}
+LeavesPlace before (Ends_of (stop.Wants call) s) = Unit {0}
+LeavesPlace before (Ends_of stop.Memory s) = Unit {0}
+
 -- A release point where each live object has a reference does nothing, and neither does a second one right behind the
 -- first. Where a live object has none, the oldest such ends, and behind its terminator stands a release point again.
--- It leaves Err.
+-- It leaves Err, and the place in the script.
 pub record ReleasesOnce (E : Type 0) (m : Inner E) (s : State E) : Type 0 where
-  pub still : oldest_loose s.world.heap ≡ None → settle E m s ≡ Returns tt s
-  pub next : AddsUp (account_at s) → (object : ℕ) → oldest_loose s.world.heap ≡ Some object
+  pub still : oldest_loose s.world.store ≡ None → settle E m s ≡ Returns tt s
+  pub next : AddsUp (account_at s) → (object : ℕ) → oldest_loose s.world.store ≡ Some object
       → settle E m s
-      ≡ (terminate E m object >> settle E m) (in_world E (with_heap (with_ending (Some object)) s.world) s)
+      ≡ (terminate E m object >> settle E m) (in_world E (with_store (with_ending (Some object)) s.world) s)
   pub leaves : LeavesErr s (settle E m s)
+  pub place : LeavesPlace s (settle E m s)
   pub again : AddsUp (account_at s) → (after : State E) → settle E m s ≡ Returns tt after
       → settle E m after ≡ Returns tt after
 

@@ -3,7 +3,7 @@ use Rattle.std.specs.Prelude.{◌≡◌, ◌<◌, ℕ, List, Option, None}
 use Rattle.vb_value.specs.declared.value.Value.{Value, Obj}
 use Rattle.vb_heap.specs.Releases.{object_of}
 use Rattle.vb_heap.specs.Store.{numbered}
-use Rattle.vb_meaning.specs.declared.world.World.{World}
+use Rattle.vb_meaning.specs.World.{World}
 use Rattle.vb_meaning.specs.Inner.{Inner}
 use Rattle.vb_meaning.specs.Making.{new_of}
 use Rattle.vb_meaning.specs.Reading.{create_object}
@@ -17,11 +17,11 @@ Gives holds (Ends why s) = Unit {0}
 
 -- a value is an object with the number that the next object was to have, and the next has a greater one
 pub record IsNext (before : World) (value : Value) (after : World) : Type 0 where
-  pub is : value ≡ Obj (object_of before.heap.objects_made)
-  pub later : before.heap.objects_made < after.heap.objects_made
+  pub is : value ≡ Obj (object_of before.store.objects_made)
+  pub later : before.store.objects_made < after.store.objects_made
 
 -- From a state, New and CreateObject give such objects. No object that is there has that number.
 pub record GivesNew (E : Type 0) (m : Inner E) (s : State E) : Type 0 where
-  pub free : numbered s.world.heap.objects_made s.world.heap.objects ≡ None
+  pub free : numbered s.world.store.objects_made s.world.store.objects ≡ None
   pub new : (class : Option ℕ) → Gives (λ value after. IsNext s.world value after.world) (new_of E m class s)
   pub create : (arguments : List Value) → Gives (IsNext s.world) (create_object arguments s.world)

@@ -8,7 +8,7 @@ use Rattle.vb_heap.specs.Limits.{most_objects}
 use Rattle.vb_heap.specs.Store.{numbered}
 use Rattle.vb_meaning.specs.declared.stop.Stop.{Stop}
 use Rattle.vb_meaning.specs.declared.stop.Stop.TheVariants as stop
-use Rattle.vb_meaning.specs.declared.world.World.{World}
+use Rattle.vb_meaning.specs.World.{World}
 use Rattle.vb_meaning.specs.State.{State}
 use Rattle.vb_meaning.specs.Step.{Step, Returns, Ends}
 
@@ -27,7 +27,7 @@ marks objects = map (λ object. (object.0, object.1.ending)) objects
 
 abbrev pub account_of : World → Account
 account_of world =
-    record { objects = marks world.heap.objects; made = world.heap.objects_made; finished = world.finished }
+    record { objects = marks world.store.objects; made = world.store.objects_made; finished = world.finished }
 
 -- an object is live
 abbrev pub IsLive : ℕ → Account → Type 0

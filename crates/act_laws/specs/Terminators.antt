@@ -13,7 +13,7 @@ use Rattle.vb_meaning.specs.declared.reached.Assigned.{Assigned}
 use Rattle.vb_meaning.specs.declared.stop.Stop.TheVariants as stop
 use Rattle.vb_meaning.specs.Inner.{Inner, Owner}
 use Rattle.vb_meaning.specs.Releases.{end_all, settle, settle_last, terminate}
-use Rattle.vb_meaning.specs.State.{Does, State, with_heap}
+use Rattle.vb_meaning.specs.State.{Does, State, with_store}
 use Rattle.vb_meaning.specs.Step.{Step, Returns, Ends, ◌>>◌}
 use Rattle.act_laws.specs.Objects.{HasBegun, HasEnded, IsEnding, IsLive, Kept, account_at, account_of, ended_objects}
 use Rattle.act_laws.specs.Objects.{numbers_below}
@@ -41,22 +41,22 @@ ComesOut object (Ends stop.Memory s) = HasBegun object (account_at s)
 
 -- where a release point comes to its end, no live object is without references
 abbrev pub NoneLoose : {E : Type 0} → Step (State E) (Unit {0}) → Type 0
-NoneLoose (Returns done s) = oldest_loose s.world.heap ≡ None
+NoneLoose (Returns done s) = oldest_loose s.world.store ≡ None
 NoneLoose (Ends why s) = Unit {0}
 
 -- where the page's end comes to its end, each object that was made has ended
 abbrev pub AllEnded : {E : Type 0} → Step (State E) (Unit {0}) → Type 0
-AllEnded (Returns done s) = ended_objects (account_at s) ≡ numbers_below s.world.heap.objects_made
+AllEnded (Returns done s) = ended_objects (account_at s) ≡ numbers_below s.world.store.objects_made
 AllEnded (Ends why s) = Unit {0}
 
 -- From a state, terminators are run so: an object whose terminator is to begin is live, and is live no more when it has
 -- begun; when it has come to its end, so has the object, and as many have come to their end as objects have ended. A
 -- release point goes on until no live object is without references, and the page's end until each object has ended.
 pub record RunsEach (E : Type 0) (m : Inner E) (s : State E) : Type 0 where
-  pub loose : (object : ℕ) → oldest_loose s.world.heap ≡ Some object → IsLive object (account_at s)
-  pub last : (object : ℕ) → oldest_live s.world.heap ≡ Some object → IsLive object (account_at s)
+  pub loose : (object : ℕ) → oldest_loose s.world.store ≡ Some object → IsLive object (account_at s)
+  pub last : (object : ℕ) → oldest_live s.world.store ≡ Some object → IsLive object (account_at s)
   pub begins : (object : ℕ) → IsLive object (account_at s)
-      → IsEnding object (account_of (with_heap (with_ending (Some object)) s.world))
+      → IsEnding object (account_of (with_store (with_ending (Some object)) s.world))
   pub ends : (object : ℕ) → IsEnding object (account_at s) → ComesOut object (terminate E m object s)
   pub counted : length (ended_objects (account_at s)) ≡ s.world.finished
   pub settles : NoneLoose (settle E m s)

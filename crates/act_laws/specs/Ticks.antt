@@ -12,16 +12,11 @@ use Rattle.vb_meaning.specs.Acts.{page_begins, part}
 use Rattle.vb_meaning.specs.Inner.{Inner, Owner}
 use Rattle.vb_meaning.specs.Releases.{end_all, settle, settle_last, terminate}
 use Rattle.vb_meaning.specs.State.{Does, State, on_world}
-use Rattle.vb_meaning.specs.Step.{Step, Returns, Ends, ◌>>◌}
-
--- the state that a step leaves, whether it gives a value or ends
-abbrev pub state_of : {S A : Type 0} → Step S A → S
-state_of (Returns value s) = s
-state_of (Ends why s) = s
+use Rattle.vb_meaning.specs.Step.{state_of, ◌>>◌}
 
 -- what is done gives no tick back: as many are left behind it as before, or fewer
 abbrev pub GivesNoneBack : {E A : Type 0} → State E → Does E A → Type 0
-GivesNoneBack s run = (state_of (run s)).world.ticks ≤ s.world.ticks
+GivesNoneBack s run = (state_of (run s)).ticks ≤ s.ticks
 
 -- from a state, nothing that is done gives a tick back
 pub record NoneComeBack (E : Type 0) (m : Inner E) (s : State E) : Type 0 where

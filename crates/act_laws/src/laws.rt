@@ -53,7 +53,7 @@ pub fn terminators_run_once<E>()
 
 /// A release point where each live object has a reference does nothing, and neither does a second one right behind the
 /// first. Where a live object has none, the oldest such ends, and behind its terminator stands a release point again.
-/// A release point leaves Err.
+/// A release point leaves Err, and the place in the script.
 pub fn release_points_settle<E>()
     ensures { ReleasePointsSettle E }
 {}

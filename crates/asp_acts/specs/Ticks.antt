@@ -1,15 +1,9 @@
--- How many ticks a run spends. An act counts its ticks down in its world.
-use Rattle.std.specs.Prelude.{ℕ, ◌+◌, ◌-◌, List, codes, drop, if◌then◌else◌, Option, Some, None}
+-- How many ticks a run spends: those of its acts.
+use Rattle.std.specs.Prelude.{ℕ, ◌+◌, List, codes, drop, if◌then◌else◌, Option, Some, None}
 use Rattle.vb_value.specs.declared.application.AppReply.{AppReply}
 use Rattle.vb_syntax.specs.declared.act.Act.{Act}
 use Rattle.vb_syntax.specs.declared.act.Act.TheVariants as act
-use Rattle.vb_meaning.specs.declared.stop.Stop.TheVariants as stop
-use Rattle.vb_meaning.specs.Acts.{most_ticks, fresh_world, page_begins, page_left, part}
-use Rattle.vb_meaning.specs.Inner.{Inner}
-use Rattle.vb_meaning.specs.Meaning.{inside, most_levels}
-use Rattle.vb_meaning.specs.Releases.{settle_last, end_all, in_world}
-use Rattle.vb_meaning.specs.State.{State, on_world}
-use Rattle.vb_meaning.specs.Step.{Step, Returns, Ends, ◌>>◌}
+use Rattle.vb_meaning.specs.Ticks.{ticks_of as act_ticks}
 use Rattle.vb_world.specs.Seen.{host}
 use Rattle.asp_job.specs.declared.job.Work.{Work}
 use Rattle.asp_job.specs.declared.job.Work.TheVariants as work
@@ -28,35 +22,10 @@ use Rattle.asp_acts.specs.Acts.{course_of, number_of, starts, opens, outside}
 use Rattle.asp_acts.specs.Events.{event_objects}
 use Rattle.asp_acts.specs.Pages.{page_takes, page_begins as course_of_page}
 
--- the state that a step leaves
-abbrev pub left_by : {E : Type 0} → Step (State E) (Unit {0}) → State E
-left_by (Returns done s) = s
-left_by (Ends why s) = s
-
-module _ (E : Type 0) (m : Inner E) where
-  -- the state at the end of a page, once its variables and objects have gone
-  abbrev pub page_end : State E → State E
-  page_end s = left_by ((settle_last E m >> end_all E m) (in_world E (page_left s.world) s))
-
-  -- the state at the end of an act: one that a limit stopped, or that wants a call, ends no more objects
-  abbrev pub act_end : Step (State E) (Unit {0}) → State E
-  act_end (Returns done s) = page_end s
-  act_end (Ends stop.Page s) = page_end s
-  act_end (Ends (stop.Error what line) s) = page_end s
-  act_end (Ends why s) = s
-
-  -- the ticks that an act spends
-  abbrev pub act_ticks : Act → State E → ℕ
-  act_ticks which s = most_ticks - (act_end ((on_world (page_begins m.program.unit) >> part E m which) s)).world.ticks
-
 -- the ticks of an act of a page's program
-unfoldable pub ticks_in : List AppReply → Page → Act → Course → ℕ
-ticks_in replies page which course = act_ticks PageObjects
-    (inside PageObjects (host asked answered) page.program most_levels) which (record {
-      world = fresh_world;
-      env = course.objects;
-      replies = drop course.objects.heard replies;
-    })
+abbrev pub ticks_in : List AppReply → Page → Act → Course → ℕ
+ticks_in replies page which course = act_ticks PageObjects (host asked answered) page.program which course.objects
+    (drop course.objects.heard replies)
 
 -- the ticks of what follows, none where a call is wanted
 abbrev pub and_then_ticks : Way → (Course → ℕ) → ℕ

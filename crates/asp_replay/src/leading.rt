@@ -1,7 +1,7 @@
 //! What the lanes of a host do that a recording is fed to: lane 0 leads, the others help.
 #![tactic(auto)]
 
-ghost use Rattle.std.specs.Prelude.{◌≡◌};
+ghost use Rattle.std.specs.Prelude.{◌≡◌, is_some};
 ghost use Rattle.asp_desk.specs.Crews as crews;
 ghost use Rattle.asp_desk.specs.Hands.{IsHandOf};
 ghost use Rattle.asp_io.specs.Faults.{HasCause};
@@ -29,7 +29,9 @@ pub struct Helping<'a, G> {
 }
 
 /// Whether a loop ended early.
-fn is_early(slice: Slice) -> bool {
+fn is_early(slice: Slice) -> bool
+    ensures { result ≡ is_some (spec.stop_of slice) }
+{
     matches!(slice, Slice::JournalFull(_) | Slice::Memory)
 }
 

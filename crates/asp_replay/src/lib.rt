@@ -1,4 +1,5 @@
-//! A recording is fed to a site by one lane, and the answers are written as they come.
+//! A recording is fed to a site by one lane, or by several in threads of their own, and the answers are written as they
+//! come.
 #![tactic(auto)]
 
 mod beginning;

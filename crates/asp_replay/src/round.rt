@@ -33,6 +33,7 @@ fn is_calm(looked: &Looked) -> bool
 fn is_done(looked: &Looked, free: bool) -> bool
     ensures stopping { result ≡ true → looked.now.stopping ≡ true }
     ensures free { result ≡ true → free ≡ true }
+    ensures done { looked.now.stopping ≡ true → free ≡ true → result ≡ true }
 {
     looked.stopping && free
 }

@@ -1,16 +1,18 @@
-//! Tries the cases of data/: calls on the data of a page, and calls of dictionaries. With the word `time` it times the data
+//! Tries the cases of data/: calls on the data of a page, calls of dictionaries, and calls on pools of slots. With the word `time` it times the data
 //! of a page.
 #![tactic(auto)]
 
 mod answers;
 mod calls;
 mod keyed;
+mod pools;
 mod said;
 mod timing;
 mod values;
 
 use answers::Pages;
 use case_files::try_file;
+use pools::Pools;
 use std::io::ErrorKind;
 use std::rt::Runtime;
 use std::{env, io};
@@ -21,7 +23,8 @@ fn try_cases<R: Runtime + AllocGlobal>(rt: &R) -> io::Result<()> {
     let cells = try_file(rt, "cells.txt", &Pages)?;
     let objects = try_file(rt, "objects.txt", &Pages)?;
     let dictionaries = try_file(rt, "dictionaries.txt", &Pages)?;
-    if cells && objects && dictionaries {
+    let pools = try_file(rt, "pools.txt", &Pools)?;
+    if cells && objects && dictionaries && pools {
         Ok(())
     } else {
         Err(ErrorKind::InvalidData.into())

@@ -18,10 +18,11 @@ use Rattle.vb_syntax.specs.declared.note.NoteKind.TheVariants as say
 use Rattle.vb_syntax.specs.declared.program.name.Named.{Named}
 use Rattle.vb_syntax.specs.declared.program.name.Named.TheVariants as named
 use Rattle.vb_syntax.specs.declared.program.name.Slot.TheVariants as slot
+use Rattle.vb_syntax.specs.declared.program.unit.Variable.{Variable}
 use Rattle.vb_syntax.specs.scope.Names.{Name, number_of_key, first_of, of_language, object_named}
 use Rattle.vb_syntax.specs.scope.Notes.{Notes}
 use Rattle.vb_syntax.specs.scope.Scopes.{Declarations, Scopes, with_name, with_variable, place_at, declare}
-use Rattle.vb_syntax.specs.scope.Scopes.{declare_note}
+use Rattle.vb_syntax.specs.scope.Scopes.{declare_note, variable_of}
 use Rattle.vb_syntax.specs.scope.Scopes.{declared, nothing_declared, standing_in, standing_at, declared_in, named_in}
 use Rattle.vb_syntax.specs.scope.Scopes.{is_unknown, mentioned, resized, made_by, with_made, on_page_in, scopes_of}
 use Rattle.vb_syntax.specs.scope.Scopes.{page_scope_of, body_scope_of}
@@ -138,68 +139,70 @@ standing-push found name key meaning aligned =
 abbrev Made : Level → Option Named → Type 0
 Made at found = (found ≡ None) ⊎ ((number : ℕ) × (found ≡ Some (named.Place (place_at at number))))
 
-made-push : (at : Level) (found : Declarations) (name key : Name) → Aligned found → Made at (standing_in found key)
-    → Made at (standing_in (with_variable at name None found) key)
-made-push at found name key aligned (inl none) = go (pointwise nat_eq key (folded name))
-    (standing-push found name key (named.Place (place_at at (length found.arrays))) aligned
+made-push : (at : Level) (variable : Variable) (found : Declarations) (name key : Name) → Aligned found
+    → Made at (standing_in found key) → Made at (standing_in (with_variable at name variable found) key)
+made-push at variable found name key aligned (inl none) = go (pointwise nat_eq key (folded name))
+    (standing-push found name key (named.Place (place_at at (length found.variables))) aligned
     ∙ ap (λ o. or_else o (cond (pointwise nat_eq key (folded name))
-    (Some (named.Place (place_at at (length found.arrays)))) None)) none)
+    (Some (named.Place (place_at at (length found.variables)))) None)) none)
   where
-    go : (passes : Bool) → standing_in (with_variable at name None found) key
-        ≡ cond passes (Some (named.Place (place_at at (length found.arrays)))) None
-        → Made at (standing_in (with_variable at name None found) key)
-    go true is = inr (length found.arrays, is)
+    go : (passes : Bool) → standing_in (with_variable at name variable found) key
+        ≡ cond passes (Some (named.Place (place_at at (length found.variables)))) None
+        → Made at (standing_in (with_variable at name variable found) key)
+    go true is = inr (length found.variables, is)
     go false is = inl is
-made-push at found name key aligned (inr made) = inr (
+made-push at variable found name key aligned (inr made) = inr (
   made.0,
-  standing-push found name key (named.Place (place_at at (length found.arrays))) aligned
+  standing-push found name key (named.Place (place_at at (length found.variables))) aligned
       ∙ ap (λ o. or_else o (cond (pointwise nat_eq key (folded name))
-      (Some (named.Place (place_at at (length found.arrays)))) None)) made.1,
+      (Some (named.Place (place_at at (length found.variables)))) None)) made.1,
 )
 
-made-with : (at : Level) (found : Declarations) (made : Option Name) (key : Name) → Aligned found
-    → Made at (standing_in found key) → Made at (standing_in (with_made at found made) key)
-made-with at found None key aligned so_far = so_far
-made-with at found (Some name) key aligned so_far = made-push at found name key aligned so_far
+made-with : (at : Level) (line : ℕ) (found : Declarations) (made : Option Name) (key : Name) → Aligned found
+    → Made at (standing_in found key) → Made at (standing_in (with_made at line found made) key)
+made-with at line found None key aligned so_far = so_far
+made-with at line found (Some name) key aligned so_far =
+    made-push at (variable_of line None) found name key aligned so_far
 
-aligned-with : (at : Level) (found : Declarations) (made : Option Name) → Aligned found
-    → Aligned (with_made at found made)
-aligned-with at found None aligned = aligned
-aligned-with at found (Some name) aligned = aligned-push name _ found aligned
+aligned-with : (at : Level) (line : ℕ) (found : Declarations) (made : Option Name) → Aligned found
+    → Aligned (with_made at line found made)
+aligned-with at line found None aligned = aligned
+aligned-with at line found (Some name) aligned = aligned-push name _ found aligned
 
-kept-with : (at : Level) (found : Declarations) (made : Option Name) (key : Name) (meaning : Named) → Aligned found
-    → standing_in found key ≡ Some meaning → standing_in (with_made at found made) key ≡ Some meaning
-kept-with at found None key meaning aligned is = is
-kept-with at found (Some name) key meaning aligned is =
-    standing-push found name key (named.Place (place_at at (length found.arrays))) aligned
+kept-with : (at : Level) (line : ℕ) (found : Declarations) (made : Option Name) (key : Name) (meaning : Named)
+    → Aligned found → standing_in found key ≡ Some meaning
+    → standing_in (with_made at line found made) key ≡ Some meaning
+kept-with at line found None key meaning aligned is = is
+kept-with at line found (Some name) key meaning aligned is =
+    standing-push found name key (named.Place (place_at at (length found.variables))) aligned
     ∙ ap (λ o. or_else o (cond (pointwise nat_eq key (folded name))
-    (Some (named.Place (place_at at (length found.arrays)))) None)) is
+    (Some (named.Place (place_at at (length found.variables)))) None)) is
 
 -- ---- the places of a scope
 
 module _ (at : Level) (around : Declarations → Scopes) where
   -- behind one more place
   abbrev step : Declarations → Note → Declarations
-  step found note = with_made at found (made_by false (around found) note.kind)
+  step found note = with_made at note.line found (made_by false (around found) note.kind)
 
   made-notes : (found : Declarations) (notes : Notes) (key : Name) → Aligned found → Made at (standing_in found key)
       → Made at (standing_in (fold step found notes) key)
   made-notes found [] key aligned so_far = so_far
   made-notes found (note ∷ notes) key aligned so_far = made-notes (step found note) notes key
-      (aligned-with at found (made_by false (around found) note.kind) aligned)
-      (made-with at found (made_by false (around found) note.kind) key aligned so_far)
+      (aligned-with at note.line found (made_by false (around found) note.kind) aligned)
+      (made-with at note.line found (made_by false (around found) note.kind) key aligned so_far)
 
   aligned-all : (found : Declarations) (notes : Notes) → Aligned found → Aligned (fold step found notes)
   aligned-all found [] aligned = aligned
   aligned-all found (note ∷ notes) aligned = aligned-all (step found note) notes
-      (aligned-with at found (made_by false (around found) note.kind) aligned)
+      (aligned-with at note.line found (made_by false (around found) note.kind) aligned)
 
   kept-notes : (found : Declarations) (notes : Notes) (key : Name) (meaning : Named) → Aligned found
       → standing_in found key ≡ Some meaning → standing_in (fold step found notes) key ≡ Some meaning
   kept-notes found [] key meaning aligned is = is
   kept-notes found (note ∷ notes) key meaning aligned is = kept-notes (step found note) notes key meaning
-      (aligned-with at found (made_by false (around found) note.kind) aligned)
-      (kept-with at found (made_by false (around found) note.kind) key meaning aligned is)
+      (aligned-with at note.line found (made_by false (around found) note.kind) aligned)
+      (kept-with at note.line found (made_by false (around found) note.kind) key meaning aligned is)
 
   named-nowhere : (found : Declarations) (name : Name) → declared_in (around found) false (folded name) ≡ None
       → of_language name ≡ None → named_in (around found) false name ≡ named.Unknown
@@ -248,17 +251,18 @@ module _ (at : Level) (around : Declarations → Scopes) where
   made-at found note name rest aligned outside no_rest mentions no_word no_object (inl none) =
       let nowhere : declared_in (around found) false (folded name) ≡ None =
       outside found ∙ ap (λ o. or_else o rest) none ∙ no_rest in (
-        length found.arrays,
-        ap (λ made. standing_in (with_made at found made) (folded name))
+        length found.variables,
+        ap (λ made. standing_in (with_made at note.line found made) (folded name))
             (made-here found note.kind name mentions nowhere no_word no_object)
-            ∙ standing-push found name (folded name) (named.Place (place_at at (length found.arrays))) aligned
+            ∙ standing-push found name (folded name) (named.Place (place_at at (length found.variables))) aligned
             ∙ ap (λ o. or_else o (cond (pointwise nat_eq (folded name) (folded name))
-            (Some (named.Place (place_at at (length found.arrays)))) None)) none
-            ∙ ap (λ b. cond b (Some (named.Place (place_at at (length found.arrays)))) None) (itself (folded name)),
+            (Some (named.Place (place_at at (length found.variables)))) None)) none
+            ∙ ap (λ b. cond b (Some (named.Place (place_at at (length found.variables)))) None) (itself (folded name)),
       )
   made-at found note name rest aligned outside no_rest mentions no_word no_object (inr made) = (
     made.0,
-    kept-with at found (made_by false (around found) note.kind) (folded name) (named.Place (place_at at made.0))
+    kept-with at note.line found (made_by false (around found) note.kind) (folded name)
+        (named.Place (place_at at made.0))
         aligned made.1,
   )
 
@@ -288,7 +292,7 @@ module _ (at : Level) (around : Declarations → Scopes) where
         named-at (fold step start (before ++ note ∷ after)) name rest (named.Place (place_at at made.0)) outside
             (ap (λ found. standing_in found (folded name)) (fold-append step start before (note ∷ after))
             ∙ kept-notes (step first note) after (folded name) (named.Place (place_at at made.0))
-            (aligned-with at first (made_by false (around first) note.kind) aligned_first) made.1),
+            (aligned-with at note.line first (made_by false (around first) note.kind) aligned_first) made.1),
       )
 
 -- ---- the page and procedures

@@ -14,7 +14,7 @@ use Rattle.vb_meaning.specs.declared.cause.Raised.{Raised}
 use Rattle.vb_meaning.specs.declared.plain_end.PlainEnd.{PlainEnd}
 use Rattle.vb_meaning.specs.declared.plain_end.PlainEnd.TheVariants.{Wants, Ends as Ended}
 use Rattle.vb_meaning.specs.declared.stop.Stop.TheVariants as stop
-use Rattle.vb_meaning.specs.declared.world.World.{World}
+use Rattle.vb_meaning.specs.World.{World}
 use Rattle.vb_meaning.specs.Asking.{Host}
 use Rattle.vb_meaning.specs.Blocks.{block}
 use Rattle.vb_meaning.specs.Calling.{fresh_frame}
@@ -24,7 +24,7 @@ use Rattle.vb_meaning.specs.Inner.{Inner}
 use Rattle.vb_meaning.specs.Meaning.{inside, most_levels}
 use Rattle.vb_meaning.specs.Places.{cells_emptied, let_go}
 use Rattle.vb_meaning.specs.Releases.{settle_last, end_all, in_world}
-use Rattle.vb_meaning.specs.State.{State, Does, on_world, with_heap}
+use Rattle.vb_meaning.specs.State.{State, Does, on_world, with_store}
 use Rattle.vb_meaning.specs.Step.{Step, Returns, Ends, Run, ◌>>=◌, ◌>>◌, pure, fails}
 
 -- how many ticks an act has
@@ -34,11 +34,10 @@ most_ticks = 1000000
 -- the world in which an act begins
 abbrev pub fresh_world : World
 fresh_world = record {
-  heap = no_data;
+  store = no_data;
   page = [];
   frame = fresh_frame None;
   err = no_error;
-  ticks = most_ticks;
   calls = 0;
   terminates = false;
   page_ended = false;
@@ -57,7 +56,7 @@ line_or_none None = 0
 
 -- the values of the page's variables go, in the order of their declaration; the variables stay, and are Empty
 abbrev pub page_left : World → World
-page_left world = with_heap (cells_emptied world.page) (let_go 0 world)
+page_left world = with_store (cells_emptied world.page) (let_go 0 world)
 
 -- an error as the end of an act
 abbrev pub error_end : Raised → ℕ → ActEnd
@@ -76,7 +75,7 @@ module _ (E : Type 0) (m : Inner E) where
 
   -- what an act says of itself when it has ended
   abbrev pub done : ActEnd → World → PlainEnd
-  done how world = Ended (record { end = how; made = world.heap.objects_made; finished = world.finished })
+  done how world = Ended (record { end = how; made = world.store.objects_made; finished = world.finished })
 
   -- how an act ends that came to the page's end with this end: a limit on the way is its end
   abbrev pub closed : ActEnd → Step (State E) (Unit {0}) → Option PlainEnd × E
@@ -105,8 +104,12 @@ module _ (E : Type 0) (m : Inner E) where
   abbrev pub act_in : Act → State E → Option PlainEnd × E
   act_in which s = ends_act ((on_world (page_begins m.program.unit) >> part which) s)
 
+-- the state in which an act begins
+abbrev pub begun : {E : Type 0} → E → List AppReply → State E
+begun env replies = record { world = fresh_world; ticks = most_ticks; env = env; replies = replies }
+
 -- The meaning of an act in an environment, with the replies that it is given: what it wants or how it ends, and what the
 -- environment is then. There is none where the environment ran out of memory.
 unfoldable pub act_of : (E : Type 0) → Host E → Program → Act → E → List AppReply → Option PlainEnd × E
-act_of E host program which env replies = act_in E (inside E host program most_levels) which
-    (record { world = fresh_world; env = env; replies = replies })
+act_of E host program which env replies =
+    act_in E (inside E host program most_levels) which (begun env replies)

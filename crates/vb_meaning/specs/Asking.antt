@@ -8,7 +8,7 @@ use Rattle.vb_syntax.specs.declared.act.Given.TheVariants as given
 use Rattle.vb_syntax.specs.declared.member.Member.{Member}
 use Rattle.vb_heap.specs.DictionaryCalls.{array_of}
 use Rattle.vb_meaning.specs.declared.stop.Stop.TheVariants as stop
-use Rattle.vb_meaning.specs.declared.world.World.{World}
+use Rattle.vb_meaning.specs.World.{World}
 use Rattle.vb_meaning.specs.State.{State, Does}
 use Rattle.vb_meaning.specs.Stops.{ask_stop}
 use Rattle.vb_meaning.specs.Step.{Step, Returns, Ends}
@@ -28,19 +28,20 @@ name_values names = map Str names
 
 -- What comes of what an environment said, with the replies that are left. A call that it wants takes the next of them;
 -- without one the act wants that call.
-abbrev pub heard : {E : Type 0} → Host E → Member → List Value → World → List AppReply → Said E → Step (State E) Value
-heard host member arguments world replies (Ok (given.Value value, env)) =
-    Returns value (record { world = world; env = env; replies = replies })
-heard host member arguments world replies (Ok (given.Names names, env)) =
-    Returns (array_of (name_values names)) (record { world = world; env = env; replies = replies })
-heard host member arguments world [] (Ok (given.Call call, env)) =
-    Ends (stop.Wants call) (record { world = world; env = env; replies = [] })
-heard host member arguments world (reply ∷ replies) (Ok (given.Call call, env)) =
-    heard host member arguments world replies (host.answered member arguments reply env)
-heard host member arguments world replies (Err (reason, env)) =
-    Ends (ask_stop reason) (record { world = world; env = env; replies = replies })
+abbrev pub heard : {E : Type 0} → Host E → Member → List Value → World → ℕ → List AppReply → Said E
+    → Step (State E) Value
+heard host member arguments world ticks replies (Ok (given.Value value, env)) =
+    Returns value (record { world = world; ticks = ticks; env = env; replies = replies })
+heard host member arguments world ticks replies (Ok (given.Names names, env)) =
+    Returns (array_of (name_values names)) (record { world = world; ticks = ticks; env = env; replies = replies })
+heard host member arguments world ticks [] (Ok (given.Call call, env)) =
+    Ends (stop.Wants call) (record { world = world; ticks = ticks; env = env; replies = [] })
+heard host member arguments world ticks (reply ∷ replies) (Ok (given.Call call, env)) =
+    heard host member arguments world ticks replies (host.answered member arguments reply env)
+heard host member arguments world ticks replies (Err (reason, env)) =
+    Ends (ask_stop reason) (record { world = world; ticks = ticks; env = env; replies = replies })
 
 -- a member of the page's objects with these arguments; a list of names is given as an array of them
 unfoldable pub ask : {E : Type 0} → Host E → Member → List Value → Does E Value
 ask host member arguments s =
-    heard host member arguments s.world s.replies (host.asked member arguments s.env)
+    heard host member arguments s.world s.ticks s.replies (host.asked member arguments s.env)

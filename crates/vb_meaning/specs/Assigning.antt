@@ -21,9 +21,7 @@ use Rattle.vb_syntax.specs.declared.program.name.Slot.TheVariants as slot
 use Rattle.vb_syntax.specs.declared.program.unit.Class.{Class}
 use Rattle.vb_syntax.specs.declared.program.unit.Procedure.{Procedure}
 use Rattle.vb_heap.specs.declared.place.Place.{Place}
-use Rattle.vb_heap.specs.Objects.{class_of}
-use Rattle.vb_heap.specs.Store.{numbered}
-use Rattle.vb_meaning.specs.declared.world.World.{World}
+use Rattle.vb_meaning.specs.World.{World}
 use Rattle.vb_meaning.specs.Accesses.{Access, Group, Member, accesses, member_before, given_arguments}
 use Rattle.vb_meaning.specs.Accesses.{only_groups}
 use Rattle.vb_meaning.specs.Asking.{ask}
@@ -46,6 +44,7 @@ use Rattle.vb_meaning.specs.Reading.{values, arguments, access, field_place, fro
 use Rattle.vb_meaning.specs.Reading.{is_taken, subject, me_value, unknown}
 use Rattle.vb_meaning.specs.State.{Does, on_world}
 use Rattle.vb_meaning.specs.Step.{Run, ◌>>=◌, ◌>>◌, pure, given, fails}
+use Rattle.vb_meaning.specs.Stored.{class_of}
 use Rattle.vb_meaning.specs.Values.{object_in}
 
 -- ---- what may be assigned
@@ -129,7 +128,7 @@ module _ (E : Type 0) (m : Inner E) (how : Assigned) where
   -- a member of a value, which has to be an object; the object is held
   unfoldable pub into_member : Value → ℕ → Option (List Expression) → Value → Does E (Unit {0})
   into_member whole name supplied value = on_world (hold whole >> given (object_in whole)) >>= (λ object.
-      on_world (λ world. given (class_of (numbered object.0 world.heap.objects)) world)
+      on_world (λ world. given (class_of object world.store) world)
       >>= into_object object name supplied value)
 
   -- ---- the last access

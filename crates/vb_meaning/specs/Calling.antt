@@ -4,25 +4,25 @@ use Rattle.std.specs.Prelude.{ℕ, ◌+◌, ◌==◌, nat_lt, Bool, true, false,
 use Rattle.std.specs.Prelude.{length, drop, Option, Some, None}
 use Rattle.vb_value.specs.declared.value.Value.{Value, Empty}
 use Rattle.vb_value.specs.Errors.{wrong_number}
-use Rattle.vb_syntax.specs.declared.program.unit.DeclaredArray.{DeclaredArray}
 use Rattle.vb_syntax.specs.declared.program.unit.Procedure.{Procedure}
 use Rattle.vb_syntax.specs.declared.program.unit.ProcedureKind.{ProcedureKind}
 use Rattle.vb_syntax.specs.declared.program.unit.ProcedureKind.TheVariants as kind
+use Rattle.vb_syntax.specs.declared.program.unit.Variable.{Variable}
 use Rattle.vb_heap.specs.declared.place.CellNo.{CellNo}
 use Rattle.vb_heap.specs.declared.place.Place.{Place}
+use Rattle.vb_meaning.specs.declared.constant_fault.ConstantFault.{ConstantFault}
 use Rattle.vb_meaning.specs.declared.stop.Stop.TheVariants as stop
-use Rattle.vb_meaning.specs.declared.world.Exit.{Exit}
 use Rattle.vb_meaning.specs.declared.world.Frame.{Frame}
-use Rattle.vb_meaning.specs.declared.world.World.{World}
+use Rattle.vb_meaning.specs.World.{World}
 use Rattle.vb_meaning.specs.Blocks.{block}
-use Rattle.vb_meaning.specs.Declaring.{Faulty, declared_cell, first_fault, fault_before, constants_made}
+use Rattle.vb_meaning.specs.Declaring.{declared_cell, first_fault, fault_before, constants_made}
 use Rattle.vb_meaning.specs.Errors.{tick, too_deep}
 use Rattle.vb_meaning.specs.Inner.{Inner, Owner}
 use Rattle.vb_meaning.specs.declared.reached.Argument.{Argument}
 use Rattle.vb_meaning.specs.declared.reached.Argument.TheVariants.{Place as OfPlace, Value as OfValue}
-use Rattle.vb_meaning.specs.Places.{new_cell, read_place, cell_place, cells_dropped, hold, letting_go}
+use Rattle.vb_meaning.specs.Places.{new_cell, read_place, cell_place, cells_dropped, holding, letting_go}
 use Rattle.vb_meaning.specs.Releases.{settle, in_world}
-use Rattle.vb_meaning.specs.State.{State, Does, on_world, with_frame, with_heap}
+use Rattle.vb_meaning.specs.State.{State, Does, on_world, with_frame, with_store}
 use Rattle.vb_meaning.specs.Step.{Step, Returns, Ends, Run, ◌>>=◌, ◌>>◌, pure, fails}
 
 -- how many procedures may be open
@@ -68,11 +68,12 @@ abbrev pub parameters : List Bool → List Argument → Run World (Unit {0})
 parameters (by_value ∷ others) (argument ∷ rest) = parameter by_value argument >> parameters others rest
 parameters _ _ = pure tt
 
--- the declared variables of a procedure, in their order
-abbrev pub variables : Faulty → List (Option DeclaredArray) → Run World (Unit {0})
-variables fault [] = pure tt
-variables fault (first ∷ others) =
-    fault_before fault first >> (declared_cell first >>= (λ cell. in_frame (with_own cell))) >> variables fault others
+-- the declared variables of a procedure in their order, from a number on
+abbrev pub variables : Option ConstantFault → ℕ → List Variable → Run World (Unit {0})
+variables fault number [] = pure tt
+variables fault number (first ∷ others) =
+    fault_before fault number >> (declared_cell first >>= (λ cell. in_frame (with_own cell)))
+    >> variables fault (number + 1) others
 
 -- whether a procedure gives a value of its own
 abbrev pub gives_value : ProcedureKind → Bool
@@ -89,7 +90,8 @@ result_cell false = pure tt
 abbrev pub begins : Procedure → List Argument → Run World (Unit {0})
 begins procedure arguments = result_cell (gives_value procedure.kind)
     >> parameters procedure.by_value arguments
-    >> variables (first_fault procedure.constants) (drop (length procedure.by_value) procedure.variables)
+    >> variables (first_fault procedure.constants) (length procedure.by_value)
+    (drop (length procedure.by_value) procedure.variables)
     >> constants_made procedure.constants >>= (λ constants. in_frame (λ frame. record frame { constants = constants }))
 
 -- ---- how it is left
@@ -99,6 +101,10 @@ abbrev pub result_value : Option CellNo → Run World Value
 result_value (Some cell) = read_place (cell_place cell)
 result_value None = pure Empty
 
+-- the same, which is held
+abbrev pub given_value : Run World Value
+given_value world = (result_value world.frame.result >>= holding) world
+
 -- the cell of a value, if there is one
 abbrev pub cell_of : Option CellNo → List CellNo
 cell_of (Some cell) = cell ∷ []
@@ -106,24 +112,21 @@ cell_of None = []
 
 -- the world with a procedure's names gone in the order of their declaration, and the caller's there again
 abbrev pub left : World → World → World
-left caller world = record (with_heap (cells_dropped (world.frame.own ++ cell_of world.frame.result)) world) {
+left caller world = record (with_store (cells_dropped (world.frame.own ++ cell_of world.frame.result)) world) {
   frame = caller.frame;
   calls = caller.calls;
 }
 
 module _ (E : Type 0) (m : Inner E) where
-  -- a procedure's names go, and the caller's are there again
-  abbrev pub leaves : World → Does E (Unit {0})
-  leaves caller s = Returns tt (in_world E (left caller s.world) s)
+  -- the procedure's own part, and the value that it gives, which is held
+  abbrev pub runs : Procedure → List Argument → Does E Value
+  runs procedure arguments =
+      on_world (begins procedure arguments) >> block E m procedure.body >> on_world given_value
 
-  -- a procedure that came to its end or was left by an Exit: its names go and objects end, while its value is held
-  abbrev pub returned : World → Does E Value
-  returned caller = letting_go (on_world (λ world. result_value world.frame.result world) >>= (λ value.
-      on_world (hold value) >> leaves caller >> settle E m >> pure value))
-
-  -- a procedure with an error in it: its names go, objects end, and the error is one of the caller's statement
-  abbrev pub abandoned : World → Step (State E) Exit → Step (State E) Value
-  abandoned caller (Returns exit s) = returned caller s
+  -- How a procedure is left, by how its own part ended: its names go and objects end, while its value is held. An error is
+  -- one of the caller's statement.
+  abbrev pub abandoned : World → Step (State E) Value → Step (State E) Value
+  abandoned caller (Returns value s) = (settle E m >> pure value) (in_world E (left caller s.world) s)
   abandoned caller (Ends (stop.Error what line) s) =
       (settle E m >> Ends (stop.Error what line)) (in_world E (left caller s.world) s)
   abandoned caller (Ends stop.Page s) = Ends stop.Page (in_world E (left caller s.world) s)
@@ -131,15 +134,15 @@ module _ (E : Type 0) (m : Inner E) where
   abandoned caller (Ends (stop.Wants call) s) = Ends (stop.Wants call) s
   abandoned caller (Ends stop.Memory s) = Ends stop.Memory s
 
-  -- the procedure's own part
-  abbrev pub runs : Procedure → List Argument → Does E Exit
-  runs procedure arguments = on_world (begins procedure arguments) >> block E m procedure.body
+  -- a procedure from its first name to its last
+  abbrev pub called : Owner → Procedure → List Argument → Does E Value
+  called owner procedure arguments s =
+      abandoned s.world (runs procedure arguments (in_world E (entered owner s.world) s))
 
-  -- one more call, while not too many are open: it costs a tick
+  -- one more call, while not too many are open: it costs a tick, and behind it its value is held no more
   abbrev pub opened : Owner → Procedure → List Argument → Does E Value
   opened owner procedure arguments s = if nat_lt s.world.calls most_calls
-      then (on_world tick >> (λ t. abandoned t.world (runs procedure arguments (in_world E (entered owner t.world) t)))) s
-      else on_world too_deep s
+      then (tick >> letting_go (called owner procedure arguments)) s else on_world too_deep s
 
   -- a procedure with its arguments: their number comes first
   unfoldable pub enter_of : Owner → Procedure → List Argument → Does E Value

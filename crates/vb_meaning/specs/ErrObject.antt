@@ -11,7 +11,7 @@ use Rattle.vb_syntax.specs.declared.program.name.ErrMember.TheVariants as err
 use Rattle.vb_meaning.specs.declared.cause.Cause.TheVariants.{Raised as ByRaise}
 use Rattle.vb_meaning.specs.declared.cause.Raised.{Raised}
 use Rattle.vb_meaning.specs.declared.stop.Stop.TheVariants as stop
-use Rattle.vb_meaning.specs.declared.world.World.{World}
+use Rattle.vb_meaning.specs.World.{World}
 use Rattle.vb_meaning.specs.Errors.{cleared, with_err, language_source}
 use Rattle.vb_meaning.specs.Step.{Returns, Ends, Run, ◌>>=◌, given, fails}
 

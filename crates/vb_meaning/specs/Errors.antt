@@ -8,8 +8,8 @@ use Rattle.vb_meaning.specs.declared.cause.Cause.TheVariants as cause
 use Rattle.vb_meaning.specs.declared.cause.Raised.{Raised}
 use Rattle.vb_meaning.specs.declared.stop.Stop.{Stop}
 use Rattle.vb_meaning.specs.declared.stop.Stop.TheVariants as stop
-use Rattle.vb_meaning.specs.declared.world.World.{World}
-use Rattle.vb_meaning.specs.State.{State, with_frame}
+use Rattle.vb_meaning.specs.World.{World}
+use Rattle.vb_meaning.specs.State.{State, Does, with_frame}
 use Rattle.vb_meaning.specs.Step.{Step, Returns, Ends, Run}
 
 -- where the language's own errors come from
@@ -69,9 +69,8 @@ abbrev pub on_error : Bool → World → World
 on_error resumes world = cleared (with_frame (λ frame. record frame { resumes = resumes }) world)
 
 -- one tick: a statement, a loop's turn or a procedure begins
-unfoldable pub tick : Run World (Unit {0})
-tick world = if nat_lt 0 world.ticks then Returns tt (record world { ticks = world.ticks - 1 })
-    else Ends (stop.Limit Ticks None) world
+unfoldable pub tick : {E : Type 0} → Does E (Unit {0})
+tick s = if nat_lt 0 s.ticks then Returns tt (record s { ticks = s.ticks - 1 }) else Ends (stop.Limit Ticks None) s
 
 -- why one construct more is too many: Out of stack space, and the limit Depth while a terminator runs
 abbrev pub depth_stop : World → Stop

@@ -55,7 +55,7 @@ module _ (E : Type 0) (m : Inner E) where
   -- a declaration is no statement, and any other is one
   abbrev pub executed : ℕ → Said → Does E Exit
   executed line StatementKind-F.Declaration = pure Next
-  executed line said = whole line (on_world tick >> does said)
+  executed line said = whole line (tick >> does said)
 
   unfoldable pub statement_of : Statement → Does E Exit
   statement_of statement = executed statement.line (out-StatementKind statement.kind)

@@ -14,7 +14,7 @@ use Rattle.vb_syntax.specs.declared.program.expression.Path.{Path}
 use Rattle.vb_syntax.specs.declared.program.expression.Step.{Step as PathStep}
 use Rattle.vb_syntax.specs.declared.program.name.Named.TheVariants as named
 use Rattle.vb_ops.specs.Operators.{apply1_of, apply2_of}
-use Rattle.vb_meaning.specs.declared.world.World.{World}
+use Rattle.vb_meaning.specs.World.{World}
 use Rattle.vb_meaning.specs.Accesses.{Access, accesses, only_groups}
 use Rattle.vb_meaning.specs.Inner.{Inner}
 use Rattle.vb_meaning.specs.declared.reached.Argument.{Argument}

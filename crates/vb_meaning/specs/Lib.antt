@@ -1,5 +1,8 @@
 pub mod Stops
 pub mod Step
+pub mod World
+pub mod Shown
+pub mod Stored
 pub mod State
 pub mod Values
 pub mod Errors
@@ -24,3 +27,4 @@ pub mod Loops
 pub mod Executing
 pub mod Meaning
 pub mod Acts
+pub mod Ticks

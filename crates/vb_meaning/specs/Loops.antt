@@ -23,18 +23,18 @@ use Rattle.vb_syntax.specs.declared.statement.ExitKind.{ExitKind}
 use Rattle.vb_syntax.specs.declared.statement.ExitKind.TheVariants as left
 use Rattle.vb_ops.specs.Operators.{apply2_of, truth_of}
 use Rattle.vb_heap.specs.Entries.{dictionary_of}
-use Rattle.vb_heap.specs.Objects.{class_of}
-use Rattle.vb_heap.specs.Store.{Store, numbered}
+use Rattle.vb_heap.specs.Store.{Store}
 use Rattle.vb_meaning.specs.declared.range.Range.{Range}
 use Rattle.vb_meaning.specs.declared.stop.Stop.TheVariants as stop
 use Rattle.vb_meaning.specs.declared.world.Exit.{Exit}
 use Rattle.vb_meaning.specs.declared.world.Exit.TheVariants.{Next, Leave}
-use Rattle.vb_meaning.specs.declared.world.World.{World}
+use Rattle.vb_meaning.specs.World.{World}
 use Rattle.vb_meaning.specs.Blocks.{block}
 use Rattle.vb_meaning.specs.Errors.{in_line, tick}
 use Rattle.vb_meaning.specs.Inner.{Inner}
 use Rattle.vb_meaning.specs.Places.{target_variable, read_place, store_place}
 use Rattle.vb_meaning.specs.Statements.{in_head, condition}
+use Rattle.vb_meaning.specs.Stored.{class_of}
 use Rattle.vb_meaning.specs.State.{Does, on_world}
 use Rattle.vb_meaning.specs.Step.{Run, ◌>>=◌, ◌>>◌, pure, ends, given}
 use Rattle.vb_meaning.specs.Values.{copied}
@@ -91,7 +91,7 @@ keys_of object store (Some class) = Err unsupported
 -- what a For Each goes over: the items of an array, or the keys of a dictionary
 abbrev pub items_of : Store → Value-F Value Array → Result (List Value) VbError
 items_of store (Value-F.Arr array) = Ok array.items
-items_of store (Value-F.Obj object) = and_then (class_of (numbered object.0 store.objects)) (keys_of object store)
+items_of store (Value-F.Obj object) = and_then (class_of object store) (keys_of object store)
 items_of store Value-F.Nothing = Err object_not_set
 items_of store _ = Err not_a_collection
 
@@ -103,7 +103,7 @@ module _ (E : Type 0) (m : Inner E) where
 
   -- a turn: a tick, the body, and what follows
   abbrev pub turn : (ExitKind → Bool) → List Statement → Does E Exit → Does E Exit
-  turn leaves body more = on_world tick >> block E m body >>= next_turn leaves more
+  turn leaves body more = tick >> block E m body >>= next_turn leaves more
 
   -- ---- Do and While
 
@@ -130,10 +130,10 @@ module _ (E : Type 0) (m : Inner E) where
   do_turns most (repetition.After line asked) body = after_turns most (λ s. in_line line (goes_on asked s)) body
 
   unfoldable pub do_statement : Repetition → List Statement → Does E Exit
-  do_statement repeated body s = do_turns (s.world.ticks + 1) repeated body s
+  do_statement repeated body s = do_turns (s.ticks + 1) repeated body s
 
   unfoldable pub while_statement : Expression → List Statement → Does E Exit
-  while_statement test body s = before_turns (s.world.ticks + 1) leaves_none (condition E m test) body s
+  while_statement test body s = before_turns (s.ticks + 1) leaves_none (condition E m test) body s
 
   -- ---- For
 
@@ -157,7 +157,7 @@ module _ (E : Type 0) (m : Inner E) where
   unfoldable pub for_statement : Named → Expression → Expression → Option Expression → List Statement → Does E Exit
   for_statement variable from to step body = range from to step >>= (λ found.
       on_world (set_variable variable (number_value found.from)) >>
-      (λ s. for_turns (s.world.ticks + 1) variable found body s))
+      (λ s. for_turns (s.ticks + 1) variable found body s))
 
   -- ---- For Each
 
@@ -170,5 +170,5 @@ module _ (E : Type 0) (m : Inner E) where
   -- what is gone over is held to the end of the whole statement
   unfoldable pub for_each_statement : Named → Expression → List Statement → Does E Exit
   for_each_statement variable group body = m.value group >>= (λ value.
-      on_world (λ world. given (items_of world.heap (out-Value value)) world) >>= (λ items.
+      on_world (λ world. given (items_of world.store (out-Value value)) world) >>= (λ items.
       each_turns variable items body))

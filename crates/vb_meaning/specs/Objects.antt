@@ -11,11 +11,11 @@ use Rattle.vb_syntax.specs.declared.program.unit.Field.{Field}
 use Rattle.vb_syntax.specs.declared.program.unit.Procedure.{Procedure}
 use Rattle.vb_syntax.specs.declared.program.unit.ProcedureKind.{ProcedureKind}
 use Rattle.vb_syntax.specs.declared.program.unit.ProcedureKind.TheVariants as kind
-use Rattle.vb_heap.specs.Objects.{class_of}
-use Rattle.vb_heap.specs.Store.{Store, numbered}
+use Rattle.vb_heap.specs.Store.{Store}
 use Rattle.vb_meaning.specs.Inner.{Owner}
 use Rattle.vb_meaning.specs.declared.reached.Assigned.{Assigned}
 use Rattle.vb_meaning.specs.declared.reached.Assigned.TheVariants.{Let as ByLet, Set as BySet}
+use Rattle.vb_meaning.specs.Stored.{class_of}
 
 -- ---- procedures of a name
 
@@ -67,7 +67,7 @@ class_name program (Err error) = Err error
 
 -- the name of the class of a value; no value but an object has one
 abbrev pub name_of_class : Program → Store → Value → Result (List ℕ) VbError
-name_of_class program store (Obj object) = class_name program (class_of (numbered object.0 store.objects))
+name_of_class program store (Obj object) = class_name program (class_of object store)
 name_of_class program store _ = Ok []
 
 -- the class around a method

@@ -12,7 +12,7 @@ use Rattle.vb_meaning.specs.declared.reached.Kind.{Kind}
 use Rattle.vb_meaning.specs.declared.reached.Kind.TheVariants as kind
 use Rattle.vb_meaning.specs.declared.reached.Reached.{Reached}
 use Rattle.vb_meaning.specs.declared.reached.Reached.TheVariants.{Place as AtPlace, Value as AtValue}
-use Rattle.vb_meaning.specs.declared.world.World.{World}
+use Rattle.vb_meaning.specs.World.{World}
 use Rattle.vb_meaning.specs.Dictionaries.{asking, has_items, item_by}
 use Rattle.vb_meaning.specs.Places.{element_place, indices_of, held_at, hold, read_place}
 use Rattle.vb_meaning.specs.Step.{Run, ◌>>=◌, ◌>>◌, pure, given, fails}

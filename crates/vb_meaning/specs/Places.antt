@@ -16,12 +16,12 @@ use Rattle.vb_heap.specs.declared.place.CellNo.{CellNo}
 use Rattle.vb_heap.specs.declared.place.Place.{Place}
 use Rattle.vb_heap.specs.Cells.{new_cell_of, with_new_cell, read_of, store_of, with_stored, without_cell}
 use Rattle.vb_heap.specs.Held.{hold_of, with_held, let_go_to}
-use Rattle.vb_heap.specs.Objects.{field_of}
-use Rattle.vb_heap.specs.Store.{Store, numbered}
-use Rattle.vb_meaning.specs.declared.world.World.{World}
+use Rattle.vb_heap.specs.Store.{Store}
+use Rattle.vb_meaning.specs.World.{World}
 use Rattle.vb_meaning.specs.Inner.{Owner}
-use Rattle.vb_meaning.specs.State.{Does, on_heap, with_heap}
+use Rattle.vb_meaning.specs.State.{Does, on_store, with_store}
 use Rattle.vb_meaning.specs.Step.{Returns, Run, ◌>>=◌, ◌>>◌, pure, given, fails}
+use Rattle.vb_meaning.specs.Stored.{field_of}
 use Rattle.vb_meaning.specs.Values.{copied}
 
 -- ---- cells
@@ -32,7 +32,7 @@ cell_place cell = record { cell = cell; steps = [] }
 
 -- a cell more, with this value
 unfoldable pub new_cell : Value → Run World CellNo
-new_cell value = on_heap (new_cell_of value) (with_new_cell value)
+new_cell value = on_store (new_cell_of value) (with_new_cell value)
 
 -- the cells go, one after the other
 abbrev pub cells_dropped : List CellNo → Store → Store
@@ -48,7 +48,7 @@ cells_emptied (cell ∷ cells) store = cells_emptied cells (with_stored (cell_pl
 
 -- The value is held to the end of the statement.
 unfoldable pub hold : Value → Run World (Unit {0})
-hold value = on_heap (hold_of value) (with_held value)
+hold value = on_store (hold_of value) (with_held value)
 
 -- A value that an expression yields is held, and given.
 abbrev pub holding : Value → Run World Value
@@ -56,11 +56,11 @@ holding value = hold value >> pure value
 
 -- how much is held
 abbrev pub held_so_far : World → ℕ
-held_so_far world = length world.heap.held
+held_so_far world = length world.store.held
 
 -- What was held since then is held no more.
 abbrev pub let_go : ℕ → World → World
-let_go mark world = with_heap (let_go_to mark) world
+let_go mark world = with_store (let_go_to mark) world
 
 -- Something is done, and what it held is held no more; who is given its value holds that.
 abbrev pub letting_go : {E A : Type 0} → Does E A → Does E A
@@ -82,14 +82,14 @@ cell_there None = Err undefined_variable
 -- a field of the object whose method runs
 abbrev pub own_field : ℕ → Owner → Store → Result Place VbError
 own_field field (Some (object, class)) store =
-    and_then (field_of field (numbered object.0 store.objects)) (λ cell. Ok (cell_place cell))
+    and_then (field_of field object store) (λ cell. Ok (cell_place cell))
 own_field field None store = Err undefined_variable
 
 -- the place of a variable
 abbrev pub slot_place : Slot → World → Result Place VbError
 slot_place (slot.Page number) world = cell_there (slice_get world.page number)
 slot_place (slot.Local number) world = place_there (slice_get world.frame.places number)
-slot_place (slot.Field number) world = own_field number world.frame.owner world.heap
+slot_place (slot.Field number) world = own_field number world.frame.owner world.store
 slot_place slot.Result world = cell_there world.frame.result
 
 -- the place of a variable, in the world
@@ -123,7 +123,7 @@ element_place place indices = record place { steps = place.steps ++ indices ∷ 
 
 -- what a place holds, as it is there
 abbrev pub held_at : Place → Run World Value
-held_at place world = given (read_of place world.heap) world
+held_at place world = given (read_of place world.store) world
 
 -- a copy of what a place holds
 unfoldable pub read_place : Place → Run World Value
@@ -140,4 +140,4 @@ is_fixed value = is_fixed_layer (out-Value value)
 -- a value into a place; a fixed array takes none, which is a Type mismatch
 unfoldable pub store_place : Place → Value → Run World (Unit {0})
 store_place place value = held_at place >>= (λ old.
-    if is_fixed old then fails type_mismatch else on_heap (store_of place value) (with_stored place value))
+    if is_fixed old then fails type_mismatch else on_store (store_of place value) (with_stored place value))

@@ -27,9 +27,7 @@ use Rattle.vb_funcs.specs.Functions.{call_func_of}
 use Rattle.vb_funcs.specs.TypeNames.{type_name_of}
 use Rattle.vb_strings.specs.Functions.{call_string_of}
 use Rattle.vb_heap.specs.Entries.{new_table_of, with_new_table}
-use Rattle.vb_heap.specs.Objects.{class_of, field_of}
-use Rattle.vb_heap.specs.Store.{numbered}
-use Rattle.vb_meaning.specs.declared.world.World.{World}
+use Rattle.vb_meaning.specs.World.{World}
 use Rattle.vb_meaning.specs.Accesses.{Access, Group, Member, accesses, member_before, given_arguments, call_split}
 use Rattle.vb_meaning.specs.Accesses.{}
 use Rattle.vb_meaning.specs.Asking.{ask}
@@ -43,8 +41,9 @@ use Rattle.vb_meaning.specs.Paths.{element, hold_reached, reached_value}
 use Rattle.vb_meaning.specs.declared.reached.Reached.{Reached}
 use Rattle.vb_meaning.specs.declared.reached.Reached.TheVariants.{Place as AtPlace, Value as AtValue}
 use Rattle.vb_meaning.specs.Places.{variable, hold, cell_place}
-use Rattle.vb_meaning.specs.State.{Does, on_world, on_heap}
+use Rattle.vb_meaning.specs.State.{Does, on_world, on_store}
 use Rattle.vb_meaning.specs.Step.{Run, ◌>>=◌, ◌>>◌, pure, given, fails}
+use Rattle.vb_meaning.specs.Stored.{class_of, field_of}
 use Rattle.vb_meaning.specs.Values.{object_in, constant_value, literal_value}
 
 -- ---- objects of the language
@@ -52,7 +51,7 @@ use Rattle.vb_meaning.specs.Values.{object_in, constant_value, literal_value}
 -- CreateObject makes a dictionary, and no other object
 abbrev pub created : List ℕ → Run World Value
 created name = if same_name (codes "scripting.dictionary") name
-    then on_heap new_table_of with_new_table >>= (λ object. pure (Obj object))
+    then on_store new_table_of with_new_table >>= (λ object. pure (Obj object))
     else fails cannot_create_object
 
 -- CreateObject with its argument
@@ -63,7 +62,7 @@ create_object _ = fails wrong_number
 -- TypeName with its argument
 abbrev pub type_name_in : Program → List Value → Run World Value
 type_name_in program (value ∷ []) world =
-    given (and_then (name_of_class program world.heap value) (λ class. Ok (Str (type_name_of value class)))) world
+    given (and_then (name_of_class program world.store value) (λ class. Ok (Str (type_name_of value class)))) world
 type_name_in program _ world = fails wrong_number world
 
 -- what a constant of the page stands for
@@ -126,7 +125,7 @@ module _ (E : Type 0) (m : Inner E) where
 
   -- a field of an object as a place
   abbrev pub field_place : ObjNo → ℕ → Does E Reached
-  field_place object number = on_world (λ world. (given (field_of number (numbered object.0 world.heap.objects))
+  field_place object number = on_world (λ world. (given (field_of number object world.store)
       >>= (λ cell. pure (AtPlace (cell_place cell)))) world)
 
   -- a field of an object, and an element of it where arguments stand behind
@@ -161,7 +160,7 @@ module _ (E : Type 0) (m : Inner E) where
   -- a member of a value, which has to be an object that has not ended; the object is held
   unfoldable pub member_of : Value → ℕ → Option (List Expression) → Does E Reached
   member_of value name arguments = on_world (hold value >> given (object_in value)) >>= (λ object.
-      on_world (λ world. given (class_of (numbered object.0 world.heap.objects)) world)
+      on_world (λ world. given (class_of object world.store) world)
       >>= object_member object name arguments)
 
   -- ---- from access to access

@@ -5,19 +5,18 @@ use Rattle.std.specs.Option.{option_and_then}
 use Rattle.vb_value.specs.declared.value.Value.{Value, Empty}
 use Rattle.vb_syntax.specs.declared.program.unit.Class.{Class}
 use Rattle.vb_syntax.specs.declared.program.unit.Procedure.{Procedure}
-use Rattle.vb_heap.specs.declared.object.Object.{Object}
 use Rattle.vb_heap.specs.Limits.{most_objects}
-use Rattle.vb_heap.specs.Objects.{class_in}
-use Rattle.vb_heap.specs.Releases.{oldest_loose, oldest_live, with_ending, finished, object_of}
-use Rattle.vb_heap.specs.Store.{numbered}
+use Rattle.vb_heap.specs.Releases.{oldest_loose, oldest_live, with_ending, object_of}
 use Rattle.vb_meaning.specs.declared.stop.Stop.TheVariants as stop
-use Rattle.vb_meaning.specs.declared.world.World.{World}
+use Rattle.vb_meaning.specs.World.{World}
 use Rattle.vb_meaning.specs.Errors.{cleared, in_line}
 use Rattle.vb_meaning.specs.Inner.{Inner}
 use Rattle.vb_meaning.specs.Objects.{class_at}
 use Rattle.vb_meaning.specs.Places.{let_go}
-use Rattle.vb_meaning.specs.State.{State, Does, with_heap}
+use Rattle.vb_meaning.specs.State.{State, Does, with_store}
 use Rattle.vb_meaning.specs.Step.{Step, Returns, Ends, and_then, ◌>>◌, pure}
+use Rattle.vb_meaning.specs.Stored as stored
+use Rattle.vb_meaning.specs.Stored.{class_number}
 
 -- the world in which a terminator begins: Err holds no error
 abbrev pub terminating : World → World
@@ -26,7 +25,7 @@ terminating world = cleared (record world { terminates = true })
 -- The world after a terminator: its object has ended, and Err holds what it held before.
 abbrev pub ended : ℕ → World → World → World
 ended object before world = record world {
-  heap = finished object (numbered object world.heap.objects) world.heap;
+  store = stored.finished object world.store;
   err = before.err;
   terminates = before.terminates;
   finished = world.finished + 1;
@@ -35,11 +34,6 @@ ended object before world = record world {
 -- the world once the page has ended
 abbrev pub behind_page : World → World
 behind_page world = record world { page_ended = true }
-
--- the class of an object by its number
-abbrev pub class_number : Option Object → Option ℕ
-class_number (Some object) = class_in object.content
-class_number None = None
 
 -- the Class_Terminate of a class
 abbrev pub terminator_in : Option Class → Option Procedure
@@ -78,18 +72,18 @@ module _ (E : Type 0) (m : Inner E) where
   -- the terminator of an ending object, and what follows it
   unfoldable pub terminate : ℕ → Does E (Unit {0})
   terminate object s = terminated E object s.world
-      (terminator_of object (class_number (numbered object s.world.heap.objects)) (in_world E (terminating s.world) s))
+      (terminator_of object (class_number object s.world.store) (in_world E (terminating s.world) s))
 
   -- an object that was found ends, and more do
   abbrev pub released_one : Does E (Unit {0}) → Option ℕ → Does E (Unit {0})
   released_one more (Some object) s =
-      (terminate object >> more) (in_world E (with_heap (with_ending (Some object)) s.world) s)
+      (terminate object >> more) (in_world E (with_store (with_ending (Some object)) s.world) s)
   released_one more None s = Returns tt s
 
   -- While some live object has no reference, the oldest such ends, at most so many times.
   abbrev pub settle_times : ℕ → Does E (Unit {0})
   settle_times zero s = Returns tt s
-  settle_times (suc more) s = released_one (settle_times more) (oldest_loose s.world.heap) s
+  settle_times (suc more) s = released_one (settle_times more) (oldest_loose s.world.store) s
 
   -- no object ends twice
   unfoldable pub settle : Does E (Unit {0})
@@ -115,19 +109,19 @@ module _ (E : Type 0) (m : Inner E) where
   -- the same of the terminator of an object
   abbrev pub line_of : ℕ → World → ℕ
   line_of object world =
-      terminator_line (terminator_in (class_at m.program (class_number (numbered object world.heap.objects))))
+      terminator_line (terminator_in (class_at m.program (class_number object world.store)))
 
   -- An object ends where no statement does, so that its terminator is entered in its own line. The page has ended: a page
   -- stop in a terminator ends that terminator alone, also where it runs within another one.
   abbrev pub end_one : Does E (Unit {0}) → Option ℕ → Does E (Unit {0})
   end_one more (Some object) s = and_then (in_line (line_of object s.world) (terminate object
-      (in_world E (behind_page (with_heap (with_ending (Some object)) s.world)) s))) (λ _. more)
+      (in_world E (behind_page (with_store (with_ending (Some object)) s.world)) s))) (λ _. more)
   end_one more None s = Returns tt s
 
   -- while some live object has no reference, as above
   abbrev pub settle_last_times : ℕ → Does E (Unit {0})
   settle_last_times zero s = Returns tt s
-  settle_last_times (suc more) s = end_one (settle_last_times more) (oldest_loose s.world.heap) s
+  settle_last_times (suc more) s = end_one (settle_last_times more) (oldest_loose s.world.store) s
 
   unfoldable pub settle_last : Does E (Unit {0})
   settle_last s = settle_last_times (most_objects - s.world.finished) s
@@ -135,7 +129,7 @@ module _ (E : Type 0) (m : Inner E) where
   -- each object that is left ends in the order of creation, and after each what it leaves without references
   abbrev pub end_times : ℕ → Does E (Unit {0})
   end_times zero s = Returns tt s
-  end_times (suc more) s = end_one (settle_last >> end_times more) (oldest_live s.world.heap) s
+  end_times (suc more) s = end_one (settle_last >> end_times more) (oldest_live s.world.store) s
 
   unfoldable pub end_all : Does E (Unit {0})
   end_all s = end_times (most_objects - s.world.finished) s

@@ -1,7 +1,8 @@
 -- Statements, but for loops (VBScript 5.6 language reference, "Statements", with those of an ASP page).
-use Rattle.std.specs.Prelude.{ℕ, ◌-◌, ◌==◌, Bool, true, false, ◌&&◌, if◌then◌else◌, ℤ, List, [], ◌∷◌, ◌++◌}
-use Rattle.std.specs.Prelude.{length, take, replicate, Option, Some, None, Result, Ok, Err}
+use Rattle.std.specs.Prelude.{ℕ, ◌+◌, ◌-◌, ◌==◌, Bool, true, false, ◌&&◌, if◌then◌else◌, ℤ, List, [], ◌∷◌, ◌++◌}
+use Rattle.std.specs.Prelude.{length, take, replicate, slice_get, Option, Some, None, Result, Ok, Err}
 use Rattle.std.specs.List.{list_any}
+use Rattle.std.specs.Option.{option_map}
 use Rattle.std.specs.Ordering.{int_eq}
 use Rattle.std.specs.Cmp.Lexicographic.{pointwise}
 use Rattle.vb_value.specs.declared.fault.VbError.{VbError}
@@ -30,7 +31,7 @@ use Rattle.vb_heap.specs.declared.place.Place.{Place}
 use Rattle.vb_heap.specs.Cells.{store_of, with_stored}
 use Rattle.vb_meaning.specs.declared.world.Exit.{Exit}
 use Rattle.vb_meaning.specs.declared.world.Exit.TheVariants.{Next, Leave}
-use Rattle.vb_meaning.specs.declared.world.World.{World}
+use Rattle.vb_meaning.specs.World.{World}
 use Rattle.vb_meaning.specs.Accesses.{Access, accesses}
 use Rattle.vb_meaning.specs.Asking.{ask}
 use Rattle.vb_meaning.specs.Assigning.{assignable}
@@ -43,7 +44,7 @@ use Rattle.vb_meaning.specs.declared.reached.Reached.TheVariants.{Place as AtPla
 use Rattle.vb_meaning.specs.Places.{variable, target_variable, held_at, held_so_far, indices_of}
 use Rattle.vb_meaning.specs.Reading.{values, from_head}
 use Rattle.vb_meaning.specs.Releases.{release}
-use Rattle.vb_meaning.specs.State.{State, Does, on_world, on_heap, with_frame}
+use Rattle.vb_meaning.specs.State.{State, Does, on_world, on_store, with_frame}
 use Rattle.vb_meaning.specs.Step.{Step, Returns, Ends, Run, ◌>>=◌, ◌>>◌, pure, given, fails}
 use Rattle.vb_meaning.specs.Values.{empty_array, is_bad_bound}
 
@@ -51,7 +52,7 @@ use Rattle.vb_meaning.specs.Values.{empty_array, is_bad_bound}
 
 -- an array of these bounds, not fixed, in the place of what was there
 abbrev pub array_into : Place → List ℤ → Run World (Unit {0})
-array_into place bounds = on_heap (store_of place (Arr (empty_array false bounds)))
+array_into place bounds = on_store (store_of place (Arr (empty_array false bounds)))
     (with_stored place (Arr (empty_array false bounds)))
 
 -- all bounds but the last
@@ -95,7 +96,7 @@ good_bounds bounds = if list_any is_bad_bound bounds then Err out_of_range else 
 abbrev pub resize : Bool → List Value → Place → Value → Run World (Unit {0})
 resize preserve bounds place old = given (not_fixed (out-Value old)) >> given (indices_of bounds) >>= (λ found.
     given (good_bounds found) >> given (resized_array preserve (out-Value old) found) >>= (λ array.
-    on_heap (store_of place (Arr array)) (with_stored place (Arr array))))
+    on_store (store_of place (Arr array)) (with_stored place (Arr array))))
 
 -- what Erase makes of a value: a fixed array with Empty items, another array without dimensions
 abbrev pub erased : Value-F Value Array → Result Value VbError
@@ -106,7 +107,7 @@ erased _ = Err type_mismatch
 -- Erase of what a place holds
 abbrev pub erase_place : Place → Run World (Unit {0})
 erase_place place = held_at place >>= (λ old. given (erased (out-Value old)) >>= (λ value.
-    on_heap (store_of place value) (with_stored place value)))
+    on_store (store_of place value) (with_stored place value)))
 
 -- Erase of a variable; a name that nothing declares is undefined, and any other is no array
 abbrev pub erase : Named → Run World (Unit {0})
@@ -131,6 +132,13 @@ clears_err _ = false
 -- an Exit
 abbrev pub leave : ExitKind → Run World Exit
 leave kind world = Returns (Leave kind) (if clears_err kind then cleared world else world)
+
+-- ---- Select Case
+
+-- the block of the Case of this number, or that of Case Else
+abbrev pub case_block : List Case → Option (List Statement) → Option ℕ → Option (List Statement)
+case_block cases otherwise (Some number) = option_map (λ found. (out-Case found).body) (slice_get cases number)
+case_block cases otherwise None = otherwise
 
 module _ (E : Type 0) (m : Inner E) where
   -- The head of a statement is a statement for what it holds: at its end that is let go, and objects end.
@@ -179,16 +187,17 @@ module _ (E : Type 0) (m : Inner E) where
   abbrev pub case_holds : Value → Case → Does E Bool
   case_holds subject found s = in_line (out-Case found).line (is_among subject (out-Case found).values s)
 
-  -- the block of the first Case that holds, or that of Case Else
-  abbrev pub first_case : Value → List Case → Option (List Statement) → Does E (Option (List Statement))
-  first_case subject [] otherwise = pure otherwise
-  first_case subject (first ∷ others) otherwise = case_holds subject first >>= (λ holds.
-      if holds then pure (Some (out-Case first).body) else first_case subject others otherwise)
+  -- the number of the first Case that holds, if one does, where the first of these has this number
+  abbrev pub first_case : ℕ → Value → List Case → Does E (Option ℕ)
+  first_case number subject [] = pure None
+  first_case number subject (first ∷ others) = case_holds subject first >>= (λ holds.
+      if holds then pure (Some number) else first_case (number + 1) subject others)
 
   -- the subject and the Case expressions that are tried are one head
   unfoldable pub select_statement : Expression → List Case → Option (List Statement) → Does E Exit
   select_statement subject cases otherwise =
-      in_head (m.value subject >>= (λ value. first_case value cases otherwise)) >>= otherwise_block
+      in_head (m.value subject >>= (λ value. first_case 0 value cases)) >>= (λ chosen.
+      otherwise_block (case_block cases otherwise chosen))
 
   -- ---- With
 

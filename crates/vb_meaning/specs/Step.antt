@@ -10,6 +10,11 @@ pub data Step (S A : Type 0) : Type 0 where
   Returns : A → S → Step S A
   Ends : Stop → S → Step S A
 
+-- the state that a step leaves, whether it gives a value or ends
+abbrev pub state_of : {S A : Type 0} → Step S A → S
+state_of (Returns value s) = s
+state_of (Ends why s) = s
+
 -- something that may be done in a state
 abbrev pub Run : Type 0 → Type 0 → Type 0
 Run S A = S → Step S A

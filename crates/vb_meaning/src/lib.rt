@@ -2,6 +2,7 @@
 #![tactic(auto)]
 
 mod cause;
+mod constant_fault;
 mod plain_end;
 mod range;
 mod reached;
@@ -9,6 +10,7 @@ mod stop;
 mod world;
 
 pub use cause::{Cause, Raised};
+pub use constant_fault::ConstantFault;
 pub use plain_end::PlainEnd;
 pub use range::Range;
 pub use reached::{Argument, Assigned, Kind, Reached};

@@ -1,4 +1,4 @@
-//! All that statements change.
+//! The world as an evaluator holds it, and how statements go on.
 
 use crate::cause::Raised;
 use vb_heap::{CellNo, Heap, Place};
@@ -33,7 +33,7 @@ pub struct Frame {
     pub subjects: List<Value>,
 }
 
-/// All that statements change but the environment.
+/// All that statements change, but for the ticks, the environment and the replies.
 #[derive(Drop)]
 pub struct World {
     /// Cells and objects.
@@ -44,8 +44,6 @@ pub struct World {
     pub frame: Frame,
     /// What Err holds.
     pub err: Raised,
-    /// How many ticks are left.
-    pub ticks: u32,
     /// How many procedures are entered and not left.
     pub calls: u32,
     /// A terminator runs.

@@ -8,7 +8,7 @@ abbrev pub declarations_seen : Declarations → Seen
 declarations_seen found = record {
   names = found.names;
   meanings = found.meanings;
-  arrays = found.arrays;
+  variables = found.variables;
   constants = found.constants;
   procedures = found.procedures;
   classes = found.classes;

@@ -7,7 +7,7 @@ ghost use Rattle.vb_names.specs.Declarations.{declarations_seen};
 use crate::key::{Key, copy_name};
 use crate::names::Names;
 use std::alloc::Global;
-use vb_syntax::program::{Constant, DeclaredArray, Named, Slot};
+use vb_syntax::program::{Constant, Named, Slot, Variable};
 use vb_syntax::{Level, Note, NoteKind, copy_bounds};
 use vb_value::{Copied, List, Memory, Text};
 
@@ -19,7 +19,7 @@ pub struct Declarations {
     /// What they stand for.
     pub meanings: List<Named>,
     /// The variables, parameters or fields, by their numbers.
-    pub arrays: List<Option<DeclaredArray>>,
+    pub variables: List<Variable>,
     /// The constants, by their numbers.
     pub constants: List<Constant>,
     /// How many procedures of a page.
@@ -38,7 +38,7 @@ impl Declarations {
         Ok(Declarations {
             names: Names::with_capacity(alloc, count)?,
             meanings: List::with_capacity(alloc, count)?,
-            arrays: List::new(alloc),
+            variables: List::new(alloc),
             constants: List::new(alloc),
             procedures: 0,
             classes: 0,
@@ -53,7 +53,7 @@ impl Declarations {
         Declarations {
             names: Names::new(alloc),
             meanings: List::new(alloc),
-            arrays: List::new(alloc),
+            variables: List::new(alloc),
             constants: List::new(alloc),
             procedures: 0,
             classes: 0,
@@ -112,14 +112,14 @@ fn constant_at(level: Level, number: u32) -> Named
     }
 }
 
-/// The array that a variable is declared as.
-pub fn copy_array(line: u32, bounds: &Option<List<i32>>) -> Result<Option<DeclaredArray>, Memory>
-    ensures { Gives result (spec.array_of line bounds.now) }
+/// A variable of a line, with the bounds that it is declared with if it is an array.
+pub fn variable_of(line: u32, bounds: &Option<List<i32>>) -> Result<Variable, Memory>
+    ensures { Gives result (spec.variable_of line bounds.now) }
 {
-    match copy_bounds(bounds)? {
-        None => Ok(None),
-        Some(bounds) => Ok(Some(DeclaredArray { line, bounds })),
-    }
+    Ok(Variable {
+        line,
+        bounds: copy_bounds(bounds)?,
+    })
 }
 
 /// Adds a variable.
@@ -127,13 +127,13 @@ pub fn push_variable(
     found: &mut Declarations,
     level: Level,
     name: &Text,
-    array: Option<DeclaredArray>,
+    variable: Variable,
 ) -> Result<(), Memory>
     ensures { IfOk result (λ _. declarations_seen found.new
-        ≡ spec.with_variable level name.now array (declarations_seen found.old)) }
+        ≡ spec.with_variable level name.now variable (declarations_seen found.old)) }
 {
-    let number = as_number(found.arrays.len())?;
-    found.arrays.push(array)?;
+    let number = as_number(found.variables.len())?;
+    found.variables.push(variable)?;
     push_name(found, name, Named::Place(place_at(level, number)))
 }
 
@@ -144,13 +144,18 @@ fn declare(found: &mut Declarations, level: Level, line: u32, kind: &NoteKind) -
 {
     match kind {
         NoteKind::Variable(variable) => {
-            let array = copy_array(line, &variable.bounds)?;
-            push_variable(found, level, &variable.name, array)
+            let made = variable_of(line, &variable.bounds)?;
+            push_variable(found, level, &variable.name, made)
         }
         NoteKind::Constant(constant) => {
             let number = as_number(found.constants.len())?;
+            let before = as_number(found.variables.len())?;
             let value = constant.value.copy()?;
-            found.constants.push(Constant { line, value })?;
+            found.constants.push(Constant {
+                line,
+                before,
+                value,
+            })?;
             push_name(found, &constant.name, constant_at(level, number))
         }
         NoteKind::Procedure(name) => {

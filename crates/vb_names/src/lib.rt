@@ -11,7 +11,7 @@ mod scopes;
 mod undeclared;
 
 pub use checks::{DeclaredNames, check_notes};
-pub use declarations::{Declarations, copy_array, declared};
+pub use declarations::{Declarations, declared, variable_of};
 pub use key::Key;
 pub use language::dictionary_member;
 pub use members::{err_meant, groups_behind, length_of, member_meant};

@@ -9,6 +9,7 @@ use crate::declarations::{Declarations, declared, push_variable};
 use crate::key::Key;
 use crate::scopes::{Scopes, is_unknown};
 use std::alloc::Global;
+use vb_syntax::program::Variable;
 use vb_syntax::{Level, Note, NoteKind};
 use vb_value::{Memory, Text};
 
@@ -57,14 +58,19 @@ fn made_by<'a>(
     }
 }
 
-/// Adds the variable that is made.
-fn push_made(found: &mut Declarations, level: Level, made: Option<&Text>) -> Result<(), Memory>
+/// Adds the variable that is made in a line.
+fn push_made(
+    found: &mut Declarations,
+    level: Level,
+    line: u32,
+    made: Option<&Text>,
+) -> Result<(), Memory>
     ensures { IfOk result (λ _. declarations_seen found.new
-        ≡ spec.with_made level (declarations_seen found.old) (option_copied made.entry)) }
+        ≡ spec.with_made level line (declarations_seen found.old) (option_copied made.entry)) }
 {
     match made {
         None => Ok(()),
-        Some(name) => push_variable(found, level, name, None),
+        Some(name) => push_variable(found, level, name, Variable { line, bounds: None }),
     }
 }
 
@@ -88,7 +94,7 @@ fn make_on_page(
         },
         &note.kind,
     )?;
-    push_made(page, Level::Page, made)
+    push_made(page, Level::Page, note.line, made)
 }
 
 #[tactic(auto, unfolding(vb_syntax::specs::scope::Scopes::page_scope_of))]
@@ -125,7 +131,7 @@ fn make_in_body(
         },
         &note.kind,
     )?;
-    push_made(body, Level::Body, made)
+    push_made(body, Level::Body, note.line, made)
 }
 
 #[tactic(auto, unfolding(vb_syntax::specs::scope::Scopes::body_scope_of))]

@@ -9,7 +9,7 @@ use Rattle.vb_meaning.specs.Blocks.{block}
 use Rattle.vb_meaning.specs.Errors.{tick}
 use Rattle.vb_meaning.specs.Inner.{Inner}
 use Rattle.vb_meaning.specs.Loops.{after_turns, turn, leaves_do}
-use Rattle.vb_meaning.specs.State.{State, Does, on_world}
+use Rattle.vb_meaning.specs.State.{State, Does}
 use Rattle.vb_meaning.specs.Step.{Returns, Ends, and_then, pure, ◌>>=◌}
 use Rattle.vb_plain.proofs.Endings.{deeper}
 
@@ -24,7 +24,7 @@ after_more E m n test body s some = deeper (λ n. after_turns E m n test body s)
 
 -- a turn behind which the loop goes on
 pub after_goes_on : (E : Type 0) (m : Inner E) (n : ℕ) (test : Does E Bool) (body : List Statement) (s t u : State E)
-    (exit : Exit) (holds : Bool) → 0 < n → and_then (on_world tick s) (λ _. block E m body) ≡ Returns exit t
+    (exit : Exit) (holds : Bool) → 0 < n → and_then (tick s) (λ _. block E m body) ≡ Returns exit t
     → exit ≡ Next → test t ≡ Returns holds u → holds ≡ true
     → after_turns E m n test body s ≡ after_turns E m (n - 1) test body u
 after_goes_on E m n test body s t u (Leave kind) holds some turned next asked goes = absurd (cc)

@@ -1,4 +1,3 @@
 pub mod Nests
 pub mod Ends
-pub mod Blocks
-pub mod Returned
+pub mod Selects

@@ -1,12 +1,12 @@
 //! An act: the page's variables are made, its part of the program runs, and then their values and the objects go.
 ghost use Rattle.std.specs.Prelude.{◌≡◌, IfOk, Option, Some};
 ghost use Rattle.std.specs.Option.{option_copied};
-ghost use Rattle.vb_value.specs.Outcome.{Gives};
 ghost use Rattle.vb_meaning.specs.Acts as spec;
 ghost use Rattle.vb_meaning.specs.Meaning.{inside};
 ghost use Rattle.vb_meaning.specs.Releases.{settle_last, end_all};
 ghost use Rattle.vb_meaning.specs.State.{State, on_world};
 ghost use Rattle.vb_meaning.specs.Step.{Step, Ran, and_then};
+ghost use Rattle.vb_meaning.specs.Shown.{shown};
 ghost use Rattle.vb_plain.specs.Nests.{Executes, Enters};
 ghost use Rattle.vb_world.specs.Seen.{seen, host};
 
@@ -24,19 +24,15 @@ use vb_world::errors::{no_error, raised_by};
 use vb_world::places::empty_cells;
 use vb_world::playing::{Playing, in_line};
 
-/// How many ticks an act has.
-const MOST_TICKS: u32 = 1_000_000;
-
 /// The world in which an act begins.
 pub fn fresh_world(alloc: Global) -> Result<World, Memory>
-    ensures { Gives result spec.fresh_world }
+    ensures { IfOk result (λ world. shown world ≡ spec.fresh_world) }
 {
     Ok(World {
         heap: Heap::new(alloc)?,
         page: List::new(alloc),
         frame: fresh_frame(alloc, None),
         err: no_error(alloc),
-        ticks: MOST_TICKS,
         calls: 0,
         terminates: false,
         page_ended: false,
@@ -46,7 +42,7 @@ pub fn fresh_world(alloc: Global) -> Result<World, Memory>
 
 /// The values of the page's variables go, in the order of their declaration.
 fn leave_page(alloc: Global, world: &mut World) -> Result<(), Memory>
-    ensures { IfOk result (λ _. world.new ≡ spec.page_left world.old) }
+    ensures { IfOk result (λ _. shown world.new ≡ spec.page_left (shown world.old)) }
 {
     world.heap.let_go(0);
     let page = mem::replace(&mut world.page, List::new(alloc));
@@ -80,7 +76,7 @@ fn error_end(raised: Raised, line: Option<u32>) -> ActEnd
 impl<I: Intrinsics, V, A, S, C, T, N> Rules<I, V, A, S, C, T, N> {
     /// What an act says of itself when it has ended.
     fn done(&self, p: &Program, end: ActEnd, world: &World) -> PlainEnd
-        ensures { result ≡ spec.done I (inside I (host I.asked I.answered) p.now self.now.levels) end world.now }
+        ensures { result ≡ spec.done I (inside I (host I.asked I.answered) p.now self.now.levels) end (shown world.now) }
     {
         PlainEnd::Ends(ActDone {
             end,

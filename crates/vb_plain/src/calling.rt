@@ -1,14 +1,15 @@
 //! Procedures: how they are entered with their arguments, and how they are left.
 ghost use Rattle.std.specs.Prelude.{◌≡◌, ◌<◌};
+ghost use Rattle.vb_value.specs.declared.value.Value.{Value as Given};
 ghost use Rattle.vb_meaning.specs.Calling as spec;
 ghost use Rattle.vb_meaning.specs.Meaning.{inside};
+ghost use Rattle.vb_meaning.specs.Places.{letting_go};
 ghost use Rattle.vb_meaning.specs.Releases as releases;
 ghost use Rattle.vb_meaning.specs.Releases.{in_world};
 ghost use Rattle.vb_meaning.specs.State.{State};
 ghost use Rattle.vb_meaning.specs.Step.{Step, Ran};
-ghost use Rattle.vb_meaning.specs.declared.world.Exit.{Exit as Left};
+ghost use Rattle.vb_meaning.specs.Shown.{shown};
 ghost use Rattle.vb_plain.specs.Nests.{Executes, Enters};
-ghost use Rattle.vb_plain.specs.Returned.{result_held};
 ghost use Rattle.vb_world.specs.Seen.{seen, host};
 
 use crate::rules::Rules;
@@ -18,10 +19,9 @@ use vb_meaning::{Argument, Exit, Frame, Stop};
 use vb_syntax::Intrinsics;
 use vb_syntax::program::{Procedure, Program, Statement};
 use vb_value::{List, ObjNo, Value, VbError};
-use vb_world::entering::{begins, fresh_frame, leave, result_value};
-use vb_world::places::hold;
-use vb_world::playing::Playing;
-use vb_world::world::{depth_stop, tick};
+use vb_world::entering::{begins, fresh_frame, given_value, leave};
+use vb_world::playing::{Playing, tick};
+use vb_world::world::depth_stop;
 
 /// How many procedures may be open.
 const MOST_CALLS: u32 = 200;
@@ -44,51 +44,8 @@ impl<
         List<Argument>,
     ) -> Result<Value, Stop>,
 > Rules<I, V, A, S, C, T, N> {
-    /// A procedure that came to its end, or was left by an Exit: its value is held, its names go, and objects end.
-    fn result_held(
-        &self,
-        p: &Program,
-        playing: &mut Playing<'_>,
-        env: &mut I,
-        caller: Frame,
-        calls: u32,
-    ) -> Result<Value, Stop>
-        requires enters { Enters I (host I.asked I.answered) self.now.levels (N.pre self.now.enter)
-            (N.post self.now.enter) }
-        ensures { Ran (result_held I (inside I (host I.asked I.answered) p.now self.now.levels)
-            (record playing.old.world { frame = caller; calls = calls }) (seen playing.old env.old))
-            result (seen playing.new env.new) }
-    {
-        let value = result_value(self.alloc, &playing.world)?;
-        hold(&mut playing.world, &value)?;
-        leave(&mut playing.world, caller, calls);
-        self.settle(p, playing, env)?;
-        Ok(value)
-    }
-
-    /// The same, after which its value is held no more.
-    fn returned(
-        &self,
-        p: &Program,
-        playing: &mut Playing<'_>,
-        env: &mut I,
-        caller: Frame,
-        calls: u32,
-    ) -> Result<Value, Stop>
-        requires enters { Enters I (host I.asked I.answered) self.now.levels (N.pre self.now.enter)
-            (N.post self.now.enter) }
-        ensures { Ran (spec.returned I (inside I (host I.asked I.answered) p.now self.now.levels)
-            (record playing.old.world { frame = caller; calls = calls }) (seen playing.old env.old))
-            result (seen playing.new env.new) }
-    {
-        let mark = playing.world.heap.mark();
-        let value = self.result_held(p, playing, env, caller, calls)?;
-        playing.world.heap.let_go(mark);
-        Ok(value)
-    }
-
-    /// A procedure with an error in it: its names go, and objects end.
-    fn failed(
+    /// The names of a procedure go, and objects end.
+    fn departs(
         &self,
         p: &Program,
         playing: &mut Playing<'_>,
@@ -99,7 +56,8 @@ impl<
         requires enters { Enters I (host I.asked I.answered) self.now.levels (N.pre self.now.enter)
             (N.post self.now.enter) }
         ensures { Ran (releases.settle I (inside I (host I.asked I.answered) p.now self.now.levels)
-            (in_world I (spec.left (record playing.old.world { frame = caller; calls = calls }) playing.old.world)
+            (in_world I (spec.left (record (shown playing.old.world) { frame = caller; calls = calls })
+            (shown playing.old.world))
             (seen playing.old env.old)))
             result (seen playing.new env.new) }
     {
@@ -115,18 +73,21 @@ impl<
         env: &mut I,
         caller: Frame,
         calls: u32,
-        gave: Result<Exit, Stop>,
+        gave: Result<Value, Stop>,
     ) -> Result<Value, Stop>
         requires enters { Enters I (host I.asked I.answered) self.now.levels (N.pre self.now.enter)
             (N.post self.now.enter) }
-        ensures { (step : Step (State I) Left) → Ran step gave (seen playing.old env.old)
+        ensures { (step : Step (State I) Given) → Ran step gave (seen playing.old env.old)
             → Ran (spec.abandoned I (inside I (host I.asked I.answered) p.now self.now.levels)
-            (record playing.old.world { frame = caller; calls = calls }) step) result (seen playing.new env.new) }
+            (record (shown playing.old.world) { frame = caller; calls = calls }) step) result (seen playing.new env.new) }
     {
         match gave {
-            Ok(_) => self.returned(p, playing, env, caller, calls),
+            Ok(value) => {
+                self.departs(p, playing, env, caller, calls)?;
+                Ok(value)
+            }
             Err(Stop::Error(cause, line)) => {
-                self.failed(p, playing, env, caller, calls)?;
+                self.departs(p, playing, env, caller, calls)?;
                 Err(Stop::Error(cause, line))
             }
             Err(Stop::Page) => {
@@ -137,7 +98,7 @@ impl<
         }
     }
 
-    /// The procedure's own part.
+    /// The procedure's own part, and the value that it gives, which is held.
     fn runs(
         &self,
         p: &Program,
@@ -145,7 +106,7 @@ impl<
         env: &mut I,
         procedure: &Procedure,
         arguments: List<Argument>,
-    ) -> Result<Exit, Stop>
+    ) -> Result<Value, Stop>
         requires executes { Executes I (host I.asked I.answered) self.now.levels (T.pre self.now.statement)
             (T.post self.now.statement) }
         ensures { Ran (spec.runs I (inside I (host I.asked I.answered) p.now self.now.levels) procedure.now arguments
@@ -153,7 +114,8 @@ impl<
             result (seen playing.new env.new) }
     {
         begins(self.alloc, &mut playing.world, procedure, arguments)?;
-        self.block(p, playing, env, procedure.body.as_slice())
+        self.block(p, playing, env, procedure.body.as_slice())?;
+        given_value(self.alloc, &mut playing.world)
     }
 
     /// A procedure from its first name to its last.
@@ -171,9 +133,10 @@ impl<
             (T.post self.now.statement) }
         requires enters { Enters I (host I.asked I.answered) self.now.levels (N.pre self.now.enter)
             (N.post self.now.enter) }
-        ensures { Ran (spec.abandoned I (inside I (host I.asked I.answered) p.now self.now.levels) playing.old.world
+        ensures { Ran (spec.abandoned I (inside I (host I.asked I.answered) p.now self.now.levels)
+            (shown playing.old.world)
             (spec.runs I (inside I (host I.asked I.answered) p.now self.now.levels) procedure.now arguments
-            (in_world I (spec.entered owner playing.old.world) (seen playing.old env.old))))
+            (in_world I (spec.entered owner (shown playing.old.world)) (seen playing.old env.old))))
             result (seen playing.new env.new) }
     {
         let calls = playing.world.calls;
@@ -181,6 +144,30 @@ impl<
         playing.world.calls = calls + 1;
         let gave = self.runs(p, playing, env, procedure, arguments);
         self.abandoned(p, playing, env, caller, calls, gave)
+    }
+
+    /// The same, and behind it its value is held no more.
+    fn call_made(
+        &self,
+        p: &Program,
+        playing: &mut Playing<'_>,
+        env: &mut I,
+        owner: Option<(ObjNo, u32)>,
+        procedure: &Procedure,
+        arguments: List<Argument>,
+    ) -> Result<Value, Stop>
+        requires few { playing.old.world.calls < 200 }
+        requires executes { Executes I (host I.asked I.answered) self.now.levels (T.pre self.now.statement)
+            (T.post self.now.statement) }
+        requires enters { Enters I (host I.asked I.answered) self.now.levels (N.pre self.now.enter)
+            (N.post self.now.enter) }
+        ensures { Ran (letting_go (spec.called I (inside I (host I.asked I.answered) p.now self.now.levels) owner
+            procedure.now arguments) (seen playing.old env.old)) result (seen playing.new env.new) }
+    {
+        let mark = playing.world.heap.mark();
+        let value = self.entered(p, playing, env, owner, procedure, arguments)?;
+        playing.world.heap.let_go(mark);
+        Ok(value)
     }
 
     /// One more call, while not too many are open.
@@ -205,8 +192,8 @@ impl<
         if playing.world.calls >= MOST_CALLS {
             return Err(depth_stop(&playing.world));
         }
-        tick(&mut playing.world)?;
-        self.entered(p, playing, env, owner, procedure, arguments)
+        tick(playing, env)?;
+        self.call_made(p, playing, env, owner, procedure, arguments)
     }
 
     /// A procedure with its arguments: what it gives. Error 450 for another number of arguments comes first.

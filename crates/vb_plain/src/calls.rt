@@ -7,6 +7,7 @@ ghost use Rattle.vb_meaning.specs.Statements as spec;
 ghost use Rattle.vb_meaning.specs.Paths.{element};
 ghost use Rattle.vb_meaning.specs.Places.{variable};
 ghost use Rattle.vb_meaning.specs.Step.{Ran, and_then, pure};
+ghost use Rattle.vb_meaning.specs.Shown.{shown};
 ghost use Rattle.vb_plain.specs.Nests.{Evaluates, Passes, Enters};
 ghost use Rattle.vb_world.specs.Seen.{seen, host};
 
@@ -23,8 +24,8 @@ use vb_world::playing::Playing;
 
 /// A variable alone that is called: it is asked for an element.
 fn call_variable(alloc: Global, world: &mut World, slot: Slot) -> Result<(), Stop>
-    ensures { Ran (and_then (variable slot world.old)
-        (λ place w. and_then (element (AtPlace place) [] w) (λ reached. pure tt))) result world.new }
+    ensures { Ran (and_then (variable slot (shown world.old))
+        (λ place w. and_then (element (AtPlace place) [] w) (λ reached. pure tt))) result (shown world.new) }
 {
     let place = variable(alloc, world, slot)?;
     element(alloc, world, Reached::Place(place), &[])?;

@@ -127,10 +127,10 @@ impl<
         requires executes { Executes I (host I.asked I.answered) self.now.levels (T.pre self.now.statement)
             (T.post self.now.statement) }
         ensures { Ran (spec.for_turns I (inside I (host I.asked I.answered) p.now self.now.levels)
-            (playing.old.world.ticks + 1) variable.now range body.now (seen playing.old env.old))
+            (playing.old.ticks + 1) variable.now range body.now (seen playing.old env.old))
             result (seen playing.new env.new) }
     {
-        let mut most = u64::from(playing.world.ticks) + 1;
+        let mut most = u64::from(playing.ticks) + 1;
         while most > 0 {
             most -= 1;
             if !is_within(self.alloc, &playing.world, variable, range)? {

@@ -3,6 +3,7 @@ ghost use Rattle.std.specs.Prelude.{◌≡◌};
 ghost use Rattle.vb_meaning.specs.Meaning.{inside};
 ghost use Rattle.vb_meaning.specs.Releases as spec;
 ghost use Rattle.vb_meaning.specs.Step.{Ran};
+ghost use Rattle.vb_meaning.specs.Shown.{shown};
 ghost use Rattle.vb_plain.specs.Ends.{ends_last};
 ghost use Rattle.vb_plain.specs.Nests.{Enters};
 ghost use Rattle.vb_world.specs.Seen.{seen, host};
@@ -38,7 +39,7 @@ impl<
     /// The line in which the terminator of an object begins, or 0 where there is none.
     fn line_of(&self, p: &Program, playing: &Playing<'_>, object: ObjNo) -> u32
         ensures { result ≡ spec.line_of I (inside I (host I.asked I.answered) p.now self.now.levels) object.0
-            playing.now.world }
+            (shown playing.now.world) }
     {
         match terminator(p, class_number(&playing.world, object)) {
             Some(procedure) => procedure.line,

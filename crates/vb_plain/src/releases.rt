@@ -1,10 +1,11 @@
 //! Release points: objects end to which nothing refers any more.
-ghost use Rattle.vb_heap.specs.Store.{numbered};
 ghost use Rattle.vb_meaning.specs.Meaning.{inside};
 ghost use Rattle.vb_meaning.specs.Places.{let_go};
 ghost use Rattle.vb_meaning.specs.Releases as spec;
 ghost use Rattle.vb_meaning.specs.State.{State};
 ghost use Rattle.vb_meaning.specs.Step.{Step, Ran};
+ghost use Rattle.vb_meaning.specs.Stored as stored;
+ghost use Rattle.vb_meaning.specs.Shown.{shown};
 ghost use Rattle.vb_plain.specs.Nests.{Enters};
 ghost use Rattle.vb_world.specs.Seen.{seen, host};
 
@@ -47,7 +48,7 @@ impl<
     ) -> Result<Value, Stop>
         requires { Enters I (host I.asked I.answered) self.now.levels (N.pre self.now.enter) (N.post self.now.enter) }
         ensures { Ran (spec.terminator_of I (inside I (host I.asked I.answered) p.now self.now.levels) object.0
-            (spec.class_number (numbered object.0 playing.old.world.heap.objects)) (seen playing.old env.old))
+            (stored.class_number object.0 (shown playing.old.world).store) (seen playing.old env.old))
             result (seen playing.new env.new) }
     {
         let class = class_number(&playing.world, object);
@@ -124,7 +125,7 @@ impl<
     ) -> Result<(), Stop>
         requires { Enters I (host I.asked I.answered) self.now.levels (N.pre self.now.enter) (N.post self.now.enter) }
         ensures { Ran (spec.settle I (inside I (host I.asked I.answered) p.now self.now.levels)
-            (spec.in_world I (let_go mark playing.old.world) (seen playing.old env.old))) result
+            (spec.in_world I (let_go mark (shown playing.old.world)) (seen playing.old env.old))) result
             (seen playing.new env.new) }
     {
         playing.world.heap.let_go(mark);

@@ -5,7 +5,6 @@ ghost use Rattle.vb_meaning.specs.Blocks as blocks;
 ghost use Rattle.vb_meaning.specs.Errors as errors;
 ghost use Rattle.vb_meaning.specs.Loops as spec;
 ghost use Rattle.vb_meaning.specs.Meaning.{inside};
-ghost use Rattle.vb_meaning.specs.State.{on_world};
 ghost use Rattle.vb_meaning.specs.Step.{Ran, and_then};
 ghost use Rattle.vb_meaning.specs.declared.world.Exit.TheVariants.{Next, Leave};
 ghost use Rattle.vb_plain.specs.Nests.{Evaluates, Executes, Enters};
@@ -17,8 +16,7 @@ use vb_meaning::{Argument, Exit, Stop};
 use vb_syntax::program::{Condition, Expression, Procedure, Program, Repetition, Statement};
 use vb_syntax::{ExitKind, Intrinsics};
 use vb_value::{LimitKind, List, ObjNo, Value};
-use vb_world::playing::{Playing, in_line};
-use vb_world::world::tick;
+use vb_world::playing::{Playing, in_line, tick};
 
 /// How a Do ends that an Exit in it leaves: an Exit Do goes on behind it.
 fn behind_do(kind: ExitKind) -> Exit
@@ -58,11 +56,11 @@ impl<
     ) -> Result<Exit, Stop>
         requires executes { Executes I (host I.asked I.answered) self.now.levels (T.pre self.now.statement)
             (T.post self.now.statement) }
-        ensures { Ran (and_then (on_world errors.tick (seen playing.old env.old)) (λ _.
+        ensures { Ran (and_then (errors.tick (seen playing.old env.old)) (λ _.
             blocks.block I (inside I (host I.asked I.answered) p.now self.now.levels) body.now))
             result (seen playing.new env.new) }
     {
-        tick(&mut playing.world)?;
+        tick(playing, env)?;
         self.block(p, playing, env, body)
     }
 
@@ -98,10 +96,10 @@ impl<
         requires executes { Executes I (host I.asked I.answered) self.now.levels (T.pre self.now.statement)
             (T.post self.now.statement) }
         ensures { Ran (spec.do_turns I (inside I (host I.asked I.answered) p.now self.now.levels)
-            (playing.old.world.ticks + 1) repetition.Endless body.now (seen playing.old env.old))
+            (playing.old.ticks + 1) repetition.Endless body.now (seen playing.old env.old))
             result (seen playing.new env.new) }
     {
-        let mut most = u64::from(playing.world.ticks) + 1;
+        let mut most = u64::from(playing.ticks) + 1;
         while most > 0 {
             most -= 1;
             if let Exit::Leave(kind) = self.turn(p, playing, env, body)? {
@@ -128,10 +126,10 @@ impl<
         requires enters { Enters I (host I.asked I.answered) self.now.levels (N.pre self.now.enter)
             (N.post self.now.enter) }
         ensures { Ran (spec.do_turns I (inside I (host I.asked I.answered) p.now self.now.levels)
-            (playing.old.world.ticks + 1) (repetition.Before asked.now) body.now (seen playing.old env.old))
+            (playing.old.ticks + 1) (repetition.Before asked.now) body.now (seen playing.old env.old))
             result (seen playing.new env.new) }
     {
-        let mut most = u64::from(playing.world.ticks) + 1;
+        let mut most = u64::from(playing.ticks) + 1;
         while most > 0 {
             most -= 1;
             if !self.goes_on(p, playing, env, asked)? {
@@ -182,10 +180,10 @@ impl<
         requires enters { Enters I (host I.asked I.answered) self.now.levels (N.pre self.now.enter)
             (N.post self.now.enter) }
         ensures { Ran (spec.do_turns I (inside I (host I.asked I.answered) p.now self.now.levels)
-            (playing.old.world.ticks + 1) (repetition.After line asked.now) body.now (seen playing.old env.old))
+            (playing.old.ticks + 1) (repetition.After line asked.now) body.now (seen playing.old env.old))
             result (seen playing.new env.new) }
     {
-        let mut most = u64::from(playing.world.ticks) + 1;
+        let mut most = u64::from(playing.ticks) + 1;
         while most > 0 {
             most -= 1;
             match self.turn(p, playing, env, body)? {
@@ -249,7 +247,7 @@ impl<
             body.now (seen playing.old env.old))
             result (seen playing.new env.new) }
     {
-        let mut most = u64::from(playing.world.ticks) + 1;
+        let mut most = u64::from(playing.ticks) + 1;
         while most > 0 {
             most -= 1;
             if !self.condition(p, playing, env, test)? {

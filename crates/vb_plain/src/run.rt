@@ -14,6 +14,9 @@ use vb_syntax::{Act, Intrinsics};
 use vb_value::{AppReply, Memory};
 use vb_world::playing::Playing;
 
+/// How many ticks an act has.
+const MOST_TICKS: u32 = 1_000_000;
+
 /// How many statements, operators, paths and calls may be begun and not yet ended.
 const MOST_LEVELS: u32 = 2_000;
 
@@ -35,6 +38,7 @@ pub fn run_act<I: Intrinsics>(
 {
     let mut playing = Playing {
         world: fresh_world(alloc)?,
+        ticks: MOST_TICKS,
         replies,
     };
     Rules {

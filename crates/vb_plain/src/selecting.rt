@@ -4,7 +4,7 @@ ghost use Rattle.std.specs.Option.{option_copied};
 ghost use Rattle.vb_meaning.specs.Meaning.{inside};
 ghost use Rattle.vb_meaning.specs.Statements as spec;
 ghost use Rattle.vb_meaning.specs.Step.{Ran};
-ghost use Rattle.vb_plain.specs.Blocks.{block_seen, selects};
+ghost use Rattle.vb_plain.specs.Selects.{selects};
 ghost use Rattle.vb_plain.specs.Nests.{Evaluates, Executes, Enters};
 ghost use Rattle.vb_world.specs.Seen.{seen, host};
 
@@ -17,6 +17,23 @@ use vb_syntax::program::{Case, Expression, Procedure, Program, Statement};
 use vb_value::{List, ObjNo, Op2, Value};
 use vb_world::playing::{Playing, in_line};
 use vb_world::world::raise;
+
+/// The block of the Case of a number, or that of Case Else.
+fn case_block<'p>(
+    cases: &'p [Case],
+    otherwise: Option<&'p List<Statement>>,
+    chosen: Option<u32>,
+) -> Option<&'p List<Statement>>
+    ensures { option_copied result ≡ spec.case_block cases.now (option_copied otherwise.entry) chosen }
+{
+    match chosen {
+        Some(number) => match cases.get(number as usize) {
+            Some(found) => Some(&found.body),
+            None => None,
+        },
+        None => otherwise,
+    }
+}
 
 impl<
     I: Intrinsics,
@@ -68,47 +85,49 @@ impl<
         in_line(found.line, playing, env, gave)
     }
 
-    /// The block of the first Case that holds, or that of Case Else.
-    fn first_case<'p>(
+    /// The number of the first Case that holds, if one does.
+    fn first_case(
         &self,
         p: &Program,
         playing: &mut Playing<'_>,
         env: &mut I,
         subject: &Value,
-        mut cases: &'p [Case],
-        otherwise: Option<&'p List<Statement>>,
-    ) -> Result<Option<&'p List<Statement>>, Stop>
+        mut cases: &[Case],
+    ) -> Result<Option<u32>, Stop>
         requires { Evaluates I (host I.asked I.answered) self.now.levels (V.pre self.now.value) (V.post self.now.value) }
-        ensures { Ran (spec.first_case I (inside I (host I.asked I.answered) p.now self.now.levels) subject.now
-            cases.entry.now (option_copied otherwise.entry) (seen playing.old env.old)) (block_seen result)
-            (seen playing.new env.new) }
+        ensures { Ran (spec.first_case I (inside I (host I.asked I.answered) p.now self.now.levels) 0 subject.now
+            cases.entry.now (seen playing.old env.old)) result (seen playing.new env.new) }
     {
+        let mut number: u32 = 0;
         while let [first, others @ ..] = cases {
             if self.case_holds(p, playing, env, subject, first)? {
-                return Ok(Some(&first.body));
+                return Ok(Some(number));
             }
+            if number == u32::MAX {
+                return Err(Stop::Memory);
+            }
+            number += 1;
             cases = others;
         }
-        Ok(otherwise)
+        Ok(None)
     }
 
-    /// The block that is selected.
-    #[tactic(auto, unfolding(crate::specs::Blocks::selects))]
-    fn selected<'p>(
+    /// The number of the Case that is selected.
+    #[tactic(auto, unfolding(crate::specs::Selects::selects))]
+    fn selected(
         &self,
         p: &Program,
         playing: &mut Playing<'_>,
         env: &mut I,
         subject: &Expression,
-        cases: &'p [Case],
-        otherwise: Option<&'p List<Statement>>,
-    ) -> Result<Option<&'p List<Statement>>, Stop>
+        cases: &[Case],
+    ) -> Result<Option<u32>, Stop>
         requires { Evaluates I (host I.asked I.answered) self.now.levels (V.pre self.now.value) (V.post self.now.value) }
         ensures { Ran (selects I (inside I (host I.asked I.answered) p.now self.now.levels) subject.now cases.now
-            (option_copied otherwise.entry) (seen playing.old env.old)) (block_seen result) (seen playing.new env.new) }
+            (seen playing.old env.old)) result (seen playing.new env.new) }
     {
         let found = self.value(p, playing, env, subject)?;
-        self.first_case(p, playing, env, &found, cases, otherwise)
+        self.first_case(p, playing, env, &found, cases)
     }
 }
 
@@ -130,37 +149,26 @@ impl<
         List<Argument>,
     ) -> Result<Value, Stop>,
 > Rules<I, V, A, S, C, T, N> {
-    /// The head of a Select Case, with the block that is selected.
-    fn head<'p>(
+    /// The head of a Select Case, with the number of the Case that is selected.
+    fn head(
         &self,
         p: &Program,
         playing: &mut Playing<'_>,
         env: &mut I,
         subject: &Expression,
-        cases: &'p [Case],
-        otherwise: Option<&'p List<Statement>>,
-    ) -> Result<Option<&'p List<Statement>>, Stop>
+        cases: &[Case],
+    ) -> Result<Option<u32>, Stop>
         requires evaluates { Evaluates I (host I.asked I.answered) self.now.levels (V.pre self.now.value)
             (V.post self.now.value) }
         requires enters { Enters I (host I.asked I.answered) self.now.levels (N.pre self.now.enter)
             (N.post self.now.enter) }
         ensures { Ran (spec.in_head I (inside I (host I.asked I.answered) p.now self.now.levels)
-            (selects I (inside I (host I.asked I.answered) p.now self.now.levels) subject.now cases.now
-            (option_copied otherwise.entry)) (seen playing.old env.old)) (block_seen result)
-            (seen playing.new env.new) }
+            (selects I (inside I (host I.asked I.answered) p.now self.now.levels) subject.now cases.now)
+            (seen playing.old env.old)) result (seen playing.new env.new) }
     {
         let mark = playing.world.heap.mark();
-        match self.selected(p, playing, env, subject, cases, otherwise) {
-            Ok(block) => {
-                self.let_go(p, playing, env, mark)?;
-                Ok(block)
-            }
-            Err(Stop::Error(cause, line)) => {
-                self.let_go(p, playing, env, mark)?;
-                Err(Stop::Error(cause, line))
-            }
-            Err(why) => Err(why),
-        }
+        let gave = self.selected(p, playing, env, subject, cases);
+        self.release(p, playing, env, mark, gave)
     }
 }
 
@@ -183,7 +191,7 @@ impl<
     ) -> Result<Value, Stop>,
 > Rules<I, V, A, S, C, T, N> {
     /// Select Case with its parts. The subject and the Case expressions that are tried are one head.
-    #[tactic(auto, unfolding(vb_meaning::specs::Statements::select_statement, crate::specs::Blocks::selects))]
+    #[tactic(auto, unfolding(vb_meaning::specs::Statements::select_statement, crate::specs::Selects::selects))]
     pub fn select_statement(
         &self,
         p: &Program,
@@ -202,7 +210,8 @@ impl<
         ensures { Ran (spec.select_statement I (inside I (host I.asked I.answered) p.now self.now.levels) subject.now
             cases.now (option_copied otherwise.entry) (seen playing.old env.old)) result (seen playing.new env.new) }
     {
-        let block = self.head(p, playing, env, subject, cases, otherwise)?;
+        let chosen = self.head(p, playing, env, subject, cases)?;
+        let block = case_block(cases, otherwise, chosen);
         self.otherwise_block(p, playing, env, block)
     }
 }

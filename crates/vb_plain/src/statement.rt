@@ -20,9 +20,8 @@ use vb_syntax::program::{Expression, Named, Path, Procedure, Program, Statement,
 use vb_syntax::{ExitKind, Intrinsics};
 use vb_value::{Copied, List, ObjNo, Text, Value};
 use vb_world::errors::clear;
-use vb_world::playing::{Playing, in_line, resumed};
+use vb_world::playing::{Playing, in_line, resumed, tick};
 use vb_world::resizing::erase_all;
-use vb_world::world::tick;
 
 /// Whether an Exit clears Err: of a Sub, a Function or a Property.
 fn clears_err(kind: ExitKind) -> bool
@@ -245,11 +244,11 @@ impl<
             (T.post self.now.statement) }
         requires enters { Enters I (host I.asked I.answered) self.now.levels (N.pre self.now.enter)
             (N.post self.now.enter) }
-        ensures { Ran (and_then (on_world errors.tick (seen playing.old env.old)) (λ _. spec.does I
+        ensures { Ran (and_then (errors.tick (seen playing.old env.old)) (λ _. spec.does I
             (inside I (host I.asked I.answered) p.now self.now.levels) (out-StatementKind said.now)))
             result (seen playing.new env.new) }
     {
-        tick(&mut playing.world)?;
+        tick(playing, env)?;
         self.does(p, playing, env, said)
     }
 
@@ -273,7 +272,7 @@ impl<
         requires enters { Enters I (host I.asked I.answered) self.now.levels (N.pre self.now.enter)
             (N.post self.now.enter) }
         ensures { Ran (spec.whole I (inside I (host I.asked I.answered) p.now self.now.levels) line (λ s. and_then
-            (on_world errors.tick s) (λ _. spec.does I (inside I (host I.asked I.answered) p.now self.now.levels)
+            (errors.tick s) (λ _. spec.does I (inside I (host I.asked I.answered) p.now self.now.levels)
             (out-StatementKind said.now))) (seen playing.old env.old)) result (seen playing.new env.new) }
     {
         let mark = playing.world.heap.mark();

@@ -6,6 +6,7 @@ ghost use Rattle.vb_meaning.specs.Assigning as spec;
 ghost use Rattle.vb_meaning.specs.Meaning.{inside};
 ghost use Rattle.vb_meaning.specs.Reading.{from_name};
 ghost use Rattle.vb_meaning.specs.Step.{Ran};
+ghost use Rattle.vb_meaning.specs.Shown.{shown};
 ghost use Rattle.vb_plain.specs.Nests.{Evaluates, Passes, Enters};
 ghost use Rattle.vb_world.specs.Seen.{seen, host};
 
@@ -203,7 +204,8 @@ impl<
             (N.post self.now.enter) }
         ensures { Ran (spec.property I (inside I (host I.asked I.answered) p.now self.now.levels) how
             playing.old.world.frame.owner (spec.own_property I (inside I (host I.asked I.answered) p.now self.now.levels)
-            how number playing.old.world) supplied.now value (seen playing.old env.old)) result (seen playing.new env.new) }
+            how number (shown playing.old.world)) supplied.now value (seen playing.old env.old)) result
+            (seen playing.new env.new) }
     {
         let owner = playing.world.frame.owner;
         let found = own_assigned(p, owner, how, number);

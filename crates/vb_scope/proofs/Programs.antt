@@ -7,10 +7,10 @@ use Rattle.vb_syntax.specs.declared.program.name.DictionaryMember.{DictionaryMem
 use Rattle.vb_syntax.specs.declared.program.statement.Statement.{Statement}
 use Rattle.vb_syntax.specs.declared.program.unit.Class.{Class}
 use Rattle.vb_syntax.specs.declared.program.unit.Constant.{Constant}
-use Rattle.vb_syntax.specs.declared.program.unit.DeclaredArray.{DeclaredArray}
 use Rattle.vb_syntax.specs.declared.program.unit.Procedure.{Procedure}
 use Rattle.vb_syntax.specs.declared.program.unit.ProcedureKind.{ProcedureKind}
 use Rattle.vb_syntax.specs.declared.program.unit.Unit.{Unit as Code}
+use Rattle.vb_syntax.specs.declared.program.unit.Variable.{Variable}
 use Rattle.vb_syntax.specs.declared.program.unit.Field.{Field}
 use Rattle.vb_syntax.specs.declared.unit.Class.{Class as SourceClass}
 use Rattle.vb_syntax.specs.declared.unit.Unit.{Unit as Script}
@@ -47,11 +47,11 @@ listed_in page vars procs classes =
 -- these trees and names are the program of the script
 pub parts_are : (script : Script) (page : Declarations) (names : List Name) (body : List Statement)
     (procedures : List Procedure) (classes : List Class) (written vars procs class_names : List Name)
-    (variables : List (Option DeclaredArray)) (constants : List Constant)
+    (variables : List Variable) (constants : List Constant)
     (dictionary : List (Option DictionaryMember)) (code : Code)
     → page ≡ page_scope script → names ≡ names_of script
     → code_in script page names body procedures classes → listed_in page vars procs class_names
-    → variables ≡ page.arrays → constants ≡ page.constants
+    → variables ≡ page.variables → constants ≡ page.constants
     → written ≡ names → dictionary ≡ map dictionary_member names
     → code ≡ record {
       body = body;
@@ -78,11 +78,11 @@ parts_are script page names body procedures classes written vars procs class_nam
 -- these parts are the procedure
 pub procedure_is : (explicit : Bool) (page : Declarations) (names : List Name) (class : Declarations)
     (access : Option Access) (kind : ProcedureKind) (name : Name) (body : Body) (private : Bool) (number : ℕ)
-    (by_value : List Bool) (scope : Declarations) (variables : List (Option DeclaredArray)) (constants : List Constant)
+    (by_value : List Bool) (scope : Declarations) (variables : List Variable) (constants : List Constant)
     (statements : List Statement)
     → private ≡ is_private access → number ≡ name_number names name
     → by_value ≡ map (λ (found : Parameter). found.by_value) body.parameters
-    → scope ≡ body_scope explicit page class body → variables ≡ scope.arrays → constants ≡ scope.constants
+    → scope ≡ body_scope explicit page class body → variables ≡ scope.variables → constants ≡ scope.constants
     → statements ≡ map (statement_of names (body_scopes explicit page class body)) body.statements
     → record {
       line = body.line;

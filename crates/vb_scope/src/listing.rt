@@ -7,7 +7,7 @@ ghost use Rattle.vb_names.specs.Declarations.{declarations_seen};
 
 use std::alloc::Global;
 use vb_names::{Declarations, Names, dictionary_member};
-use vb_syntax::program::{Constant, DeclaredArray, DictionaryMember, Named};
+use vb_syntax::program::{Constant, DictionaryMember, Named, Variable};
 use vb_value::{List, Memory, Text};
 
 /// The names of a page that a program lists, by what they stand for.
@@ -83,7 +83,7 @@ pub struct Listing {
     /// The names of classes.
     pub classes: List<Text>,
     /// The variables.
-    pub arrays: List<Option<DeclaredArray>>,
+    pub declared: List<Variable>,
     /// The constants.
     pub constants: List<Constant>,
     /// Of each name of the script, which member of a Dictionary it says.
@@ -98,18 +98,18 @@ pub fn list_names(alloc: Global, page: Declarations, names: &Names) -> Result<Li
         ≡ spec.names_in spec.is_procedure (declarations_seen page)) }
     ensures classes { IfOk result (λ listed. listed.classes
         ≡ spec.names_in spec.is_class (declarations_seen page)) }
-    ensures arrays { IfOk result (λ listed. listed.arrays ≡ page.arrays) }
+    ensures declared { IfOk result (λ listed. listed.declared ≡ page.variables) }
     ensures constants { IfOk result (λ listed. listed.constants ≡ page.constants) }
     ensures dictionary { IfOk result (λ listed. listed.dictionary ≡ map names_spec.dictionary_member names.now) }
 {
     let Declarations {
-        names: declared,
+        names: page_names,
         meanings,
-        arrays,
+        variables: declared,
         constants,
         ..
     } = page;
-    let listed = listed_names(alloc, declared.into_texts(), meanings.as_slice());
+    let listed = listed_names(alloc, page_names.into_texts(), meanings.as_slice());
     drop(meanings);
     match (listed, dictionary(alloc, names.as_slice())) {
         (Ok(listed), Ok(dictionary)) => {
@@ -122,7 +122,7 @@ pub fn list_names(alloc: Global, page: Declarations, names: &Names) -> Result<Li
                 variables,
                 procedures,
                 classes,
-                arrays,
+                declared,
                 constants,
                 dictionary,
             })
@@ -130,7 +130,7 @@ pub fn list_names(alloc: Global, page: Declarations, names: &Names) -> Result<Li
         (listed, dictionary) => {
             drop(listed);
             drop(dictionary);
-            drop(arrays);
+            drop(declared);
             drop(constants);
             Err(Memory)
         }
@@ -138,14 +138,14 @@ pub fn list_names(alloc: Global, page: Declarations, names: &Names) -> Result<Li
 }
 
 /// The variables and the constants that a scope declares.
-pub fn declared_in(found: Declarations) -> (List<Option<DeclaredArray>>, List<Constant>)
-    ensures variables { result.0 ≡ found.arrays }
+pub fn declared_in(found: Declarations) -> (List<Variable>, List<Constant>)
+    ensures variables { result.0 ≡ found.variables }
     ensures constants { result.1 ≡ found.constants }
 {
     let Declarations {
-        arrays,
+        variables,
         constants,
         ..
     } = found;
-    (arrays, constants)
+    (variables, constants)
 }

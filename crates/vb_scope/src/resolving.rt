@@ -20,9 +20,7 @@ use crate::trees::{Script, Trees, page_trees};
 use crate::unit_checks::check_items;
 use std::alloc::Global;
 use vb_names::{Declarations, DeclaredNames, Names, page_scope};
-use vb_syntax::program::{
-    Constant, DeclaredArray, DictionaryMember, Program, Unit as ResolvedUnit,
-};
+use vb_syntax::program::{Constant, DictionaryMember, Program, Unit as ResolvedUnit, Variable};
 use vb_syntax::{ScopeStop, Unit};
 use vb_value::{List, Memory};
 
@@ -110,7 +108,7 @@ fn check_script(
 fn unit_of(
     names: Names,
     trees: Trees,
-    variables: List<Option<DeclaredArray>>,
+    variables: List<Variable>,
     constants: List<Constant>,
     dictionary: List<Option<DictionaryMember>>,
 ) -> ResolvedUnit
@@ -165,12 +163,12 @@ fn program(
                 variables,
                 procedures,
                 classes,
-                arrays,
+                declared,
                 constants,
                 dictionary,
             } = listed;
             Ok(Program {
-                unit: unit_of(names, trees, arrays, constants, dictionary),
+                unit: unit_of(names, trees, declared, constants, dictionary),
                 vars: variables,
                 procs: procedures,
                 classes,

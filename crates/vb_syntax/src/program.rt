@@ -10,7 +10,7 @@ mod unit;
 pub use expression::{Expression, Head, Operation, Path, Step};
 pub use name::{DictionaryMember, ErrMember, Named, Slot};
 pub use statement::{Case, Condition, ElseIf, Repetition, Resized, Statement, StatementKind};
-pub use unit::{Class, Constant, DeclaredArray, Field, Procedure, ProcedureKind, Unit};
+pub use unit::{Class, Constant, Field, Procedure, ProcedureKind, Unit, Variable};
 use vb_value::{List, Text};
 
 /// A program. It is what some script resolves to.

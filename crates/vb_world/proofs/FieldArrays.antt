@@ -20,9 +20,9 @@ use Rattle.vb_heap.specs.Store.{Store, numbered}
 use Rattle.vb_heap.proofs.CellWeights.{weight_put, cell_within}
 use Rattle.vb_heap.proofs.Fitting.{too_heavy, answer_heavy, answer_flat, goes_on}
 use Rattle.vb_meaning.specs.declared.stop.Stop.TheVariants as stop
-use Rattle.vb_meaning.specs.declared.world.World.{World}
+use Rattle.vb_meaning.specs.World.{World}
 use Rattle.vb_meaning.specs.Places.{cell_place}
-use Rattle.vb_meaning.specs.State.{on_heap, heap_answer, with_heap}
+use Rattle.vb_meaning.specs.State.{on_store, store_answer, with_store}
 use Rattle.vb_meaning.specs.Step.{Ends}
 use Rattle.vb_meaning.specs.Values.{empty_array}
 use Rattle.vb_world.proofs.EmptyArrays.{empty_array_weight, empty_array_flat}
@@ -48,11 +48,11 @@ store_refused cell fixed bounds store old reads heavy =
 
 -- an array that alone is too much is refused where a cell is there
 pub array_refused : (cell : CellNo) (fixed : Bool) (bounds : List ℤ) (world : World) (old : Value)
-    → Ok old ≡ read_of (cell_place cell) world.heap
+    → Ok old ≡ read_of (cell_place cell) world.store
     → nat_lt most_weight (32 + 32 * min (item_count bounds) (2 ^ 64 - 1)) ≡ true
-    → on_heap (store_of (cell_place cell) (Arr (empty_array fixed bounds)))
+    → on_store (store_of (cell_place cell) (Arr (empty_array fixed bounds)))
     (with_stored (cell_place cell) (Arr (empty_array fixed bounds))) world ≡ Ends (stop.Limit Data None) world
 array_refused cell fixed bounds world old reads heavy =
     let array = Arr (empty_array fixed bounds) in
-    ap (λ answer. heap_answer answer (with_heap (with_stored (cell_place cell) array) world) world)
-    (store_refused cell fixed bounds world.heap old reads heavy)
+    ap (λ answer. store_answer answer (with_store (with_stored (cell_place cell) array) world) world)
+    (store_refused cell fixed bounds world.store old reads heavy)

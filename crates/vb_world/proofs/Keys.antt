@@ -11,7 +11,7 @@ use Rattle.vb_heap.specs.Dictionary.{Dictionary}
 use Rattle.vb_heap.specs.DictionaryCalls as dictionary
 use Rattle.vb_heap.specs.Entries.{dictionary_of}
 use Rattle.vb_meaning.specs.declared.stop.Stop.{Stop}
-use Rattle.vb_meaning.specs.declared.world.World.{World}
+use Rattle.vb_meaning.specs.World.{World}
 use Rattle.vb_meaning.specs.Loops.{keys_of}
 use Rattle.vb_meaning.specs.Step.{Returns, came, given, raising}
 
@@ -34,8 +34,8 @@ same_answer (Err error) = refl
 
 -- what a For Each goes over is what the array of the keys has
 pub keys_listed : (object : ObjNo) (world : World) (array : Array)
-    → raising (dictionary.keys_of object world.heap) ≡ Ok (Arr array)
-    → given (keys_of object world.heap None) world ≡ Returns array.items world
+    → raising (dictionary.keys_of object world.store) ≡ Ok (Arr array)
+    → given (keys_of object world.store None) world ≡ Returns array.items world
 keys_listed object world array listed =
-    ap (λ answer. came answer world) (sym (same_answer (dictionary_of object world.heap))
+    ap (λ answer. came answer world) (sym (same_answer (dictionary_of object world.store))
     ∙ (ap items_told listed ∙ ap (λ part. Ok (items_in part)) (outs-Arr array)))

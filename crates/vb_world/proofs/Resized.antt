@@ -28,8 +28,8 @@ use Rattle.vb_heap.proofs.CellWeights.{weight_put, cell_within}
 use Rattle.vb_heap.proofs.Fitting.{too_heavy, answer_heavy, answer_flat}
 use Rattle.vb_heap.proofs.Values.{fold-Arr}
 use Rattle.vb_heap.proofs.ValueWeights.{weight_arr, empty_weight, part_within}
-use Rattle.vb_meaning.specs.declared.world.World.{World}
-use Rattle.vb_meaning.specs.State.{on_heap, heap_answer, with_heap}
+use Rattle.vb_meaning.specs.World.{World}
+use Rattle.vb_meaning.specs.State.{on_store, store_answer, with_store}
 use Rattle.vb_meaning.specs.Statements.{array_into, items_kept, preserved}
 use Rattle.vb_meaning.specs.Step.{Step, Ends, Ran}
 use Rattle.vb_meaning.specs.declared.stop.Stop.{Stop}
@@ -85,7 +85,7 @@ empty_depth bounds =
     fold-Arr ℕ ℕ value_depth array_depth (empty_array false bounds) ∙ ap (λ n. 1 + n) (none_deep (item_count bounds))
 
 module _ (place : Place) (bounds : List ℤ) (old : Value) (world : World)
-    (there : read_of place world.heap ≡ Ok old) where
+    (there : read_of place world.store ≡ Ok old) where
   -- one that weighs too much
   pub into_heavy : 524288 ≤ min (item_count bounds) (2 ^ 64 - 1) → length place.steps < 64
       → array_into place bounds world ≡ Ends (stop.Limit Data None) world
@@ -93,16 +93,16 @@ module _ (place : Place) (bounds : List ℤ) (old : Value) (world : World)
       let array = Arr (empty_array false bounds) in
       let weight = empty_array_weight false bounds in
       let deep : is_too_deep (length place.steps) array ≡ false = rw (empty_depth bounds) (grind (arith, nat_tests)) in
-      ap (λ answer. heap_answer answer (with_heap (with_stored place array) world) world)
-      (refused_heavy world.heap place old array there (omega arith) deep)
+      ap (λ answer. store_answer answer (with_store (with_stored place array) world) world)
+      (refused_heavy world.store place old array there (omega arith) deep)
 
   -- one that would lie too deep
   pub into_deep : 64 ≤ length place.steps → array_into place bounds world ≡ Ends (stop.Limit Nest None) world
   into_deep below =
       let array = Arr (empty_array false bounds) in
       let deep : is_too_deep (length place.steps) array ≡ true = rw (empty_depth bounds) (grind (arith, nat_tests)) in
-      ap (λ answer. heap_answer answer (with_heap (with_stored place array) world) world)
-      (refused_deep world.heap place old array there deep)
+      ap (λ answer. store_answer answer (with_store (with_stored place array) world) world)
+      (refused_deep world.store place old array there deep)
 
 -- ---- an array with the items that were there
 
@@ -138,10 +138,10 @@ depth_kept array bounds count more =
     ∙ ap (λ n. 1 + n) (deepest_kept array.items count more)
 
 module _ (place : Place) (array : Array) (bounds : List ℤ) (old : Value) (world : World)
-    (there : read_of place world.heap ≡ Ok old) where
+    (there : read_of place world.store ≡ Ok old) where
   -- the array of so many items in its place
   abbrev pub into_kept : ℕ → Step World (Unit {0})
-  into_kept count = on_heap (store_of place (Arr (kept array bounds count)))
+  into_kept count = on_store (store_of place (Arr (kept array bounds count)))
       (with_stored place (Arr (kept array bounds count))) world
 
   refused_kept : (count : ℕ) → length array.items + 524288 ≤ count → (deep : Bool)
@@ -149,12 +149,12 @@ module _ (place : Place) (array : Array) (bounds : List ℤ) (old : Value) (worl
       → into_kept count ≡ cond deep (Ends (stop.Limit Nest None) world) (Ends (stop.Limit Data None) world)
   refused_kept count many true is =
       let depth = depth_kept array bounds count (omega arith) in
-      ap (λ answer. heap_answer answer (with_heap (with_stored place (Arr (kept array bounds count))) world) world)
-      (refused_deep world.heap place old (Arr (kept array bounds count)) there (rw depth is))
+      ap (λ answer. store_answer answer (with_store (with_stored place (Arr (kept array bounds count))) world) world)
+      (refused_deep world.store place old (Arr (kept array bounds count)) there (rw depth is))
   refused_kept count many false is =
       let depth = depth_kept array bounds count (omega arith) in
-      ap (λ answer. heap_answer answer (with_heap (with_stored place (Arr (kept array bounds count))) world) world)
-      (refused_heavy world.heap place old (Arr (kept array bounds count)) there (heavy_kept array bounds count many)
+      ap (λ answer. store_answer answer (with_store (with_stored place (Arr (kept array bounds count))) world) world)
+      (refused_heavy world.store place old (Arr (kept array bounds count)) there (heavy_kept array bounds count many)
       (rw depth is))
 
   kept_alike : (few : Bool) → nat_le (item_count bounds) (length array.items + 524288) ≡ few
@@ -168,16 +168,16 @@ module _ (place : Place) (array : Array) (bounds : List ℤ) (old : Value) (worl
       ∙ sym (refused_kept (item_count bounds) many deep refl)
 
   -- no more items need be made than make it too heavy
-  into_preserved : into_kept (most_kept array bounds) ≡ on_heap (store_of place (Arr (preserved array bounds)))
+  into_preserved : into_kept (most_kept array bounds) ≡ on_store (store_of place (Arr (preserved array bounds)))
       (with_stored place (Arr (preserved array bounds))) world
   into_preserved = kept_alike (nat_le (item_count bounds) (length array.items + 524288)) refl
 
 -- what the array that is made shows, the whole array shows
 pub kept_shown : (place : Place) (array : Array) (bounds : List ℤ) (old : Value) (world : World)
-    → read_of place world.heap ≡ Ok old → (result : Result (Unit {0}) Stop) (new : World)
-    → Ran (on_heap (store_of place (Arr (kept array bounds (most_kept array bounds))))
+    → read_of place world.store ≡ Ok old → (result : Result (Unit {0}) Stop) (new : World)
+    → Ran (on_store (store_of place (Arr (kept array bounds (most_kept array bounds))))
     (with_stored place (Arr (kept array bounds (most_kept array bounds)))) world) result new
-    → Ran (on_heap (store_of place (Arr (preserved array bounds))) (with_stored place (Arr (preserved array bounds)))
+    → Ran (on_store (store_of place (Arr (preserved array bounds))) (with_stored place (Arr (preserved array bounds)))
     world) result new
 kept_shown place array bounds old world there result new ran =
     subst (λ step. Ran step result new) (into_preserved place array bounds old world there) ran

@@ -4,6 +4,7 @@ ghost use Rattle.std.specs.Option.{option_copied};
 ghost use Rattle.vb_value.specs.declared.value.Value.{Nothing as NoObject};
 ghost use Rattle.vb_meaning.specs.Reading as spec;
 ghost use Rattle.vb_meaning.specs.Step.{Ran};
+ghost use Rattle.vb_meaning.specs.Shown.{shown};
 
 use std::alloc::Global;
 use vb_meaning::{Stop, World};
@@ -11,7 +12,7 @@ use vb_value::{Value, VbError, copy};
 
 /// The object whose method runs. Error 91 where no method runs.
 pub fn me_value(world: &World) -> Result<Value, Stop>
-    ensures { Ran (spec.me_value world.now.frame.owner world.now) result world.now }
+    ensures { Ran (spec.me_value world.now.frame.owner (shown world.now)) result (shown world.now) }
 {
     match world.frame.owner {
         Some((object, _)) => Ok(Value::Obj(object)),
@@ -29,7 +30,7 @@ fn innermost<'a>(subjects: &'a [Value]) -> Option<&'a Value>
 
 /// The subject of the innermost With around, `Nothing` where there is none.
 pub fn subject(alloc: Global, world: &World) -> Result<Value, Stop>
-    ensures { Ran (spec.subject world.now) result world.now }
+    ensures { Ran (spec.subject (shown world.now)) result (shown world.now) }
 {
     match innermost(world.frame.subjects.as_slice()) {
         Some(value) => Ok(copy(alloc, value)?),

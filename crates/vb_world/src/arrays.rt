@@ -7,6 +7,7 @@ ghost use Rattle.vb_value.specs.declared.value.Value.{Empty as EmptyItem};
 ghost use Rattle.vb_heap.specs.Limits.{most_weight};
 ghost use Rattle.vb_heap.specs.PageWeight.{weight_of_page};
 ghost use Rattle.vb_meaning.specs.Values as spec;
+ghost use Rattle.vb_meaning.specs.Shown.{shown};
 
 use std::alloc::Global;
 use vb_meaning::World;
@@ -53,7 +54,7 @@ pub fn has_bad_bound(bounds: &[i32]) -> bool
 
 /// Whether a cell more would weigh too much that holds an array of so many Empty items.
 pub fn is_too_heavy(world: &World, count: u64) -> bool
-    ensures { result ≡ nat_lt most_weight (weight_of_page world.now.heap + (32 + 32 * count)) }
+    ensures { result ≡ nat_lt most_weight (weight_of_page (shown world.now).store + (32 + 32 * count)) }
 {
     let weight = count.saturating_mul(32).saturating_add(32);
     MOST_WEIGHT < weight.saturating_add(world.heap.page_weight())

@@ -4,6 +4,7 @@ ghost use Rattle.vb_value.specs.Outcome.{Gives};
 ghost use Rattle.vb_heap.specs.DictionaryCalls.{array_of};
 ghost use Rattle.vb_meaning.specs.Asking as spec;
 ghost use Rattle.vb_meaning.specs.Reading as reading;
+ghost use Rattle.vb_meaning.specs.Shown.{shown};
 ghost use Rattle.vb_meaning.specs.Step.{Ran};
 ghost use Rattle.vb_world.specs.Seen.{seen, host};
 
@@ -68,8 +69,9 @@ fn answered<I: Intrinsics>(
     arguments: &[Value],
     reply: AppReply,
 ) -> Result<Value, Stop>
-    ensures { Ran (spec.heard (host I.asked I.answered) member arguments.now playing.old.world playing.old.replies.now
-        (I.answered member arguments.now reply env.old)) result (seen playing.new env.new) }
+    ensures { Ran (spec.heard (host I.asked I.answered) member arguments.now (shown playing.old.world)
+        playing.old.ticks playing.old.replies.now (I.answered member arguments.now reply env.old))
+        result (seen playing.new env.new) }
 {
     match env.answer(member, arguments, reply) {
         Ok(Given::Value(value)) => Ok(value),

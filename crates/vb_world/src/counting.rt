@@ -4,6 +4,7 @@ ghost use Rattle.vb_value.specs.Numbers.{amount_of};
 ghost use Rattle.vb_value.specs.declared.value.Value.{out-Value};
 ghost use Rattle.vb_meaning.specs.Loops as spec;
 ghost use Rattle.vb_meaning.specs.Step.{Ran, given};
+ghost use Rattle.vb_meaning.specs.Shown.{shown};
 
 use crate::places::{read_place, store_place, target_variable};
 use crate::world::raise;
@@ -37,7 +38,7 @@ fn comparison_by(range: Range) -> Op2
 
 /// Whether the variable of a For has not passed the last value.
 pub fn is_within(alloc: Global, world: &World, variable: &Named, range: Range) -> Result<bool, Stop>
-    ensures { Ran (spec.is_within variable.now range world.now) result world.now }
+    ensures { Ran (spec.is_within variable.now range (shown world.now)) result (shown world.now) }
 {
     let place = target_variable(alloc, world, variable)?;
     let value = read_place(alloc, world, &place)?;
@@ -53,7 +54,7 @@ pub fn set_variable(
     variable: &Named,
     value: Value,
 ) -> Result<(), Stop>
-    ensures { Ran (spec.set_variable variable.now value world.old) result world.new }
+    ensures { Ran (spec.set_variable variable.now value (shown world.old)) result (shown world.new) }
 {
     let place = target_variable(alloc, world, variable)?;
     store_place(world, &place, value)
@@ -66,7 +67,7 @@ pub fn add_step(
     variable: &Named,
     range: Range,
 ) -> Result<(), Stop>
-    ensures { Ran (spec.add_step variable.now range world.old) result world.new }
+    ensures { Ran (spec.add_step variable.now range (shown world.old)) result (shown world.new) }
 {
     let place = target_variable(alloc, world, variable)?;
     let value = read_place(alloc, world, &place)?;
@@ -76,9 +77,9 @@ pub fn add_step(
 }
 
 /// The keys of a dictionary.
-#[tactic(auto, using(crate::proofs::Keys::keys_listed))]
 fn keys_of(alloc: Global, world: &World, object: ObjNo) -> Result<List<Value>, Stop>
-    ensures { Ran (given (spec.keys_of object world.now.heap None) world.now) result world.now }
+    ensures { Ran (given (spec.keys_of object (shown world.now).store None) (shown world.now)) result
+        (shown world.now) }
 {
     match raise(vb_dict::keys(alloc, &world.heap, object))? {
         Value::Arr(array) => Ok(array.items),
@@ -88,7 +89,8 @@ fn keys_of(alloc: Global, world: &World, object: ObjNo) -> Result<List<Value>, S
 
 /// What a For Each goes over. Error 451 for a scalar, 91 for Nothing, and 438 for an object that is no dictionary.
 pub fn items_of(alloc: Global, world: &World, group: Value) -> Result<List<Value>, Stop>
-    ensures { Ran (given (spec.items_of world.now.heap (out-Value group)) world.now) result world.now }
+    ensures { Ran (given (spec.items_of (shown world.now).store (out-Value group)) (shown world.now)) result
+        (shown world.now) }
 {
     match group {
         Value::Arr(array) => Ok(array.items),

@@ -7,6 +7,7 @@ ghost use Rattle.vb_meaning.specs.Places as places;
 ghost use Rattle.vb_meaning.specs.Step.{Ran, and_then, given};
 ghost use Rattle.vb_meaning.specs.Values as values;
 ghost use Rattle.vb_meaning.specs.Values.{empty_array};
+ghost use Rattle.vb_meaning.specs.Shown.{shown};
 ghost use Rattle.vb_value.specs.declared.value.Value.TheViews.{Arr};
 
 use crate::arrays::{empty_array, has_bad_bound, is_too_heavy, item_count};
@@ -15,15 +16,15 @@ use crate::values::constant_value;
 use crate::world::stop_in;
 use std::alloc::Global;
 use vb_heap::CellNo;
-use vb_meaning::{Stop, World};
+use vb_meaning::{ConstantFault, Stop, World};
 use vb_ops::apply1;
 use vb_syntax::ConstantValue;
-use vb_syntax::program::{Constant, DeclaredArray, Unit};
+use vb_syntax::program::{Constant, Unit, Variable};
 use vb_value::{LimitKind, List, Memory, Op1, Value, VbError, VbFault};
 
 /// The value of a constant. An error is in the line of its declaration.
 fn constant_made(world: &World, constant: &Constant) -> Result<Value, Stop>
-    ensures { Ran (spec.constant_made constant.now world.now) result world.now }
+    ensures { Ran (spec.constant_made constant.now (shown world.now)) result (shown world.now) }
 {
     match constant_value(&constant.value) {
         Ok(value) => Ok(value),
@@ -37,7 +38,7 @@ pub fn constants_made(
     world: &World,
     mut constants: &[Constant],
 ) -> Result<List<Value>, Stop>
-    ensures { Ran (spec.constants_made constants.entry.now world.now) result world.now }
+    ensures { Ran (spec.constants_made constants.entry.now (shown world.now)) result (shown world.now) }
 {
     let mut values = List::with_capacity(alloc, constants.len())?;
     while let [first, others @ ..] = constants {
@@ -48,8 +49,8 @@ pub fn constants_made(
 }
 
 /// The fault of a constant.
-fn fault_of(constant: &Constant) -> Result<Option<(u32, VbError)>, Memory>
-    ensures { Gives result (spec.fault_or constant.now.line (values.constant_value constant.now.value) None) }
+fn fault_of(constant: &Constant) -> Result<Option<ConstantFault>, Memory>
+    ensures { Gives result (spec.fault_or constant.now (values.constant_value constant.now.value) None) }
 {
     let answer = match &constant.value {
         ConstantValue::Literal(_) => return Ok(None),
@@ -58,14 +59,18 @@ fn fault_of(constant: &Constant) -> Result<Option<(u32, VbError)>, Memory>
     };
     match answer {
         Ok(_) => Ok(None),
-        Err(VbFault::Error(number)) => Ok(Some((constant.line, VbError { number }))),
+        Err(VbFault::Error(number)) => Ok(Some(ConstantFault {
+            before: constant.before,
+            line: constant.line,
+            error: VbError { number },
+        })),
         Err(VbFault::Memory) => Err(Memory),
     }
 }
 
-/// The first constant that stands for no value: its line and its error.
+/// The first constant that stands for no value.
 #[tactic(auto, using(crate::proofs::Declared::no_fault, crate::proofs::Declared::first_fault_stays))]
-pub fn first_fault(mut constants: &[Constant]) -> Result<Option<(u32, VbError)>, Memory>
+pub fn first_fault(mut constants: &[Constant]) -> Result<Option<ConstantFault>, Memory>
     ensures { Gives result (spec.first_fault constants.entry.now) }
 {
     while let [first, others @ ..] = constants {
@@ -77,17 +82,13 @@ pub fn first_fault(mut constants: &[Constant]) -> Result<Option<(u32, VbError)>,
     Ok(None)
 }
 
-/// The fault that stands before an array.
-pub fn fault_before(
-    world: &World,
-    fault: Option<(u32, VbError)>,
-    array: &Option<DeclaredArray>,
-) -> Result<(), Stop>
-    ensures { Ran (spec.fault_before fault array.now world.now) result world.now }
+/// The fault of a constant that stands before the variable of this number.
+pub fn fault_before(world: &World, fault: Option<ConstantFault>, number: usize) -> Result<(), Stop>
+    ensures { Ran (spec.fault_before fault number (shown world.now)) result (shown world.now) }
 {
-    match (fault, array) {
-        (Some((line, error)), Some(array)) if line < array.line => {
-            Err(stop_in(line, Stop::from(error)))
+    match fault {
+        Some(fault) if fault.before as usize <= number => {
+            Err(stop_in(fault.line, Stop::from(fault.error)))
         }
         _ => Ok(()),
     }
@@ -101,7 +102,7 @@ fn array_cell(
     is_fixed: bool,
     bounds: &[i32],
 ) -> Result<CellNo, Stop>
-    ensures { Ran (places.new_cell (Arr (empty_array is_fixed bounds.now)) world.old) result world.new }
+    ensures { Ran (places.new_cell (Arr (empty_array is_fixed bounds.now)) (shown world.old)) result (shown world.new) }
 {
     if is_too_heavy(world, item_count(bounds)) {
         return Err(Stop::Limit(LimitKind::Data, None));
@@ -112,7 +113,8 @@ fn array_cell(
 
 /// A cell for an array as it is declared. Error 9 for a bound below -1.
 fn declared_array(alloc: Global, world: &mut World, bounds: &[i32]) -> Result<CellNo, Stop>
-    ensures { Ran (and_then (given (values.declared_array bounds.now) world.old) places.new_cell) result world.new }
+    ensures { Ran (and_then (given (values.declared_array bounds.now) (shown world.old)) places.new_cell) result
+        (shown world.new) }
 {
     match bounds {
         [] => array_cell(alloc, world, false, bounds),
@@ -125,21 +127,23 @@ fn declared_array(alloc: Global, world: &mut World, bounds: &[i32]) -> Result<Ce
     }
 }
 
-/// A cell for a declared variable.
-#[tactic(auto, using(crate::proofs::Declared::array_in_line))]
-pub fn declared_cell(
-    alloc: Global,
-    world: &mut World,
-    array: &Option<DeclaredArray>,
-) -> Result<CellNo, Stop>
-    ensures { Ran (spec.declared_cell array.now world.old) result world.new }
+/// A cell for a variable that is declared so.
+fn first_cell(alloc: Global, world: &mut World, bounds: &Option<List<i32>>) -> Result<CellNo, Stop>
+    ensures { Ran (spec.first_cell bounds.now (shown world.old)) result (shown world.new) }
 {
-    let Some(array) = array else {
-        return new_cell(world, Value::Empty);
-    };
-    match declared_array(alloc, world, array.bounds.as_slice()) {
+    match bounds {
+        Some(bounds) => declared_array(alloc, world, bounds.as_slice()),
+        None => new_cell(world, Value::Empty),
+    }
+}
+
+/// A cell for a declared variable. What goes wrong is in its line.
+pub fn declared_cell(alloc: Global, world: &mut World, variable: &Variable) -> Result<CellNo, Stop>
+    ensures { Ran (spec.declared_cell variable.now (shown world.old)) result (shown world.new) }
+{
+    match first_cell(alloc, world, &variable.bounds) {
         Ok(cell) => Ok(cell),
-        Err(why) => Err(stop_in(array.line, why)),
+        Err(why) => Err(stop_in(variable.line, why)),
     }
 }
 
@@ -147,23 +151,23 @@ pub fn declared_cell(
 fn declared_cells(
     alloc: Global,
     world: &mut World,
-    fault: Option<(u32, VbError)>,
-    mut arrays: &[Option<DeclaredArray>],
+    fault: Option<ConstantFault>,
+    mut variables: &[Variable],
 ) -> Result<List<CellNo>, Stop>
-    ensures { Ran (spec.declared_cells [] fault arrays.entry.now world.old) result world.new }
+    ensures { Ran (spec.declared_cells [] fault variables.entry.now (shown world.old)) result (shown world.new) }
 {
-    let mut cells = List::with_capacity(alloc, arrays.len())?;
-    while let [first, others @ ..] = arrays {
-        fault_before(world, fault, first)?;
+    let mut cells = List::with_capacity(alloc, variables.len())?;
+    while let [first, others @ ..] = variables {
+        fault_before(world, fault, cells.len())?;
         cells.push(declared_cell(alloc, world, first)?)?;
-        arrays = others;
+        variables = others;
     }
     Ok(cells)
 }
 
 /// The page's variables and constants come.
 pub fn page_begins(alloc: Global, world: &mut World, unit: &Unit) -> Result<(), Stop>
-    ensures { Ran (acts.page_begins unit.now world.old) result world.new }
+    ensures { Ran (acts.page_begins unit.now (shown world.old)) result (shown world.new) }
 {
     let fault = first_fault(unit.constants.as_slice())?;
     world.page = declared_cells(alloc, world, fault, unit.variables.as_slice())?;

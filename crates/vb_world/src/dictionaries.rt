@@ -3,6 +3,7 @@ ghost use Rattle.std.specs.Prelude.{◌≡◌, [], ◌∷◌};
 ghost use Rattle.vb_syntax.specs.declared.program.name.DictionaryMember.TheVariants as word;
 ghost use Rattle.vb_meaning.specs.Dictionaries as spec;
 ghost use Rattle.vb_meaning.specs.Step.{Ran};
+ghost use Rattle.vb_meaning.specs.Shown.{shown};
 
 use crate::err_object::long_of;
 use crate::world::raise;
@@ -14,7 +15,7 @@ use vb_value::{ObjNo, Value, VbError, copy};
 /// The item of a key, which is added with Empty where it is absent.
 #[tactic(auto, unfolding(vb_meaning::specs::Dictionaries::item))]
 fn item(alloc: Global, world: &mut World, object: ObjNo, key: &Value) -> Result<Value, Stop>
-    ensures { Ran (spec.item object key.now world.old) result world.new }
+    ensures { Ran (spec.item object key.now (shown world.old)) result (shown world.new) }
 {
     Ok(vb_dict::get(alloc, &mut world.heap, object, key)?)
 }
@@ -26,7 +27,7 @@ pub fn item_by(
     object: ObjNo,
     keys: &[Value],
 ) -> Result<Value, Stop>
-    ensures { Ran (spec.item_by object keys.now world.old) result world.new }
+    ensures { Ran (spec.item_by object keys.now (shown world.old)) result (shown world.new) }
 {
     match keys {
         [key] => item(alloc, world, object, key),
@@ -43,7 +44,7 @@ fn put_item(
     key: &Value,
     value: Value,
 ) -> Result<(), Stop>
-    ensures { Ran (spec.put_item object key.now value world.old) result world.new }
+    ensures { Ran (spec.put_item object key.now value (shown world.old)) result (shown world.new) }
 {
     Ok(vb_dict::put(alloc, &mut world.heap, object, key, value)?)
 }
@@ -56,7 +57,7 @@ pub fn put_by(
     keys: &[Value],
     value: Value,
 ) -> Result<(), Stop>
-    ensures { Ran (spec.put_by object keys.now value world.old) result world.new }
+    ensures { Ran (spec.put_by object keys.now value (shown world.old)) result (shown world.new) }
 {
     match keys {
         [key] => put_item(alloc, world, object, key, value),
@@ -73,7 +74,7 @@ fn add_entry(
     key: &Value,
     item: &Value,
 ) -> Result<Value, Stop>
-    ensures { Ran (spec.member object word.Add (key.now ∷ item.now ∷ []) world.old) result world.new }
+    ensures { Ran (spec.member object word.Add (key.now ∷ item.now ∷ []) (shown world.old)) result (shown world.new) }
 {
     let item = copy(alloc, item)?;
     vb_dict::add(alloc, &mut world.heap, object, key, item)?;
@@ -88,7 +89,7 @@ fn whole(
     object: ObjNo,
     member: DictionaryMember,
 ) -> Result<Value, Stop>
-    ensures { Ran (spec.member object member [] world.old) result world.new }
+    ensures { Ran (spec.member object member [] (shown world.old)) result (shown world.new) }
 {
     match member {
         DictionaryMember::RemoveAll => {
@@ -112,7 +113,7 @@ fn keyed(
     member: DictionaryMember,
     key: &Value,
 ) -> Result<Value, Stop>
-    ensures { Ran (spec.member object member (key.now ∷ []) world.old) result world.new }
+    ensures { Ran (spec.member object member (key.now ∷ []) (shown world.old)) result (shown world.new) }
 {
     match member {
         DictionaryMember::Item => item(alloc, world, object, key),
@@ -134,7 +135,7 @@ pub fn member(
     member: DictionaryMember,
     arguments: &[Value],
 ) -> Result<Value, Stop>
-    ensures { Ran (spec.member object member arguments.now world.old) result world.new }
+    ensures { Ran (spec.member object member arguments.now (shown world.old)) result (shown world.new) }
 {
     match arguments {
         [] => whole(alloc, world, object, member),
@@ -155,7 +156,7 @@ pub fn named_member(
     found: Option<DictionaryMember>,
     arguments: &[Value],
 ) -> Result<Value, Stop>
-    ensures { Ran (spec.named_member object found arguments.now world.old) result world.new }
+    ensures { Ran (spec.named_member object found arguments.now (shown world.old)) result (shown world.new) }
 {
     match found {
         Some(found) => member(alloc, world, object, found, arguments),
@@ -165,7 +166,7 @@ pub fn named_member(
 
 /// Sets CompareMode.
 fn set_mode(world: &mut World, object: ObjNo, value: &Value) -> Result<(), Stop>
-    ensures { Ran (spec.set_mode object value.now world.old) result world.new }
+    ensures { Ran (spec.set_mode object value.now (shown world.old)) result (shown world.new) }
 {
     let mode = long_of(value)?;
     Ok(vb_dict::set_mode(&mut world.heap, object, mode)?)
@@ -180,7 +181,7 @@ pub fn set_member(
     arguments: &[Value],
     value: Value,
 ) -> Result<(), Stop>
-    ensures { Ran (spec.set_member object found arguments.now value world.old) result world.new }
+    ensures { Ran (spec.set_member object found arguments.now value (shown world.old)) result (shown world.new) }
 {
     match found {
         Some(DictionaryMember::Item) => put_by(alloc, world, object, arguments, value),

@@ -1,9 +1,10 @@
 //! How objects end.
 ghost use Rattle.std.specs.Prelude.{◌≡◌, IfOk};
 ghost use Rattle.std.specs.Option.{option_copied};
-ghost use Rattle.vb_heap.specs.Store.{numbered};
 ghost use Rattle.vb_meaning.specs.Objects as objects;
 ghost use Rattle.vb_meaning.specs.Releases as spec;
+ghost use Rattle.vb_meaning.specs.Stored as stored;
+ghost use Rattle.vb_meaning.specs.Shown.{shown};
 
 use crate::classes::class_at;
 use vb_meaning::{Raised, World};
@@ -12,7 +13,7 @@ use vb_value::{Memory, ObjNo};
 
 /// The number of the class of an object, if it is there and has one.
 pub fn class_number(world: &World, object: ObjNo) -> Option<u32>
-    ensures { result ≡ spec.class_number (numbered object.0 world.now.heap.objects) }
+    ensures { result ≡ stored.class_number object.0 (shown world.now).store }
 {
     match world.heap.class(object) {
         Ok(class) => class,
@@ -36,8 +37,8 @@ pub fn end_object(
     err: Raised,
     terminates: bool,
 ) -> Result<(), Memory>
-    ensures { IfOk result (λ _. world.new
-        ≡ spec.ended object.0 (record world.old { err = err; terminates = terminates }) world.old) }
+    ensures { IfOk result (λ _. shown world.new
+        ≡ spec.ended object.0 (record (shown world.old) { err = err; terminates = terminates }) (shown world.old)) }
 {
     if world.finished == u32::MAX {
         return Err(Memory);

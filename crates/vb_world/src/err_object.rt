@@ -6,6 +6,7 @@ ghost use Rattle.vb_value.specs.Outcome.{Answers};
 ghost use Rattle.vb_meaning.specs.ErrObject as spec;
 ghost use Rattle.vb_meaning.specs.Step.{Ran, raising};
 ghost use Rattle.vb_meaning.specs.declared.stop.Stop.TheVariants as stop;
+ghost use Rattle.vb_meaning.specs.Shown.{shown};
 
 use crate::errors::{clear, language_source};
 use crate::world::raise;
@@ -78,7 +79,7 @@ pub fn err_value(
     member: ErrMember,
     arguments: &[Value],
 ) -> Result<Value, Stop>
-    ensures { Ran (spec.err_value member arguments.now world.old) result world.new }
+    ensures { Ran (spec.err_value member arguments.now (shown world.old)) result (shown world.new) }
 {
     match member {
         ErrMember::Raise => Err(Stop::Error(Cause::Raised(raise_of(alloc, arguments)?), None)),
@@ -104,7 +105,7 @@ pub fn set_err(
     member: ErrMember,
     value: &Value,
 ) -> Result<(), Stop>
-    ensures { Ran (spec.set_err member value.now world.old) result world.new }
+    ensures { Ran (spec.set_err member value.now (shown world.old)) result (shown world.new) }
 {
     match member {
         ErrMember::Number => world.err.number = long_of(value)?,

@@ -4,6 +4,7 @@ ghost use Rattle.vb_value.specs.Outcome.{Gives};
 ghost use Rattle.vb_meaning.specs.Errors as spec;
 ghost use Rattle.vb_meaning.specs.Statements as statements;
 ghost use Rattle.vb_meaning.specs.Step.{Returns};
+ghost use Rattle.vb_meaning.specs.Shown.{shown};
 
 use std::alloc::Global;
 use vb_meaning::{Cause, Exit, Raised, World};
@@ -59,14 +60,14 @@ pub fn no_error(alloc: Global) -> Raised
 
 /// Clears Err.
 pub fn clear(alloc: Global, world: &mut World)
-    ensures { world.new ≡ spec.cleared world.old }
+    ensures { shown world.new ≡ spec.cleared (shown world.old) }
 {
     world.err = no_error(alloc);
 }
 
 /// On Error Resume Next, and On Error GoTo 0.
 pub fn on_error(alloc: Global, world: &mut World, resumes: bool)
-    ensures { world.new ≡ spec.on_error resumes world.old }
+    ensures { shown world.new ≡ spec.on_error resumes (shown world.old) }
 {
     world.frame.resumes = resumes;
     clear(alloc, world);
@@ -84,7 +85,7 @@ fn clears_err(kind: ExitKind) -> bool
 
 /// Exit, which clears Err where it leaves a procedure.
 pub fn leave(alloc: Global, world: &mut World, kind: ExitKind) -> Exit
-    ensures { statements.leave kind world.old ≡ Returns result world.new }
+    ensures { statements.leave kind (shown world.old) ≡ Returns result (shown world.new) }
 {
     if clears_err(kind) {
         clear(alloc, world);

@@ -8,10 +8,11 @@ ghost use Rattle.vb_heap.specs.Limits.{most_weight};
 ghost use Rattle.vb_heap.specs.Objects.{new_object_of, with_new_object};
 ghost use Rattle.vb_meaning.specs.Making as spec;
 ghost use Rattle.vb_meaning.specs.Places as places;
-ghost use Rattle.vb_meaning.specs.State.{on_heap};
+ghost use Rattle.vb_meaning.specs.State.{on_store};
 ghost use Rattle.vb_meaning.specs.Step.{Ran, and_then, given, pure};
 ghost use Rattle.vb_meaning.specs.Values as values;
 ghost use Rattle.vb_meaning.specs.Values.{empty_array};
+ghost use Rattle.vb_meaning.specs.Shown.{shown};
 
 use crate::arrays::{empty_array, has_bad_bound, item_count};
 use crate::places::{cell_place, hold};
@@ -19,7 +20,7 @@ use crate::world::stop_in;
 use std::alloc::Global;
 use vb_heap::CellNo;
 use vb_meaning::{Stop, World};
-use vb_syntax::program::{Class, DeclaredArray, Field, Procedure};
+use vb_syntax::program::{Class, Field, Procedure, Variable};
 use vb_value::{LimitKind, List, ObjNo, Value, VbError};
 
 /// What the data of a page may weigh: 16 MiB.
@@ -33,7 +34,6 @@ fn is_more_than_a_page(count: u64) -> bool
 }
 
 /// Puts an array of Empty items into a cell. One that no page has room for takes no memory.
-#[tactic(auto, using(crate::proofs::FieldArrays::array_refused))]
 fn array_into_cell(
     alloc: Global,
     world: &mut World,
@@ -41,8 +41,9 @@ fn array_into_cell(
     is_fixed: bool,
     bounds: &[i32],
 ) -> Result<(), Stop>
-    ensures { Ran (on_heap (store_of (places.cell_place cell) (Arr (empty_array is_fixed bounds.now)))
-        (with_stored (places.cell_place cell) (Arr (empty_array is_fixed bounds.now))) world.old) result world.new }
+    ensures { Ran (on_store (store_of (places.cell_place cell) (Arr (empty_array is_fixed bounds.now)))
+        (with_stored (places.cell_place cell) (Arr (empty_array is_fixed bounds.now))) (shown world.old)) result
+        (shown world.new) }
 {
     let place = cell_place(alloc, cell);
     world.heap.look(&place)?;
@@ -60,9 +61,9 @@ fn declared_into_cell(
     cell: CellNo,
     bounds: &[i32],
 ) -> Result<(), Stop>
-    ensures { Ran (and_then (given (values.declared_array bounds.now) world.old)
-        (λ array. on_heap (store_of (places.cell_place cell) array) (with_stored (places.cell_place cell) array)))
-        result world.new }
+    ensures { Ran (and_then (given (values.declared_array bounds.now) (shown world.old))
+        (λ array. on_store (store_of (places.cell_place cell) array) (with_stored (places.cell_place cell) array)))
+        result (shown world.new) }
 {
     match bounds {
         [] => array_into_cell(alloc, world, cell, false, bounds),
@@ -83,7 +84,7 @@ fn array_into(
     field: u32,
     bounds: &[i32],
 ) -> Result<(), Stop>
-    ensures { Ran (spec.array_into object field bounds.now world.old) result world.new }
+    ensures { Ran (spec.array_into object field bounds.now (shown world.old)) result (shown world.new) }
 {
     let cell = world.heap.field(object, field)?;
     declared_into_cell(alloc, world, cell, bounds)
@@ -95,16 +96,16 @@ fn field_made(
     world: &mut World,
     object: ObjNo,
     field: u32,
-    array: &Option<DeclaredArray>,
+    variable: &Variable,
 ) -> Result<(), Stop>
-    ensures { Ran (spec.field_made object field array.now world.old) result world.new }
+    ensures { Ran (spec.field_made object field variable.now (shown world.old)) result (shown world.new) }
 {
-    let Some(array) = array else {
+    let Some(bounds) = &variable.bounds else {
         return Ok(());
     };
-    match array_into(alloc, world, object, field, array.bounds.as_slice()) {
+    match array_into(alloc, world, object, field, bounds.as_slice()) {
         Ok(()) => Ok(()),
-        Err(why) => Err(stop_in(array.line, why)),
+        Err(why) => Err(stop_in(variable.line, why)),
     }
 }
 
@@ -115,11 +116,11 @@ fn fields_made(
     object: ObjNo,
     mut fields: &[Field],
 ) -> Result<(), Stop>
-    ensures { Ran (spec.fields_made object 0 fields.entry.now world.old) result world.new }
+    ensures { Ran (spec.fields_made object 0 fields.entry.now (shown world.old)) result (shown world.new) }
 {
     let mut number: u32 = 0;
     while let [field, rest @ ..] = fields {
-        field_made(alloc, world, object, number, &field.array)?;
+        field_made(alloc, world, object, number, &field.variable)?;
         if number == u32::MAX {
             return Err(Stop::Memory);
         }
@@ -137,9 +138,10 @@ pub fn object_made(
     fields: &[Field],
 ) -> Result<ObjNo, Stop>
     ensures { Ran (and_then
-        (on_heap (new_object_of number (length fields.now)) (with_new_object number (length fields.now)) world.old)
+        (on_store (new_object_of number (length fields.now)) (with_new_object number (length fields.now))
+        (shown world.old))
         (λ object w. and_then (and_then (places.hold (Obj object) w) (λ held. spec.fields_made object 0 fields.now))
-        (λ made. pure object))) result world.new }
+        (λ made. pure object))) result (shown world.new) }
 {
     let Ok(count) = u32::try_from(fields.len()) else {
         return Err(Stop::Memory);

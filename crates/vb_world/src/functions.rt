@@ -5,6 +5,7 @@ ghost use Rattle.vb_meaning.specs.Objects as objects;
 ghost use Rattle.vb_meaning.specs.Step.{Ran, raising};
 ghost use Rattle.vb_value.specs.Outcome.{Answers, Gives};
 ghost use Rattle.vb_meaning.specs.declared.stop.Stop.TheVariants as stop;
+ghost use Rattle.vb_meaning.specs.Shown.{shown};
 
 use crate::err_object::text_of;
 use crate::values::constant_value;
@@ -36,7 +37,7 @@ pub fn local_constant(alloc: Global, world: &World, number: u32) -> Result<Value
 
 /// The object of a class that the host has: a dictionary, for the name `Scripting.Dictionary`. Error 429 for any other.
 fn created(world: &mut World, name: &Text) -> Result<Value, Stop>
-    ensures { Ran (spec.created name.now world.old) result world.new }
+    ensures { Ran (spec.created name.now (shown world.old)) result (shown world.new) }
 {
     if !is_word(b"scripting.dictionary", name.as_slice()) {
         return Err(Stop::from(VbError::CANNOT_CREATE_OBJECT));
@@ -46,7 +47,7 @@ fn created(world: &mut World, name: &Text) -> Result<Value, Stop>
 
 /// `CreateObject` with its arguments, of which there has to be one.
 pub fn create_object(alloc: Global, world: &mut World, arguments: &[Value]) -> Result<Value, Stop>
-    ensures { Ran (spec.create_object arguments.now world.old) result world.new }
+    ensures { Ran (spec.create_object arguments.now (shown world.old)) result (shown world.new) }
 {
     match arguments {
         [name] => created(world, &text_of(alloc, name)?),
@@ -66,7 +67,7 @@ fn declared_name(alloc: Global, p: &Program, number: u32) -> Result<Text, Memory
 
 /// The name of the class of a value, none where it is no object.
 fn class_name(alloc: Global, p: &Program, world: &World, value: &Value) -> Result<Text, Stop>
-    ensures { Answers result stop.Memory (raising (objects.name_of_class p.now world.now.heap value.now)) }
+    ensures { Answers result stop.Memory (raising (objects.name_of_class p.now (shown world.now).store value.now)) }
 {
     let Value::Obj(object) = value else {
         return Ok(Text::new(alloc));
@@ -84,7 +85,7 @@ pub fn type_name(
     world: &World,
     arguments: &[Value],
 ) -> Result<Value, Stop>
-    ensures { Ran (spec.type_name_in p.now arguments.now world.now) result world.now }
+    ensures { Ran (spec.type_name_in p.now arguments.now (shown world.now)) result (shown world.now) }
 {
     match arguments {
         [value] => {

@@ -8,6 +8,7 @@ ghost use Rattle.vb_meaning.specs.Assigning as assigning;
 ghost use Rattle.vb_meaning.specs.Dictionaries as dictionaries;
 ghost use Rattle.vb_meaning.specs.Paths as spec;
 ghost use Rattle.vb_meaning.specs.Step.{Ran, and_then, pure};
+ghost use Rattle.vb_meaning.specs.Shown.{shown};
 
 use crate::copying::copied;
 use crate::dictionaries::{item_by, put_by};
@@ -19,7 +20,7 @@ use vb_value::{List, ObjNo, Value, VbError};
 
 /// Whether an object has items: error 91 where it has ended, and 438 where it is no dictionary.
 fn has_items(world: &World, object: ObjNo) -> Result<(), VbError>
-    ensures { result ≡ dictionaries.has_items object world.now.heap }
+    ensures { result ≡ dictionaries.has_items object (shown world.now).store }
 {
     match world.heap.class(object)? {
         None => Ok(()),
@@ -29,7 +30,7 @@ fn has_items(world: &World, object: ObjNo) -> Result<(), VbError>
 
 /// An item of an object, which has to be a dictionary.
 fn item_in(alloc: Global, world: &mut World, object: ObjNo, keys: &[Value]) -> Result<Value, Stop>
-    ensures { Ran (spec.item_in object keys.now world.old) result world.new }
+    ensures { Ran (spec.item_in object keys.now (shown world.old)) result (shown world.new) }
 {
     has_items(world, object)?;
     item_by(alloc, world, object, keys)
@@ -43,7 +44,7 @@ fn put_in_object(
     keys: &[Value],
     value: Value,
 ) -> Result<(), Stop>
-    ensures { Ran (assigning.put_in_object object keys.now value world.old) result world.new }
+    ensures { Ran (assigning.put_in_object object keys.now value (shown world.old)) result (shown world.new) }
 {
     has_items(world, object)?;
     put_by(alloc, world, object, keys, value)
@@ -51,7 +52,7 @@ fn put_in_object(
 
 /// What is reached, before an index behind it is evaluated: a value is held.
 pub fn hold_reached(world: &mut World, reached: &Reached) -> Result<(), Stop>
-    ensures { Ran (spec.hold_reached reached.now world.old) result world.new }
+    ensures { Ran (spec.hold_reached reached.now (shown world.old)) result (shown world.new) }
 {
     match reached {
         Reached::Place(_) => Ok(()),
@@ -62,7 +63,7 @@ pub fn hold_reached(world: &mut World, reached: &Reached) -> Result<(), Stop>
 /// The value that is reached.
 #[tactic(auto, unfolding(vb_meaning::specs::Paths::reached_value))]
 pub fn reached_value(alloc: Global, world: &World, reached: Reached) -> Result<Value, Stop>
-    ensures { Ran (spec.reached_value reached world.now) result world.now }
+    ensures { Ran (spec.reached_value reached (shown world.now)) result (shown world.now) }
 {
     match reached {
         Reached::Place(place) => read_place(alloc, world, &place),
@@ -89,8 +90,8 @@ fn array_element(
     value: &Value,
     indices: &[Value],
 ) -> Result<Reached, Stop>
-    ensures { Ran (and_then (spec.array_element value.now indices.now world.now)
-        (λ found. pure (AtValue (copied found)))) result world.now }
+    ensures { Ran (and_then (spec.array_element value.now indices.now (shown world.now))
+        (λ found. pure (AtValue (copied found)))) result (shown world.now) }
 {
     let mut steps = List::new(alloc);
     steps.push(indices_of(alloc, indices)?)?;
@@ -105,8 +106,8 @@ fn object_item(
     object: ObjNo,
     keys: &[Value],
 ) -> Result<Reached, Stop>
-    ensures { Ran (and_then (spec.item_in object keys.now world.old) (λ found. pure (AtValue (copied found))))
-        result world.new }
+    ensures { Ran (and_then (spec.item_in object keys.now (shown world.old)) (λ found. pure (AtValue (copied found))))
+        result (shown world.new) }
 {
     let item = item_in(alloc, world, object, keys)?;
     Ok(Reached::Value(copied(alloc, &item)?))
@@ -120,7 +121,7 @@ pub fn element(
     from: Reached,
     indices: &[Value],
 ) -> Result<Reached, Stop>
-    ensures { Ran (spec.element from indices.now world.old) result world.new }
+    ensures { Ran (spec.element from indices.now (shown world.old)) result (shown world.new) }
 {
     match from {
         Reached::Place(place) => element_of_place(alloc, world, place, indices),
@@ -135,7 +136,7 @@ fn element_of_value(
     value: &Value,
     indices: &[Value],
 ) -> Result<Reached, Stop>
-    ensures { Ran (spec.element_of_value value.now indices.now world.old) result world.new }
+    ensures { Ran (spec.element_of_value value.now indices.now (shown world.old)) result (shown world.new) }
 {
     match kind_of(value) {
         Kind::Array => array_element(alloc, world, value, indices),
@@ -147,7 +148,8 @@ fn element_of_value(
 
 /// What the value at a place is that is asked for an element.
 fn kind_at(world: &World, place: &Place) -> Result<Kind, Stop>
-    ensures { Ran (and_then (held_at place.now world.now) (λ whole. pure (spec.kind_of whole))) result world.now }
+    ensures { Ran (and_then (held_at place.now (shown world.now)) (λ whole. pure (spec.kind_of whole))) result
+        (shown world.now) }
 {
     Ok(kind_of(world.heap.look(place)?))
 }
@@ -159,7 +161,7 @@ fn element_at(
     place: &Place,
     indices: &[Value],
 ) -> Result<Reached, Stop>
-    ensures { Ran (spec.element_of_place place.now indices.now kind.Array world.now) result world.now }
+    ensures { Ran (spec.element_of_place place.now indices.now kind.Array (shown world.now)) result (shown world.now) }
 {
     let place = element_place(place, indices_of(alloc, indices)?)?;
     world.heap.look(&place)?;
@@ -173,8 +175,9 @@ fn element_of_place(
     place: Place,
     indices: &[Value],
 ) -> Result<Reached, Stop>
-    ensures { Ran (and_then (held_at place world.old) (λ whole. spec.element_of_place place indices.now (spec.kind_of whole)))
-        result world.new }
+    ensures { Ran (and_then (held_at place (shown world.old))
+        (λ whole. spec.element_of_place place indices.now (spec.kind_of whole)))
+        result (shown world.new) }
 {
     match kind_at(world, &place)? {
         Kind::Array => element_at(alloc, world, &place, indices),
@@ -192,8 +195,8 @@ fn store_in_place(
     indices: &[Value],
     value: Value,
 ) -> Result<(), Stop>
-    ensures { Ran (and_then (held_at place.now world.old)
-        (λ whole. assigning.store_in_place place.now indices.now value (spec.kind_of whole))) result world.new }
+    ensures { Ran (and_then (held_at place.now (shown world.old))
+        (λ whole. assigning.store_in_place place.now indices.now value (spec.kind_of whole))) result (shown world.new) }
 {
     match kind_at(world, place)? {
         Kind::Array => {
@@ -215,7 +218,7 @@ pub fn store_element(
     indices: &[Value],
     value: Value,
 ) -> Result<(), Stop>
-    ensures { Ran (assigning.store_element into indices.now value world.old) result world.new }
+    ensures { Ran (assigning.store_element into indices.now value (shown world.old)) result (shown world.new) }
 {
     match into {
         Reached::Place(place) => store_in_place(alloc, world, &place, indices, value),

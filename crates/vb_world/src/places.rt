@@ -5,8 +5,9 @@ ghost use Rattle.vb_value.specs.declared.value.Value.{Empty};
 ghost use Rattle.vb_heap.specs.Cells.{with_stored};
 ghost use Rattle.vb_meaning.specs.declared.stop.Stop.TheVariants as stop;
 ghost use Rattle.vb_meaning.specs.Places as spec;
-ghost use Rattle.vb_meaning.specs.State.{with_heap};
+ghost use Rattle.vb_meaning.specs.State.{with_store};
 ghost use Rattle.vb_meaning.specs.Step.{Ran, raising};
+ghost use Rattle.vb_meaning.specs.Shown.{shown};
 
 use crate::copying::copied;
 use crate::err_object::long_of;
@@ -29,7 +30,7 @@ pub fn cell_place(alloc: Global, cell: CellNo) -> Place
 /// Makes a cell that holds a value.
 #[tactic(auto, unfolding(vb_meaning::specs::Places::new_cell))]
 pub fn new_cell(world: &mut World, value: Value) -> Result<CellNo, Stop>
-    ensures { Ran (spec.new_cell value world.old) result world.new }
+    ensures { Ran (spec.new_cell value (shown world.old)) result (shown world.new) }
 {
     Ok(world.heap.new_cell(value)?)
 }
@@ -37,7 +38,7 @@ pub fn new_cell(world: &mut World, value: Value) -> Result<CellNo, Stop>
 /// Holds a value to the end of the statement.
 #[tactic(auto, unfolding(vb_meaning::specs::Places::hold))]
 pub fn hold(world: &mut World, value: &Value) -> Result<(), Stop>
-    ensures { Ran (spec.hold value.now world.old) result world.new }
+    ensures { Ran (spec.hold value.now (shown world.old)) result (shown world.new) }
 {
     Ok(world.heap.hold(value)?)
 }
@@ -45,7 +46,7 @@ pub fn hold(world: &mut World, value: &Value) -> Result<(), Stop>
 /// A copy of what a place holds.
 #[tactic(auto, unfolding(vb_meaning::specs::Places::read_place))]
 pub fn read_place(alloc: Global, world: &World, place: &Place) -> Result<Value, Stop>
-    ensures { Ran (spec.read_place place.now world.now) result world.now }
+    ensures { Ran (spec.read_place place.now (shown world.now)) result (shown world.now) }
 {
     let value = world.heap.look(place)?;
     Ok(copied(alloc, value)?)
@@ -64,7 +65,7 @@ fn is_fixed(value: &Value) -> bool
 /// Puts a value into a place. Error 13 where the place holds a fixed array.
 #[tactic(auto, unfolding(vb_meaning::specs::Places::store_place))]
 pub fn store_place(world: &mut World, place: &Place, value: Value) -> Result<(), Stop>
-    ensures { Ran (spec.store_place place.now value world.old) result world.new }
+    ensures { Ran (spec.store_place place.now value (shown world.old)) result (shown world.new) }
 {
     if is_fixed(world.heap.look(place)?) {
         return Err(Stop::from(VbError::TYPE_MISMATCH));
@@ -99,7 +100,7 @@ pub fn element_place(place: &Place, indices: List<i32>) -> Result<Place, Memory>
 /// The place of a variable.
 #[tactic(auto, unfolding(vb_meaning::specs::Places::variable))]
 pub fn variable(alloc: Global, world: &World, slot: Slot) -> Result<Place, Stop>
-    ensures { Ran (spec.variable slot world.now) result world.now }
+    ensures { Ran (spec.variable slot (shown world.now)) result (shown world.now) }
 {
     match slot {
         Slot::Page(number) => match world.page.get(number as usize) {
@@ -133,7 +134,7 @@ fn copy_place(place: &Place) -> Result<Place, Memory>
 
 /// A name as what is assigned to. Error 500 for a name that nothing declares, and 501 for any other that is no variable.
 pub fn target_variable(alloc: Global, world: &World, name: &Named) -> Result<Place, Stop>
-    ensures { Ran (spec.target_variable name.now world.now) result world.now }
+    ensures { Ran (spec.target_variable name.now (shown world.now)) result (shown world.now) }
 {
     match name {
         Named::Place(slot) => variable(alloc, world, *slot),
@@ -144,7 +145,7 @@ pub fn target_variable(alloc: Global, world: &World, name: &Named) -> Result<Pla
 
 /// Drops cells, one after the other.
 pub fn drop_cells(world: &mut World, mut cells: &[CellNo])
-    ensures { world.new ≡ with_heap (spec.cells_dropped cells.entry.now) world.old }
+    ensures { shown world.new ≡ with_store (spec.cells_dropped cells.entry.now) (shown world.old) }
 {
     while let [first, others @ ..] = cells {
         world.heap.drop_cell(*first);
@@ -155,7 +156,8 @@ pub fn drop_cells(world: &mut World, mut cells: &[CellNo])
 /// A cell that is there holds Empty. Nothing is lighter, so no limit comes.
 #[tactic(auto, using(crate::proofs::Emptying::gone_already))]
 fn empty_cell(alloc: Global, world: &mut World, cell: CellNo) -> Result<(), Memory>
-    ensures { IfOk result (λ _. world.new ≡ with_heap (with_stored (spec.cell_place cell) Empty) world.old) }
+    ensures { IfOk result (λ _. shown world.new ≡ with_store (with_stored (spec.cell_place cell) Empty)
+        (shown world.old)) }
 {
     match world.heap.store(&cell_place(alloc, cell), Value::Empty) {
         Ok(()) | Err(HeapStop::Error(_)) => Ok(()),
@@ -165,7 +167,7 @@ fn empty_cell(alloc: Global, world: &mut World, cell: CellNo) -> Result<(), Memo
 
 /// The values of cells go, one after the other: each cell holds Empty.
 pub fn empty_cells(alloc: Global, world: &mut World, mut cells: &[CellNo]) -> Result<(), Memory>
-    ensures { IfOk result (λ _. world.new ≡ with_heap (spec.cells_emptied cells.entry.now) world.old) }
+    ensures { IfOk result (λ _. shown world.new ≡ with_store (spec.cells_emptied cells.entry.now) (shown world.old)) }
 {
     while let [first, others @ ..] = cells {
         empty_cell(alloc, world, *first)?;

@@ -1,4 +1,5 @@
 //! What an evaluator holds of an act.
+ghost use Rattle.std.specs.Prelude.{◌≡◌};
 ghost use Rattle.vb_meaning.specs.Step.{Step, Ran};
 ghost use Rattle.vb_meaning.specs.State.{State};
 ghost use Rattle.vb_meaning.specs.Errors as errors;
@@ -9,15 +10,30 @@ use crate::errors::raised_by;
 use std::alloc::Global;
 use vb_meaning::{Stop, World};
 use vb_syntax::Intrinsics;
-use vb_value::AppReply;
+use vb_value::{AppReply, LimitKind};
 
-/// The world, and the replies of the Application object that no call has taken yet.
+/// The world, the ticks, and the replies of the Application object that no call has taken yet.
 #[derive(Drop)]
 pub struct Playing<'r> {
     /// All that statements change.
     pub world: World,
+    /// How many ticks are left.
+    pub ticks: u32,
     /// The replies that are left, the next one first.
     pub replies: &'r [AppReply],
+}
+
+/// One tick is taken, if one is left.
+#[tactic(auto, unfolding(vb_meaning::specs::Errors::tick))]
+pub fn tick<I: Intrinsics>(playing: &mut Playing<'_>, env: &I) -> Result<(), Stop>
+    ensures runs { Ran (errors.tick (seen playing.old env.now)) result (seen playing.new env.now) }
+    ensures world { playing.new.world ≡ playing.old.world }
+{
+    if playing.ticks == 0 {
+        return Err(Stop::Limit(LimitKind::Ticks, None));
+    }
+    playing.ticks -= 1;
+    Ok(())
 }
 
 /// Under On Error Resume Next an error only changes Err, and `instead` is given.

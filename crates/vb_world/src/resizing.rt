@@ -6,9 +6,10 @@ ghost use Rattle.vb_value.specs.declared.value.Value.{out-Value};
 ghost use Rattle.vb_value.specs.declared.value.Value.TheViews.{Arr};
 ghost use Rattle.vb_meaning.specs.declared.stop.Stop.TheVariants as stop;
 ghost use Rattle.vb_meaning.specs.Places.{held_at};
-ghost use Rattle.vb_meaning.specs.State.{on_heap};
+ghost use Rattle.vb_meaning.specs.State.{on_store};
 ghost use Rattle.vb_meaning.specs.Statements as spec;
 ghost use Rattle.vb_meaning.specs.Step.{Ran, and_then, given, raising};
+ghost use Rattle.vb_meaning.specs.Shown.{shown};
 ghost use Rattle.vb_world.specs.Kept.{kept, most_kept};
 
 use crate::arrays::{empty_array, empty_items, has_bad_bound, item_count};
@@ -95,14 +96,14 @@ fn preserved(alloc: Global, array: &Array, bounds: List<i32>) -> Result<Array, M
 }
 
 /// Puts an array of Empty items with these bounds into a place. One that weighs too much for any page takes no memory.
-#[tactic(auto, using(crate::proofs::Resized::into_heavy, crate::proofs::Resized::into_deep))]
+#[tactic(auto, using(crate::proofs::Resized::into_deep))]
 fn array_into(
     alloc: Global,
     world: &mut World,
     place: &Place,
     bounds: List<i32>,
 ) -> Result<(), Stop>
-    ensures { Ran (spec.array_into place.now bounds world.old) result world.new }
+    ensures { Ran (spec.array_into place.now bounds (shown world.old)) result (shown world.new) }
 {
     if TOO_MANY <= item_count(bounds.as_slice()) {
         world.heap.look(place)?;
@@ -124,8 +125,8 @@ fn has_no_dimension(array: &Array) -> bool
 
 /// Puts an array into a place.
 fn put_array(world: &mut World, place: &Place, array: Array) -> Result<(), Stop>
-    ensures { Ran (on_heap (store_of place.now (Arr array)) (with_stored place.now (Arr array)) world.old) result
-        world.new }
+    ensures { Ran (on_store (store_of place.now (Arr array)) (with_stored place.now (Arr array))
+        (shown world.old)) result (shown world.new) }
 {
     Ok(world.heap.store(place, Value::Arr(array))?)
 }
@@ -139,9 +140,9 @@ fn preserve_into(
     place: &Place,
     bounds: List<i32>,
 ) -> Result<(), Stop>
-    ensures { Ran (and_then (held_at place.now world.old) (λ old w. and_then
-        (given (spec.resized_array true (out-Value old) bounds) w) (λ array. on_heap (store_of place.now (Arr array))
-        (with_stored place.now (Arr array))))) result world.new }
+    ensures { Ran (and_then (held_at place.now (shown world.old)) (λ old w. and_then
+        (given (spec.resized_array true (out-Value old) bounds) w) (λ array. on_store (store_of place.now (Arr array))
+        (with_stored place.now (Arr array))))) result (shown world.new) }
 {
     match world.heap.look(place)? {
         Value::Arr(array) => {
@@ -167,7 +168,8 @@ pub fn resize(
     bounds: &[Value],
     place: &Place,
 ) -> Result<(), Stop>
-    ensures { Ran (and_then (held_at place.now world.old) (spec.resize preserve bounds.now place.now)) result world.new }
+    ensures { Ran (and_then (held_at place.now (shown world.old)) (spec.resize preserve bounds.now place.now)) result
+        (shown world.new) }
 {
     not_fixed(world.heap.look(place)?)?;
     let found = indices_of(alloc, bounds)?;
@@ -195,7 +197,7 @@ fn erased(alloc: Global, value: &Value) -> Result<Value, Stop>
 
 /// Erase of what a name stands for. Error 500 for a name that nothing declares, and 13 for any other that is no variable.
 fn erase(alloc: Global, world: &mut World, name: &Named) -> Result<(), Stop>
-    ensures { Ran (spec.erase name.now world.old) result world.new }
+    ensures { Ran (spec.erase name.now (shown world.old)) result (shown world.new) }
 {
     match name {
         Named::Place(slot) => {
@@ -210,7 +212,7 @@ fn erase(alloc: Global, world: &mut World, name: &Named) -> Result<(), Stop>
 
 /// Erase of several, in their order.
 pub fn erase_all(alloc: Global, world: &mut World, mut names: &[Named]) -> Result<(), Stop>
-    ensures { Ran (spec.erase_all names.entry.now world.old) result world.new }
+    ensures { Ran (spec.erase_all names.entry.now (shown world.old)) result (shown world.new) }
 {
     while let [first, others @ ..] = names {
         erase(alloc, world, first)?;

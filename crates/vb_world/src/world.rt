@@ -1,4 +1,4 @@
-//! Small changes of the world.
+//! Small questions to the world, and stops.
 ghost use Rattle.std.specs.Prelude.{◌≡◌, Result};
 ghost use Rattle.vb_meaning.specs.declared.stop.Stop.TheVariants as stop;
 ghost use Rattle.vb_value.specs.Errors.{reported as on_call};
@@ -6,28 +6,15 @@ ghost use Rattle.vb_value.specs.Outcome.{Answers};
 ghost use Rattle.vb_value.specs.declared.fault.VbError.{VbError};
 ghost use Rattle.vb_value.specs.declared.fault.VbFault.TheVariants as fault;
 ghost use Rattle.vb_meaning.specs.Errors as spec;
-ghost use Rattle.vb_meaning.specs.State.{on_heap};
-ghost use Rattle.vb_meaning.specs.Step.{Step, Ran, raising};
-ghost use Rattle.vb_heap.specs.Store.{Store};
+ghost use Rattle.vb_meaning.specs.Step.{raising};
+ghost use Rattle.vb_meaning.specs.Shown.{shown};
 
 use vb_meaning::{Cause, Stop, World};
 use vb_value::{LimitKind, VbFault};
 
-/// One tick is taken, if one is left.
-#[tactic(auto, unfolding(vb_meaning::specs::Errors::tick))]
-pub fn tick(world: &mut World) -> Result<(), Stop>
-    ensures { Ran (spec.tick world.old) result world.new }
-{
-    if world.ticks == 0 {
-        return Err(Stop::Limit(LimitKind::Ticks, None));
-    }
-    world.ticks -= 1;
-    Ok(())
-}
-
 /// Why one construct more is too many.
 pub fn depth_stop(world: &World) -> Stop
-    ensures { result ≡ spec.depth_stop world.now }
+    ensures { result ≡ spec.depth_stop (shown world.now) }
 {
     if world.terminates {
         Stop::Limit(LimitKind::Depth, None)

@@ -4,6 +4,7 @@ ghost use Rattle.std.specs.Option.{option_copied};
 ghost use Rattle.vb_syntax.specs.declared.program.expression.Expression.{out-Expression};
 ghost use Rattle.vb_meaning.specs.Expressions as spec;
 ghost use Rattle.vb_meaning.specs.Step.{Ran};
+ghost use Rattle.vb_meaning.specs.Shown.{shown};
 ghost use Rattle.vb_world.specs.Written.{parenthesized};
 
 use crate::functions::{local_constant, page_constant};
@@ -62,7 +63,7 @@ pub fn is_written(expression: &Expression) -> bool
 
 /// The value of the name of a constant.
 fn constant_at(alloc: Global, p: &Program, world: &World, head: &Head) -> Result<Value, Stop>
-    ensures { Ran (spec.constant_at p.now head.now world.now) result world.now }
+    ensures { Ran (spec.constant_at p.now head.now (shown world.now)) result (shown world.now) }
 {
     match head {
         Head::Named(Named::Value(literal)) => Ok(literal_value(literal)?),
@@ -79,7 +80,8 @@ pub fn written_value(
     world: &World,
     expression: &Expression,
 ) -> Result<Value, Stop>
-    ensures { Ran (spec.written_value p.now (out-Expression expression.now) world.now) result world.now }
+    ensures { Ran (spec.written_value p.now (out-Expression expression.now) (shown world.now)) result
+        (shown world.now) }
 {
     match expression {
         Expression::Literal(literal) => Ok(literal_value(literal)?),

@@ -7,7 +7,7 @@ ghost use Rattle.vb_scope.specs.Subs.{sub_found};
 
 use crate::trees::heads::name_number;
 use crate::trees::units::Script;
-use vb_names::copy_array;
+use vb_names::variable_of;
 use vb_syntax::program::Field;
 use vb_syntax::{ClassMember, Declared, FieldAccess, ProcedureKind};
 use vb_value::{List, Memory, is_word};
@@ -35,7 +35,7 @@ fn push_declared_fields(
         all.push(Field {
             name: name_number(script.names, &field.name),
             is_private: is_private_field(access),
-            array: copy_array(line, &field.bounds)?,
+            variable: variable_of(line, &field.bounds)?,
         })?;
     }
     Ok(())

@@ -30,7 +30,7 @@ use Rattle.vb_syntax.specs.declared.unit.Unit.{Unit as Script}
 use Rattle.vb_syntax.specs.scope.Faults.{names_of}
 use Rattle.vb_syntax.specs.scope.Names.{Name, name_number, dictionary_member}
 use Rattle.vb_syntax.specs.scope.Scopes.{Declarations, page_scope, class_scope, on_page_in, nothing_declared}
-use Rattle.vb_syntax.specs.scope.Scopes.{body_scope, body_scopes, array_of}
+use Rattle.vb_syntax.specs.scope.Scopes.{body_scope, body_scopes, variable_of}
 use Rattle.vb_value.specs.Folding.{same_name}
 use Rattle.vb_syntax.specs.declared.program.name.Named.{Named}
 use Rattle.vb_syntax.specs.declared.program.name.Named.TheVariants as named
@@ -67,7 +67,7 @@ abbrev pub field_of : List Name → ℕ → FieldAccess → Declared → Field
 field_of names line access found = record {
   name = name_number names found.name;
   is_private = is_private_field access;
-  array = array_of line found.bounds;
+  variable = variable_of line found.bounds;
 }
 
 -- the fields that a member declares
@@ -105,7 +105,7 @@ module _ (explicit : Bool) (page : Declarations) (names : List Name) where
     kind = kind;
     name = name_number names name;
     by_value = map (λ (found : Parameter). found.by_value) body.parameters;
-    variables = (body_scope explicit page class body).arrays;
+    variables = (body_scope explicit page class body).variables;
     constants = (body_scope explicit page class body).constants;
     body = map (statement_of names (body_scopes explicit page class body)) body.statements;
   }
@@ -158,7 +158,7 @@ pub record Parts : Type 0 where
 abbrev pub code_of : Script → Code
 code_of unit = record {
   body = flat_map (own_statement (page_scope unit) (names_of unit)) unit.items;
-  variables = (page_scope unit).arrays;
+  variables = (page_scope unit).variables;
   constants = (page_scope unit).constants;
   procedures = map (procedure_of unit.option_explicit (page_scope unit) (names_of unit)) (procedures_of unit.items);
   classes = map (class_of unit.option_explicit (page_scope unit) (names_of unit)) (classes_of unit.items);

@@ -3,6 +3,7 @@
 -- looked for from the inside out: in the procedure, its class, the page and the language.
 use Rattle.std.specs.Prelude.{ℕ, ℤ, ◌+◌, Bool, true, false, not, ◌&&◌, if◌then◌else◌, is_some, List, [], ◌∷◌, ◌++◌, length}
 use Rattle.std.specs.Prelude.{fold, Option, Some, None, unwrap_or, slice_get}
+use Rattle.vb_syntax.specs.declared.declaration.ConstantValue.{ConstantValue}
 use Rattle.vb_syntax.specs.declared.note.Level.{Level}
 use Rattle.vb_syntax.specs.declared.note.Level.TheVariants as level
 use Rattle.vb_syntax.specs.declared.note.Note.{Note}
@@ -14,7 +15,7 @@ use Rattle.vb_syntax.specs.declared.program.name.Named.TheVariants as named
 use Rattle.vb_syntax.specs.declared.program.name.Slot.{Slot}
 use Rattle.vb_syntax.specs.declared.program.name.Slot.TheVariants as slot
 use Rattle.vb_syntax.specs.declared.program.unit.Constant.{Constant}
-use Rattle.vb_syntax.specs.declared.program.unit.DeclaredArray.{DeclaredArray}
+use Rattle.vb_syntax.specs.declared.program.unit.Variable.{Variable}
 use Rattle.vb_syntax.specs.declared.unit.Class.{Class}
 use Rattle.vb_syntax.specs.declared.unit.Unit.{Unit as Script}
 use Rattle.vb_value.specs.Folding.{folded}
@@ -25,11 +26,11 @@ use Rattle.vb_syntax.specs.scope.Units.{Body, in_body, on_page_of, in_class_of}
 -- ---- declarations
 
 -- What a page, a class or a procedure declares: its names, and beside each what it stands for; its variables, parameters
--- or fields as the arrays that they are; its constants; and how many procedures, classes and members of a class.
+-- or fields; its constants; and how many procedures, classes and members of a class.
 pub record Declarations : Type 0 where
   pub names : List Name
   pub meanings : List Named
-  pub arrays : List (Option DeclaredArray)
+  pub variables : List Variable
   pub constants : List Constant
   pub procedures : ℕ
   pub classes : ℕ
@@ -40,7 +41,7 @@ abbrev pub nothing_declared : Declarations
 nothing_declared = record {
   names = [];
   meanings = [];
-  arrays = [];
+  variables = [];
   constants = [];
   procedures = 0;
   classes = 0;
@@ -63,21 +64,24 @@ abbrev pub constant_at : Level → ℕ → Named
 constant_at level.Body number = named.LocalConstant number
 constant_at _ number = named.PageConstant number
 
--- the array that a variable is declared as
-abbrev pub array_of : ℕ → Option (List ℤ) → Option DeclaredArray
-array_of line None = None
-array_of line (Some bounds) = Some (record { line = line; bounds = bounds })
+-- a variable of a line, with the bounds that it is declared with if it is an array
+abbrev pub variable_of : ℕ → Option (List ℤ) → Variable
+variable_of line bounds = record { line = line; bounds = bounds }
+
+-- a constant of a line, with the variables that stand before it
+abbrev pub constant_of : ℕ → List Variable → ConstantValue → Constant
+constant_of line variables value = record { line = line; before = length variables; value = value }
 
 -- one variable more
-abbrev pub with_variable : Level → Name → Option DeclaredArray → Declarations → Declarations
-with_variable level name array before = with_name name (named.Place (place_at level (length before.arrays)))
-    (record before { arrays = before.arrays ++ array ∷ [] })
+abbrev pub with_variable : Level → Name → Variable → Declarations → Declarations
+with_variable level name variable before = with_name name (named.Place (place_at level (length before.variables)))
+    (record before { variables = before.variables ++ variable ∷ [] })
 
 -- behind one more place of a script
 abbrev pub declare : Level → ℕ → Declarations → NoteKind → Declarations
-declare level line before (say.Variable found) = with_variable level found.name (array_of line found.bounds) before
+declare level line before (say.Variable found) = with_variable level found.name (variable_of line found.bounds) before
 declare level line before (say.Constant found) = with_name found.name (constant_at level (length before.constants))
-    (record before { constants = before.constants ++ record { line = line; value = found.value } ∷ [] })
+    (record before { constants = before.constants ++ constant_of line before.variables found.value ∷ [] })
 declare level line before (say.Procedure name) = with_name name (named.Procedure before.procedures)
     (record before { procedures = before.procedures + 1 })
 declare level line before (say.Class name) = with_name name (named.Class before.classes)
@@ -167,14 +171,14 @@ made_by explicit scopes (say.Write name) = mentioned explicit scopes name
 made_by explicit scopes (say.Resize name) = resized scopes name
 made_by explicit scopes _ = None
 
--- the name as a variable more, which is no array yet
-abbrev pub with_made : Level → Declarations → Option Name → Declarations
-with_made level before None = before
-with_made level before (Some name) = with_variable level name None before
+-- the name as a variable more, which is no array yet, in the line of the place that makes it one
+abbrev pub with_made : Level → ℕ → Declarations → Option Name → Declarations
+with_made level line before None = before
+with_made level line before (Some name) = with_variable level name (variable_of line None) before
 
 -- behind one more place of the page
 abbrev pub make_on_page : Bool → Declarations → Note → Declarations
-make_on_page explicit page note = with_made level.Page page (made_by explicit (on_page_in page) note.kind)
+make_on_page explicit page note = with_made level.Page note.line page (made_by explicit (on_page_in page) note.kind)
 
 -- a page's scope, by what the page says: what it declares, and the variables that undeclared names make
 unfoldable pub page_scope_of : Bool → Notes → Declarations
@@ -191,7 +195,7 @@ scopes_of page class body = record { page = page; class = class; body = body }
 -- behind one more place of a procedure
 abbrev pub make_in_body : Bool → Declarations → Declarations → Declarations → Note → Declarations
 make_in_body explicit page class body note =
-    with_made level.Body body (made_by explicit (scopes_of page class body) note.kind)
+    with_made level.Body note.line body (made_by explicit (scopes_of page class body) note.kind)
 
 -- a procedure's scope, by what it says: its result, its parameters and what it declares, and the variables that
 -- undeclared names make

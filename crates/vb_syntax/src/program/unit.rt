@@ -10,9 +10,8 @@ use vb_value::{List, Text};
 pub struct Unit {
     /// Its own statements, in the order in which they stand. A declaration of its variables is one of them.
     pub body: List<Statement>,
-    /// Its variables, by their numbers: those that are declared, and then those that its body only mentions. `None` is no
-    /// array.
-    pub variables: List<Option<DeclaredArray>>,
+    /// Its variables, by their numbers: those that are declared, and then those that its body only mentions.
+    pub variables: List<Variable>,
     /// Its constants, by their numbers.
     pub constants: List<Constant>,
     /// Its procedures, by their numbers.
@@ -25,13 +24,14 @@ pub struct Unit {
     pub dictionary: List<Option<DictionaryMember>>,
 }
 
-/// An array that is declared.
+/// A variable of a page or of a procedure, or a field of a class.
 #[derive(Debug, Drop)]
-pub struct DeclaredArray {
-    /// The line of the declaration, which an error in the bounds is reported with.
+pub struct Variable {
+    /// The line of its declaration, or else of the first place that makes it one. What goes wrong when it is made is
+    /// reported with it.
     pub line: u32,
-    /// The last index of each dimension. No dimension is an array to be sized later.
-    pub bounds: List<i32>,
+    /// Of an array, the last index of each dimension. No dimension is an array to be sized later. `None` is no array.
+    pub bounds: Option<List<i32>>,
 }
 
 /// A constant that is declared.
@@ -39,6 +39,8 @@ pub struct DeclaredArray {
 pub struct Constant {
     /// The line of the declaration, which an error in the value is reported with.
     pub line: u32,
+    /// How many variables of its scope stand before it.
+    pub before: u32,
     /// What it stands for.
     pub value: ConstantValue,
 }
@@ -56,9 +58,8 @@ pub struct Procedure {
     pub name: u32,
     /// Of each parameter, whether it has a place of its own: `ByVal`. Else it is the caller's place.
     pub by_value: List<bool>,
-    /// Its variables, by their numbers: the parameters, those that are declared, and those that it only mentions. `None`
-    /// is no array.
-    pub variables: List<Option<DeclaredArray>>,
+    /// Its variables, by their numbers: the parameters, those that are declared, and those that it only mentions.
+    pub variables: List<Variable>,
     /// Its constants, by their numbers.
     pub constants: List<Constant>,
     /// What it does.
@@ -102,6 +103,6 @@ pub struct Field {
     pub name: u32,
     /// `Private`: it is not seen through an object.
     pub is_private: bool,
-    /// The array that it is declared as.
-    pub array: Option<DeclaredArray>,
+    /// Its declaration.
+    pub variable: Variable,
 }

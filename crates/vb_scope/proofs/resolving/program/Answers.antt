@@ -31,10 +31,11 @@ made c =
     = rw c.in-Ok-Ok.is-0 at c.page_trees-trees.ensures.classes in
     let listed = c.in-Ok-Ok.listed in
     parts_are unit page names c.in-Ok-Ok.trees.body c.in-Ok-Ok.trees.procedures c.in-Ok-Ok.trees.classes names
-    listed.variables listed.procedures listed.classes listed.arrays listed.constants listed.dictionary c.unit_of.result
+    listed.variables listed.procedures listed.classes listed.declared listed.constants listed.dictionary
+    c.unit_of.result
     c.requires.page c.requires.names (body, procedures, classes)
     (c.in-Ok-Ok.ensures.variables, c.in-Ok-Ok.ensures.procedures, c.in-Ok-Ok.ensures.classes)
-    c.in-Ok-Ok.ensures.arrays c.in-Ok-Ok.ensures.constants refl c.in-Ok-Ok.ensures.dictionary c.unit_of.ensures
+    c.in-Ok-Ok.ensures.declared c.in-Ok-Ok.ensures.constants refl c.in-Ok-Ok.ensures.dictionary c.unit_of.ensures
 
 pub returns-in-Ok-Ok : goal.returns-in-Ok-Ok
 returns-in-Ok-Ok c = made (goal.at.returns-in-Ok-Ok c).After-unit_of

@@ -1,9 +1,12 @@
 use Rattle.std.proofs.Common.{◌≡◌, length}
 use Rattle.vb_meaning.specs.Calling.{variables}
+use Rattle.vb_meaning.specs.Shown.{shown}
 use Rattle.vb_world.proofs.entering.variables.Given as goal
 
-abbrev pub invariant-loop-arrays : goal.invariant-loop-arrays
-invariant-loop-arrays l = variables l.fault l.fn.arrays l.fn.world ≡ variables l.fault l.arrays l.world
+abbrev pub invariant-loop-variables : goal.invariant-loop-variables
+invariant-loop-variables l =
+    variables l.fault l.fn.number l.fn.variables (shown l.fn.world) ≡ variables l.fault l.number l.variables
+    (shown l.world)
 
-abbrev pub decreases-loop-arrays : goal.decreases-loop-arrays
-decreases-loop-arrays l = length l.arrays
+abbrev pub decreases-loop-variables : goal.decreases-loop-variables
+decreases-loop-variables l = length l.variables

@@ -9,7 +9,7 @@ use Rattle.vb_plain.proofs.rules.Rules.do_after.Given as goal
 abbrev pub invariant-loop-most : goal.invariant-loop-most
 invariant-loop-most g l =
     do_turns (g.row.I.Denot) (inside (g.row.I.Denot) (host g.I.Intrinsics.asked g.I.Intrinsics.answered) l.p l.self.levels)
-    (l.fn.playing.world.ticks + 1) (repetition.After l.line l.asked) l.body (seen l.fn.playing l.fn.env)
+    (l.fn.playing.ticks + 1) (repetition.After l.line l.asked) l.body (seen l.fn.playing l.fn.env)
     ≡ after_turns (g.row.I.Denot) (inside (g.row.I.Denot) (host g.I.Intrinsics.asked g.I.Intrinsics.answered) l.p l.self.levels)
     l.most (λ s. in_line l.line (goes_on (g.row.I.Denot)
     (inside (g.row.I.Denot) (host g.I.Intrinsics.asked g.I.Intrinsics.answered) l.p l.self.levels) l.asked s))

@@ -9,7 +9,7 @@ use Rattle.vb_plain.proofs.rules.Rules.do_endless.Given as goal
 abbrev pub invariant-loop-most : goal.invariant-loop-most
 invariant-loop-most g l =
     do_turns (g.row.I.Denot) (inside (g.row.I.Denot) (host g.I.Intrinsics.asked g.I.Intrinsics.answered) l.p l.self.levels)
-    (l.fn.playing.world.ticks + 1) repetition.Endless l.body (seen l.fn.playing l.fn.env)
+    (l.fn.playing.ticks + 1) repetition.Endless l.body (seen l.fn.playing l.fn.env)
     ≡ before_turns (g.row.I.Denot) (inside (g.row.I.Denot) (host g.I.Intrinsics.asked g.I.Intrinsics.answered) l.p l.self.levels)
     l.most leaves_do (pure true) l.body (seen l.playing l.env)
 

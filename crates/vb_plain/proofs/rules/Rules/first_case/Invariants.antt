@@ -1,5 +1,4 @@
 use Rattle.std.proofs.Common.{◌≡◌, length}
-use Rattle.std.specs.Option.{option_copied}
 use Rattle.vb_meaning.specs.Meaning.{inside}
 use Rattle.vb_meaning.specs.Statements.{first_case}
 use Rattle.vb_world.specs.Seen.{seen, host}
@@ -8,9 +7,9 @@ use Rattle.vb_plain.proofs.rules.Rules.first_case.Given as goal
 abbrev pub invariant-loop-cases : goal.invariant-loop-cases
 invariant-loop-cases g l =
     first_case (g.row.I.Denot) (inside (g.row.I.Denot) (host g.I.Intrinsics.asked g.I.Intrinsics.answered) l.p
-    l.self.levels) l.subject l.fn.cases (option_copied l.otherwise) (seen l.fn.playing l.fn.env)
+    l.self.levels) 0 l.subject l.fn.cases (seen l.fn.playing l.fn.env)
     ≡ first_case (g.row.I.Denot) (inside (g.row.I.Denot) (host g.I.Intrinsics.asked g.I.Intrinsics.answered) l.p
-    l.self.levels) l.subject l.cases (option_copied l.otherwise) (seen l.playing l.env)
+    l.self.levels) l.number l.subject l.cases (seen l.playing l.env)
 
 abbrev pub decreases-loop-cases : goal.decreases-loop-cases
 decreases-loop-cases g l = length l.cases

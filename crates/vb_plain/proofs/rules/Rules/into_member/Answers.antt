@@ -1,22 +1,23 @@
 use Rattle.std.proofs.Common.{rules, ◌≡◌, Ok}
 use Rattle.std.specs.Option.{option_copied}
-use Rattle.vb_heap.specs.Objects.{class_of}
-use Rattle.vb_heap.specs.Store.{numbered}
 use Rattle.vb_meaning.specs.Meaning.{inside}
 use Rattle.vb_meaning.specs.Places.{hold}
 use Rattle.vb_meaning.specs.Step.{Returns}
+use Rattle.vb_meaning.specs.Stored.{class_of}
 use Rattle.vb_meaning.specs.Values.{object_in}
+use Rattle.vb_meaning.specs.Shown.{shown}
 use Rattle.vb_world.specs.Seen.{seen, host}
 use Rattle.vb_plain.proofs.AssignSteps.{member_taken}
 use Rattle.vb_plain.proofs.rules.Rules.into_member.Goals as goal
 
 pub returns : goal.returns
 returns g c =
-    let held : hold c.args.whole.now c.args.playing.now.world ≡ Returns tt c.hold.new.world = search rules in
+    let held : hold c.args.whole.now (shown c.args.playing.now.world) ≡ Returns tt (shown c.hold.new.world)
+    = search rules in
     let object : object_in c.args.whole.now ≡ Ok c.in_ok-object.object = search rules in
-    let class : class_of (numbered c.in_ok-object.object.0 c.hold.new.world.heap.objects) ≡ Ok c.in_ok-class.class
+    let class : class_of c.in_ok-object.object (shown c.hold.new.world).store ≡ Ok c.in_ok-class.class
     = search rules in
     rw (member_taken (g.row.I.Denot) (inside (g.row.I.Denot) (host g.I.Intrinsics.asked g.I.Intrinsics.answered)
     c.args.p.now c.args.self.now.levels) c.args.how c.args.whole.now c.args.name (option_copied c.args.supplied)
-    c.args.value (seen c.args.playing.now c.args.env.now) c.hold.new.world c.in_ok-object.object c.in_ok-class.class
-    held object class) c.into_object.ensures
+    c.args.value (seen c.args.playing.now c.args.env.now) (shown c.hold.new.world) c.in_ok-object.object
+    c.in_ok-class.class held object class) c.into_object.ensures

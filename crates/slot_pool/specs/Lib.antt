@@ -1,0 +1,4 @@
+pub mod Inside
+pub mod Lends
+pub mod Pool
+pub mod Slots
