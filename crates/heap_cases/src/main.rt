@@ -1,5 +1,5 @@
-//! Tries the cases of data/: calls on the data of a page, calls of dictionaries, and calls on pools of slots. With the word `time` it times the data
-//! of a page.
+//! Tries the cases of data/: calls on the data of a page, calls of dictionaries, and calls on pools of slots. With the word
+//! `time` it times the data of a page.
 #![tactic(auto)]
 
 mod answers;

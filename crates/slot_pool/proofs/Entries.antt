@@ -1,5 +1,7 @@
 -- The values to which keys lead.
-use Rattle.std.proofs.Common.{◌≡◌, ◌≢◌, ℕ, zero, suc, ◌+◌, ◌<◌, ◌≤◌, ◌==◌, Bool, true, false, cond, List, [], ◌∷◌, length, get_or, All, Contains, Option, Some, None, is_some, IsSome, IfSome, inl, inr, refl, sym, ap, ◌∙◌, arith}
+use Rattle.std.proofs.Common.{◌≡◌, ◌≢◌, ℕ, zero, suc, ◌+◌, ◌<◌, ◌≤◌, ◌==◌, Bool, true, false, cond, List, [], ◌∷◌}
+use Rattle.std.proofs.Common.{length, get_or, All, Contains, Option, Some, None, is_some, IsSome, IfSome, inl, inr}
+use Rattle.std.proofs.Common.{refl, sym, ap, ◌∙◌, arith}
 use Rattle.std.proofs.lemmas.Bool.{cases_eq}
 use Rattle.std.proofs.lemmas.List.Elements.{All-head, All-tail}
 use Rattle.std.specs.List.{cons_option}
@@ -50,7 +52,8 @@ module _ {T : Type 0} where
     lacks (key ∷ keys) number none =
         let first = All-head (λ (key : SlotKey). key.number ≢ number) key keys none in
         let rest = All-tail (λ (key : SlotKey). key.number ≢ number) key keys none in
-        skips number key.number (held slots key) (entries_of slots keys) (named key.number (get slots key.slot)) (λ same. first (sym same))
+        skips number key.number (held slots key) (entries_of slots keys) (named key.number (get slots key.slot))
+        (λ same. first (sym same))
         ∙ lacks keys number rest
 
     -- what is found by the number of a key in the list is what it leads to
@@ -63,7 +66,8 @@ module _ {T : Type 0} where
         at [] low rises k inside is = absurd (omega (arith, inside))
         at (first ∷ keys) low rises zero inside is =
             rw (← is) (hits first.number (held slots first) (entries_of slots keys) (named first.number (get slots first.slot))
-            (lacks keys first.number (λ k d within' same. let later = within keys (first.number + 1) high k d rises.1 within' in absurd (omega (arith, later.0, same)))))
+            (lacks keys first.number (λ k d within' same. let later = within keys (first.number + 1) high k d rises.1
+            within' in absurd (omega (arith, later.0, same)))))
         at (first ∷ keys) low rises (suc k) inside is =
             let later = within keys (first.number + 1) high k key rises.1 (omega (arith, inside)) in
             let number = ap (λ (k : SlotKey). k.number) is in
@@ -119,7 +123,8 @@ module _ {T : Type 0} where
         something (Some entry) is = refl
 
     -- the numbers of entries rise from a lower number too
-    from_lower : (entries : List (ℕ × T)) (low high other : ℕ) → other ≤ low → NumbersRise low entries high → NumbersRise other entries high
+    from_lower : (entries : List (ℕ × T)) (low high other : ℕ) → other ≤ low → NumbersRise low entries high
+        → NumbersRise other entries high
     from_lower [] low high other less rises = omega (arith, less, rises)
     from_lower (entry ∷ entries) low high other less rises = (omega (arith, less, rises.0), rises.1)
 
@@ -129,7 +134,8 @@ module _ {T : Type 0} where
     entries_rise (key ∷ keys) low high rises =
         by (held slots key) (named key.number (get slots key.slot)) (entries_rise keys (key.number + 1) high rises.1)
       where
-        by : (entry : Option (ℕ × T)) → IfSome entry (λ e. e.0 ≡ key.number) → NumbersRise (key.number + 1) (entries_of slots keys) high
+        by : (entry : Option (ℕ × T)) → IfSome entry (λ e. e.0 ≡ key.number)
+            → NumbersRise (key.number + 1) (entries_of slots keys) high
             → NumbersRise low (cons_option entry (entries_of slots keys)) high
         by None is later = from_lower (entries_of slots keys) (key.number + 1) high low (omega (arith, rises.0)) later
         by (Some entry) is later = (omega (arith, rises.0, is), rw is later)

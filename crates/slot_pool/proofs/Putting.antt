@@ -1,5 +1,6 @@
 -- One value more.
-use Rattle.std.proofs.Common.{◌≡◌, ◌≢◌, ℕ, ◌+◌, ◌*◌, ◌<◌, ◌≤◌, List, [], ◌∷◌, ◌++◌, length, length-append, Some, None, inl, inr, refl, sym, ap, ◌∙◌, arith}
+use Rattle.std.proofs.Common.{◌≡◌, ◌≢◌, ℕ, ◌+◌, ◌*◌, ◌<◌, ◌≤◌, List, [], ◌∷◌, ◌++◌, length, length-append, Some, None}
+use Rattle.std.proofs.Common.{inl, inr, refl, sym, ap, ◌∙◌, arith}
 use Rattle.std.proofs.lemmas.Bool.{cases_eq}
 use Rattle.std.proofs.lemmas.List.Elements.{filter_map-append, Contains-append_left, Contains-push}
 use Rattle.slab.specs.Slab.{Slab, get, slab_len, Updates}
@@ -20,7 +21,8 @@ module _ {T : Type 0} where
   pub that_number : (slot : Slot T) → value_if slot.number (Some slot) ≡ Some (slot.number, slot.value)
   that_number slot = grind (arith)
 
-  module _ (old new : Slab (Slot T)) (at : ℕ) (slot : Slot T) (was : get old at ≡ None) (updates : Updates old new at (Some slot)) where
+  module _ (old new : Slab (Slot T)) (at : ℕ) (slot : Slot T) (was : get old at ≡ None)
+      (updates : Updates old new at (Some slot)) where
     -- a key of a lower number leads where it led
     still : (key : SlotKey) → key.number < slot.number → held new key ≡ held old key
     still key below = elim (cases_eq key.slot at) [

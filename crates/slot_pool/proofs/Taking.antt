@@ -1,5 +1,7 @@
 -- One value less.
-use Rattle.std.proofs.Common.{◌≡◌, ◌≢◌, ℕ, zero, suc, ◌+◌, ◌*◌, ◌<◌, ◌≤◌, Bool, true, false, cond, List, [], ◌∷◌, length, get_or, Contains, Option, Some, None, is_some, IfSome, filter, nat_lt, inl, inr, refl, sym, ap, ◌∙◌, arith}
+use Rattle.std.proofs.Common.{◌≡◌, ◌≢◌, ℕ, zero, suc, ◌+◌, ◌*◌, ◌<◌, ◌≤◌, Bool, true, false, cond, List, [], ◌∷◌}
+use Rattle.std.proofs.Common.{length, get_or, Contains, Option, Some, None, is_some, IfSome, filter, nat_lt, inl, inr}
+use Rattle.std.proofs.Common.{refl, sym, ap, ◌∙◌, arith}
 use Rattle.std.proofs.lemmas.Bool.{cases_eq, cases_lt, lt-ltb, le-ltb}
 use Rattle.std.specs.List.{cons_option}
 use Rattle.std.specs.Map.{remove_entry}
@@ -48,18 +50,21 @@ module _ {T : Type 0} where
       by true found rest = omega arith
       by false found rest = let less = rest found in omega (arith, less)
 
-  module _ (old new : Slab (Slot T)) (at : ℕ) (slot : Slot T) (was : get old at ≡ Some slot) (updates : Updates old new at None) where
+  module _ (old new : Slab (Slot T)) (at : ℕ) (slot : Slot T) (was : get old at ≡ Some slot)
+      (updates : Updates old new at None) where
     -- a key of another number leads where it led
     still : (key : SlotKey) → slot.number ≢ key.number → held new key ≡ held old key
     still key apart = elim (cases_eq key.slot at) [
       | inl here ↦ ap (λ n. value_if key.number (get new n)) here
           ∙ ap (value_if key.number) updates.changed
-          ∙ sym (ap (λ n. value_if key.number (get old n)) here ∙ ap (value_if key.number) was ∙ other_number key.number slot apart)
+          ∙ sym (ap (λ n. value_if key.number (get old n)) here ∙ ap (value_if key.number) was
+          ∙ other_number key.number slot apart)
       | inr other ↦ ap (value_if key.number) (updates.others key.slot other)
     ]
 
     -- keys of greater numbers lead to the entries that they led to
-    kept : (keys : List SlotKey) (low high : ℕ) → Rises low keys high → slot.number < low → entries_of new keys ≡ entries_of old keys
+    kept : (keys : List SlotKey) (low high : ℕ) → Rises low keys high → slot.number < low
+        → entries_of new keys ≡ entries_of old keys
     kept [] low high rises above = refl
     kept (key ∷ keys) low high rises above =
         let here = still key (λ same. absurd (omega (arith, rises.0, above, same))) in
@@ -79,11 +84,13 @@ module _ {T : Type 0} where
         let rest = kept keys (first.number + 1) high rises.1 (omega (arith, number)) in
         rw (led, left, rest, alike slot.number) refl
     gone (first ∷ keys) low high rises (suc k) inside is =
-        let later = within keys (first.number + 1) high k (record { number = slot.number; slot = at }) rises.1 (omega (arith, inside)) in
+        let later = within keys (first.number + 1) high k (record { number = slot.number; slot = at }) rises.1
+        (omega (arith, inside)) in
         let number = ap (λ (key : SlotKey). key.number) is in
         let apart : slot.number ≢ first.number = λ same. absurd (omega (arith, later.0, number, same)) in
         rw (still first apart, gone keys (first.number + 1) high rises.1 k (omega (arith, inside)) is)
-        (sym (stays slot.number first.number (held old first) (entries_of old keys) (named first.number (get old first.slot)) apart))
+        (sym (stays slot.number first.number (held old first) (entries_of old keys)
+        (named first.number (get old first.slot)) apart))
 
     pub entries_taken : (keys : List SlotKey) (next : ℕ) → IsRising keys next → IsListed old keys
         → entries_of new keys ≡ without_number slot.number (entries_of old keys)
@@ -115,24 +122,28 @@ module _ {T : Type 0} where
     leads_on key = is_some (held slots key)
 
     -- keys that lead nowhere have no entries
-    pub entries_swept : (keys : List SlotKey) → entries_of slots (filter (λ key. is_some (held slots key)) keys) ≡ entries_of slots keys
+    pub entries_swept : (keys : List SlotKey)
+        → entries_of slots (filter (λ key. is_some (held slots key)) keys) ≡ entries_of slots keys
     entries_swept [] = refl
     entries_swept (key ∷ keys) = by (held slots key) refl (entries_swept keys)
       where
         by : (entry : Option (ℕ × T)) → held slots key ≡ entry
             → entries_of slots (filter (λ key. is_some (held slots key)) keys) ≡ entries_of slots keys
-            → entries_of slots (cond (is_some entry) (key ∷ filter (λ key. is_some (held slots key)) keys) (filter (λ key. is_some (held slots key)) keys))
+            → entries_of slots (cond (is_some entry) (key ∷ filter (λ key. is_some (held slots key)) keys)
+            (filter (λ key. is_some (held slots key)) keys))
             ≡ cons_option entry (entries_of slots keys)
         by None is rest = rest
         by (Some entry) is rest = rw (is, rest) refl
 
     -- there are as many keys left as entries
-    pub length_swept : (keys : List SlotKey) → length (filter (λ key. is_some (held slots key)) keys) ≡ length (entries_of slots keys)
+    pub length_swept : (keys : List SlotKey)
+        → length (filter (λ key. is_some (held slots key)) keys) ≡ length (entries_of slots keys)
     length_swept [] = refl
     length_swept (key ∷ keys) = by (held slots key) (length_swept keys)
       where
         by : (entry : Option (ℕ × T)) → length (filter (λ key. is_some (held slots key)) keys) ≡ length (entries_of slots keys)
-            → length (cond (is_some entry) (key ∷ filter (λ key. is_some (held slots key)) keys) (filter (λ key. is_some (held slots key)) keys))
+            → length (cond (is_some entry) (key ∷ filter (λ key. is_some (held slots key)) keys)
+            (filter (λ key. is_some (held slots key)) keys))
             ≡ length (cons_option entry (entries_of slots keys))
         by None rest = rest
         by (Some entry) rest = omega (arith, rest)
@@ -146,16 +157,19 @@ module _ {T : Type 0} where
         more first rest true there = (suc there.0, omega (arith, there.1), there.2)
         more first rest false there = there
 
-        at : (keys : List SlotKey) (k : ℕ) → k < length keys → get_or keys k key ≡ key → Contains (filter (λ key. is_some (held slots key)) keys) key
+        at : (keys : List SlotKey) (k : ℕ) → k < length keys → get_or keys k key ≡ key
+            → Contains (filter (λ key. is_some (held slots key)) keys) key
         at [] k inside is = absurd (omega (arith, inside))
         at (first ∷ keys) zero inside is = rw (is, led) (0, omega arith, refl)
         at (first ∷ keys) (suc k) inside is = more first _ (is_some (held slots first)) (at keys k (omega (arith, inside)) is)
 
     -- each value has its key still
-    pub listed_swept : (keys : List SlotKey) → IsListed slots keys → IsListed slots (filter (λ key. is_some (held slots key)) keys)
+    pub listed_swept : (keys : List SlotKey) → IsListed slots keys
+        → IsListed slots (filter (λ key. is_some (held slots key)) keys)
     listed_swept keys listed = record {
       listed = λ n found is.
-          let led : held slots (record { number = found.number; slot = n }) ≡ Some (found.number, found.value) = rw is (that_number found) in
+          let led : held slots (record { number = found.number; slot = n })
+          ≡ Some (found.number, found.value) = rw is (that_number found) in
           stays_swept keys _ (ap is_some led) (listed.listed n found is);
     }
 

@@ -1,5 +1,6 @@
 -- Another value in a slot.
-use Rattle.std.proofs.Common.{◌≡◌, ◌≢◌, ℕ, zero, suc, ◌+◌, ◌-◌, ◌<◌, cond, List, [], ◌∷◌, length, get_or, Option, Some, None, is_some, IfSome, inl, inr, refl, sym, ap, ◌∙◌, arith}
+use Rattle.std.proofs.Common.{◌≡◌, ◌≢◌, ℕ, zero, suc, ◌+◌, ◌-◌, ◌<◌, cond, List, [], ◌∷◌, length, get_or, Option}
+use Rattle.std.proofs.Common.{Some, None, is_some, IfSome, inl, inr, refl, sym, ap, ◌∙◌, arith}
 use Rattle.std.proofs.lemmas.Bool.{cases_eq}
 use Rattle.std.proofs.lemmas.List.Sums.{sum_by-set}
 use Rattle.std.proofs.lemmas.Map.{length-set_value}
@@ -43,7 +44,8 @@ module _ {T : Type 0} where
     pub length_written : slab_len written ≡ slab_len old
     length_written =
         let inside = ContainsKey-within old at (ap is_some was) in
-        let sums = sum_by-set (λ (o : Option (Slot T)). cond (is_some o) 1 0) old.slots at (Some (record { number = slot.number; value = value })) None inside in
+        let sums = sum_by-set (λ (o : Option (Slot T)). cond (is_some o) 1 0) old.slots at
+        (Some (record { number = slot.number; value = value })) None inside in
         let one : cond {A = ℕ} (is_some (get old at)) 1 0 ≡ 1 = rw was refl in
         omega (arith, sums, one)
 
@@ -53,12 +55,14 @@ module _ {T : Type 0} where
       | inl here ↦ ap (λ n. value_if key.number (get written n)) here
           ∙ ap (value_if key.number) updates.changed
           ∙ other_number key.number (record { number = slot.number; value = value }) apart
-          ∙ sym (ap (λ n. value_if key.number (get old n)) here ∙ ap (value_if key.number) was ∙ other_number key.number slot apart)
+          ∙ sym (ap (λ n. value_if key.number (get old n)) here ∙ ap (value_if key.number) was
+          ∙ other_number key.number slot apart)
       | inr other ↦ ap (value_if key.number) (updates.others key.slot other)
     ]
 
     -- keys of greater numbers lead to the entries that they led to
-    kept : (keys : List SlotKey) (low high : ℕ) → Rises low keys high → slot.number < low → entries_of written keys ≡ entries_of old keys
+    kept : (keys : List SlotKey) (low high : ℕ) → Rises low keys high → slot.number < low
+        → entries_of written keys ≡ entries_of old keys
     kept [] low high rises above = refl
     kept (key ∷ keys) low high rises above =
         let here = still key (λ same. absurd (omega (arith, rises.0, above, same))) in
@@ -78,11 +82,13 @@ module _ {T : Type 0} where
         let rest = kept keys (first.number + 1) high rises.1 (omega (arith, number)) in
         rw (led, now, rest, alike slot.number) refl
     changed (first ∷ keys) low high rises (suc k) inside is =
-        let later = within keys (first.number + 1) high k (record { number = slot.number; slot = at }) rises.1 (omega (arith, inside)) in
+        let later = within keys (first.number + 1) high k (record { number = slot.number; slot = at }) rises.1
+        (omega (arith, inside)) in
         let number = ap (λ (key : SlotKey). key.number) is in
         let apart : slot.number ≢ first.number = λ same. absurd (omega (arith, later.0, number, same)) in
         rw (still first apart, changed keys (first.number + 1) high rises.1 k (omega (arith, inside)) is)
-        (sym (stays slot.number first.number value (held old first) (entries_of old keys) (named first.number (get old first.slot)) apart))
+        (sym (stays slot.number first.number value (held old first) (entries_of old keys)
+        (named first.number (get old first.slot)) apart))
 
     -- the entry of the number has that value
     pub entries_written : (keys : List SlotKey) (next : ℕ) → IsRising keys next → IsListed old keys
@@ -104,7 +110,8 @@ module _ {T : Type 0} where
     listed_written keys listed = record {
       listed = λ n found is. elim (cases_eq n at) [
         | inl here ↦
-            let one : Some found ≡ Some (record { number = slot.number; value = value }) = sym is ∙ ap (get written) here ∙ updates.changed in
+            let one : Some found ≡ Some (record { number = slot.number; value = value }) = sym is
+            ∙ ap (get written) here ∙ updates.changed in
             let number : found.number ≡ slot.number = grind (arith) in
             let there = listed.listed at slot was in
             rw (number, here) there

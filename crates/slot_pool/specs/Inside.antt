@@ -1,5 +1,6 @@
 -- How the code keeps a pool.
-use Rattle.std.specs.Prelude.{◌≡◌, ℕ, ◌+◌, ◌-◌, ◌*◌, ◌^◌, ◌<◌, ◌≤◌, ◌==◌, List, [], ◌∷◌, length, Option, Some, None, is_some, if◌then◌else◌, filter, filter_map, Contains, nat_lt, vec_capacity}
+use Rattle.std.specs.Prelude.{◌≡◌, ℕ, ◌+◌, ◌-◌, ◌*◌, ◌^◌, ◌<◌, ◌≤◌, ◌==◌, List, [], ◌∷◌, length, Option, Some, None}
+use Rattle.std.specs.Prelude.{is_some, if◌then◌else◌, filter, filter_map, Contains, nat_lt, vec_capacity}
 use Rattle.slab.specs.Slab.{Slab, get, slab_len}
 use Rattle.slot_pool.specs.declared.key.SlotKey.{SlotKey}
 use Rattle.slot_pool.specs.declared.pool.Pool.TheInside.{Inside}

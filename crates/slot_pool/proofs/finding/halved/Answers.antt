@@ -14,4 +14,5 @@ returns-then-at-keys c =
 pub returns-else-key-number : goal.returns-else-key-number
 returns-else-key-number c =
     lacks_at _ _ _ _ c.requires c.place-at.ensures.before c.place-at.ensures.behind
-    (λ d inside same. c.if-key-number.false (ap (λ (key : SlotKey). key.number) (get_or_default c.args.keys.now c.place-at.result _ d inside) ∙ same))
+    (λ d inside same. c.if-key-number.false
+    (ap (λ (key : SlotKey). key.number) (get_or_default c.args.keys.now c.place-at.result _ d inside) ∙ same))

@@ -6,4 +6,5 @@ use Rattle.slot_pool.proofs.sweeping.sweep.Goals as goal
 
 pub returns-clause-swept : goal.returns-clause-swept
 returns-clause-swept g c =
-    filter_same _ (λ (key : SlotKey). is_some (held c.args.slots.now key)) _ (λ x b q t. search rules) _ _ c.retain.ensures.filtered
+    filter_same _ (λ (key : SlotKey). is_some (held c.args.slots.now key)) _ (λ x b q t. search rules) _ _
+    c.retain.ensures.filtered

@@ -35,6 +35,10 @@ returns-in-Some g c =
     let number = rw was at c.slot_of-slot.ensures.number in
     let found = rw (c.as_slice.ensures.value, was) at c.slot_of-slot.ensures.value in
     rw (← c.self.view_is) (
-      (λ i. inl (c.value_mut.result.ghost_name, λ w. seen_written old at slot was w keys c.self.inside.next c.self.inside.made c.self.inside.most c.args.key.number kept.rising kept.listed number i)),
+      (λ i. inl (
+        c.value_mut.result.ghost_name,
+        λ w. seen_written old at slot was w keys c.self.inside.next
+            c.self.inside.made c.self.inside.most c.args.key.number kept.rising kept.listed number i,
+      )),
       record { writes_back = tt; value = ap Some c.value_mut.ensures.value ∙ sym found },
     )

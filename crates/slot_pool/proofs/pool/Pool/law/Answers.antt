@@ -4,7 +4,8 @@ use Rattle.slot_pool.proofs.pool.Pool.law.Goals as goal
 
 pub returns-clause-rise : goal.returns-clause-rise
 returns-clause-rise g c =
-    rw (← c.self.view_is) (entries_rise c.self.inside.slots c.self.inside.order.items 0 c.self.inside.next c.self.invariant.rising.rises)
+    rw (← c.self.view_is) (entries_rise c.self.inside.slots c.self.inside.order.items 0 c.self.inside.next
+    c.self.invariant.rising.rises)
 
 pub returns-clause-within : goal.returns-clause-within
 returns-clause-within g c =

@@ -11,8 +11,12 @@ invariant_of-self g c =
     let numbers = rw (← c.self.view_is) at c.requires.numbers in
     record {
       rising = rw c.push_reserved.ensures.items (rising_put c.self.inside.order.items c.self.inside.next _ kept.rising refl);
-      listed = rw c.push_reserved.ensures.items (listed_put c.self.inside.slots _ _ _ put.was_vacant put.updates c.self.inside.order.items _ kept.listed refl refl);
-      counted = rw c.push_reserved.ensures.items (counted_put c.self.inside.slots _ _ _ put.was_vacant put.updates c.self.inside.order.items _ kept.rising refl refl kept.counted put.len);
+      listed = rw c.push_reserved.ensures.items
+          (listed_put c.self.inside.slots _ _ _ put.was_vacant put.updates c.self.inside.order.items _ kept.listed
+          refl refl);
+      counted = rw c.push_reserved.ensures.items
+          (counted_put c.self.inside.slots _ _ _ put.was_vacant put.updates c.self.inside.order.items _ kept.rising
+          refl refl kept.counted put.len);
       within = omega (arith, put.len, free);
       few = kept.few;
       room = omega (arith, kept.room, put.capacity);
@@ -26,4 +30,7 @@ pub returns-clause-put : goal.returns-clause-put
 returns-clause-put g c =
     let kept = c.self.invariant in
     let put = c.insert_reserved-slot.ensures in
-    rw (← c.self.view_is) (alike_seen _ _ (rw c.push_reserved.ensures.items (entries_put c.self.inside.slots _ _ _ put.was_vacant put.updates c.self.inside.order.items _ kept.rising refl refl)) (omega (arith, put.len)) refl refl)
+    rw (← c.self.view_is) (alike_seen _ _
+    (rw c.push_reserved.ensures.items
+    (entries_put c.self.inside.slots _ _ _ put.was_vacant put.updates c.self.inside.order.items _ kept.rising
+    refl refl)) (omega (arith, put.len)) refl refl)
