@@ -91,5 +91,5 @@ is_ended stays holds those rules past lane run running right valid within =
       free = λ holds_it. absurd (let unfinished = holds rules (ended rules past lane run) run valid.entries holds_it in
           let still = apart (stage_of (ended rules past lane run) run) unfinished in cc);
       waits = (those rules (ended rules past lane run) valid.entries).found run ∙ rw (over, untaken) refl;
-      handed = λ asking asked page. rw (asked, over, page, untaken, eq-eqb asking asking refl) refl
+      handed = λ asking asked page. rw (asked, over, page, untaken, eq-eqb asking asking refl) refl;
     }
