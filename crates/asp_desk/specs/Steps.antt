@@ -1,5 +1,5 @@
 -- How a run begins, makes its call, and ends, in a turn of its lane. All of it is the product's own.
-use Rattle.std.specs.Prelude.{◌≡◌, ℕ, List, [], ◌∷◌, ◌++◌, reverse, Option, Some, None, Result, Ok, Err}
+use Rattle.std.specs.Prelude.{◌≡◌, ℕ, Bool, List, [], ◌∷◌, ◌++◌, reverse, Option, Some, None, Result, Ok, Err}
 use Rattle.vb_value.specs.declared.application.AppCall.{AppCall}
 use Rattle.asp_job.specs.declared.entry.EndKind.{EndKind}
 use Rattle.asp_job.specs.declared.entry.EndKind.TheVariants as kind

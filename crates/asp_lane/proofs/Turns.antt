@@ -1,5 +1,5 @@
 -- What each turn leaves of a core.
-use Rattle.std.proofs.Common.{◌≡◌, ℕ, List, [], ◌∷◌, refl, ap, sym, ◌∙◌, subst, append-nil, inl, inr}
+use Rattle.std.proofs.Common.{◌≡◌, ℕ, Bool, List, [], ◌∷◌, refl, ap, sym, ◌∙◌, subst, append-nil, inl, inr}
 use Rattle.std.proofs.Common.{Option, Some, None, IsSome}
 use Rattle.vb_value.specs.declared.application.AppCall.{AppCall}
 use Rattle.asp_job.specs.declared.entry.EndKind.{EndKind}
