@@ -14,6 +14,7 @@ use std::str::Split;
 use word_runs::{AllWords, WordRunner, next, next_moment, next_number};
 
 /// Calls of a new core with a seed of noughts, with `; ` between them.
+#[derive(Drop)]
 pub struct Calls {
     /// Whether its Lock keeps readers out too.
     pub strict: bool,

@@ -7,6 +7,7 @@ use case_files::{Answer, CaseStop, Subject, read_text};
 use vb_value::{AppCall, AppReply, Text, Value};
 
 /// Calls of a new Application object, with `; ` between them, each with its reply.
+#[derive(Drop)]
 pub struct Applications {
     /// Whether its lock keeps readers out too.
     pub strict: bool,
