@@ -12,9 +12,9 @@ abbrev pub answer_unless : Option ℕ → AppReply → Result AppReply AppStop
 answer_unless (Some holder) reply = Err (stop.Blocked holder)
 answer_unless None reply = Ok reply
 
--- what a call of a run answers
-abbrev pub answer_of : AppState → ℕ → AppCall → Result AppReply AppStop
-answer_of state run call = answer_unless (blocker_of state run call) (apply state run call).1
+-- what a call of a run answers under the rule
+abbrev pub answer_of : Bool → AppState → ℕ → AppCall → Result AppReply AppStop
+answer_of strict state run call = answer_unless (blocker_of strict state run call) (apply state run call).1
 
 -- whether a call may run out of memory
 abbrev pub takes_memory : AppCall → Bool

@@ -4,6 +4,7 @@ ghost use Rattle.vb_value.specs.Outcome.{Answers, Changes};
 ghost use Rattle.asp_job.specs.Application as application;
 ghost use Rattle.asp_job.specs.Calls.{IsAppCall, IsReply};
 ghost use Rattle.asp_app.specs.Answers.{answer_of, takes_memory};
+ghost use Rattle.asp_app.specs.View.{first_view, with_state};
 
 use crate::entries::Entries;
 use crate::stop::AppStop;
@@ -14,6 +15,7 @@ use vb_value::{AppCall, AppReply, Memory};
 /// The Application object of a site (ASP 3.0, "Application Object"): named values, and a lock that one run may have.
 #[derive(Drop)]
 pub struct Application {
+    strict: bool,
     entries: Entries,
     holder: Option<u32>,
 }
@@ -21,48 +23,60 @@ pub struct Application {
 impl Model for Application {
     ghost use Rattle.std.specs.Coded.{codes};
     ghost use Rattle.vb_value.specs.contracts.value.Value as contract;
-    ghost use Rattle.asp_job.specs.Application.{AppState};
+    ghost use Rattle.asp_app.specs.View.{AppView};
 
-    ghost Value = { AppState };
+    ghost Value = { AppView };
 
     ghost coded = { Prim.hlevel (codes, contract.the_row.coded) };
 
-    ghost view = { λ held. record { entries = held.entries; holder = held.holder } };
+    ghost view = { λ held. record {
+      strict = held.strict;
+      state = record { entries = held.entries; holder = held.holder };
+    } };
 }
 
-/// Whether the call is one that another run's lock keeps out: a write, or `Lock`.
-fn is_guarded(call: &AppCall) -> bool
-    ensures { result ≡ application.is_guarded call.now }
+/// Whether the call is one that another run's lock keeps out.
+fn is_guarded(strict: bool, call: &AppCall) -> bool
+    ensures { result ≡ application.is_guarded strict call.now }
 {
-    matches!(
-        call,
-        AppCall::Put(..) | AppCall::Remove(_) | AppCall::RemoveAll | AppCall::Lock
-    )
+    match call {
+        AppCall::Put(..) | AppCall::Remove(_) | AppCall::RemoveAll | AppCall::Lock => true,
+        AppCall::Get(_) | AppCall::Count | AppCall::KeyAt(_) | AppCall::Names => strict,
+        AppCall::Unlock => false,
+    }
 }
 
 impl Application {
-    /// Without entries, and its lock free. It takes no memory yet.
-    pub fn new(alloc: Global) -> Application
-        ensures { result ≡ application.first_state }
+    /// Without entries, and its lock free. Where `strict` holds, its lock keeps readers out too. It takes no memory yet.
+    pub fn new(alloc: Global, strict: bool) -> Application
+        ensures { result ≡ first_view strict }
     {
         Application {
+            strict,
             entries: Entries::new(alloc),
             holder: None,
         }
     }
 
+    /// Whether its lock keeps readers out too.
+    pub fn strict(&self) -> bool
+        ensures { result ≡ self.now.strict }
+    {
+        self.strict
+    }
+
     /// The run that has the lock, if one has it.
     pub fn holder(&self) -> Option<u32>
-        ensures { result ≡ self.now.holder }
+        ensures { result ≡ self.now.state.holder }
     {
         self.holder
     }
 
     /// The run whose lock keeps this call of a run out, if one does.
     pub fn blocker(&self, run: u32, call: &AppCall) -> Option<u32>
-        ensures { result ≡ application.blocker_of self.now run call.now }
+        ensures { result ≡ application.blocker_of self.now.strict self.now.state run call.now }
     {
-        if self.holder == Some(run) || !is_guarded(call) {
+        if self.holder == Some(run) || !is_guarded(self.strict, call) {
             None
         } else {
             self.holder
@@ -71,7 +85,7 @@ impl Application {
 
     /// Lets the lock go if the run has it, as the run's end does.
     pub fn free(&mut self, run: u32)
-        ensures { self.new ≡ application.freed run self.old }
+        ensures { self.new ≡ with_state self.old (application.freed run self.old.state) }
     {
         if self.holder == Some(run) {
             self.holder = None;
@@ -82,8 +96,9 @@ impl Application {
     /// value that it puts is one that runs may share. `RemoveAll`, `Count`, `Lock` and `Unlock` take no memory.
     pub fn call(&mut self, run: u32, call: &AppCall) -> Result<AppReply, AppStop>
         requires { IsAppCall call.now }
-        ensures reply { Answers result AppStop.Memory (answer_of self.old run call.now) }
-        ensures state { Changes result self.old self.new (application.apply self.old run call.now).0 }
+        ensures reply { Answers result AppStop.Memory (answer_of self.old.strict self.old.state run call.now) }
+        ensures state { Changes result self.old self.new
+            (with_state self.old (application.apply self.old.state run call.now).0) }
         ensures shared { IfOk result IsReply }
         ensures memory { takes_memory call.now ≡ false → result ≢ Err AppStop.Memory }
     {

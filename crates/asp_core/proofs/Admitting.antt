@@ -12,7 +12,7 @@ use Rattle.asp_core.specs.Ready.{with_answer}
 use Rattle.asp_core.specs.Sessions.{account_after, account_grown, sessions_in}
 use Rattle.asp_core.specs.Standing.{stand_in}
 use Rattle.asp_core.specs.Taking.{HasTaken, refused_before}
-use Rattle.asp_job.specs.Application.{AppState}
+use Rattle.asp_app.specs.View.{AppView}
 use Rattle.asp_job.specs.History.{with_lane}
 use Rattle.asp_job.specs.Journal.{admission, admit_entries, is_refused, job_now, past_after, tick_entries}
 use Rattle.asp_job.specs.Keys.{session_of}
@@ -63,13 +63,13 @@ refused_answer m setting work.Stop = refl
 abbrev drawn_if : Bool → ℕ → ℕ → Bool → Job → What
 drawn_if refused run key fresh job = if refused then Refuse run job else Admit run key fresh job
 
-abbrev KeptWith : Rules → List Entry → Account → AppState → List (ℕ × Answer) → ℕ → What → Type 0
+abbrev KeptWith : Rules → List Entry → Account → AppView → List (ℕ × Answer) → ℕ → What → Type 0
 KeptWith m past account held answers lane what =
     IsKept m (with_lane lane what ∷ past) (account_after m past what account) held
     (with_answer answers (told_of what).run (answer_for what))
 
 kept_refused : (m : Meaning) (setting : Setting) (past : List Entry) (account : Account)
-    (held : AppState) (answers : List (ℕ × Answer)) (lane : ℕ) (job : Job) → let rules = rules_by m setting in
+    (held : AppView) (answers : List (ℕ × Answer)) (lane : ℕ) (job : Job) → let rules = rules_by m setting in
     IsKept rules past account held answers → IsAsked past job → IsSmall job
     → needs_key (m.is_keyed job) (key_asked_by rules job) (session_of rules past) past ≡ true
     → has_most_keys (session_of rules past) past ≡ true → KeptWith rules past account held answers lane
@@ -94,7 +94,7 @@ kept_refused m setting past account held answers lane job kept asked small needs
     }
 
 kept_admitted : (m : Meaning) (setting : Setting) (past : List Entry) (account : Account)
-    (held : AppState) (answers : List (ℕ × Answer)) (lane : ℕ) (job : Job) → let rules = rules_by m setting in
+    (held : AppView) (answers : List (ℕ × Answer)) (lane : ℕ) (job : Job) → let rules = rules_by m setting in
     IsKept rules past account held answers → IsAsked past job → IsSmall job
     → is_refused (m.is_keyed job) (key_asked_by rules job) (session_of rules past) past ≡ false
     → KeptWith rules past account held answers lane
@@ -120,7 +120,7 @@ kept_admitted m setting past account held answers lane job kept asked small live
     }
 
 kept_drawn : (m : Meaning) (setting : Setting) (past : List Entry) (account : Account)
-    (held : AppState) (answers : List (ℕ × Answer)) (lane : ℕ) (job : Job) → let rules = rules_by m setting in
+    (held : AppView) (answers : List (ℕ × Answer)) (lane : ℕ) (job : Job) → let rules = rules_by m setting in
     IsKept rules past account held answers → IsAsked past job → IsSmall job → KeptWith rules past account held
     answers lane (admission (m.is_keyed job) (key_asked_by rules job) (session_of rules past) past job)
 kept_drawn m setting past account held answers lane job kept asked small =
@@ -149,7 +149,7 @@ joined m past lane job =
 
 -- a journal with a Tick where the job's moment is greater, and the entry of the job
 pub kept_after_job : (m : Meaning) (setting : Setting) (journal next : List Entry) (account then_account : Account)
-    (held : AppState) (answers : List (ℕ × Answer)) (lane : ℕ) (job : Job) → let rules = rules_by m setting in
+    (held : AppView) (answers : List (ℕ × Answer)) (lane : ℕ) (job : Job) → let rules = rules_by m setting in
     let past = reverse journal in let what = (entry_then rules past lane job).what in IsKept rules past account held
     answers → is_stopping past ≡ false → is_page job.work ≡ true → IsSmall job
     → length (waiting_pages past) < MOST_WAITING → next ≡ journal ++ admit_entries rules past lane job
@@ -192,7 +192,7 @@ job_made m past sessions lane job right =
 
 -- what a core keeps after a job
 pub sound_taken : (m : Meaning) (setting : Setting) (old new : BookView) (account then_account : Account)
-    (held : AppState) (fail : Option Fail) (lane : ℕ) (job : Job) → let rules = rules_by m setting in
+    (held : AppView) (fail : Option Fail) (lane : ℕ) (job : Job) → let rules = rules_by m setting in
     IsSound rules (past_in old) account held old.answers fail → refused_before (past_in old) ≡ None
     → is_page job.work ≡ true → IsSmall job → HasTaken rules lane job old account new then_account
     → IsSound rules (past_in new) then_account held new.answers fail

@@ -18,7 +18,7 @@ use Rattle.asp_core.specs.declared.stop.BeginStop.{BeginStop}
 use Rattle.asp_core.specs.declared.stop.BeginStop.TheVariants as stops
 use Rattle.asp_core.specs.declared.stop.EventStop.{EventStop}
 use Rattle.asp_core.specs.declared.stop.EventStop.TheVariants as event
-use Rattle.asp_job.specs.Application.{AppState}
+use Rattle.asp_app.specs.View.{AppView}
 use Rattle.asp_job.specs.History.{entries_in, load, with_lane}
 use Rattle.asp_job.specs.Journal.{AreRight, begin_entry}
 use Rattle.asp_job.specs.Keys.{opened, opens, session_of}
@@ -146,7 +146,7 @@ full_over past run full event.Memory stop next over e is = absurd cc
 
 -- ---- the Begin
 
-kept_begin : (m : Rules) (past : List Entry) (account : Account) (held : AppState)
+kept_begin : (m : Rules) (past : List Entry) (account : Account) (held : AppView)
     (answers : List (ℕ × Answer)) (lane run : ℕ) → IsKept m past account held answers → IsNext past run →
     IsKept m (begin_entry m past lane run ∷ past) (account_begun past run account) held answers
 kept_begin m past account held answers lane run kept next =
@@ -203,7 +203,7 @@ has_begun m setting stands lane old new account then_account run next number can
 
 -- what a core keeps then
 pub sound_begun : {State : Type 0} → (m : Rules) (stands : State → Told → ℕ → Type 0) (lane : ℕ) (old new : BookView)
-    (account then_account : Account) (held : AppState) (fail : Option Fail) (run : RunView State) →
+    (account then_account : Account) (held : AppView) (fail : Option Fail) (run : RunView State) →
     IsSound m (past_in old) account held old.answers fail →
     HasBegun m stands lane old account new then_account run →
     IsSound m (past_in new) then_account held new.answers fail

@@ -13,7 +13,8 @@ use Rattle.asp_core.specs.declared.stop.AppStepStop.TheVariants as step
 use Rattle.asp_core.specs.declared.stop.EventStop.{EventStop}
 use Rattle.asp_core.specs.declared.stop.EventStop.TheVariants as event
 use Rattle.asp_core.specs.declared.run.Progress.TheVariants as progress
-use Rattle.asp_job.specs.Application.{AppState, apply, blocker_of}
+use Rattle.asp_app.specs.View.{AppView, with_state}
+use Rattle.asp_job.specs.Application.{apply, blocker_of}
 use Rattle.asp_job.specs.Calls.{IsAppCall, IsReply}
 use Rattle.asp_job.specs.History.{call_entry, held_by, with_lane}
 use Rattle.asp_job.specs.Rules.{Rules}
@@ -37,8 +38,8 @@ called_is core lane run c wants = rw (wants, called) refl
 
 -- the core has the entry of the call more
 pub core_called : {R Site State : Type 0} → (runner : R) (site : Site) (setting : Setting)
-    (stands : Site → State → Told → ℕ → Type 0) (lane : ℕ) (old : BookView) (held : AppState) (run : RunView State)
-    (new : BookView) (then_held : AppState) (then_run : RunView State) → held ≡ held_by (past_in old) →
+    (stands : Site → State → Told → ℕ → Type 0) (lane : ℕ) (old : BookView) (held : AppView) (run : RunView State)
+    (new : BookView) (then_held : AppView) (then_run : RunView State) → held.state ≡ held_by (past_in old) →
     HasCalled stands lane old held run new then_held then_run →
     view_of runner site setting new.items
     ≡ grown (view_of runner site setting old.items) (called (view_of runner site setting old.items) lane run)
@@ -50,30 +51,30 @@ core_called runner site setting stands lane old held run new then_held then_run 
 -- the run that made it is the core's still
 pub run_of_called : {R Site State : Type 0} → (meaning : R → Site → Meaning)
     (stands : R → Site → State → Told → ℕ → Type 0) (runner : R) (site : Site) (setting : Setting) (lane : ℕ)
-    (old : BookView) (held : AppState) (run : RunView State) (new : BookView) (then_held : AppState)
-    (then_run : RunView State) → held ≡ held_by (past_in old) →
+    (old : BookView) (held : AppView) (run : RunView State) (new : BookView) (then_held : AppView)
+    (then_run : RunView State) → held.state ≡ held_by (past_in old) →
     IsRunOf meaning stands (view_of runner site setting old.items) lane run →
     HasCalled (stands runner) lane old held run new then_held then_run →
     IsRunOf meaning stands (view_of runner site setting new.items) lane then_run
 run_of_called meaning stands runner site setting lane old held run new then_held then_run held_is is has =
     let made = call_grown (stands runner) lane old held run new then_held then_run held_is has in
     run_called meaning stands (view_of runner site setting old.items) lane run then_run new.items has.call
-    (apply held run.number has.call).1 is has.wanted made (ap (λ h. (apply h run.number has.call).1) held_is)
+    (apply held.state run.number has.call).1 is has.wanted made (ap (λ h. (apply h run.number has.call).1) held_is)
     has.number_is has.stand_ins_are has.progress_is (has.heard_so site)
 
 -- it was let through
 pub free_called : {Site State : Type 0} → (stands : Site → State → Told → ℕ → Type 0) (lane : ℕ) (old : BookView)
-    (held : AppState) (run : RunView State) (new : BookView) (then_held : AppState) (then_run : RunView State) →
+    (held : AppView) (run : RunView State) (new : BookView) (then_held : AppView) (then_run : RunView State) →
     HasCalled stands lane old held run new then_held then_run → blocker_by held run ≡ None
 free_called stands lane old held run new then_held then_run has =
     let wants = has.wanted in rw (wants, blocker_by) has.free
 
 -- its entry does not fit
 pub full_called : {R Site State : Type 0} → (m : Rules) (core : CoreView R Site)
-    (account : Account) (held : AppState) (answers : List (ℕ × Answer)) (lane : ℕ)
+    (account : Account) (held : AppView) (answers : List (ℕ × Answer)) (lane : ℕ)
     (run : RunView State) (full : Full) → IsKept m (past_of core) account held answers →
     IsCallTooMuch (past_of core) lane held run full →
-    IsTooMuch (past_after (past_of core) (called core lane run)) full × HasNotFitFor (past_of core) lane run
+    IsTooMuch (past_after (past_of core) (called core lane run)) full × HasNotFitFor m.strict (past_of core) lane run
 full_called m core account held answers lane run full kept is =
     let past = past_of core in
     let both = not_fit m past account held answers lane run.number full is.call kept is.free is.much in (
@@ -94,11 +95,11 @@ pub no_call : (o : Option AppCall) → IsSome o → o ≡ None → ⊥
 no_call None some none = cc
 no_call (Some c) some none = cc
 
-pub blocker_known : {State : Type 0} → (held : AppState) (run : RunView State) (number : ℕ) (c : AppCall)
-    (b : Option ℕ) → wanted_by run.progress ≡ Some c → number ≡ run.number → b ≡ blocker_of held number c →
+pub blocker_known : {State : Type 0} → (held : AppView) (run : RunView State) (number : ℕ) (c : AppCall)
+    (b : Option ℕ) → wanted_by run.progress ≡ Some c → number ≡ run.number → b ≡ blocker_of held.strict held.state number c →
     blocker_by held run ≡ b
 blocker_known held run number c b wants same is =
-    rw (wants, blocker_by) (sym (is ∙ ap (λ n. blocker_of held n c) same))
+    rw (wants, blocker_by) (sym (is ∙ ap (λ n. blocker_of held.strict held.state n c) same))
 
 pub blocked_exact : (b : Option ℕ) (mine holder : ℕ) → b ≡ Some mine →
     (stopped (step.Blocked mine) ≡ stopped (step.Blocked holder)) ↔ (b ≡ Some holder)
@@ -134,7 +135,7 @@ full_told stop told_stop full is e =
 
 -- what was made of the call
 pub has_called : {Site State : Type 0} → (stands : Site → State → Told → ℕ → Type 0) (lane : ℕ)
-    (old mid new : BookView) (held then_held : AppState) (run then_run : RunView State) (number : ℕ)
+    (old mid new : BookView) (held then_held : AppView) (run then_run : RunView State) (number : ℕ)
     (c taken : AppCall) (replies : AppReply × AppReply) → wanted_by run.progress ≡ Some c →
     Some taken ≡ wanted_by run.progress → number ≡ run.number → IsAppCall c →
     IsReplied mid lane number c held then_held replies → Stays old mid →
@@ -155,20 +156,20 @@ has_called stands lane old mid new held then_held run then_run number c taken re
       call = c;
       wanted = wants;
       asks = asks;
-      replied = subst (λ n. IsReply (apply held n c).1) same (subst IsReply is.reply_is is.may);
-      free = subst (λ n. blocker_of held n c ≡ None) same free;
+      replied = subst (λ n. IsReply (apply held.state n c).1) same (subst IsReply is.reply_is is.may);
+      free = subst (λ n. blocker_of held.strict held.state n c ≡ None) same free;
       grows = (
         (
           made ∙ ap (λ r. old.items ++ with_lane lane (App number c r) ∷ []) is.reply_is
-              ∙ ap (λ n. old.items ++ with_lane lane (App n c (apply held n c).1) ∷ []) same,
+              ∙ ap (λ n. old.items ++ with_lane lane (App n c (apply held.state n c).1) ∷ []) same,
           adds.1 ∙ stays.1,
         ),
         rw of is.within,
       );
-      held_is = is.held_is ∙ ap (λ n. (apply held n c).0) same;
+      held_is = is.held_is ∙ ap (λ n. with_state held (apply held.state n c).0) same;
       number_is = number_is;
       stand_ins_are = ins;
       progress_is = going;
       heard_so = λ site t spent s. subst (λ r. stands site then_run.state (heard t r) spent)
-          (is.copy_is ∙ is.reply_is ∙ ap (λ n. (apply held n c).1) same) (heard_so site t spent s);
+          (is.copy_is ∙ is.reply_is ∙ ap (λ n. (apply held.state n c).1) same) (heard_so site t spent s);
     }

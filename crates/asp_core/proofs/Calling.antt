@@ -9,7 +9,8 @@ use Rattle.asp_core.specs.Kernel.{CoreView, IsKept, IsRunOf, IsTooMuch, IsWithin
 use Rattle.asp_core.specs.Kernel.{StandsAt, past_of, rules_of, wanted_by}
 use Rattle.asp_core.specs.declared.run.Progress.{Progress}
 use Rattle.asp_core.specs.declared.run.Progress.TheVariants as progress
-use Rattle.asp_job.specs.Application.{AppState, apply, blocker_of, has_lock, is_full, with_value}
+use Rattle.asp_app.specs.View.{AppView, with_state}
+use Rattle.asp_job.specs.Application.{AppState, apply, blocker_of, is_full, with_value}
 use Rattle.asp_job.specs.Calls.{IsAppCall, IsReply}
 use Rattle.asp_job.specs.History.{HasNoRoom, HasNotFit, call_entry, held_by, load, reply_weight, weight_load}
 use Rattle.asp_job.specs.History.{with_lane}
@@ -36,31 +37,17 @@ use Rattle.asp_core.proofs.Same.{sound_grown}
 
 -- ---- calls that read, and calls that write
 
-pub read_same : (state : AppState) (run : ℕ) (c : AppCall) → is_read c ≡ true → (apply state run c).0 ≡ state
-read_same state run (call.Get name) e = refl
-read_same state run call.Count e = refl
-read_same state run (call.KeyAt place) e = refl
-read_same state run call.Names e = refl
-read_same state run (call.Put name value) e = absurd cc
-read_same state run (call.Remove name) e = absurd cc
-read_same state run call.RemoveAll e = absurd cc
-read_same state run call.Lock e = absurd cc
-read_same state run call.Unlock e = absurd cc
-
-if_none : (b : Bool) (n : Option ℕ) → n ≡ None → (if b then None else n) ≡ None
-if_none true n e = refl
-if_none false n e = e
-
-pub read_free : (state : AppState) (run : ℕ) (c : AppCall) → is_read c ≡ true → blocker_of state run c ≡ None
-read_free state run (call.Get name) e = if_none (has_lock run state) None refl
-read_free state run call.Count e = if_none (has_lock run state) None refl
-read_free state run (call.KeyAt place) e = if_none (has_lock run state) None refl
-read_free state run call.Names e = if_none (has_lock run state) None refl
-read_free state run (call.Put name value) e = absurd cc
-read_free state run (call.Remove name) e = absurd cc
-read_free state run call.RemoveAll e = absurd cc
-read_free state run call.Lock e = absurd cc
-read_free state run call.Unlock e = absurd cc
+pub read_same : (object : AppView) (run : ℕ) (c : AppCall) → is_read c ≡ true →
+    with_state object (apply object.state run c).0 ≡ object
+read_same object run (call.Get name) e = refl
+read_same object run call.Count e = refl
+read_same object run (call.KeyAt place) e = refl
+read_same object run call.Names e = refl
+read_same object run (call.Put name value) e = absurd cc
+read_same object run (call.Remove name) e = absurd cc
+read_same object run call.RemoveAll e = absurd cc
+read_same object run call.Lock e = absurd cc
+read_same object run call.Unlock e = absurd cc
 
 abbrev filled_if : Bool → AppState → AppState → AppState × AppReply
 filled_if full state other = if full then (state, reply.Full) else (other, reply.Done)
@@ -115,22 +102,21 @@ short_much past lane run full c r short much =
       much = much.much;
     }
 
--- of calls that read, and of those that write
-pub ruleset of_reads = (read_same, read_free)
-
+-- of calls that write
 pub ruleset of_writes = (write_short, short_within, short_much)
 
 -- ---- the entry of a call
 
-kept_call : (m : Rules) (past : List Entry) (account : Account) (held : AppState)
+kept_call : (m : Rules) (past : List Entry) (account : Account) (held : AppView)
     (answers : List (ℕ × Answer)) (lane run : ℕ) (c : AppCall) → IsKept m past account held answers →
-    IsRunning past lane run → m.meaning.does (told m past run) ≡ Wants c → blocker_of held run c ≡ None →
-    IsAppCall c → IsReply (apply held run c).1 →
-    IsKept m (call_entry past lane run c ∷ past) account (apply held run c).0 answers
+    IsRunning past lane run → m.meaning.does (told m past run) ≡ Wants c →
+    blocker_of held.strict held.state run c ≡ None → IsAppCall c → IsReply (apply held.state run c).1 →
+    IsKept m (call_entry past lane run c ∷ past) account (with_state held (apply held.state run c).0) answers
 kept_call m past account held answers lane run c kept running wants free asks replied =
     let entry = call_entry past lane run c in
     let turn = may_follow m past entry kept.sessions.journal.settled running in
-    let free_now : blocker_of (held_by past) run c ≡ None = ap (λ h. blocker_of h run c) (sym kept.held_is) ∙ free in
+    let free_now : blocker_of m.strict (held_by past) run c ≡ None =
+    ap (λ (h : AppView). blocker_of h.strict h.state run c) (sym kept.held_is) ∙ free in
     record {
       sessions = record {
         journal = record {
@@ -139,10 +125,10 @@ kept_call m past account held answers lane run c kept running wants free asks re
         };
         account_is = kept.sessions.account_is;
       };
-      held_is = ap (λ h. (apply h run c).0) kept.held_is;
+      held_is = ap (λ (h : AppView). with_state h (apply h.state run c).0) kept.held_is;
       answers_are = kept.answers_are;
       answered = (tt, kept.answered);
-      formed = ((asks, subst (λ h. IsReply (apply h run c).1) kept.held_is replied), kept.formed);
+      formed = ((asks, subst (λ (h : AppView). IsReply (apply h.state run c).1) kept.held_is replied), kept.formed);
     }
 
 -- what a run was told after a reply
@@ -156,8 +142,8 @@ called_told m past lane run c =
 
 -- the journal grows by the entry of the call
 pub call_grown : {Site State : Type 0} → (stands : Site → State → Told → ℕ → Type 0) (lane : ℕ) (old : BookView)
-    (held : AppState) (run : RunView State) (new : BookView) (then_held : AppState) (then_run : RunView State) →
-    held ≡ held_by (past_in old) → (has : HasCalled stands lane old held run new then_held then_run) →
+    (held : AppView) (run : RunView State) (new : BookView) (then_held : AppView) (then_run : RunView State) →
+    held.state ≡ held_by (past_in old) → (has : HasCalled stands lane old held run new then_held then_run) →
     new.items ≡ old.items ++ call_entry (past_in old) lane run.number has.call ∷ []
 call_grown stands lane old held run new then_held then_run held_is has =
     has.grows.0.0
@@ -169,7 +155,7 @@ MeansIt m past run = (c : AppCall) → wanted_by run.progress ≡ Some c → m.m
 
 -- what a core keeps after the call
 pub sound_called : {Site State : Type 0} → (m : Rules) (stands : Site → State → Told → ℕ → Type 0) (lane : ℕ)
-    (old new : BookView) (account : Account) (held then_held : AppState) (fail : Option Fail)
+    (old new : BookView) (account : Account) (held then_held : AppView) (fail : Option Fail)
     (run then_run : RunView State) → IsSound m (past_in old) account held old.answers fail →
     IsRunning (past_in old) lane run.number → MeansIt m (past_in old) run →
     HasCalled stands lane old held run new then_held then_run →
@@ -177,9 +163,10 @@ pub sound_called : {Site State : Type 0} → (m : Rules) (stands : Site → Stat
 sound_called m stands lane old new account held then_held fail run then_run sound running means has =
     let past = past_in old in
     let entry = call_entry past lane run.number has.call in
-    let made = call_grown stands lane old held run new then_held then_run sound.0.held_is has in
+    let made = call_grown stands lane old held run new then_held then_run
+    (ap (λ (h : AppView). h.state) sound.0.held_is) has in
     let of : past_in new ≡ entry ∷ past = ap reverse made ∙ past_push old.items entry in
-    let all : IsKept m (entry ∷ past) account (apply held run.number has.call).0 old.answers =
+    let all : IsKept m (entry ∷ past) account (with_state held (apply held.state run.number has.call).0) old.answers =
     kept_call m past account held old.answers lane run.number has.call sound.0 running
     (means has.call has.wanted) has.free has.asks has.replied in
     sound_grown m old new _ account then_held fail has.grows (rw (of, has.held_is) all)
@@ -243,9 +230,10 @@ run_called meaning stands core lane run then_run next c answer is wants made rep
 -- ---- a call that does not fit
 
 -- a call that has no room now has not fitted
-not_fit_now : (past : List Entry) (lane run : ℕ) (c : AppCall) → HasNoRoom past lane run c → HasNotFit past lane run c
-not_fit_now [] lane run c h = h
-not_fit_now (entry ∷ past) lane run c h = inl h
+not_fit_now : (strict : Bool) (past : List Entry) (lane run : ℕ) (c : AppCall) → HasNoRoom strict past lane run c →
+    HasNotFit strict past lane run c
+not_fit_now strict [] lane run c h = h
+not_fit_now strict (entry ∷ past) lane run c h = inl h
 
 too_much : (past : List Entry) (full : Full) → IsTooMuch past full →
     (MOST_ENTRIES < load past) ⊎ (MOST_WEIGHT < weight_load past)
@@ -254,17 +242,18 @@ too_much past full is = elim is.much [
   | inr heavy ↦ (let same = is.weight_is in inr (omega arith))
 ]
 
-pub not_fit : (m : Rules) (past : List Entry) (account : Account) (held : AppState)
+pub not_fit : (m : Rules) (past : List Entry) (account : Account) (held : AppView)
     (answers : List (ℕ × Answer)) (lane run : ℕ) (full : Full) (c : AppCall) →
-    IsKept m past account held answers → blocker_of held run c ≡ None →
-    IsTooMuch (with_lane lane (App run c (apply held run c).1) ∷ past) full →
-    IsTooMuch (call_entry past lane run c ∷ past) full × HasNotFit past lane run c
+    IsKept m past account held answers → blocker_of held.strict held.state run c ≡ None →
+    IsTooMuch (with_lane lane (App run c (apply held.state run c).1) ∷ past) full →
+    IsTooMuch (call_entry past lane run c ∷ past) full × HasNotFit m.strict past lane run c
 not_fit m past account held answers lane run full c kept free much =
     let here : IsTooMuch (call_entry past lane run c ∷ past) full =
-    subst (λ h. IsTooMuch (with_lane lane (App run c (apply h run c).1) ∷ past) full) kept.held_is much in (
+    subst (λ (h : AppView). IsTooMuch (with_lane lane (App run c (apply h.state run c).1) ∷ past) full)
+    kept.held_is much in (
       here,
-      not_fit_now past lane run c (record {
-        free = ap (λ h. blocker_of h run c) (sym kept.held_is) ∙ free;
+      not_fit_now m.strict past lane run c (record {
+        free = ap (λ (h : AppView). blocker_of h.strict h.state run c) (sym kept.held_is) ∙ free;
         overfull = too_much (call_entry past lane run c ∷ past) full here;
       }),
     )

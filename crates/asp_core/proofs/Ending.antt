@@ -16,7 +16,8 @@ use Rattle.asp_core.specs.declared.ends.Left.{Left}
 use Rattle.asp_core.specs.declared.run.Progress.{Progress}
 use Rattle.asp_core.specs.declared.run.Progress.TheVariants as progress
 use Rattle.asp_core.specs.declared.run.StandIns.{StandIns}
-use Rattle.asp_job.specs.Application.{AppState, freed}
+use Rattle.asp_job.specs.Application.{freed}
+use Rattle.asp_app.specs.View.{AppView, with_state}
 use Rattle.asp_job.specs.History.{with_lane}
 use Rattle.asp_job.specs.Journal.{AreRight, MayEnd, end_entry}
 use Rattle.asp_job.specs.Keys.{session_left, told}
@@ -125,7 +126,7 @@ stands_wants progress.Dead Stands outcome call w s = absurd cc
 
 pub ending : {State : Type 0} → (m : Meaning) (setting : Setting) (past : List Entry) (lane : ℕ) (run : RunView State)
     (Stands : ℕ → Type 0) (kind : EndKind) (finished : Option Finished) → let rules = rules_by m setting in
-    IsEndOf past lane run kind → StandsAt run.progress Stands (m.does (told rules past run.number))
+    IsEndOf setting.strict past lane run kind → StandsAt run.progress Stands (m.does (told rules past run.number))
     → (run.progress ≡ progress.Ended → (spent : ℕ) → Stands spent → IsFinish Over finished (told rules past run.number)
     (m.does (told rules past run.number))) → run.stand_ins ≡ stand_ins (job_of past run.number).work
     → IsEnding rules past lane run.number kind (left_of kind finished run.stand_ins)
@@ -167,7 +168,7 @@ ending m setting past lane run Stands how.JournalFull finished of s told_at ins 
 pub ending_of : {R Site State : Type 0} → (meaning : R → Site → Meaning)
     (stands : R → Site → State → Told → ℕ → Type 0) (core old : CoreView R Site) (lane : ℕ) (run : RunView State)
     (kind : EndKind) (finished : Option Finished) (left : Left) → old ≡ core → IsRunOf meaning stands core lane run
-    → IsEndOf (past_of core) lane run kind
+    → IsEndOf core.setting.strict (past_of core) lane run kind
     → (run.progress ≡ progress.Ended → (t : Told) (spent : ℕ) → stands core.runner core.site run.state t spent
     → IsFinish Over finished t ((meaning core.runner core.site).does t)) → left ≡ left_of kind finished run.stand_ins
     → IsRunning (past_of old) lane run.number
@@ -217,10 +218,10 @@ left_may how.JournalFull session after may e one is = absurd (let both : Kept �
 
 -- ---- the End
 
-kept_end : (m : Rules) (past : List Entry) (account : Account) (held : AppState)
+kept_end : (m : Rules) (past : List Entry) (account : Account) (held : AppView)
     (answers : List (ℕ × Answer)) (lane run : ℕ) (kind : EndKind) (left : Left) → IsKept m past account held answers
     → IsRunning past lane run → IsEnding m past lane run kind left → IsKept m (end_entry m past lane run kind ∷ past)
-    (account_ended (key_of past run) (after_of kind left.session) account) (freed run held)
+    (account_ended (key_of past run) (after_of kind left.session) account) (with_state held (freed run held.state))
     (with_answer answers run left.answer)
 kept_end m past account held answers lane run kind left kept running is =
     let entry = end_entry m past lane run kind in
@@ -233,7 +234,7 @@ kept_end m past account held answers lane run kind left kept running is =
             entries = (record { turn = turn; legal = tt; follows = (is.may, refl) }, kept.sessions.journal.entries);
             settled = refl;
           }) (ended_is m past run kind left.session account is.session_is);
-      held_is = ap (freed run) kept.held_is;
+      held_is = ap (λ (h : AppView). with_state h (freed run h.state)) kept.held_is;
       answers_are = ap (λ list. with_answer list run left.answer) kept.answers_are ∙ ap (with_answer (ready m past) run)
           is.answer_is;
       answered = (is.answered, kept.answered);
@@ -260,7 +261,7 @@ end_grown m journal next lane run kind left is e = e ∙ ap (λ what. journal ++
     (end_is m (reverse journal) lane run kind left is)
 
 -- what a core keeps after the End
-pub sound_end : (m : Rules) (old new : BookView) (account then_account : Account) (held : AppState)
+pub sound_end : (m : Rules) (old new : BookView) (account then_account : Account) (held : AppView)
     (before then_fail : Option Fail) (lane run : ℕ) (kind : EndKind) (left : Left)
     → IsSound m (past_in old) account held old.answers before → IsRunning (past_in old) lane run
     → IsEnding m (past_in old) lane run kind left
@@ -268,7 +269,7 @@ pub sound_end : (m : Rules) (old new : BookView) (account then_account : Account
     → new.answers ≡ with_answer old.answers run left.answer
     → then_account ≡ account_ended (key_of (past_in old) run) (after_of kind left.session) account
     → then_fail ≡ fail_after before run left.fail
-    → IsSound m (past_in new) then_account (freed run held) new.answers then_fail
+    → IsSound m (past_in new) then_account (with_state held (freed run held.state)) new.answers then_fail
 sound_end m old new account then_account held before then_fail lane run kind left sound running is e added ended after =
     let past = past_in old in
     let entry = end_entry m past lane run kind in

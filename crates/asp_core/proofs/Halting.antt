@@ -3,7 +3,7 @@ use Rattle.std.proofs.Common.{◌≡◌, ℕ, true, false, if◌then◌else◌, 
 use Rattle.std.proofs.Common.{reverse, refl, ap, ◌∙◌, arith}
 use Rattle.asp_core.specs.Book.{Adds, BookView, HasRoomFor, IsSound, past_in}
 use Rattle.asp_core.specs.Kernel.{IsKept, IsWithin, halts_to_come}
-use Rattle.asp_job.specs.Application.{AppState}
+use Rattle.asp_app.specs.View.{AppView}
 use Rattle.asp_job.specs.History.{with_lane}
 use Rattle.asp_job.specs.Rules.{Rules}
 use Rattle.asp_job.specs.Runs.{is_halted}
@@ -15,7 +15,7 @@ use Rattle.asp_session.specs.Account.{Account}
 use Rattle.asp_journal.proofs.Past.{past_push}
 use Rattle.asp_core.proofs.Kept.{kept_quiet, may_follow}
 
-kept_halt : (m : Rules) (past : List Entry) (account : Account) (held : AppState)
+kept_halt : (m : Rules) (past : List Entry) (account : Account) (held : AppView)
     (answers : List (ℕ × Answer)) (lane : ℕ) → IsKept m past account held answers → is_halted past ≡ false
     → IsKept m (with_lane lane Halt ∷ past) account held answers
 kept_halt m past account held answers lane kept going =
@@ -52,7 +52,7 @@ halt_roomy book lane going =
     (omega arith, omega arith)
 
 -- a journal with a Halt is kept
-pub sound_halt : (m : Rules) (old new : BookView) (account : Account) (held : AppState) (fail : Option Fail) (lane : ℕ)
+pub sound_halt : (m : Rules) (old new : BookView) (account : Account) (held : AppView) (fail : Option Fail) (lane : ℕ)
     → IsSound m (past_in old) account held old.answers fail → is_halted (past_in old) ≡ false
     → Adds old (with_lane lane Halt ∷ []) new → IsSound m (past_in new) account held new.answers fail
 sound_halt m old new account held fail lane sound going adds =

@@ -13,7 +13,7 @@ use Rattle.asp_core.specs.Ready.{IsAnswered, asked_by, collect_stop, ended_stop,
 use Rattle.asp_core.specs.Waits.{AreOnce, HasNone, waits}
 use Rattle.asp_core.specs.declared.stop.CollectStop.TheVariants.{Foreign}
 use Rattle.asp_job.specs.declared.answer.Fail.{Fail}
-use Rattle.asp_job.specs.Application.{AppState}
+use Rattle.asp_app.specs.View.{AppView}
 use Rattle.asp_job.specs.History.{with_lane}
 use Rattle.asp_job.specs.Journal.{AreRight}
 use Rattle.asp_job.specs.Output.{answer_of_run}
@@ -218,7 +218,7 @@ first_is m past lane run answer answers right answered is e found =
 
 -- ---- the journal
 
-kept_take : (m : Rules) (past : List Entry) (account : Account) (held : AppState)
+kept_take : (m : Rules) (past : List Entry) (account : Account) (held : AppView)
     (answers : List (ℕ × Answer)) (lane run : ℕ) → IsKept m past account held answers → IsTake past lane run
     → IsKept m (with_lane lane (Take run) ∷ past) account held (remove_entry (nat_eq run) answers)
 kept_take m past account held answers lane run kept is =
@@ -241,7 +241,7 @@ kept_take m past account held answers lane run kept is =
     }
 
 -- a journal with a hand-out is kept
-pub sound_take : (m : Rules) (old new : BookView) (account : Account) (held : AppState) (fail : Option Fail)
+pub sound_take : (m : Rules) (old new : BookView) (account : Account) (held : AppView) (fail : Option Fail)
     (lane run : ℕ) → IsSound m (past_in old) account held old.answers fail → CanTake m (past_in old) lane run
     → new.items ≡ old.items ++ with_lane lane (Take run) ∷ [] → new.answers ≡ remove_entry (nat_eq run) old.answers
     → IsSound m (past_in new) account held new.answers fail

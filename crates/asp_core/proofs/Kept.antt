@@ -1,5 +1,5 @@
 -- What a Tick, a Stop and the runs that are then owed leave of a right journal.
-use Rattle.std.proofs.Common.{◌≡◌, ℕ, ◌+◌, ◌<◌, ◌≤◌, false, List, [], ◌∷◌, ◌++◌, reverse, refl, ap, sym, ◌∙◌}
+use Rattle.std.proofs.Common.{◌≡◌, ℕ, ◌+◌, ◌<◌, ◌≤◌, false, List, [], ◌∷◌, ◌++◌, reverse, refl, ap, sym, ◌∙◌, Bool}
 use Rattle.std.proofs.Common.{subst, arith, append_assoc, nat_lt, drop, inl, inr}
 use Rattle.std.proofs.lemmas.List.{reverse-append}
 use Rattle.std.proofs.lemmas.Bool.{lt-ltb, cases_lt}
@@ -7,6 +7,7 @@ use Rattle.asp_core.specs.Kernel.{AreWellFormed, IsKept, stopped_by, ticked}
 use Rattle.asp_core.specs.Ready.{ready, IsAnswered}
 use Rattle.asp_core.specs.Sessions.{IsAccountOf, account_closed, account_grown, sessions_in}
 use Rattle.asp_core.proofs.Growing.{account_tells, account_then, closed_is, stop_closing, tick_closing}
+use Rattle.asp_app.specs.View.{AppView}
 use Rattle.asp_job.specs.Application.{AppState}
 use Rattle.asp_job.specs.History.{held_by, with_lane}
 use Rattle.asp_job.specs.Journal.{AreRight, IsRight, IsValidJournal, past_after, queue_entries, stop_entries}
@@ -79,14 +80,18 @@ right_queue m past lane (first ∷ rest) right e has =
     right_queue m (with_lane lane (Queue (drawn past + 1) first.0 first.1) ∷ past) lane rest
     (queue_right m past lane first rest e has, right) (ap (drop 1) e) refl
 
+-- the object under a rule when it holds this
+abbrev object_by : Bool → AppState → AppView
+object_by strict state = record { strict = strict; state = state }
+
 -- what is kept says the same of a past that is quiet
-pub kept_quiet : (m : Rules) (old new : List Entry) (account then_account : Account) (held : AppState)
+pub kept_quiet : (m : Rules) (old new : List Entry) (account then_account : Account) (held : AppView)
     (answers : List (ℕ × Answer)) → IsKept m old account held answers → IsQuiet m old new
     → IsAccountOf m new then_account → IsKept m new then_account held answers
 kept_quiet m old new account then_account held answers kept quiet sessions =
     record {
       sessions = sessions;
-      held_is = kept.held_is ∙ sym quiet.held_is;
+      held_is = kept.held_is ∙ ap (λ (h : AppState). object_by m.strict h) (sym quiet.held_is);
       answers_are = kept.answers_are ∙ sym quiet.answers_are;
       answered = quiet.answered kept.answered;
       formed = quiet.formed kept.formed;
@@ -178,7 +183,7 @@ quiet_stop m past lane = quiet_owed m past (with_lane lane Stop)
       formed = λ s. (tt, s);
     })
 
-pub kept_tick : (m : Rules) (past : List Entry) (account : Account) (held : AppState) (answers : List (ℕ × Answer))
+pub kept_tick : (m : Rules) (past : List Entry) (account : Account) (held : AppView) (answers : List (ℕ × Answer))
     (lane moment : ℕ) → let entries = tick_entries m past lane moment in IsKept m past account held answers
     → IsKept m (past_after past entries) (account_grown m past entries account) held answers
 kept_tick m past account held answers lane moment kept =
@@ -194,7 +199,7 @@ pub grown_past : (journal next entries : List Entry) → next ≡ journal ++ ent
 grown_past journal next entries e = ap reverse e ∙ past_of_more journal entries
 
 -- what is kept of a journal that has these entries more
-kept_grown : (m : Rules) (journal next entries : List Entry) (account then_account : Account) (held : AppState)
+kept_grown : (m : Rules) (journal next entries : List Entry) (account then_account : Account) (held : AppView)
     (answers : List (ℕ × Answer)) → let past = reverse journal in IsKept m past account held answers
     → next ≡ journal ++ entries → then_account ≡ account_grown m past entries account
     → IsQuiet m past (past_after past entries) → IsValidJournal m (past_after past entries)
@@ -204,7 +209,7 @@ kept_grown m journal next entries account then_account held answers kept e grown
     rw (grown_past journal next entries e) (kept_quiet m past (past_after past entries) account then_account held answers
     kept quiet (account_then m past entries account then_account kept.sessions valid grown))
 
-pub kept_after_tick : (m : Rules) (journal next : List Entry) (account then_account : Account) (held : AppState)
+pub kept_after_tick : (m : Rules) (journal next : List Entry) (account then_account : Account) (held : AppView)
     (answers : List (ℕ × Answer)) (lane moment : ℕ) → let past = reverse journal in
     let entries = tick_entries m past lane moment in IsKept m past account held answers → next ≡ journal ++ entries
     → then_account ≡ account_grown m past entries account → IsKept m (reverse next) then_account held answers
@@ -213,7 +218,7 @@ kept_after_tick m journal next account then_account held answers lane moment kep
     kept_grown m journal next (tick_entries m past lane moment) account then_account held answers kept e grown
     (quiet_tick m past lane moment) (valid_tick m past lane moment kept.sessions.journal)
 
-pub kept_after_stop : (m : Rules) (journal next : List Entry) (account then_account : Account) (held : AppState)
+pub kept_after_stop : (m : Rules) (journal next : List Entry) (account then_account : Account) (held : AppView)
     (answers : List (ℕ × Answer)) (lane : ℕ) → let past = reverse journal in
     let entries = stop_entries m past lane in IsKept m past account held answers → is_stopping past ≡ false
     → next ≡ journal ++ entries → then_account ≡ account_grown m past entries account

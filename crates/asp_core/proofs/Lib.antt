@@ -54,3 +54,4 @@ pub mod Steps
 pub mod Stepping
 pub mod Finishing
 pub mod Owing
+pub mod Plain

@@ -3,7 +3,7 @@ use Rattle.std.proofs.Common.{◌≡◌, List, Result, Ok, Err, IfOk, OnOk, OnEr
 use Rattle.asp_job.specs.declared.answer.Fail.{Fail}
 use Rattle.asp_job.specs.declared.entry.Entry.{Entry}
 use Rattle.asp_session.specs.Account.{Account}
-use Rattle.asp_job.specs.Application.{AppState}
+use Rattle.asp_app.specs.View.{AppView}
 use Rattle.asp_job.specs.Rules.{Rules}
 use Rattle.asp_core.specs.Book.{BookView, Grows, IsSound, past_in}
 use Rattle.asp_core.specs.Kernel.{CoreView, IsKept}
@@ -11,7 +11,7 @@ use Rattle.asp_core.specs.Start.{start_fail}
 use Rattle.asp_core.specs.declared.setting.Setting.{Setting}
 
 -- what a core keeps where its journal grew and its answers stayed
-pub sound_grown : (m : Rules) (old new : BookView) (more : List Entry) (account : Account) (held : AppState)
+pub sound_grown : (m : Rules) (old new : BookView) (more : List Entry) (account : Account) (held : AppView)
     (fail : Option Fail) → Grows old more new → IsKept m (past_in new) account held old.answers
     → start_fail m (past_in new) ≡ start_fail m (past_in old) → fail ≡ start_fail m (past_in old)
     → IsSound m (past_in new) account held new.answers fail
@@ -20,7 +20,7 @@ sound_grown m old new more account held fail grows kept same is =
 
 -- what it keeps where the call may have been refused
 pub sound_either : {T E : Type 0} → (result : Result T E) (m : Rules) (old new : BookView)
-    (account then_account : Account) (held then_held : AppState) (fail : Option Fail)
+    (account then_account : Account) (held then_held : AppView) (fail : Option Fail)
     → IsSound m (past_in old) account held old.answers fail
     → OnOk result (IsSound m (past_in new) then_account then_held new.answers fail)
     → OnErr result (((new.items ≡ old.items) × (new.answers ≡ old.answers)) × (then_account ≡ account)

@@ -3,9 +3,9 @@ use Rattle.std.specs.Prelude.{◌≡◌, ℕ, ◌+◌, ◌*◌, ◌-◌, ◌≤�
 use Rattle.asp_job.specs.declared.answer.Answer.{Answer}
 use Rattle.asp_job.specs.declared.answer.Fail.{Fail}
 use Rattle.asp_job.specs.declared.entry.Entry.{Entry}
-use Rattle.asp_job.specs.Application.{AppState}
 use Rattle.asp_job.specs.Rules.{Rules}
 use Rattle.asp_job.specs.Runs.{unfinished}
+use Rattle.asp_app.specs.View.{AppView}
 use Rattle.asp_journal.specs.View.{JournalView}
 use Rattle.asp_session.specs.Account.{Account}
 use Rattle.asp_core.specs.Kernel.{IsKept, IsWithin, halts_to_come, to_come}
@@ -68,6 +68,6 @@ Grows old entries new = Adds old entries new × IsWithin (past_in new)
 -- ---- what a core keeps
 
 -- all of it is what the journal says
-abbrev pub IsSound : Rules → List Entry → Account → AppState → List (ℕ × Answer) → Option Fail → Type 0
+abbrev pub IsSound : Rules → List Entry → Account → AppView → List (ℕ × Answer) → Option Fail → Type 0
 IsSound rules past account held answers fail =
     IsKept rules past account held answers × IsWithin past × (fail ≡ start_fail rules past)

@@ -18,7 +18,7 @@ use Rattle.asp_job.specs.declared.request.Request.{Request}
 use Rattle.asp_job.specs.declared.runner.Step.{Step}
 use Rattle.asp_job.specs.declared.runner.Step.TheVariants as step
 use Rattle.asp_job.specs.declared.session.SessionState.{SessionState}
-use Rattle.asp_job.specs.Application.{AppState, blocker_of}
+use Rattle.asp_job.specs.Application.{blocker_of}
 use Rattle.asp_job.specs.Calls.{IsAppCall, IsReply}
 use Rattle.asp_job.specs.History.{held_by, load, weight_load, call_entry, with_lane, HasNotFit}
 use Rattle.asp_job.specs.Journal.{queue_entries, begin_entry}
@@ -33,6 +33,7 @@ use Rattle.asp_job.specs.Turns.{IsRunning, IsNextRun, IsBegin, may_begin, serial
 use Rattle.asp_journal.specs.declared.full.Full.{Full}
 use Rattle.asp_response.specs.declared.fixed.Unavailable.TheVariants as cause
 use Rattle.asp_response.specs.Fixed.{unavailable_of}
+use Rattle.asp_app.specs.View.{AppView}
 use Rattle.asp_session.specs.Account.{Account}
 use Rattle.asp_session.specs.Letters.{letters_of}
 use Rattle.asp_core.specs.Cookie.{cookie_key_in}
@@ -116,12 +117,16 @@ AreWellFormed (entry ∷ past) = IsWellFormed entry.what × AreWellFormed past
 abbrev pub IsSessionIn : Option SessionState → Type 0
 IsSessionIn session = IfSome session IsSession
 
+-- the Application object: its rule is that of the journal, and it holds what the journal says
+abbrev pub object_of : Rules → List Entry → AppView
+object_of rules past = record { strict = rules.strict; state = held_by past }
+
 -- The journal is valid, and its entries are well formed. The account of the session keys, the Application object and
 -- the answers that wait are what it says.
-pub record IsKept (rules : Rules) (past : List Entry) (account : Account) (held : AppState)
+pub record IsKept (rules : Rules) (past : List Entry) (account : Account) (held : AppView)
     (answers : List (ℕ × Answer)) : Type 0 where
   pub sessions : IsAccountOf rules past account
-  pub held_is : held ≡ held_by past
+  pub held_is : held ≡ object_of rules past
   pub answers_are : answers ≡ ready rules past
   pub answered : IsAnswered rules past
   pub formed : AreWellFormed past
@@ -222,8 +227,10 @@ called core lane run =
     elim (wanted_by run.progress) [ Some call ↦ call_entry (past_of core) lane run.number call ∷ [] | None ↦ [] ]
 
 abbrev pub blocker : {R Site State : Type 0} → CoreView R Site → RunView State → Option ℕ
-blocker core run =
-    elim (wanted_by run.progress) [ Some call ↦ blocker_of (held_by (past_of core)) run.number call | None ↦ None ]
+blocker core run = elim (wanted_by run.progress) [
+  | Some call ↦ blocker_of core.setting.strict (held_by (past_of core)) run.number call
+  | None ↦ None
+]
 
 -- A run that may go on has a state that stands, with the ticks that it has spent, and does next what its meaning has.
 abbrev pub StandsAt : Progress → (ℕ → Type 0) → Outcome → Type 0
@@ -264,12 +271,12 @@ answer_left None = None
 answer_left (Some finished) = finished.answer
 
 -- at some point since the run's last entry, the entry of the call that it wants did not fit
-abbrev pub HasNotFitFor : {State : Type 0} → List Entry → ℕ → RunView State → Type 0
-HasNotFitFor past lane run = (call : AppCall) × (wanted_by run.progress ≡ Some call) × HasNotFit past lane run.number
-    call
+abbrev pub HasNotFitFor : {State : Type 0} → Bool → List Entry → ℕ → RunView State → Type 0
+HasNotFitFor strict past lane run =
+    (call : AppCall) × (wanted_by run.progress ≡ Some call) × HasNotFit strict past lane run.number call
 
 -- An End of this kind may come: the run has ended by itself, or at some point its call did not fit, or memory ran out.
-abbrev pub IsEndOf : {State : Type 0} → List Entry → ℕ → RunView State → EndKind → Type 0
-IsEndOf past lane run kind.Done = run.progress ≡ progress.Ended
-IsEndOf past lane run kind.Memory = Unit {0}
-IsEndOf past lane run kind.JournalFull = HasNotFitFor past lane run
+abbrev pub IsEndOf : {State : Type 0} → Bool → List Entry → ℕ → RunView State → EndKind → Type 0
+IsEndOf strict past lane run kind.Done = run.progress ≡ progress.Ended
+IsEndOf strict past lane run kind.Memory = Unit {0}
+IsEndOf strict past lane run kind.JournalFull = HasNotFitFor strict past lane run

@@ -40,11 +40,21 @@ is_release_of r (App run Unlock reply) = r == run
 is_release_of r (End run kind status size made finished) = r == run
 is_release_of r _ = false
 
--- the entry is a call of another run that the run's lock keeps out
-abbrev pub is_kept_out : ℕ → What → Bool
-is_kept_out r (App run call reply) = is_guarded call && not (r == run)
-is_kept_out r _ = false
+-- the entry is a call of another run that the run's lock keeps out under this rule
+abbrev pub is_kept_out : Bool → ℕ → What → Bool
+is_kept_out strict r (App run call reply) = is_guarded strict call && not (r == run)
+is_kept_out strict r _ = false
 
 abbrev pub NoneIs : (What → Bool) → List Entry → Type 0
 NoneIs test [] = Unit {0}
 NoneIs test (entry ∷ entries) = (test entry.what ≡ false) × NoneIs test entries
+
+-- the same rules but for the lock: readers wait for it, or not
+abbrev pub with_rule : Rules → Bool → Rules
+with_rule rules strict = record {
+  meaning = rules.meaning;
+  letters = rules.letters;
+  cookie_key = rules.cookie_key;
+  unavailable = rules.unavailable;
+  strict = strict;
+}

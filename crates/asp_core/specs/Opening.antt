@@ -5,7 +5,7 @@ use Rattle.asp_job.specs.declared.answer.Answer.{Answer}
 use Rattle.asp_job.specs.declared.entry.Entry.{Entry}
 use Rattle.asp_job.specs.declared.entry.TheConstants.{MOST_UNFINISHED}
 use Rattle.asp_job.specs.declared.session.SessionState.{SessionState}
-use Rattle.asp_job.specs.Application.{AppState}
+use Rattle.asp_app.specs.View.{AppView}
 use Rattle.asp_job.specs.Journal.{begin_entry}
 use Rattle.asp_job.specs.Keys as keys
 use Rattle.asp_job.specs.Rules.{Rules}
@@ -79,7 +79,7 @@ IsIdleWith answers past = NoneIsNext past ⊎ (MOST_BODIES < bodies_with_one ans
 
 -- what a run needs to begin: the parts of a core are those of its journal
 pub record CanBegin (rules : Rules) (past : List Entry) (account : Account) (answers : List (ℕ × Answer)) : Type 0 where
-  pub held : AppState
+  pub held : AppView
   pub kept : IsKept rules past account held answers
   pub within : IsWithin past
 

@@ -75,7 +75,7 @@ fn short_copy(reply: &AppReply) -> AppReply
 }
 
 /// The reply to a call that reads, twice.
-#[tactic(auto, using(crate::proofs::Calling::of_reads))]
+#[tactic(auto, using(crate::proofs::Calling::read_same))]
 fn read_reply(
     book: &mut Book,
     application: &mut Application,
@@ -85,11 +85,12 @@ fn read_reply(
 ) -> Result<(AppReply, AppReply), EventStop>
     requires call { IsAppCall call.now }
     requires read { spec.is_read call.now ≡ true }
+    requires free { object.blocker_of application.old.strict application.old.state run call.now ≡ None }
     ensures ok { IfOk result (spec.IsReplied book.new lane run call.now application.old application.new) }
     ensures stays { Stays book.old book.new }
     ensures err { OnErr result (application.new ≡ application.old) }
     ensures full { (full : Full) → result ≡ Err (EventStop.JournalFull full) → kernel.IsTooMuch
-        (history.with_lane lane (What.App run call.now (object.apply application.old run call.now).1)
+        (history.with_lane lane (What.App run call.now (object.apply application.old.state run call.now).1)
         ∷ past_in book.old) full }
 {
     let reply = match application.call(run, call) {
@@ -114,12 +115,12 @@ fn write_reply(
 ) -> Result<(AppReply, AppReply), EventStop>
     requires call { IsAppCall call.now }
     requires write { spec.is_read call.now ≡ false }
-    requires free { object.blocker_of application.old run call.now ≡ None }
+    requires free { object.blocker_of application.old.strict application.old.state run call.now ≡ None }
     ensures ok { IfOk result (spec.IsReplied book.new lane run call.now application.old application.new) }
     ensures stays { Stays book.old book.new }
     ensures err { OnErr result (application.new ≡ application.old) }
     ensures full { (full : Full) → result ≡ Err (EventStop.JournalFull full) → kernel.IsTooMuch
-        (history.with_lane lane (What.App run call.now (object.apply application.old run call.now).1)
+        (history.with_lane lane (What.App run call.now (object.apply application.old.state run call.now).1)
         ∷ past_in book.old) full }
 {
     room_for_call(book, lane, run, call, &AppReply::Done)?;
@@ -141,12 +142,12 @@ fn replies_to(
     call: &AppCall,
 ) -> Result<(AppReply, AppReply), EventStop>
     requires call { IsAppCall call.now }
-    requires free { object.blocker_of application.old run call.now ≡ None }
+    requires free { object.blocker_of application.old.strict application.old.state run call.now ≡ None }
     ensures ok { IfOk result (spec.IsReplied book.new lane run call.now application.old application.new) }
     ensures stays { Stays book.old book.new }
     ensures err { OnErr result (application.new ≡ application.old) }
     ensures full { (full : Full) → result ≡ Err (EventStop.JournalFull full) → kernel.IsTooMuch
-        (history.with_lane lane (What.App run call.now (object.apply application.old run call.now).1)
+        (history.with_lane lane (What.App run call.now (object.apply application.old.state run call.now).1)
         ∷ past_in book.old) full }
 {
     if is_read(call) {
@@ -213,7 +214,7 @@ impl<R: Runner> Core<R> {
             kernel.IsTooMuch (journals.past_after (kernel.past_of self.old) (kernel.called self.old lane run.old))
             full }
         ensures not_fit { (full : Full) → result ≡ Err (AppStepStop.JournalFull full) →
-            kernel.HasNotFitFor (kernel.past_of self.old) lane run.old }
+            kernel.HasNotFitFor self.old.setting.strict (kernel.past_of self.old) lane run.old }
         ensures err { OnErr result ((self.new ≡ self.old) × (run.new ≡ run.old)) }
     {
         make_call(

@@ -131,7 +131,7 @@ impl<R: Runner> Core<R> {
     pub fn end(&mut self, lane: u32, runner: &R, run: Run<R>, kind: EndKind) -> R::Store
         requires host { runner.now ≡ self.old.runner }
         requires run { kernel.IsRunOf R.meaning R.stands self.old lane run }
-        requires kind { kernel.IsEndOf (kernel.past_of self.old) lane run kind }
+        requires kind { kernel.IsEndOf self.old.setting.strict (kernel.past_of self.old) lane run kind }
         ensures { self.new ≡ kernel.grown self.old (journals.end_entry
             (kernel.rules_of R.meaning self.old) (kernel.past_of self.old) lane run.number kind ∷ []) }
     {

@@ -76,7 +76,7 @@ impl<R: Runner> Core<R> {
             kept: Tables {
                 book: Book::new(alloc, lane)?,
                 sessions: Sessions::new(alloc, seed),
-                application: Application::new(alloc),
+                application: Application::new(alloc, strict),
                 start_fail: None,
             },
             house: HouseOf {

@@ -25,6 +25,7 @@ ghost use Rattle.asp_core.specs.Alone.{alone};
 ghost use Rattle.asp_core.specs.Given.{AreOfFirst, AreOfLaneFirst, for_lane, given, handed, hands_out, made_by};
 ghost use Rattle.asp_core.specs.Kernel.{CoreView, IsRunOf, IsWithin, RunView, grown, past_of, rules_of};
 ghost use Rattle.asp_core.specs.Laws.{AreNoSteps, AreOfLane, AreOfOthers, RunStays, NoneIs, is_release_of, is_kept_out};
+ghost use Rattle.asp_core.specs.Laws.{with_rule};
 ghost use Rattle.asp_core.specs.Waits.{AreThose, hand_outs};
 ghost use Rattle.asp_core.specs.Ready.{ready};
 ghost use Rattle.asp_core.specs.Wanted.{AreWanted};
@@ -68,11 +69,18 @@ pub fn events_bear_lane()
     ensures stop { (rules : Rules) (past : List Entry) (lane : ℕ) → AreOfLane lane (stop_entries rules past lane) }
 {}
 
-/// While a run has the lock, no other run has a call that the lock keeps out: none writes, and none takes the lock.
+/// While a run has the lock, no other run has a call that the lock keeps out: none writes, and none takes the lock. Under
+/// the strict rule none has a call at all, but for `Unlock`.
 pub fn lock_holds()
     ensures { (rules : Rules) (past entries : List Entry) (run : ℕ) →
         AreRight rules (past_after past entries) → (held_by past).holder ≡ Some run →
-        NoneIs (is_release_of run) entries → NoneIs (is_kept_out run) entries }
+        NoneIs (is_release_of run) entries → NoneIs (is_kept_out rules.strict run) entries }
+{}
+
+/// A journal that is valid under the strict rule is valid under the plain one, whose lock keeps out fewer calls.
+pub fn strict_is_plain()
+    ensures { (rules : Rules) (past : List Entry) →
+        IsValidJournal (with_rule rules true) past → IsValidJournal (with_rule rules false) past }
 {}
 
 /// The answers that wait are those of the runs that have ended and were not handed out, each once.

@@ -35,7 +35,7 @@ pub use kernel::{Core, CoreOf};
 pub use laws::{
     account_steps, answer_stays, answers_in_order, answers_wait, calls_follow, end_fits,
     events_bear_lane, handed_out_once, holder_is_unfinished, lock_holds, run_stays, runs_stay,
-    sessions_apart, some_run_may_begin,
+    sessions_apart, some_run_may_begin, strict_is_plain,
 };
 pub use ready::{BODY_ROOM, MOST_BODIES};
 pub use run::{Progress, Run, StandIns};

@@ -6,6 +6,6 @@
 pub struct Setting {
     /// The letters of session keys are made of it.
     pub seed: [u8; 32],
-    /// Whether a Lock keeps readers out too. No call looks at it yet.
+    /// Whether a Lock keeps readers out too.
     pub strict: bool,
 }

@@ -99,7 +99,7 @@ abbrev blocked_of : {A : Type 0} → ℕ → Result A AppStepStop
 blocked_of holder = Err (app.Blocked holder)
 
 module _ {R Site State : Type 0} (rules : Rules) (lane : ℕ) (old new : CoreView R Site) (run : RunView State)
-    (wants : IsSome (wanted_by run.progress)) where
+    (wants : IsSome (wanted_by run.progress)) (same : old.setting.strict ≡ rules.strict) where
   abbrev the_call : AppCall
   the_call = (some_is (wanted_by run.progress) wants).0
 
@@ -112,11 +112,11 @@ module _ {R Site State : Type 0} (rules : Rules) (lane : ℕ) (old new : CoreVie
     | None ↦ []
   ]) is_wanted
 
-  holder_is : blocker old run ≡ blocker_of (held_by (past_of old)) run.number the_call
+  holder_is : blocker old run ≡ blocker_of rules.strict (held_by (past_of old)) run.number the_call
   holder_is = ap (λ (wanted : Option AppCall). elim wanted [
-    | Some call ↦ blocker_of (held_by (past_of old)) run.number call
+    | Some call ↦ blocker_of old.setting.strict (held_by (past_of old)) run.number call
     | None ↦ None
-  ]) is_wanted
+  ]) is_wanted ∙ ap (λ strict. blocker_of strict (held_by (past_of old)) run.number the_call) same
 
   pub call_made : new ≡ grown old (called old lane run) → blocker old run ≡ None
       → Steps rules lane run old.journal step.Called new.journal

@@ -1,5 +1,5 @@
 -- How a run begins, makes its call, and ends, in a turn of its lane. All of it is the product's own.
-use Rattle.std.specs.Prelude.{◌≡◌, ℕ, List, [], ◌∷◌, ◌++◌, reverse, Option, Some, None, Result, Ok, Err}
+use Rattle.std.specs.Prelude.{◌≡◌, ℕ, Bool, List, [], ◌∷◌, ◌++◌, reverse, Option, Some, None, Result, Ok, Err}
 use Rattle.vb_value.specs.declared.application.AppCall.{AppCall}
 use Rattle.asp_job.specs.declared.entry.EndKind.{EndKind}
 use Rattle.asp_job.specs.declared.entry.EndKind.TheVariants as kind
@@ -47,23 +47,23 @@ abbrev pub end_at : Progress → EndKind
 end_at progress.Ended = kind.Done
 end_at _ = kind.Memory
 
--- the run wants this call, which the lock of this run, if it is one, keeps out
-abbrev pub WantsFrom : {State : Type 0} → List Entry → RunView State → AppCall → Option ℕ → Type 0
-WantsFrom past run call holder =
-    (wanted_by run.progress ≡ Some call) × (blocker_of (held_by past) run.number call ≡ holder)
+-- the run wants this call, which the lock of this run, if it is one, keeps out under the rule
+abbrev pub WantsFrom : {State : Type 0} → Bool → List Entry → RunView State → AppCall → Option ℕ → Type 0
+WantsFrom strict past run call holder =
+    (wanted_by run.progress ≡ Some call) × (blocker_of strict (held_by past) run.number call ≡ holder)
 
 -- A step of a run that has paused: the call that it wants, where the lock lets it through; its End; nothing, where the
 -- lock of another run keeps its call out; or its End because the call, which the lock lets through, would be too much.
 abbrev pub Steps : {State : Type 0} → Rules → ℕ → RunView State → List Entry → Stepped → List Entry → Type 0
 Steps rules lane run before step.Called after =
-    (call : AppCall) × WantsFrom (reverse before) run call None
+    (call : AppCall) × WantsFrom rules.strict (reverse before) run call None
     × (after ≡ before ++ call_entry (reverse before) lane run.number call ∷ [])
 Steps rules lane run before step.Ended after =
     after ≡ before ++ end_entry rules (reverse before) lane run.number (end_at run.progress) ∷ []
 Steps rules lane run before (step.Blocked holder) after =
-    (call : AppCall) × WantsFrom (reverse before) run call (Some holder) × (after ≡ before)
+    (call : AppCall) × WantsFrom rules.strict (reverse before) run call (Some holder) × (after ≡ before)
 Steps rules lane run before (step.JournalFull full) after =
-    (call : AppCall) × WantsFrom (reverse before) run call None
+    (call : AppCall) × WantsFrom rules.strict (reverse before) run call None
     × IsTooMuch (call_entry (reverse before) lane run.number call ∷ reverse before) full
     × (after ≡ before ++ end_entry rules (reverse before) lane run.number kind.JournalFull ∷ [])
 

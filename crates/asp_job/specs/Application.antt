@@ -71,22 +71,27 @@ has_lock run state = option_map_or (λ holder. holder == run) state.holder false
 abbrev pub freed : ℕ → AppState → AppState
 freed run state = if has_lock run state then record state { holder = None } else state
 
--- whether the call is one that another run's lock keeps out: a write, or Lock
-abbrev pub is_guarded : AppCall → Bool
-is_guarded (call.Put name value) = true
-is_guarded (call.Remove name) = true
-is_guarded call.RemoveAll = true
-is_guarded call.Lock = true
-is_guarded _ = false
+-- Whether the call is one that another run's lock keeps out: a write and Lock always, a read under the strict rule, and
+-- Unlock never.
+abbrev pub is_guarded : Bool → AppCall → Bool
+is_guarded strict (call.Put name value) = true
+is_guarded strict (call.Remove name) = true
+is_guarded strict call.RemoveAll = true
+is_guarded strict call.Lock = true
+is_guarded strict (call.Get name) = strict
+is_guarded strict call.Count = strict
+is_guarded strict (call.KeyAt place) = strict
+is_guarded strict call.Names = strict
+is_guarded strict call.Unlock = false
 
--- the run whose lock keeps out a call of this run, if one does
-abbrev pub blocker_of : AppState → ℕ → AppCall → Option ℕ
-blocker_of state run call =
-    if has_lock run state then None else if is_guarded call then state.holder else None
+-- The run whose lock keeps out a call of this run, if one does. The run that has the lock is never kept out.
+abbrev pub blocker_of : Bool → AppState → ℕ → AppCall → Option ℕ
+blocker_of strict state run call =
+    if has_lock run state then None else if is_guarded strict call then state.holder else None
 
 -- another run has the lock, and it keeps the call out
-abbrev pub Blocks : AppState → ℕ → AppCall → Type 0
-Blocks state run call = IsSome (blocker_of state run call)
+abbrev pub Blocks : Bool → AppState → ℕ → AppCall → Type 0
+Blocks strict state run call = IsSome (blocker_of strict state run call)
 
 -- ---- calls
 

@@ -28,11 +28,11 @@ held_by (entry ∷ past) = elim entry.what [
   | _ ↦ held_by past
 ]
 
--- A call is let through by the lock, and its reply is that of the object at this place.
-abbrev pub IsLegal : List Entry → What → Type 0
-IsLegal past (App run call reply) =
-    (blocker_of (held_by past) run call ≡ None) × (reply ≡ (apply (held_by past) run call).1)
-IsLegal past _ = Unit {0}
+-- A call is let through by the lock under this rule, and its reply is that of the object at this place.
+abbrev pub IsLegal : Bool → List Entry → What → Type 0
+IsLegal strict past (App run call reply) =
+    (blocker_of strict (held_by past) run call ≡ None) × (reply ≡ (apply (held_by past) run call).1)
+IsLegal strict past _ = Unit {0}
 
 -- the calls of a run, in order
 abbrev pub calls_in : ℕ → What → List AppCall
@@ -137,14 +137,15 @@ run_in (App run call reply) = run
 run_in (End run kind status size made finished) = run
 run_in _ = 0
 
--- the call is let through by the lock, and its entry does not fit
-pub record HasNoRoom (past : List Entry) (lane run : ℕ) (call : AppCall) : Type 0 where
-  pub free : blocker_of (held_by past) run call ≡ None
+-- the call is let through by the lock under this rule, and its entry does not fit
+pub record HasNoRoom (strict : Bool) (past : List Entry) (lane run : ℕ) (call : AppCall) : Type 0 where
+  pub free : blocker_of strict (held_by past) run call ≡ None
   pub overfull :
       IsOverfull (load (call_entry past lane run call ∷ past)) (weight_load (call_entry past lane run call ∷ past))
 
 -- at some point since the run's last entry, the entry of this call did not fit
-abbrev pub HasNotFit : List Entry → ℕ → ℕ → AppCall → Type 0
-HasNotFit [] lane run call = HasNoRoom [] lane run call
-HasNotFit (entry ∷ past) lane run call =
-    HasNoRoom (entry ∷ past) lane run call ⊎ MatchBool (run_in entry.what == run) ⊥ (HasNotFit past lane run call)
+abbrev pub HasNotFit : Bool → List Entry → ℕ → ℕ → AppCall → Type 0
+HasNotFit strict [] lane run call = HasNoRoom strict [] lane run call
+HasNotFit strict (entry ∷ past) lane run call =
+    HasNoRoom strict (entry ∷ past) lane run call
+    ⊎ MatchBool (run_in entry.what == run) ⊥ (HasNotFit strict past lane run call)

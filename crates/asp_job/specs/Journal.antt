@@ -26,7 +26,7 @@ abbrev pub MayEnd : Rules → List Entry → ℕ → ℕ → EndKind → Type 0
 MayEnd rules past lane run kind.Done = (f : Finished) × (rules.meaning.does (told rules past run) ≡ Ends f)
 MayEnd rules past lane run kind.Memory = Unit {0}
 MayEnd rules past lane run kind.JournalFull =
-    (call : AppCall) × (rules.meaning.does (told rules past run) ≡ Wants call) × HasNotFit past lane run call
+    (call : AppCall) × (rules.meaning.does (told rules past run) ≡ Wants call) × HasNotFit rules.strict past lane run call
 
 -- A call is the one that the run's meaning wants. An end may come, and tells what the run leaves.
 abbrev pub FollowsMeaning : Rules → List Entry → ℕ → What → Type 0
@@ -40,7 +40,7 @@ FollowsMeaning rules past lane _ = Unit {0}
 -- the entry is right after these: it may come next, its call is legal, and its run follows its meaning
 pub record IsRight (rules : Rules) (past : List Entry) (entry : Entry) : Type 0 where
   pub turn : IsNext rules past entry
-  pub legal : IsLegal past entry.what
+  pub legal : IsLegal rules.strict past entry.what
   pub follows : FollowsMeaning rules past entry.lane entry.what
 
 -- each entry is right, given those before it; so is it in each beginning of such a journal

@@ -11,8 +11,8 @@ pub data Cause : Type 0 where
   JournalFull : Cause
 
 -- What the runs of the site do, and which jobs have a session; the letters of each session key; the key that the
--- session cookie of a request names, by its letters; the answers that stand in for a page's own; and whether a Lock keeps
--- readers out, which no definition reads yet.
+-- session cookie of a request names, by its letters; the answers that stand in for a page's own; and whether a Lock
+-- keeps readers out.
 pub record Rules : Type 0 where
   pub meaning : Meaning
   pub letters : ℕ → List ℕ

@@ -1,5 +1,5 @@
 -- What each turn leaves of a core.
-use Rattle.std.proofs.Common.{◌≡◌, ℕ, List, [], ◌∷◌, refl, ap, sym, ◌∙◌, subst, append-nil, inl, inr}
+use Rattle.std.proofs.Common.{◌≡◌, ℕ, Bool, List, [], ◌∷◌, refl, ap, sym, ◌∙◌, subst, append-nil, inl, inr}
 use Rattle.std.proofs.Common.{Option, Some, None, IsSome}
 use Rattle.vb_value.specs.declared.application.AppCall.{AppCall}
 use Rattle.asp_job.specs.declared.entry.EndKind.{EndKind}
@@ -246,8 +246,8 @@ module _ {R Site State : Type 0} (meaning : R → Site → Meaning) (stands : R 
           running = alone.is_of.running;
           call = call;
           wants = wants_so old lane run call alone.is_of wanted;
-          free = no_holder (blocker_of (held_by (past_of old)) run.number call)
-              (λ holder e. never_blocked (rules_of meaning old) (past_of old) run.number holder call right alone.alone e);
+          free = no_holder (blocker_of old.setting.strict (held_by (past_of old)) run.number call)
+              (λ holder e. never_blocked (rules_of meaning old) old.setting.strict (past_of old) run.number holder call right alone.alone e);
           much = too;
         },
         refl,
@@ -265,14 +265,14 @@ module _ {R Site State : Type 0} (meaning : R → Site → Meaning) (stands : R 
     fits = is.fits;
   }
 
-kept_out : (m : Rules) (past : List Entry) (run holder : ℕ) (wanted : Option AppCall) → AreRight m past
+kept_out : (m : Rules) (strict : Bool) (past : List Entry) (run holder : ℕ) (wanted : Option AppCall) → AreRight m past
     → unfinished past ≡ run ∷ []
-    → (elim wanted [ Some call ↦ blocker_of (held_by past) run call | None ↦ None ]) ≡ Some holder → ⊥
-kept_out m past run holder None right alone e = absurd cc
-kept_out m past run holder (Some call) right alone e = never_blocked m past run holder call right alone e
+    → (elim wanted [ Some call ↦ blocker_of strict (held_by past) run call | None ↦ None ]) ≡ Some holder → ⊥
+kept_out m strict past run holder None right alone e = absurd cc
+kept_out m strict past run holder (Some call) right alone e = never_blocked m strict past run holder call right alone e
 
 -- no lock keeps the call of the run in hand out
 pub not_kept_out : {R Site State : Type 0} → (m : Rules) (core : CoreView R Site) (run : RunView State) (holder : ℕ)
     → AreRight m (past_of core) → unfinished (past_of core) ≡ run.number ∷ [] → blocker core run ≡ Some holder → ⊥
 not_kept_out m core run holder right alone e =
-    kept_out m (past_of core) run.number holder (wanted_by run.progress) right alone e
+    kept_out m core.setting.strict (past_of core) run.number holder (wanted_by run.progress) right alone e

@@ -152,12 +152,12 @@ blocked_by true guarded holder r e = absurd cc
 blocked_by false true holder r e = (refl, e)
 blocked_by false false holder r e = absurd cc
 
--- no lock keeps a call of the only unfinished run out
-pub never_blocked : (m : Rules) (past : List Entry) (run holder : ℕ) (call : AppCall) → AreRight m past
-    → unfinished past ≡ run ∷ [] → blocker_of (held_by past) run call ≡ Some holder → ⊥
-never_blocked m past run holder call right alone e =
+-- no lock keeps a call of the only unfinished run out, under either rule
+pub never_blocked : (m : Rules) (strict : Bool) (past : List Entry) (run holder : ℕ) (call : AppCall) → AreRight m past
+    → unfinished past ≡ run ∷ [] → blocker_of strict (held_by past) run call ≡ Some holder → ⊥
+never_blocked m strict past run holder call right alone e =
     let held = held_by past in
-    let blocked = blocked_by (has_lock run held) (is_guarded call) held.holder holder e in
+    let blocked = blocked_by (has_lock run held) (is_guarded strict call) held.holder holder e in
     let holds : held.holder ≡ Some holder = blocked.1 in
     let without : has_lock run held ≡ false = blocked.0 in
     let same : holder ≡ run =

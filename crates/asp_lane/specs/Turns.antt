@@ -56,7 +56,7 @@ pub record IsCallTooMuch (rules : Rules) (past : List Entry) (lane run : ℕ) (f
   pub running : IsRunning past lane run
   pub call : AppCall
   pub wants : rules.meaning.does (told rules past run) ≡ Wants call
-  pub free : blocker_of (held_by past) run call ≡ None
+  pub free : blocker_of rules.strict (held_by past) run call ≡ None
   pub much : IsTooMuch (call_entry past lane run call ∷ past) full
 
 -- Where no run is in hand: the Begin of the next run; or nothing, where none is next, where that Begin does not fit, or

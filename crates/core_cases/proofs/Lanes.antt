@@ -269,6 +269,6 @@ module _ {R Site State : Type 0} (meaning : R → Site → Meaning) (stands : R 
       → (next ≡ core) × (new ≡ old) → IsRunOf meaning stands next lane new
   run_full next old new one same = rw (same.0, same.1) one
 
-  pub kind_full : (next : CoreView R Site) (old new : RunView State) → HasNotFitFor (past_of core) lane old
-      → (next ≡ core) × (new ≡ old) → HasNotFitFor (past_of next) lane new
+  pub kind_full : (next : CoreView R Site) (old new : RunView State) → HasNotFitFor core.setting.strict (past_of core) lane old
+      → (next ≡ core) × (new ≡ old) → HasNotFitFor next.setting.strict (past_of next) lane new
   kind_full next old new full same = rw (same.0, same.1) full

@@ -14,7 +14,11 @@ use std::str::Split;
 use word_runs::{AllWords, WordRunner, next, next_moment, next_number};
 
 /// Calls of a new core with a seed of noughts, with `; ` between them.
-pub struct Calls;
+#[derive(Drop)]
+pub struct Calls {
+    /// Whether its Lock keeps readers out too.
+    pub strict: bool,
+}
 
 /// Writes a line without its end.
 fn write_line(out: &mut Answer, line: &[u8]) {
@@ -186,9 +190,9 @@ fn write_call(out: &mut Answer, desk: &mut Desk<WordRunner>, written: &str) {
     }
 }
 
-fn write_calls(out: &mut Answer, calls: &str) {
+fn write_calls(out: &mut Answer, strict: bool, calls: &str) {
     let alloc = out.alloc();
-    match Desk::new(alloc, WordRunner { alloc }, AllWords) {
+    match Desk::new(alloc, WordRunner { alloc }, AllWords, strict) {
         Ok(mut desk) => {
             for written in calls.split("; ") {
                 write_call(out, &mut desk, written);
@@ -201,7 +205,7 @@ fn write_calls(out: &mut Answer, calls: &str) {
 impl Subject for Calls {
     fn answer(&self, case: &str, out: &mut Answer) {
         match read_text(out.alloc(), case) {
-            Ok(calls) => write_calls(out, calls.as_str()),
+            Ok(calls) => write_calls(out, self.strict, calls.as_str()),
             Err(stop) => out.stop(stop),
         }
     }

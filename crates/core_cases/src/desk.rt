@@ -128,10 +128,10 @@ where
     R::State: Drop,
     R::Store: Drop,
 {
-    /// A new core with a seed of noughts, and no runs.
-    pub fn new(alloc: Global, runner: R, site: R::Site) -> Result<Desk<R>, CaseStop> {
+    /// A new core with a seed of noughts and this rule of the lock, and no runs.
+    pub fn new(alloc: Global, runner: R, site: R::Site, strict: bool) -> Result<Desk<R>, CaseStop> {
         let runs = no_runs(alloc)?;
-        let core = Core::new(alloc, 0, &runner, &site, [0; 32], false)?;
+        let core = Core::new(alloc, 0, &runner, &site, [0; 32], strict)?;
         Ok(Desk {
             core,
             runner,

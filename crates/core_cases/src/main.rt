@@ -20,11 +20,14 @@ use std::io;
 use std::io::ErrorKind;
 
 fn main(rt: HostRuntime) -> io::Result<()> {
-    let calls = try_file(&rt, "calls.txt", &Calls)?;
-    let many = try_file(&rt, "many.txt", &Calls)?;
+    let plain = Calls { strict: false };
+    let calls = try_file(&rt, "calls.txt", &plain)?;
+    let many = try_file(&rt, "many.txt", &plain)?;
+    let locks = try_file(&rt, "locks.txt", &plain)?;
+    let strict = try_file(&rt, "strict.txt", &Calls { strict: true })?;
     let lines = try_file(&rt, "lines.txt", &Lines)?;
     let recordings = try_file(&rt, "recordings.txt", &Recordings)?;
-    if calls && many && lines && recordings {
+    if calls && many && locks && strict && lines && recordings {
         Ok(())
     } else {
         Err(ErrorKind::InvalidData.into())

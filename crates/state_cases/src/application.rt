@@ -7,19 +7,23 @@ use case_files::{Answer, CaseStop, Subject, read_text};
 use vb_value::{AppCall, AppReply, Text, Value};
 
 /// Calls of a new Application object, with `; ` between them, each with its reply.
-pub struct Applications;
+#[derive(Drop)]
+pub struct Applications {
+    /// Whether its lock keeps readers out too.
+    pub strict: bool,
+}
 
 impl Subject for Applications {
     fn answer(&self, case: &str, out: &mut Answer) {
         match read_text(out.alloc(), case) {
-            Ok(text) => write_calls(out, text.as_str()),
+            Ok(text) => write_calls(out, self.strict, text.as_str()),
             Err(stop) => out.stop(stop),
         }
     }
 }
 
-fn write_calls(out: &mut Answer, calls: &str) {
-    let mut application = Application::new(out.alloc());
+fn write_calls(out: &mut Answer, strict: bool, calls: &str) {
+    let mut application = Application::new(out.alloc(), strict);
     for call in calls.split("; ") {
         write_call(out, &mut application, call);
     }

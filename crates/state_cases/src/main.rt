@@ -16,8 +16,9 @@ use std::io::ErrorKind;
 fn main(rt: HostRuntime) -> io::Result<()> {
     let letters = try_file(&rt, "letters.txt", &Letters)?;
     let keys = try_file(&rt, "sessions.txt", &Keys)?;
-    let application = try_file(&rt, "application.txt", &Applications)?;
-    if letters && keys && application {
+    let application = try_file(&rt, "application.txt", &Applications { strict: false })?;
+    let strict = try_file(&rt, "strict.txt", &Applications { strict: true })?;
+    if letters && keys && application && strict {
         Ok(())
     } else {
         Err(ErrorKind::InvalidData.into())

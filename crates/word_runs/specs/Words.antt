@@ -69,7 +69,7 @@ first_place word = if has_session word then 2 else 1
 -- ---- calls
 
 -- what a letter calls: `l` and `u` lock and unlock, `n` counts, `c` takes all away, `g`, `p` and `r` get, put and remove
--- the name `a`
+-- the name `a`, `i` asks for the name at place 1, and `a` for all names
 abbrev pub call_of : ℕ → Option AppCall
 call_of letter =
     if letter == 108 then Some call.Lock
@@ -79,6 +79,8 @@ call_of letter =
     else if letter == 103 then Some (call.Get (97 ∷ []))
     else if letter == 112 then Some (call.Put (97 ∷ []) (Int (pos 1)))
     else if letter == 114 then Some (call.Remove (97 ∷ []))
+    else if letter == 105 then Some (call.KeyAt (pos 1))
+    else if letter == 97 then Some call.Names
     else None
 
 -- the call at a place, if a call's letter stands there

@@ -97,6 +97,10 @@ fn call_of(alloc: Global, letter: char) -> Result<Option<AppCall>, Memory>
         Ok(Some(AppCall::Put(name(alloc, 'a')?, Value::Int(1))))
     } else if letter == 'r' {
         Ok(Some(AppCall::Remove(name(alloc, 'a')?)))
+    } else if letter == 'i' {
+        Ok(Some(AppCall::KeyAt(1)))
+    } else if letter == 'a' {
+        Ok(Some(AppCall::Names))
     } else {
         Ok(None)
     }

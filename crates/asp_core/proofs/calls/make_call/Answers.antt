@@ -40,15 +40,15 @@ pub returns-in_err-reply-clause-full : goal.returns-in_err-reply-clause-full
 returns-in_err-reply-clause-full g c full e =
     let p = err_from_is_err_and c.from_residual.result c.from_residual.ensures.1 in
     let call = c.in-Some.call.now in
-    let free : blocker_of c.args.application.now c.number-number.result call ≡ None =
+    let free : blocker_of c.args.application.now.strict c.args.application.now.state c.number-number.result call ≡ None =
     sym c.blocker.ensures ∙ c.in_default-blocker.is in
     let same = full_told c.in_err-reply.field-0.0 p.0 full p.2 (sym p.1 ∙ e) in
     let much = c.in_err-reply.ensures.full full (ap Err same) in
     record {
       call = call;
       wanted = sym c.in-Some.ensures.wanted;
-      free = subst (λ n. blocker_of c.args.application.now n call ≡ None) c.number-number.ensures free;
-      much = subst (λ n. IsTooMuch (with_lane c.args.lane (App n call (apply c.args.application.now n call).1)
+      free = subst (λ n. blocker_of c.args.application.now.strict c.args.application.now.state n call ≡ None) c.number-number.ensures free;
+      much = subst (λ n. IsTooMuch (with_lane c.args.lane (App n call (apply c.args.application.now.state n call).1)
           ∷ past_in c.args.book.now) full) c.number-number.ensures much;
     }
 

@@ -1,5 +1,5 @@
 use Rattle.std.proofs.Common.{◌≡◌, ◌↔◌, Some, None, Err, OnOk, ap, refl, sym, subst, ◌∙◌}
-use Rattle.asp_job.specs.Application.{AppState}
+use Rattle.asp_app.specs.View.{AppView}
 use Rattle.asp_job.specs.Journal.{past_after}
 use Rattle.asp_core.specs.Calling.{blocker_by}
 use Rattle.asp_core.specs.Kernel.{CoreView, HasNotFitFor, IsRunOf, IsTooMuch, blocker, called, grown, past_of, rules_by}
@@ -41,7 +41,7 @@ returns-clause-ok g c =
     c.self.view_is in
     on_ok c.make_call.result _ _ (λ has. core_called house.runner.value house.site.value house.setting
     (g.R.Runner.stands house.runner.value) c.args.lane core.book core.application run c.make_call.new.book
-    c.make_call.new.application c.make_call.new.run c.self.invariant.0.held_is has ∙ old) ok
+    c.make_call.new.application c.make_call.new.run (ap (λ (h : AppView). h.state) c.self.invariant.0.held_is) has ∙ old) ok
 
 pub returns-clause-run : goal.returns-clause-run
 returns-clause-run g c =
@@ -56,7 +56,7 @@ returns-clause-run g c =
     let ok = rw runner at c.make_call.ensures.ok in
     on_ok c.make_call.result _ _ (λ has. run_of_called g.R.Runner.meaning g.R.Runner.stands house.runner.value
     house.site.value house.setting c.args.lane core.book core.application run c.make_call.new.book
-    c.make_call.new.application c.make_call.new.run c.self.invariant.0.held_is is has) ok
+    c.make_call.new.application c.make_call.new.run (ap (λ (h : AppView). h.state) c.self.invariant.0.held_is) is has) ok
 
 pub returns-clause-going : goal.returns-clause-going
 returns-clause-going g c =
@@ -67,7 +67,7 @@ returns-clause-free g c =
     let core = c.self.inside.kept in
     let run = c.args.run.now in
     subst (λ (v : CoreView g.row.R.Denot g.row.R-Site.Denot). OnOk c.make_call.result (blocker v run ≡ None))
-    c.self.view_is (on_ok c.make_call.result _ _ (λ has. subst (λ (h : AppState). blocker_by h run ≡ None)
+    c.self.view_is (on_ok c.make_call.result _ _ (λ has. subst (λ (h : AppView). blocker_by h run ≡ None)
     c.self.invariant.0.held_is (free_called (g.R.Runner.stands c.args.runner.now) c.args.lane core.book
     core.application run c.make_call.new.book c.make_call.new.application c.make_call.new.run has))
     c.make_call.ensures.ok)
@@ -77,7 +77,7 @@ returns-clause-blocked g c holder =
     let run = c.args.run.now in
     subst (λ (v : CoreView g.row.R.Denot g.row.R-Site.Denot).
     (c.make_call.result ≡ Err (step.Blocked holder)) ↔ (blocker v run ≡ Some holder)) c.self.view_is
-    (subst (λ (h : AppState). (c.make_call.result ≡ Err (step.Blocked holder)) ↔ (blocker_by h run ≡ Some holder))
+    (subst (λ (h : AppView). (c.make_call.result ≡ Err (step.Blocked holder)) ↔ (blocker_by h run ≡ Some holder))
     c.self.invariant.0.held_is (c.make_call.ensures.blocked holder))
 
 pub returns-clause-full : goal.returns-clause-full
@@ -99,6 +99,7 @@ returns-clause-not_fit g c full e =
     let view = view_of house.runner.value house.site.value house.setting core.book.items in
     let m = rules_by (g.R.Runner.meaning house.runner.value house.site.value) house.setting in
     let run = c.args.run.now in
-    subst (λ (v : CoreView g.row.R.Denot g.row.R-Site.Denot). HasNotFitFor (past_of v) c.args.lane run) c.self.view_is
+    subst (λ (v : CoreView g.row.R.Denot g.row.R-Site.Denot). HasNotFitFor v.setting.strict (past_of v) c.args.lane run)
+    c.self.view_is
     (full_called m view core.sessions.account core.application core.book.answers c.args.lane run full
     c.self.invariant.0 (c.make_call.ensures.full full e)).1

@@ -10,7 +10,7 @@ returns-in-Ok-clause-turn g c =
     let e = c.app_step.ensures in
     let core = c.args.self.now.core in
     call_made (rules_of g.R.Runner.meaning core) c.args.lane core c.app_step.new.self c.args.run c.requires.wants
-    (rw c.in-Ok.is at e.ok) (rw c.in-Ok.is at e.free)
+    refl (rw c.in-Ok.is at e.ok) (rw c.in-Ok.is at e.free)
 
 pub returns-in-Err-Blocked-clause-turn : goal.returns-in-Err-Blocked-clause-turn
 returns-in-Err-Blocked-clause-turn g c =
@@ -20,7 +20,7 @@ returns-in-Err-Blocked-clause-turn g c =
     c.in-Err-Blocked.is ∙ ap Err c.in-Err-Blocked.field-0-is in
     let err = rw is at e.err in
     call_blocked (rules_of g.R.Runner.meaning core) c.args.lane core c.app_step.new.self c.args.run c.requires.wants
-    c.in-Err-Blocked.holder err.0 ((e.blocked c.in-Err-Blocked.holder).0 is)
+    refl c.in-Err-Blocked.holder err.0 ((e.blocked c.in-Err-Blocked.holder).0 is)
 
 pub returns-in-Err-JournalFull-clause-turn : goal.returns-in-Err-JournalFull-clause-turn
 returns-in-Err-JournalFull-clause-turn g c =
@@ -31,7 +31,7 @@ returns-in-Err-JournalFull-clause-turn g c =
     c.in-Err-JournalFull.is ∙ ap Err c.in-Err-JournalFull.field-0-is in
     let err = rw is at e.err in
     call_too_much (rules_of g.R.Runner.meaning core) c.args.lane core c.end-store.new.self c.args.run c.requires.wants
-    c.app_step.result full e.blocked is (e.full full is)
+    refl c.app_step.result full e.blocked is (e.full full is)
     (ended_same g.R.Runner.meaning c.args.lane core c.app_step.new.self c.end-store.new.self c.args.run
     c.app_step.new.run kind.JournalFull err.0 err.1 c.end-store.ensures)
 
@@ -43,7 +43,7 @@ returns-in-Err-Memory-clause-turn g c =
     let is : c.app_step.result ≡ Err stop.Memory = dead.is ∙ ap Err dead.field-0-is in
     let err = rw is at e.err in
     call_dead (rules_of g.R.Runner.meaning core) c.args.lane core c.end-store-in-Err-Memory.new.self c.args.run
-    c.requires.wants
+    c.requires.wants refl
     (ended_same g.R.Runner.meaning c.args.lane core c.app_step.new.self c.end-store-in-Err-Memory.new.self c.args.run
     c.app_step.new.run kind.Memory err.0 err.1 c.end-store-in-Err-Memory.ensures)
 
