@@ -80,7 +80,16 @@ one_replay words site site' workers workers' journal journal' strict strict' say
     let behind : says.behind ≡ also.behind = cc in
     let sites : site ≡ site' = says.site_is ∙ (ap chars site_words ∙ sym also.site_is) in
     let one = same_options says.behind also.behind says.options also.options says.are_options also.are_options behind in
-    cc (sites, one, says.workers_are, also.workers_are, says.journal_is, also.journal_is, says.strict_is, also.strict_is)
+    cc (
+      sites,
+      one,
+      says.workers_are,
+      also.workers_are,
+      says.journal_is,
+      also.journal_is,
+      says.strict_is,
+      also.strict_is,
+    )
 
 one_serve : (words : List (List ℕ)) (site site' : List ℕ) (requests requests' workers workers' port port' : ℕ)
     (strict strict' : Bool) → SaysServe words site requests workers port strict
@@ -95,7 +104,17 @@ one_serve words site site' requests requests' workers workers' port port' strict
     let one = same_options says.behind also.behind says.options also.options says.are_options also.are_options behind in
     let asked : Some requests ≡ Some requests' = cc (one, says.requests_are, also.requests_are) in
     let counts : requests ≡ requests' = same_Some requests requests' asked in
-    cc (sites, one, counts, says.workers_are, also.workers_are, says.port_is, also.port_is)
+    cc (
+      sites,
+      one,
+      counts,
+      says.workers_are,
+      also.workers_are,
+      says.port_is,
+      also.port_is,
+      says.strict_is,
+      also.strict_is,
+    )
 
 one_gen : (words : List (List ℕ)) (count count' : ℕ) (journal journal' : Bool) → SaysGen words count journal
     → SaysGen words count' journal' → Gen count journal ≡ Gen count' journal'
