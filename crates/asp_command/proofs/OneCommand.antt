@@ -19,15 +19,15 @@ letter words = get_or (get_or words 0 []) 2 0
 abbrev letter_of : Command → ℕ
 letter_of (Get site path query) = 116
 letter_of (Check site) = 101
-letter_of (Replay site workers journal) = 112
-letter_of (Serve site requests workers port) = 114
+letter_of (Replay site workers journal strict) = 112
+letter_of (Serve site requests workers port strict) = 114
 letter_of (Gen count journal) = 110
 
 letter_is : (words : List (List ℕ)) (command : Command) → IsCommand words command → letter words ≡ letter_of command
 letter_is words (Get site path query) says = ap letter says.words_are
 letter_is words (Check site) says = ap letter says.words_are
-letter_is words (Replay site workers journal) says = ap letter says.words_are
-letter_is words (Serve site requests workers port) says = ap letter says.words_are
+letter_is words (Replay site workers journal strict) says = ap letter says.words_are
+letter_is words (Serve site requests workers port strict) says = ap letter says.words_are
 letter_is words (Gen count journal) says = ap letter says.words_are
 
 one_letter : (words : List (List ℕ)) (command other : Command) → IsCommand words command → IsCommand words other
@@ -69,22 +69,33 @@ same_options : (words rest : List (List ℕ)) (options other : Options) → AreO
 same_options words rest options other are also same =
     one_options words options other are (subst (λ (w : List (List ℕ)). AreOptions w other) (sym same) also)
 
-one_replay : (words : List (List ℕ)) (site site' : List ℕ) (workers workers' : ℕ) (journal journal' : Bool)
-    → SaysReplay words site workers journal → SaysReplay words site' workers' journal'
-    → Replay site workers journal ≡ Replay site' workers' journal'
-one_replay words site site' workers workers' journal journal' says also =
+one_replay : (words : List (List ℕ)) (site site' : List ℕ) (workers workers' : ℕ)
+    (journal journal' strict strict' : Bool) → SaysReplay words site workers journal strict
+    → SaysReplay words site' workers' journal' strict'
+    → Replay site workers journal strict ≡ Replay site' workers' journal' strict'
+one_replay words site site' workers workers' journal journal' strict strict' says also =
     let same : codes "replay" ∷ says.site_word ∷ says.behind ≡ codes "replay" ∷ also.site_word ∷ also.behind =
     sym says.words_are ∙ also.words_are in
     let site_words : says.site_word ≡ also.site_word = cc in
     let behind : says.behind ≡ also.behind = cc in
     let sites : site ≡ site' = says.site_is ∙ (ap chars site_words ∙ sym also.site_is) in
     let one = same_options says.behind also.behind says.options also.options says.are_options also.are_options behind in
-    cc (sites, one, says.workers_are, also.workers_are, says.journal_is, also.journal_is)
+    cc (
+      sites,
+      one,
+      says.workers_are,
+      also.workers_are,
+      says.journal_is,
+      also.journal_is,
+      says.strict_is,
+      also.strict_is,
+    )
 
 one_serve : (words : List (List ℕ)) (site site' : List ℕ) (requests requests' workers workers' port port' : ℕ)
-    → SaysServe words site requests workers port → SaysServe words site' requests' workers' port'
-    → Serve site requests workers port ≡ Serve site' requests' workers' port'
-one_serve words site site' requests requests' workers workers' port port' says also =
+    (strict strict' : Bool) → SaysServe words site requests workers port strict
+    → SaysServe words site' requests' workers' port' strict'
+    → Serve site requests workers port strict ≡ Serve site' requests' workers' port' strict'
+one_serve words site site' requests requests' workers workers' port port' strict strict' says also =
     let same : codes "serve" ∷ says.site_word ∷ says.behind ≡ codes "serve" ∷ also.site_word ∷ also.behind =
     sym says.words_are ∙ also.words_are in
     let site_words : says.site_word ≡ also.site_word = cc in
@@ -93,7 +104,17 @@ one_serve words site site' requests requests' workers workers' port port' says a
     let one = same_options says.behind also.behind says.options also.options says.are_options also.are_options behind in
     let asked : Some requests ≡ Some requests' = cc (one, says.requests_are, also.requests_are) in
     let counts : requests ≡ requests' = same_Some requests requests' asked in
-    cc (sites, one, counts, says.workers_are, also.workers_are, says.port_is, also.port_is)
+    cc (
+      sites,
+      one,
+      counts,
+      says.workers_are,
+      also.workers_are,
+      says.port_is,
+      also.port_is,
+      says.strict_is,
+      also.strict_is,
+    )
 
 one_gen : (words : List (List ℕ)) (count count' : ℕ) (journal journal' : Bool) → SaysGen words count journal
     → SaysGen words count' journal' → Gen count journal ≡ Gen count' journal'
@@ -112,10 +133,10 @@ pub one_command : (words : List (List ℕ)) (command other : Command) → IsComm
 one_command words (Get site path query) (Get site' path' query') says also =
     one_get words site path query site' path' query' says also
 one_command words (Check site) (Check site') says also = one_check words site site' says also
-one_command words (Replay site workers journal) (Replay site' workers' journal') says also =
-    one_replay words site site' workers workers' journal journal' says also
-one_command words (Serve site requests workers port) (Serve site' requests' workers' port') says also =
-    one_serve words site site' requests requests' workers workers' port port' says also
+one_command words (Replay site workers journal strict) (Replay site' workers' journal' strict') says also =
+    one_replay words site site' workers workers' journal journal' strict strict' says also
+one_command words (Serve site requests workers port strict) (Serve site' requests' workers' port' strict') says also =
+    one_serve words site site' requests requests' workers workers' port port' strict strict' says also
 one_command words (Gen count journal) (Gen count' journal') says also =
     one_gen words count count' journal journal' says also
 one_command words command other says also = absurd (omega (arith, one_letter words command other says also))

@@ -17,6 +17,7 @@ letter words = get_or (get_or words 0 []) 2 0
 
 abbrev letter_of : Said → ℕ
 letter_of said.Journal = 106
+letter_of said.StrictLock = 115
 letter_of (said.Workers number) = 119
 letter_of (said.Requests number) = 114
 letter_of (said.Port number) = 112
@@ -24,6 +25,7 @@ letter_of (said.Port number) = 112
 letter_is : (words rest : List (List ℕ)) (option : Said) → words ≡ option_words option ++ rest
     → letter words ≡ letter_of option
 letter_is words rest said.Journal are = ap letter are
+letter_is words rest said.StrictLock are = ap letter are
 letter_is words rest (said.Workers number) are = ap letter are
 letter_is words rest (said.Requests number) are = ap letter are
 letter_is words rest (said.Port number) are = ap letter are
@@ -38,6 +40,7 @@ one_number first second words rest same few small =
 pub one_first : (words rest more : List (List ℕ)) (option other : Said) → IsFirst words option rest
     → IsFirst words other more → (option ≡ other) × (rest ≡ more)
 one_first words rest more said.Journal said.Journal is also = (refl, cc (is.words_are, also.words_are))
+one_first words rest more said.StrictLock said.StrictLock is also = (refl, cc (is.words_are, also.words_are))
 one_first words rest more (said.Workers first) (said.Workers second) is also =
     let one = one_number first second rest more (cc (is.words_are, also.words_are)) (omega (arith, is.range.1))
     (omega (arith, also.range.1)) in
@@ -69,6 +72,7 @@ first_of before option more words rest all found say is =
 -- some letter stands in the words of each option
 has_letter : (option : Said) → 1 ≤ letter_of option
 has_letter said.Journal = omega arith
+has_letter said.StrictLock = omega arith
 has_letter (said.Workers number) = omega arith
 has_letter (said.Requests number) = omega arith
 has_letter (said.Port number) = omega arith

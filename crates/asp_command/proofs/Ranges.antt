@@ -17,6 +17,7 @@ HaveRanges options = IfSome options.workers (IsWithin 16) × IfSome options.requ
 with_range : (before : Options) (option : Said) → HaveRanges before → HasRange option
     → HaveRanges (with_option before option)
 with_range before said.Journal have range = have
+with_range before said.StrictLock have range = have
 with_range before (said.Workers number) have range = (range, have.1, have.2)
 with_range before (said.Requests number) have range = (have.0, range, have.2)
 with_range before (said.Port number) have range = (have.0, have.1, range)
@@ -37,18 +38,18 @@ some_within : (most number : ℕ) (said : Option ℕ) → said ≡ Some number �
 some_within most number said is have = subst (λ (said : Option ℕ). IfSome said (IsWithin most)) is have
 
 -- that of `replay`
-pub replay_within : (words : List (List ℕ)) (site : List ℕ) (workers : ℕ) (journal : Bool)
-    → SaysReplay words site workers journal → (1 ≤ workers) × (workers ≤ 16)
-replay_within words site workers journal says =
+pub replay_within : (words : List (List ℕ)) (site : List ℕ) (workers : ℕ) (journal strict : Bool)
+    → SaysReplay words site workers journal strict → (1 ≤ workers) × (workers ≤ 16)
+replay_within words site workers journal strict says =
     let have = have_ranges no_options says.are_options.0 says.behind says.options (tt, tt, tt) says.are_options.1 in
     subst (IsWithin 16) (sym says.workers_are)
     (or_within 16 4 says.options.workers (omega arith, omega arith) have.0)
 
 -- those of `serve`
-pub serve_within : (words : List (List ℕ)) (site : List ℕ) (requests workers port : ℕ)
-    → SaysServe words site requests workers port
+pub serve_within : (words : List (List ℕ)) (site : List ℕ) (requests workers port : ℕ) (strict : Bool)
+    → SaysServe words site requests workers port strict
     → (1 ≤ requests) × (requests ≤ 100000) × (1 ≤ workers) × (workers ≤ 16) × (1 ≤ port) × (port ≤ 65535)
-serve_within words site requests workers port says =
+serve_within words site requests workers port strict says =
     let have = have_ranges no_options says.are_options.0 says.behind says.options (tt, tt, tt) says.are_options.1 in
     let asked = some_within 100000 requests says.options.requests says.requests_are have.1 in
     let few = subst (IsWithin 16) (sym says.workers_are)

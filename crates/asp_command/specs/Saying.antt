@@ -76,10 +76,12 @@ abbrev pub AreNoCheck : List (List ℕ) → Type 0
 AreNoCheck words = (site : List ℕ) → ¬ (AreCheckWords words site)
 
 abbrev pub AreNoReplay : List (List ℕ) → Type 0
-AreNoReplay words = (site : List ℕ) (workers : ℕ) (journal : Bool) → ¬ (SaysReplay words site workers journal)
+AreNoReplay words = (site : List ℕ) (workers : ℕ) (journal strict : Bool)
+    → ¬ (SaysReplay words site workers journal strict)
 
 abbrev pub AreNoServe : List (List ℕ) → Type 0
-AreNoServe words = (site : List ℕ) (requests workers port : ℕ) → ¬ (SaysServe words site requests workers port)
+AreNoServe words = (site : List ℕ) (requests workers port : ℕ) (strict : Bool)
+    → ¬ (SaysServe words site requests workers port strict)
 
 abbrev pub AreNoGen : List (List ℕ) → Type 0
 AreNoGen words = (count : ℕ) (journal : Bool) → ¬ (SaysGen words count journal)

@@ -30,6 +30,7 @@ IsNoTarget word = (path query : List ℕ) → ¬ (IsTarget word path query)
 -- the words of an option: its name, and the number of one that has a number
 abbrev pub option_words : Said → List (List ℕ)
 option_words said.Journal = codes "--journal" ∷ []
+option_words said.StrictLock = codes "--strict-lock" ∷ []
 option_words (said.Workers number) = codes "--workers" ∷ decimal number ∷ []
 option_words (said.Requests number) = codes "--requests" ∷ decimal number ∷ []
 option_words (said.Port number) = codes "--port" ∷ decimal number ∷ []
@@ -37,6 +38,7 @@ option_words (said.Port number) = codes "--port" ∷ decimal number ∷ []
 -- the option may have the number that it has
 abbrev pub HasRange : Said → Type 0
 HasRange said.Journal = Unit {0}
+HasRange said.StrictLock = Unit {0}
 HasRange (said.Workers number) = (1 ≤ number) × (number ≤ 16)
 HasRange (said.Requests number) = (1 ≤ number) × (number ≤ 100000)
 HasRange (said.Port number) = (1 ≤ number) × (number ≤ 65535)
@@ -44,6 +46,7 @@ HasRange (said.Port number) = (1 ≤ number) × (number ≤ 65535)
 -- it is among the options that were said
 abbrev pub is_among : Options → Said → Bool
 is_among options said.Journal = options.journal
+is_among options said.StrictLock = options.strict
 is_among options (said.Workers number) = is_some options.workers
 is_among options (said.Requests number) = is_some options.requests
 is_among options (said.Port number) = is_some options.port
@@ -52,24 +55,35 @@ is_among options (said.Port number) = is_some options.port
 abbrev pub with_option : Options → Said → Options
 with_option options said.Journal = record {
   journal = true;
+  strict = options.strict;
+  workers = options.workers;
+  requests = options.requests;
+  port = options.port;
+}
+with_option options said.StrictLock = record {
+  journal = options.journal;
+  strict = true;
   workers = options.workers;
   requests = options.requests;
   port = options.port;
 }
 with_option options (said.Workers number) = record {
   journal = options.journal;
+  strict = options.strict;
   workers = Some number;
   requests = options.requests;
   port = options.port;
 }
 with_option options (said.Requests number) = record {
   journal = options.journal;
+  strict = options.strict;
   workers = options.workers;
   requests = Some number;
   port = options.port;
 }
 with_option options (said.Port number) = record {
   journal = options.journal;
+  strict = options.strict;
   workers = options.workers;
   requests = options.requests;
   port = Some number;
@@ -77,7 +91,7 @@ with_option options (said.Port number) = record {
 
 -- none
 abbrev pub no_options : Options
-no_options = record { journal = false; workers = None; requests = None; port = None }
+no_options = record { journal = false; strict = false; workers = None; requests = None; port = None }
 
 -- Behind the options that were said before, the words say these, one after another, none of which was said before it;
 -- and then all together are those.
@@ -106,8 +120,9 @@ pub record SaysCheck (words : List (List ℕ)) (site : List ℕ) : Type 0 where
   pub words_are : words ≡ codes "check" ∷ site_word ∷ []
   pub site_is : site ≡ chars site_word
 
--- the words are `replay`, a word for the folder of the site, and options: how many workers, and the journal
-pub record SaysReplay (words : List (List ℕ)) (site : List ℕ) (workers : ℕ) (journal : Bool) : Type 0 where
+-- the words are `replay`, a word for the folder of the site, and options: how many workers, the journal, and the strict
+-- rule
+pub record SaysReplay (words : List (List ℕ)) (site : List ℕ) (workers : ℕ) (journal strict : Bool) : Type 0 where
   pub site_word : List ℕ
   pub behind : List (List ℕ)
   pub options : Options
@@ -118,10 +133,11 @@ pub record SaysReplay (words : List (List ℕ)) (site : List ℕ) (workers : ℕ
   pub no_port : options.port ≡ None
   pub workers_are : workers ≡ unwrap_or options.workers 4
   pub journal_is : journal ≡ options.journal
+  pub strict_is : strict ≡ options.strict
 
 -- the words are `serve`, a word for the folder of the site, and options: how many requests, which must be said, how
--- many workers, and the port
-pub record SaysServe (words : List (List ℕ)) (site : List ℕ) (requests workers port : ℕ) : Type 0 where
+-- many workers, the port, and the strict rule
+pub record SaysServe (words : List (List ℕ)) (site : List ℕ) (requests workers port : ℕ) (strict : Bool) : Type 0 where
   pub site_word : List ℕ
   pub behind : List (List ℕ)
   pub options : Options
@@ -132,6 +148,7 @@ pub record SaysServe (words : List (List ℕ)) (site : List ℕ) (requests worke
   pub requests_are : options.requests ≡ Some requests
   pub workers_are : workers ≡ unwrap_or options.workers 4
   pub port_is : port ≡ unwrap_or options.port 8080
+  pub strict_is : strict ≡ options.strict
 
 -- the words are `gen`, the number of requests, and perhaps the option for the journal
 pub record SaysGen (words : List (List ℕ)) (count : ℕ) (journal : Bool) : Type 0 where
@@ -141,6 +158,7 @@ pub record SaysGen (words : List (List ℕ)) (count : ℕ) (journal : Bool) : Ty
   pub some : 1 ≤ count
   pub few : count ≤ 10000
   pub are_options : AreOptions behind options
+  pub no_strict : options.strict ≡ false
   pub no_workers : options.workers ≡ None
   pub no_requests : options.requests ≡ None
   pub no_port : options.port ≡ None
@@ -150,8 +168,8 @@ pub record SaysGen (words : List (List ℕ)) (count : ℕ) (journal : Bool) : Ty
 abbrev pub IsCommand : List (List ℕ) → Command → Type 0
 IsCommand words (Get site path query) = SaysGet words site path query
 IsCommand words (Check site) = SaysCheck words site
-IsCommand words (Replay site workers journal) = SaysReplay words site workers journal
-IsCommand words (Serve site requests workers port) = SaysServe words site requests workers port
+IsCommand words (Replay site workers journal strict) = SaysReplay words site workers journal strict
+IsCommand words (Serve site requests workers port strict) = SaysServe words site requests workers port strict
 IsCommand words (Gen count journal) = SaysGen words count journal
 
 -- the words say no command

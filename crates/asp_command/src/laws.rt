@@ -12,13 +12,13 @@ pub fn one_command()
 
 /// The number of workers that the words of `replay` say, or leave unsaid, is such as it may be.
 pub fn replay_within()
-    ensures { (words : List (List ℕ)) (site : List ℕ) (workers : ℕ) (journal : Bool)
-        → SaysReplay words site workers journal → (1 ≤ workers) × (workers ≤ 16) }
+    ensures { (words : List (List ℕ)) (site : List ℕ) (workers : ℕ) (journal strict : Bool)
+        → SaysReplay words site workers journal strict → (1 ≤ workers) × (workers ≤ 16) }
 {}
 
 /// The numbers that the words of `serve` say, or leave unsaid, are such as they may be.
 pub fn serve_within()
-    ensures { (words : List (List ℕ)) (site : List ℕ) (requests workers port : ℕ)
-        → SaysServe words site requests workers port → (1 ≤ requests) × (requests ≤ 100000) × (1 ≤ workers)
+    ensures { (words : List (List ℕ)) (site : List ℕ) (requests workers port : ℕ) (strict : Bool)
+        → SaysServe words site requests workers port strict → (1 ≤ requests) × (requests ≤ 100000) × (1 ≤ workers)
         × (workers ≤ 16) × (1 ≤ port) × (port ≤ 65535) }
 {}

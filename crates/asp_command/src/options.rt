@@ -1,5 +1,5 @@
 //! The options of commands.
-ghost use Rattle.std.specs.Prelude.{◌≡◌, ◌↔◌, ◌∷◌, IsTrue, MatchOption, None, map};
+ghost use Rattle.std.specs.Prelude.{◌≡◌, ◌↔◌, ◌∷◌, IsTrue, MatchOption, None, false, map};
 ghost use Rattle.std.specs.String.{string_bytes};
 ghost use Rattle.asp_command.specs.Saying.{AreNoOptions, IsFirst, IsNoneFirst, IsNotFirst, SayNone, SaySome};
 ghost use Rattle.asp_command.specs.Words as spec;
@@ -20,6 +20,8 @@ const MOST_PORT: u32 = u16::MAX as u32;
 pub enum Said {
     /// `--journal`
     Journal,
+    /// `--strict-lock`
+    StrictLock,
     /// `--workers` and how many, from 1 to 16
     Workers(u32),
     /// `--requests` and how many, from 1 to 100,000
@@ -33,6 +35,8 @@ pub enum Said {
 pub struct Options {
     /// Whether the journal is asked for.
     pub journal: bool,
+    /// Whether a Lock is to keep readers out too.
+    pub strict: bool,
     /// How many workers there are to be.
     pub workers: Option<u32>,
     /// After how many requests a host stops.
@@ -51,10 +55,10 @@ impl Options {
 
     /// Whether `gen` may have them.
     pub fn are_of_gen(&self) -> bool
-        ensures { IsTrue result
-            ↔ ((self.now.workers ≡ None) × (self.now.requests ≡ None) × (self.now.port ≡ None)) }
+        ensures { IsTrue result ↔ ((self.now.strict ≡ false) × (self.now.workers ≡ None)
+            × (self.now.requests ≡ None) × (self.now.port ≡ None)) }
     {
-        self.workers.is_none() && self.are_of_replay()
+        !self.strict && self.workers.is_none() && self.are_of_replay()
     }
 
     /// Whether an option of this name was said.
@@ -63,6 +67,7 @@ impl Options {
     {
         match said {
             Said::Journal => self.journal,
+            Said::StrictLock => self.strict,
             Said::Workers(_) => self.workers.is_some(),
             Said::Requests(_) => self.requests.is_some(),
             Said::Port(_) => self.port.is_some(),
@@ -76,6 +81,10 @@ impl Options {
         match said {
             Said::Journal => Options {
                 journal: true,
+                ..self
+            },
+            Said::StrictLock => Options {
+                strict: true,
                 ..self
             },
             Said::Workers(number) => Options {
@@ -115,6 +124,9 @@ fn first_option(words: &[String]) -> Option<(Said, &[String])>
     let (name, rest) = words.split_first()?;
     if name.as_str() == "--journal" {
         return Some((Said::Journal, rest));
+    }
+    if name.as_str() == "--strict-lock" {
+        return Some((Said::StrictLock, rest));
     }
     let (number, rest) = rest.split_first()?;
     match name.as_str() {
@@ -156,6 +168,7 @@ pub fn said_options(words: &[String]) -> Option<Options>
 {
     let none = Options {
         journal: false,
+        strict: false,
         workers: None,
         requests: None,
         port: None,

@@ -49,6 +49,8 @@ pub enum Command {
         workers: u32,
         /// Whether the journal is asked for.
         journal: bool,
+        /// Whether a Lock is to keep readers out too, whatever the recording says.
+        strict: bool,
     },
     /// Answers those who come to a port, until it has admitted so many requests.
     Serve {
@@ -60,6 +62,8 @@ pub enum Command {
         workers: u32,
         /// The port, from 1 to 65,535; 8080 if no option says so.
         port: u16,
+        /// Whether a Lock is to keep readers out too.
+        strict: bool,
     },
     /// Replays a recording that is made, and not read.
     Gen {
@@ -103,11 +107,13 @@ pub fn read_words(alloc: Global, words: &[String]) -> Result<Command, WordStop>
     if let Some(site) = check_word(words) {
         return Ok(check_command(alloc, site)?);
     }
-    if let Some((site, workers, journal)) = replay_words(words) {
-        return Ok(replay_command(alloc, site, workers, journal)?);
+    if let Some((site, workers, journal, strict)) = replay_words(words) {
+        return Ok(replay_command(alloc, site, workers, journal, strict)?);
     }
-    if let Some((site, requests, workers, port)) = serve_words(words) {
-        return Ok(serve_command(alloc, site, requests, workers, port)?);
+    if let Some((site, requests, workers, port, strict)) = serve_words(words) {
+        return Ok(serve_command(
+            alloc, site, requests, workers, port, strict,
+        )?);
     }
     match gen_words(words) {
         Some((count, journal)) => Ok(Command::Gen { count, journal }),
@@ -137,10 +143,11 @@ fn check_word(words: &[String]) -> Option<&str>
     }
 }
 
-/// The word for the site, how many workers, and whether a journal, where the words are those of `replay`.
-fn replay_words(words: &[String]) -> Option<(&str, u32, bool)>
+/// The word for the site, how many workers, whether a journal, and whether the strict rule, where the words are those of
+/// `replay`.
+fn replay_words(words: &[String]) -> Option<(&str, u32, bool, bool)>
     ensures { MatchOption result (AreNoReplay (map string_bytes words.now))
-        (λ said. spec.SaysReplay (map string_bytes words.now) (chars said.0.now) said.1 said.2) }
+        (λ said. spec.SaysReplay (map string_bytes words.now) (chars said.0.now) said.1 said.2 said.3) }
 {
     let rest = behind("replay", words)?;
     let (site, rest) = rest.split_first()?;
@@ -150,16 +157,18 @@ fn replay_words(words: &[String]) -> Option<(&str, u32, bool)>
             site.as_str(),
             said.workers.unwrap_or(DEFAULT_WORKERS),
             said.journal,
+            said.strict,
         ))
     } else {
         None
     }
 }
 
-/// The word for the site, how many requests, how many workers, and the port, where the words are those of `serve`.
-fn serve_words(words: &[String]) -> Option<(&str, u32, u32, u16)>
+/// The word for the site, how many requests, how many workers, the port, and whether the strict rule, where the words are
+/// those of `serve`.
+fn serve_words(words: &[String]) -> Option<(&str, u32, u32, u16, bool)>
     ensures { MatchOption result (AreNoServe (map string_bytes words.now))
-        (λ said. spec.SaysServe (map string_bytes words.now) (chars said.0.now) said.1 said.2 said.3) }
+        (λ said. spec.SaysServe (map string_bytes words.now) (chars said.0.now) said.1 said.2 said.3 said.4) }
 {
     let rest = behind("serve", words)?;
     let (site, rest) = rest.split_first()?;
@@ -174,6 +183,7 @@ fn serve_words(words: &[String]) -> Option<(&str, u32, u32, u16)>
         requests,
         workers,
         said.port.unwrap_or(DEFAULT_PORT),
+        said.strict,
     ))
 }
 
@@ -203,13 +213,20 @@ fn check_command(alloc: Global, site: &str) -> Result<Command, Memory>
 }
 
 /// The command `replay` for this word.
-fn replay_command(alloc: Global, site: &str, workers: u32, journal: bool) -> Result<Command, Memory>
-    ensures { Gives result (Command.Replay (chars site.now) workers journal) }
+fn replay_command(
+    alloc: Global,
+    site: &str,
+    workers: u32,
+    journal: bool,
+    strict: bool,
+) -> Result<Command, Memory>
+    ensures { Gives result (Command.Replay (chars site.now) workers journal strict) }
 {
     Ok(Command::Replay {
         site: Text::from_str(alloc, site)?,
         workers,
         journal,
+        strict,
     })
 }
 
@@ -220,14 +237,16 @@ fn serve_command(
     requests: u32,
     workers: u32,
     port: u16,
+    strict: bool,
 ) -> Result<Command, Memory>
-    ensures { Gives result (Command.Serve (chars site.now) requests workers port) }
+    ensures { Gives result (Command.Serve (chars site.now) requests workers port strict) }
 {
     Ok(Command::Serve {
         site: Text::from_str(alloc, site)?,
         requests,
         workers,
         port,
+        strict,
     })
 }
 

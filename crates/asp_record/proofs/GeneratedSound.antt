@@ -92,7 +92,6 @@ zero_byte (suc n) (suc i) = zero_byte n i
 pub generated_sound : (count : ℕ) → count ≤ 10000 → IsSound (generated count)
 unfolding generated
 generated_sound count within = record {
-  size = refl;
-  bytes = λ i. omega (arith, zero_byte 32 i);
+  seed = record { size = refl; bytes = λ i. omega (arith, zero_byte 32 i) };
   items = are_items 0 0 count (omega arith) (omega arith);
 }

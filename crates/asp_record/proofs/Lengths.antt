@@ -22,11 +22,12 @@ use Rattle.asp_text.proofs.Places.{by_cases}
 use Rattle.asp_record.specs.declared.recording.Item.{Item}
 use Rattle.asp_record.specs.declared.recording.Item.TheVariants as item
 use Rattle.asp_record.specs.declared.recording.Recording.{Recording}
-use Rattle.asp_record.specs.Lines.{field, hex, hex_byte, line}
+use Rattle.asp_record.specs.Lines.{field, line}
 use Rattle.asp_record.specs.Recorded.{AreItems, Begins, Begun, Ended, IsHeld, IsLast, IsLonger, IsNext, IsOneRequest, IsPart}
-use Rattle.asp_record.specs.Recorded.{IsPlace, IsRefusedAt, IsSound, Named, Nothing, Part, last_of, part_text}
-use Rattle.asp_record.specs.Recording.{item_text, opening_text, recording_text, seed_text}
-use Rattle.asp_record.proofs.OneRecording.{item_within, text_size}
+use Rattle.asp_record.specs.Recorded.{IsPlace, IsRefusedAt, IsSound, Named, Nothing, Part, Seeded, last_of, part_text}
+use Rattle.asp_record.specs.Recording.{First, Second, Version, head_text, item_text, opening_text, rule_text, seed_text}
+use Rattle.asp_record.specs.Recording.{version_text}
+use Rattle.asp_record.proofs.OneRecording.{item_within, seed_size, seeded_size, text_size, version_size}
 
 -- ---- a request
 
@@ -102,28 +103,25 @@ item_is_short now (item.Tick moment) next =
       length-decimal-le 12 moment (omega arith) (omega (arith, ends)) (omega (arith, ends)),
     )
 
-hex_length : (bytes : List ℕ) → length (hex bytes) ≡ length bytes + length bytes
-unfolding hex
-hex_length [] = refl
-hex_length (b ∷ bytes) = omega (arith, length-append (hex_byte b) (hex bytes), hex_length bytes)
-
 -- ---- one line more
 
-begun_length : (first seed items : List ℕ) → length (first ++ seed ++ items) ≡ length first + length seed + length items
-begun_length first seed items = simp length-append (omega arith)
+rule_size : (version : Version) (strict : Bool) → length (rule_text version strict) ≤ 12
+rule_size First strict = omega arith
+rule_size Second true = omega arith
+rule_size Second false = omega arith
 
-opening_length : (recording : Recording) → length (opening_text recording)
-    ≡ 9 + length (seed_text recording.seed) + length (flat_map item_text recording.items)
-opening_length recording =
-    let nine : length (line (codes "ASPREC 1")) ≡ 9 = refl in
-    let whole = begun_length (line (codes "ASPREC 1")) (seed_text recording.seed)
+three_lengths : (a b c : List ℕ) → length (a ++ b ++ c) ≡ length a + length b + length c
+three_lengths a b c = simp length-append (omega arith)
+
+opening_length : (version : Version) (recording : Recording) → length (opening_text version recording)
+    ≡ 9 + length (seed_text recording.seed) + length (rule_text version recording.strict)
+    + length (flat_map item_text recording.items)
+opening_length version recording =
+    let head = three_lengths (version_text version) (seed_text recording.seed)
+    (rule_text version recording.strict) in
+    let whole = length-append (head_text version recording.seed recording.strict)
     (flat_map item_text recording.items) in
-    omega (arith, nine, whole)
-
-seed_length : (seed : List ℕ) → length seed ≡ 32 → length (seed_text seed) ≡ 70
-seed_length seed size =
-    let four : length (codes "seed") ≡ 4 = refl in
-    omega (arith, four, tick_length (codes "seed") (hex seed), hex_length seed, size)
+    omega (arith, version_size version, head, whole)
 
 items_length : (items : List Item) (one : Item) → length (flat_map item_text (items ++ one ∷ []))
     ≡ length (flat_map item_text items) + length (item_text one)
@@ -136,41 +134,54 @@ items_length items one =
       ap length last,
     )
 
-longer_is_short : (part longer : Part) → IsPart longer → IsLonger part longer
-    → length (part_text longer) ≤ length (part_text part) + 2097152
-longer_is_short Nothing Nothing right longer = absurd longer
-longer_is_short Nothing Named right longer =
-    let nine : length (part_text Named) ≡ 9 = refl in
-    omega (arith, nine)
-longer_is_short Nothing (Begun recording) right longer = absurd longer
-longer_is_short Nothing (Ended recording) right longer = absurd longer
-longer_is_short Named Nothing right longer = absurd longer
-longer_is_short Named Named right longer = absurd longer
-longer_is_short Named (Begun recording) right none = omega (
-  arith,
-  opening_length recording,
-  seed_length recording.seed right.size,
-  ap (λ items. length (flat_map item_text items)) none,
-)
-longer_is_short Named (Ended recording) right longer = absurd longer
-longer_is_short (Begun recording) Nothing right longer = absurd longer
-longer_is_short (Begun recording) Named right longer = absurd longer
-longer_is_short (Begun recording) (Begun more) right longer =
-    let one = longer.1.0 in
-    let items : AreItems 0 (recording.items ++ one ∷ []) = subst (AreItems 0) longer.1.1 right.items in
-    let next = item_within 0 recording.items one [] items in
+-- the line of one item more
+one_more : (version : Version) (recording more : Recording) (item : Item) → IsSound more
+    → more.seed ≡ recording.seed → more.strict ≡ recording.strict → more.items ≡ recording.items ++ item ∷ []
+    → length (opening_text version more) ≤ length (opening_text version recording) + 2097152
+one_more version recording more item sound seed strict items =
+    let right : AreItems 0 (recording.items ++ item ∷ []) = subst (AreItems 0) items sound.items in
+    let next = item_within 0 recording.items item [] right in
     omega (
       arith,
-      opening_length recording,
-      opening_length more,
-      ap (λ seed. length (seed_text seed)) longer.0,
-      ap (λ items. length (flat_map item_text items)) longer.1.1,
-      items_length recording.items one,
-      item_is_short (last_of 0 recording.items) one next,
+      opening_length version recording,
+      opening_length version more,
+      ap (λ s. length (seed_text s)) seed,
+      ap (λ s. length (rule_text version s)) strict,
+      ap (λ i. length (flat_map item_text i)) items,
+      items_length recording.items item,
+      item_is_short (last_of 0 recording.items) item next,
     )
-longer_is_short (Begun recording) (Ended whole) right same =
-    omega (arith, text_size whole, ap (λ one. length (opening_text one)) same)
-longer_is_short (Ended recording) longer right is = absurd is
+
+-- the lines before the items
+first_lines : (version : Version) (recording : Recording) → IsSound recording → recording.items ≡ []
+    → length (opening_text version recording) ≤ 91
+first_lines version recording sound none = omega (
+  arith,
+  opening_length version recording,
+  seed_size recording.seed sound.seed.size,
+  rule_size version recording.strict,
+  ap (λ items. length (flat_map item_text items)) none,
+)
+
+longer_is_short : (part longer : Part) → IsPart longer → IsLonger part longer
+    → length (part_text longer) ≤ length (part_text part) + 2097152
+longer_is_short Nothing (Named version) right longer = omega (arith, version_size version)
+longer_is_short (Named First) (Begun First recording) right none =
+    omega (arith, first_lines First recording right.0 none)
+longer_is_short (Named Second) (Seeded seed) right longer = omega (arith, seeded_size seed right.size)
+longer_is_short (Seeded seed) (Begun Second recording) right longer =
+    omega (arith, first_lines Second recording right.0 longer.1)
+longer_is_short (Begun version recording) (Begun other more) right longer =
+    subst (λ v. length (opening_text v more) ≤ length (opening_text version recording) + 2097152) (sym longer.0)
+    (one_more version recording more longer.3.0 right.0 longer.1 longer.2 longer.3.1)
+longer_is_short (Begun version recording) (Ended other whole) right same =
+    omega (
+      arith,
+      text_size other whole,
+      ap (λ one. length (opening_text other one)) same.1,
+      ap (λ v. length (opening_text v recording)) same.0,
+    )
+longer_is_short part longer right is = absurd is
 
 -- ---- refusals
 

@@ -1,5 +1,5 @@
 -- What `gen` replays: the one page, and the recording of so many requests for it. Both are the profile's.
-use Rattle.std.specs.Prelude.{ℕ, ◌+◌, ◌/◌, ◌%◌, List, [], ◌∷◌, ◌++◌, map, codes, replicate}
+use Rattle.std.specs.Prelude.{ℕ, ◌+◌, ◌/◌, ◌%◌, false, List, [], ◌∷◌, ◌++◌, map, codes, replicate}
 use Rattle.std.specs.List.{range_with_len}
 use Rattle.vb_value.specs.declared.site_file.SiteFile.{SiteFile}
 use Rattle.asp_record.specs.declared.recording.Item.{Item}
@@ -27,6 +27,10 @@ count_bytes = codes "GET /count.asp HTTP/1.1\r\nHost: x\r\n\r\n"
 abbrev pub generated_item : ℕ → Item
 generated_item i = Request (i % 7 + 1) (i / 100) count_bytes
 
--- a seed of 32 zero bytes, and the requests from 0 on, so many as they are to be
+-- a seed of 32 zero bytes, the plain rule, and the requests from 0 on, so many as they are to be
 unfoldable pub generated : ℕ → Recording
-generated count = record { seed = replicate 32 0; items = map generated_item (range_with_len 0 count) }
+generated count = record {
+  seed = replicate 32 0;
+  strict = false;
+  items = map generated_item (range_with_len 0 count);
+}

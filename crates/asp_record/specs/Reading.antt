@@ -1,10 +1,12 @@
--- The items of a recording, read from the front of bytes.
-use Rattle.std.specs.Prelude.{ℕ, List, [], ◌∷◌, Option, Some, None, if◌then◌else◌, nat_lt, codes}
+-- The lines of a recording, read from the front of bytes.
+use Rattle.std.specs.Prelude.{◌≡◌, ◌≢◌, ℕ, Bool, List, [], ◌∷◌, ◌++◌, Option, Some, None, if◌then◌else◌, nat_lt, codes}
 use Rattle.asp_record.specs.declared.line.Line.{Line}
 use Rattle.asp_record.specs.declared.line.Line.TheVariants as lines
 use Rattle.asp_record.specs.declared.recording.Item.{Item}
 use Rattle.asp_record.specs.declared.recording.Item.TheVariants.{Request, Tick}
+use Rattle.asp_record.specs.declared.recording.Recording.{Recording}
 use Rattle.asp_record.specs.Fields.{◌>>=◌, behind, counted_at, marked_at, seed_at}
+use Rattle.asp_record.specs.Recording.{Says, Version, head_text, lock_text, opening_text}
 
 -- the item that a line has
 abbrev pub item_of : Line → Item
@@ -42,3 +44,19 @@ seed_line_at bytes = do
   seed ← seed_at text
   rest ← behind (10 ∷ []) seed.1
   Some (seed.0, rest)
+
+-- no rule's line begins the bytes
+abbrev pub HasNoRule : List ℕ → Type 0
+HasNoRule bytes = (strict : Bool) (rest : List ℕ) → bytes ≢ lock_text strict ++ rest
+
+-- the bytes begin with the lines before the items, in one of the versions, and this follows
+pub record HasHead (bytes seed : List ℕ) (strict : Bool) (rest : List ℕ) : Type 0 where
+  pub version : Version
+  pub says : Says version strict
+  pub text : bytes ≡ head_text version seed strict ++ rest
+
+-- they begin with a recording that is not ended, and this follows
+pub record HasOpening (bytes : List ℕ) (recording : Recording) (rest : List ℕ) : Type 0 where
+  pub version : Version
+  pub says : Says version recording.strict
+  pub text : bytes ≡ opening_text version recording ++ rest

@@ -1,5 +1,5 @@
 -- Which bytes have a recording at their front, and where bytes have none. It is the profile's.
-use Rattle.std.specs.Prelude.{◌≡◌, ◌≢◌, ℕ, ◌^◌, ◌<◌, ◌≤◌, ◌⊎◌, List, [], ◌∷◌, ◌++◌, length, slice_index, codes, ⊤}
+use Rattle.std.specs.Prelude.{◌≡◌, ◌≢◌, ℕ, ◌^◌, ◌<◌, ◌≤◌, ◌⊎◌, List, [], ◌∷◌, ◌++◌, length, slice_index, ⊤}
 use Rattle.std.specs.Prelude.{Result, Ok, Err}
 use Rattle.std.specs.List.{flat_map}
 use Rattle.httparse.specs.Grammar.{RequestHead}
@@ -10,8 +10,8 @@ use Rattle.asp_record.specs.declared.recording.Item.TheVariants.{Request, Tick}
 use Rattle.asp_record.specs.declared.recording.Recording.{Recording}
 use Rattle.asp_record.specs.declared.stop.RecordStop.{RecordStop}
 use Rattle.asp_record.specs.declared.stop.RecordStop.TheVariants.{Refused, Memory}
-use Rattle.asp_record.specs.Lines.{line}
-use Rattle.asp_record.specs.Recording.{item_text, opening_text, recording_text}
+use Rattle.asp_record.specs.Recording.{First, Says, Second, Version, item_text, opening_text, recording_text, seed_text}
+use Rattle.asp_record.specs.Recording.{version_text}
 
 -- the bytes are one request, and nothing more
 abbrev pub IsOneRequest : List ℕ → Type 0
@@ -52,30 +52,39 @@ pub record ReadsItems (bytes : List ℕ) (items : List Item) (rest : List ℕ) :
   pub text : bytes ≡ flat_map item_text items ++ rest
   pub last : HasNoItem (last_of 0 items) rest
 
--- what the type of a recording says of it, and its items
+-- what the type of a seed says of it
+pub record IsSeed (seed : List ℕ) : Type 0 where
+  pub size : length seed ≡ 32
+  pub bytes : (i : ℕ) → slice_index seed i < 256
+
+-- that its seed is one, and what its items are
 pub record IsSound (recording : Recording) : Type 0 where
-  pub size : length recording.seed ≡ 32
-  pub bytes : (i : ℕ) → slice_index recording.seed i < 256
+  pub seed : IsSeed recording.seed
   pub items : AreItems 0 recording.items
 
--- how far a recording was read, line by line: a request's bytes are of its line
+-- how far a recording was read, line by line: a request's bytes are of its line. Behind the seed's line the second
+-- version has one for the rule.
 pub data Part : Type 0 where
-  Nothing Named : Part
-  Begun Ended : Recording → Part
+  Nothing : Part
+  Named : Version → Part
+  Seeded : List ℕ → Part
+  Begun Ended : Version → Recording → Part
 
 -- what was read
 abbrev pub part_text : Part → List ℕ
 part_text Nothing = []
-part_text Named = line (codes "ASPREC 1")
-part_text (Begun recording) = opening_text recording
-part_text (Ended recording) = recording_text recording
+part_text (Named version) = version_text version
+part_text (Seeded seed) = version_text Second ++ seed_text seed
+part_text (Begun version recording) = opening_text version recording
+part_text (Ended version recording) = recording_text version recording
 
 -- what was read is the beginning of a recording
 abbrev pub IsPart : Part → Type 0
 IsPart Nothing = ⊤
-IsPart Named = ⊤
-IsPart (Begun recording) = IsSound recording
-IsPart (Ended recording) = IsSound recording
+IsPart (Named version) = ⊤
+IsPart (Seeded seed) = IsSeed seed
+IsPart (Begun version recording) = IsSound recording × Says version recording.strict
+IsPart (Ended version recording) = IsSound recording × Says version recording.strict
 
 -- the bytes begin with a text
 abbrev pub Begins : List ℕ → List ℕ → Type 0
@@ -83,16 +92,18 @@ Begins bytes text = (rest : List ℕ) × (bytes ≡ text ++ rest)
 
 -- one line more
 abbrev pub IsLonger : Part → Part → Type 0
-IsLonger Nothing Named = ⊤
-IsLonger Named (Begun recording) = recording.items ≡ []
-IsLonger (Begun recording) (Begun longer) =
-    (longer.seed ≡ recording.seed) × ((item : Item) × (longer.items ≡ recording.items ++ item ∷ []))
-IsLonger (Begun recording) (Ended whole) = whole ≡ recording
+IsLonger Nothing (Named version) = ⊤
+IsLonger (Named First) (Begun First recording) = recording.items ≡ []
+IsLonger (Named Second) (Seeded seed) = ⊤
+IsLonger (Seeded seed) (Begun Second recording) = (recording.seed ≡ seed) × (recording.items ≡ [])
+IsLonger (Begun version recording) (Begun other longer) = (other ≡ version) × (longer.seed ≡ recording.seed)
+    × (longer.strict ≡ recording.strict) × ((item : Item) × (longer.items ≡ recording.items ++ item ∷ []))
+IsLonger (Begun version recording) (Ended other whole) = (other ≡ version) × (whole ≡ recording)
 IsLonger _ _ = ⊥
 
 -- lines are still to come
 abbrev pub IsOpen : Part → Type 0
-IsOpen (Ended recording) = ⊥
+IsOpen (Ended version recording) = ⊥
 IsOpen _ = ⊤
 
 -- the next line of the bytes does not fit
@@ -114,11 +125,13 @@ pub record IsRefusedAt (bytes : List ℕ) (offset : ℕ) : Type 0 where
   pub begins : Begins bytes (part_text part)
   pub place : IsPlace bytes part offset
 
--- a recording of at most 64 MiB stands at the front of the bytes, and ends there
+-- a recording of at most 64 MiB stands at the front of the bytes, in one of the versions, and ends there
 pub record Stands (bytes : List ℕ) (recording : Recording) (end : ℕ) : Type 0 where
   pub sound : IsSound recording
-  pub begins : Begins bytes (recording_text recording)
-  pub ends : end ≡ length (recording_text recording)
+  pub version : Version
+  pub says : Says version recording.strict
+  pub begins : Begins bytes (recording_text version recording)
+  pub ends : end ≡ length (recording_text version recording)
   pub short : end ≤ 67108864
 
 -- the answer is no refusal, or the fact holds of its place

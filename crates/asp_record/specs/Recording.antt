@@ -1,5 +1,5 @@
--- The text of a recording, line by line. It is the profile's.
-use Rattle.std.specs.Prelude.{ℕ, List, ◌++◌, length, codes}
+-- The texts of a recording, line by line. They are the profile's.
+use Rattle.std.specs.Prelude.{◌≡◌, ℕ, Bool, true, false, List, [], ◌++◌, length, codes, ⊤}
 use Rattle.std.specs.List.{flat_map}
 use Rattle.asp_record.specs.Lines.{field, hex, line, number}
 use Rattle.asp_record.specs.declared.recording.Item.{Item}
@@ -23,10 +23,39 @@ item_text (Tick moment) = tick_text moment
 abbrev pub seed_text : List ℕ → List ℕ
 seed_text seed = line (codes "seed" ++ field (hex seed))
 
--- the first line, the seed and the items
-abbrev pub opening_text : Recording → List ℕ
-opening_text recording = line (codes "ASPREC 1") ++ seed_text recording.seed ++ flat_map item_text recording.items
+-- a recording is written in one of two versions
+pub data Version : Type 0 where
+  First Second : Version
+
+-- the first line, with the version
+abbrev pub version_text : Version → List ℕ
+version_text First = line (codes "ASPREC 1")
+version_text Second = line (codes "ASPREC 2")
+
+-- `lock`, with the rule: under the strict one a Lock keeps readers out too
+abbrev pub lock_text : Bool → List ℕ
+lock_text false = line (codes "lock plain")
+lock_text true = line (codes "lock strict")
+
+-- the line of the rule, which the first version does not have
+abbrev pub rule_text : Version → Bool → List ℕ
+rule_text First strict = []
+rule_text Second strict = lock_text strict
+
+-- a version can say the rule: the first one says none, and means the plain one
+abbrev pub Says : Version → Bool → Type 0
+Says First strict = strict ≡ false
+Says Second strict = ⊤
+
+-- the lines before the items: the version, the seed and the rule
+abbrev pub head_text : Version → List ℕ → Bool → List ℕ
+head_text version seed strict = version_text version ++ seed_text seed ++ rule_text version strict
+
+-- these lines and the items
+abbrev pub opening_text : Version → Recording → List ℕ
+opening_text version recording =
+    head_text version recording.seed recording.strict ++ flat_map item_text recording.items
 
 -- these, and `end`
-unfoldable pub recording_text : Recording → List ℕ
-recording_text recording = opening_text recording ++ line (codes "end")
+unfoldable pub recording_text : Version → Recording → List ℕ
+recording_text version recording = opening_text version recording ++ line (codes "end")

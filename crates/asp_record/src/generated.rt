@@ -64,12 +64,13 @@ fn generated_recording(alloc: Global, count: u32) -> Result<Recording, Memory>
 {
     Ok(Recording {
         seed: [0; 32],
+        strict: false,
         items: generated_items(alloc, count)?,
     })
 }
 
 /// The files of a site with the page `/count.asp` alone, and the recording of `count` requests for it, from seven
-/// clients in turn, a hundred in each second.
+/// clients in turn, a hundred in each second, under the plain rule.
 pub fn generate(alloc: Global, count: u32) -> Result<(List<SiteFile>, Recording), Memory>
     ensures { Gives result (spec.count_files, spec.generated count) }
 {

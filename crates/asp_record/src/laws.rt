@@ -8,7 +8,7 @@ ghost use Rattle.asp_record.specs.EntryLines.{line_what};
 ghost use Rattle.asp_record.specs.Generated.{generated};
 ghost use Rattle.asp_record.specs.Journal.{IsJournal, IsNoJournalAt, line_text};
 ghost use Rattle.asp_record.specs.Recorded.{IsRefusedAt, IsSound, Stands};
-ghost use Rattle.asp_record.specs.Recording.{recording_text};
+ghost use Rattle.asp_record.specs.Recording.{Says, Version, recording_text};
 
 /// Bytes have at most one recording at their front.
 pub fn one_recording()
@@ -16,11 +16,12 @@ pub fn one_recording()
         → Stands bytes other last → (one ≡ other) × (end ≡ last) }
 {}
 
-/// The text of a sound recording of at most 64 MiB has that recording at its front, whatever follows.
+/// The text of a sound recording of at most 64 MiB, in a version that can say its rule, has that recording at its
+/// front, whatever follows.
 pub fn text_stands()
-    ensures { (recording : Recorded) (rest : List ℕ) → IsSound recording
-        → length (recording_text recording) ≤ 67108864
-        → Stands (recording_text recording ++ rest) recording (length (recording_text recording)) }
+    ensures { (version : Version) (recording : Recorded) (rest : List ℕ) → IsSound recording
+        → Says version recording.strict → length (recording_text version recording) ≤ 67108864
+        → Stands (recording_text version recording ++ rest) recording (length (recording_text version recording)) }
 {}
 
 /// Bytes with a recording at their front are refused nowhere.

@@ -1,14 +1,13 @@
 //! Recordings, read.
-ghost use Rattle.std.specs.Prelude.{◌≡◌, ◌≤◌, ◌++◌, ℕ, [], Ok, codes, IfOk, IsSome, IsTrue, MatchOption};
+ghost use Rattle.std.specs.Prelude.{◌≡◌, ◌≤◌, ◌++◌, ℕ, [], Ok, IfOk, IsSome, IsTrue, MatchOption};
 ghost use Rattle.std.specs.Bool.{Decides};
 ghost use Rattle.vb_value.specs.Outcome.{Answers, Gives};
 ghost use Rattle.http_front.specs.Reader.{Wants};
 ghost use Rattle.asp_record.specs.declared.recording.Recording.{Recording as Recorded};
 ghost use Rattle.asp_record.specs.declared.stop.RecordStop.TheVariants.{Memory as OutOfMemory};
 ghost use Rattle.asp_record.specs.Fields.{Reads};
-ghost use Rattle.asp_record.specs.Reading.{item_of, seed_line_at};
-ghost use Rattle.asp_record.specs.Lines.{line};
-ghost use Rattle.asp_record.specs.Recording.{item_text, opening_text, seed_text};
+ghost use Rattle.asp_record.specs.Reading.{HasHead, HasNoRule, HasOpening, item_of, seed_line_at};
+ghost use Rattle.asp_record.specs.Recording.{First, Second, item_text, lock_text, seed_text, version_text};
 ghost use Rattle.asp_record.specs.Recorded as spec;
 
 use crate::line::{Line, item_at};
@@ -155,9 +154,22 @@ fn seed_line(bytes: &[u8]) -> Option<([u8; 32], &[u8])>
     Some((seed, rest))
 }
 
+/// The rule whose line stands at the front of bytes.
+fn rule_line(bytes: &[u8]) -> Option<(bool, &[u8])>
+    ensures { MatchOption result (HasNoRule bytes.now) (λ found. bytes.now ≡ lock_text found.0 ++ found.1.now) }
+{
+    if let Some(rest) = behind(b"lock plain\n", bytes) {
+        return Some((false, rest));
+    }
+    match behind(b"lock strict\n", bytes) {
+        Some(rest) => Some((true, rest)),
+        None => None,
+    }
+}
+
 /// Ends a recording, of which `rest` is still to be read.
 fn ended(bytes: &[u8], rest: &[u8], recording: Recording) -> Result<(Recording, u64), RecordStop>
-    requires text { bytes.now ≡ opening_text recording ++ rest.now }
+    requires text { HasOpening bytes.now recording rest.now }
     requires sound { spec.IsSound recording }
     requires last { spec.HasNoItem (spec.last_of 0 recording.items) rest.now }
     ensures recording { IfOk result (λ read. spec.Stands bytes.now read.0 read.1) }
@@ -182,19 +194,78 @@ fn ended(bytes: &[u8], rest: &[u8], recording: Recording) -> Result<(Recording, 
     }
 }
 
-/// A recording with this seed, of which `bytes` from `begun` on are still to be read.
+/// A recording with this seed and rule, of which `bytes` from `begun` on are still to be read.
 fn recording_from(
     alloc: Global,
     bytes: &[u8],
     begun: &[u8],
     seed: [u8; 32],
+    strict: bool,
 ) -> Result<(Recording, u64), RecordStop>
-    requires { bytes.now ≡ line (codes "ASPREC 1") ++ seed_text seed ++ begun.now }
+    requires { HasHead bytes.now seed strict begun.now }
     ensures recording { IfOk result (λ read. spec.Stands bytes.now read.0 read.1) }
     ensures refused { spec.OnRefused result (spec.IsRefusedAt bytes.now) }
 {
     let (items, rest) = read_items(alloc, begun)?;
-    ended(bytes, rest, Recording { seed, items })
+    ended(
+        bytes,
+        rest,
+        Recording {
+            seed,
+            strict,
+            items,
+        },
+    )
+}
+
+/// A recording of the first version, of which `bytes` from `named` on are still to be read.
+fn first_version(alloc: Global, bytes: &[u8], named: &[u8]) -> Result<(Recording, u64), RecordStop>
+    requires { bytes.now ≡ version_text First ++ named.now }
+    ensures recording { IfOk result (λ read. spec.Stands bytes.now read.0 read.1) }
+    ensures refused { spec.OnRefused result (spec.IsRefusedAt bytes.now) }
+{
+    match seed_line(named) {
+        None => Err(RecordStop::Refused { offset: 9 }),
+        Some(found) => {
+            let (seed, begun) = found;
+            recording_from(alloc, bytes, begun, seed, false)
+        }
+    }
+}
+
+/// A recording of the second version, of which `bytes` from `seeded` on are still to be read.
+fn ruled(
+    alloc: Global,
+    bytes: &[u8],
+    seeded: &[u8],
+    seed: [u8; 32],
+) -> Result<(Recording, u64), RecordStop>
+    requires { bytes.now ≡ version_text Second ++ seed_text seed ++ seeded.now }
+    ensures recording { IfOk result (λ read. spec.Stands bytes.now read.0 read.1) }
+    ensures refused { spec.OnRefused result (spec.IsRefusedAt bytes.now) }
+{
+    match rule_line(seeded) {
+        None => Err(RecordStop::Refused { offset: 79 }),
+        Some(found) => {
+            let (strict, begun) = found;
+            recording_from(alloc, bytes, begun, seed, strict)
+        }
+    }
+}
+
+/// A recording of the second version, of which `bytes` from `named` on are still to be read.
+fn second_version(alloc: Global, bytes: &[u8], named: &[u8]) -> Result<(Recording, u64), RecordStop>
+    requires { bytes.now ≡ version_text Second ++ named.now }
+    ensures recording { IfOk result (λ read. spec.Stands bytes.now read.0 read.1) }
+    ensures refused { spec.OnRefused result (spec.IsRefusedAt bytes.now) }
+{
+    match seed_line(named) {
+        None => Err(RecordStop::Refused { offset: 9 }),
+        Some(found) => {
+            let (seed, seeded) = found;
+            ruled(alloc, bytes, seeded, seed)
+        }
+    }
 }
 
 /// The recording at the front of bytes, and where it ends.
@@ -202,19 +273,17 @@ fn recording_at(alloc: Global, bytes: &[u8]) -> Result<(Recording, u64), RecordS
     ensures recording { IfOk result (λ read. spec.Stands bytes.now read.0 read.1) }
     ensures refused { spec.OnRefused result (spec.IsRefusedAt bytes.now) }
 {
-    match behind(b"ASPREC 1\n", bytes) {
+    if let Some(named) = behind(b"ASPREC 1\n", bytes) {
+        return first_version(alloc, bytes, named);
+    }
+    match behind(b"ASPREC 2\n", bytes) {
         None => Err(RecordStop::Refused { offset: 0 }),
-        Some(named) => match seed_line(named) {
-            None => Err(RecordStop::Refused { offset: 9 }),
-            Some(found) => {
-                let (seed, begun) = found;
-                recording_from(alloc, bytes, begun, seed)
-            }
-        },
+        Some(named) => second_version(alloc, bytes, named),
     }
 }
 
-/// Reads the recording at the front of bytes, and tells where it ends. What follows it is left to the caller.
+/// Reads the recording at the front of bytes, of either version, and tells where it ends. What follows it is left to the
+/// caller.
 ///
 /// Bytes without one are refused at the first byte of the first line that does not fit, of which a request's bytes are
 /// a part; at their length, where `end` is missing behind whole lines; and at 67,108,864, where the recording is

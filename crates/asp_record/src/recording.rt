@@ -25,6 +25,8 @@ pub enum Item {
 pub struct Recording {
     /// What session keys are made from.
     pub seed: [u8; 32],
+    /// Whether a Lock of one page keeps the readers of others out too.
+    pub strict: bool,
     /// In the order in which they come.
     pub items: List<Item>,
 }

@@ -58,14 +58,25 @@ fn push_seed(text: &mut Bytes, seed: &[u8]) -> Result<(), Memory>
     text.append_slice(b"\n")
 }
 
-/// The text of a recording.
+fn push_rule(text: &mut Bytes, strict: bool) -> Result<(), Memory>
+    ensures { Adds result text.old text.new (spec.lock_text strict) }
+{
+    if strict {
+        text.append_slice(b"lock strict\n")
+    } else {
+        text.append_slice(b"lock plain\n")
+    }
+}
+
+/// The text of a recording, in the second version.
 #[tactic(auto, unfolding(crate::specs::Recording::recording_text))]
 pub fn write_recording(alloc: Global, recording: &Recording) -> Result<Bytes, Memory>
-    ensures { Gives result (spec.recording_text recording.now) }
+    ensures { Gives result (spec.recording_text spec.Second recording.now) }
 {
     let mut text = Bytes::new(alloc);
-    text.append_slice(b"ASPREC 1\n")?;
+    text.append_slice(b"ASPREC 2\n")?;
     push_seed(&mut text, &recording.seed)?;
+    push_rule(&mut text, recording.strict)?;
     push_items(&mut text, recording.items.as_slice())?;
     text.append_slice(b"end\n")?;
     Ok(text)
