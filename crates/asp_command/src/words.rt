@@ -111,9 +111,7 @@ pub fn read_words(alloc: Global, words: &[String]) -> Result<Command, WordStop>
         return Ok(replay_command(alloc, site, workers, journal, strict)?);
     }
     if let Some((site, requests, workers, port, strict)) = serve_words(words) {
-        return Ok(serve_command(
-            alloc, site, requests, workers, port, strict,
-        )?);
+        return Ok(serve_command(alloc, site, requests, workers, port, strict)?);
     }
     match gen_words(words) {
         Some((count, journal)) => Ok(Command::Gen { count, journal }),

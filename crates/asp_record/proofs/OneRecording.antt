@@ -277,9 +277,11 @@ one_recording bytes whole other end last stands found =
     let none = no_others 0 other.items m.others rest after right m.rest in
     let items : whole.items ≡ other.items = m.items ∙ ap (λ l. other.items ++ l) none ∙ append-nil other.items in
     let same : whole ≡ other = ap (λ s. made s whole.strict whole.items) m.seed
-    ∙ ap (λ s. made other.seed s whole.items) m.strict ∙ ap (λ l. made other.seed other.strict l) items in
-    (same, stands.ends ∙ ap (λ r. length (recording_text stands.version r)) same
-    ∙ ap (λ v. length (recording_text v other)) m.version_is ∙ sym found.ends)
+    ∙ ap (λ s. made other.seed s whole.items) m.strict ∙ ap (λ l. made other.seed other.strict l) items in (
+      same,
+      stands.ends ∙ ap (λ r. length (recording_text stands.version r)) same
+          ∙ ap (λ v. length (recording_text v other)) m.version_is ∙ sym found.ends,
+    )
 
 -- ---- where a recording stands, each part of it goes on
 

@@ -1,4 +1,3 @@
-use Rattle.std.proofs.Common.{refl}
 use Rattle.asp_record.specs.Recording.{First}
 use Rattle.asp_record.proofs.Refusals.{plain_head, refused_seed}
 use Rattle.asp_record.proofs.reading.first_version.Goals as goal
