@@ -24,10 +24,9 @@ use Rattle.vb_meaning.specs.Declaring.{constants_from, declared_cell, fault_befo
 use Rattle.vb_meaning.specs.Errors.{in_line}
 use Rattle.vb_meaning.specs.Places.{cell_place, held_at, hold, holding, new_cell, read_place}
 use Rattle.vb_meaning.specs.State.{store_answer, with_store}
-use Rattle.vb_meaning.specs.Step.{Step, Returns, Ends, Run, and_then, ◌>>=◌, ◌>>◌, pure, given, state_of}
-use Rattle.vb_meaning.specs.Stops.{heap_stop}
+use Rattle.vb_meaning.specs.Step.{Step, Returns, Ends, Run, and_then, ◌>>=◌, pure, given, state_of}
 use Rattle.vb_meaning.specs.Values.{constant_value, copied}
-use Rattle.act_laws.proofs.Holding.{Carried, held_by}
+use Rattle.act_laws.proofs.Holding.{Carried}
 
 -- what is done to a world holds nothing and lets nothing go, and the page has ended as before, or not
 abbrev pub Unheld : {A : Type 0} → World → Step World A → Type 0

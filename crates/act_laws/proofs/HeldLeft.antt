@@ -1,5 +1,5 @@
 -- A procedure leaves what is held where the page has not ended, and so a statement, level by level.
-use Rattle.std.proofs.Common.{ℕ, zero, suc, ◌+◌, ◌-◌, ◌==◌, nat_lt, Bool, true, false, if◌then◌else◌, List, [], ◌∷◌}
+use Rattle.std.proofs.Common.{ℕ, zero, suc, ◌-◌, ◌==◌, nat_lt, Bool, true, false, if◌then◌else◌, List, [], ◌∷◌}
 use Rattle.std.proofs.Common.{◌++◌}
 use Rattle.std.proofs.Common.{◌≡◌, Option, None, refl, ap, ◌∙◌, length}
 use Rattle.vb_value.specs.declared.limit.LimitKind.TheVariants.{Ticks}

@@ -16,7 +16,6 @@ use Rattle.vb_meaning.specs.World.{World}
 use Rattle.vb_meaning.specs.Errors.{in_line, raised_by, resumed, too_deep, with_err}
 use Rattle.vb_meaning.specs.Executing as executing
 use Rattle.vb_meaning.specs.Inner.{Inner, Owner}
-use Rattle.vb_meaning.specs.Meaning.{statement}
 use Rattle.vb_meaning.specs.Objects.{class_at}
 use Rattle.vb_meaning.specs.Places.{held_so_far, let_go}
 use Rattle.vb_meaning.specs.Releases as releases

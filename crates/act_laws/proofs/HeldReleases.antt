@@ -1,6 +1,6 @@
 -- A release point lets nothing go that was held before it.
-use Rattle.std.proofs.Common.{ℕ, zero, suc, ◌-◌, Bool, true, false, List, [], Option, Some, None, ◌≡◌, refl}
-use Rattle.vb_value.specs.declared.value.Value.{Value, Empty}
+use Rattle.std.proofs.Common.{ℕ, zero, suc, ◌-◌, Bool, true, false, List, [], Option, Some, None, refl}
+use Rattle.vb_value.specs.declared.value.Value.{Value}
 use Rattle.vb_syntax.specs.declared.program.unit.Procedure.{Procedure}
 use Rattle.vb_heap.specs.Limits.{most_objects}
 use Rattle.vb_heap.specs.Releases.{object_of, oldest_loose, with_ending}
@@ -13,7 +13,7 @@ use Rattle.vb_meaning.specs.Objects.{class_at}
 use Rattle.vb_meaning.specs.Places.{held_so_far, let_go}
 use Rattle.vb_meaning.specs.Releases as releases
 use Rattle.vb_meaning.specs.State.{State, Does, with_store}
-use Rattle.vb_meaning.specs.Step.{Step, Returns, Ends, and_then, ◌>>◌, pure, state_of, ends as step_ends}
+use Rattle.vb_meaning.specs.Step.{Step, Returns, Ends, ◌>>◌, pure, state_of, ends as step_ends}
 use Rattle.vb_meaning.specs.Stored.{class_number}
 use Rattle.act_laws.proofs.HeldData.{finished_held}
 use Rattle.act_laws.proofs.Holding.{Carried, Holds, HoldsOn, carried_still, carried_then, held_by, let_go_carried}

@@ -15,7 +15,7 @@ use Rattle.vb_meaning.specs.Asking.{Host, Said, ask, heard}
 use Rattle.vb_meaning.specs.Errors.{in_line, raised_by, resumed, tick, with_err}
 use Rattle.vb_meaning.specs.Places.{held_so_far, let_go, letting_go}
 use Rattle.vb_meaning.specs.State.{State, Does, lifted}
-use Rattle.vb_meaning.specs.Step.{Step, Returns, Ends, Run, and_then, ◌>>=◌, state_of}
+use Rattle.vb_meaning.specs.Step.{Step, Returns, Ends, and_then, ◌>>=◌, state_of}
 use Rattle.act_laws.specs.Held.{HeldOn}
 
 -- ---- what is held
