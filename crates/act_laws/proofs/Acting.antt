@@ -28,6 +28,7 @@ use Rattle.act_laws.proofs.Inside.{Inners, one, two, Same}
 use Rattle.act_laws.proofs.Joined.{Link, Alike, Joined, Past, gives, ends, gone, then_joined}
 use Rattle.act_laws.proofs.Linked.{Fits, turned, then_fits, value_fits}
 use Rattle.vb_meaning.specs.Step.{state_of}
+use Rattle.act_laws.proofs.Holding.{ask_holds}
 use Rattle.act_laws.proofs.Keeping.{ask_keeps}
 use Rattle.act_laws.proofs.Spending.{ask_spends}
 use Rattle.act_laws.proofs.Linked.{fails_fit, world_fits}
@@ -164,6 +165,7 @@ asks_fit l silent asks member arguments = record {
   keeps = ask_keeps l.other member arguments;
   spends = ask_spends l.other member arguments;
   tells = λ noting. absurd (silent noting);
+  holds = ask_holds l.other member arguments;
 }
 
 -- an act in the one is as in the other

@@ -17,9 +17,11 @@ use Rattle.vb_meaning.specs.Inner.{Owner}
 use Rattle.vb_meaning.specs.Places.{holding, letting_go}
 use Rattle.vb_meaning.specs.Releases.{in_world, settle}
 use Rattle.vb_meaning.specs.State.{State, Does, on_world}
-use Rattle.vb_meaning.specs.Step.{Step, Returns, Ends, ◌>>=◌, ◌>>◌, pure, ends as step_ends}
+use Rattle.vb_meaning.specs.Step.{Step, Returns, Ends, ◌>>=◌, ◌>>◌, pure, ends as step_ends, state_of}
 use Rattle.act_laws.proofs.Inside.{Inners, one, two, Same, seen_fits}
 use Rattle.act_laws.specs.Objects.{Account, Kept, Settled, account_at, account_of}
+use Rattle.act_laws.proofs.HeldData.{dropped_held}
+use Rattle.act_laws.proofs.Holding.{Carried, HoldsOn, carried_still, carried_then, held_by}
 use Rattle.act_laws.proofs.Joined.{Link, Alike, JoinedTurn, Past, gives, ends, gone}
 use Rattle.act_laws.proofs.Keeping.{kept_from, kept_moved, told, told_of}
 use Rattle.act_laws.proofs.Linked.{Fits, Turns, turned, then_fits, letting_fits, next_turns, value_fits}
@@ -50,6 +52,13 @@ module _ (l : Link) (i : Inners l) where
 
   left_same : (caller world : World) → account_of (calling.left caller world) ≡ account_of world
   left_same caller world = ap (λ found. found.0) (left_still caller world)
+
+  left_carried : (caller world : World) → Carried world (calling.left caller world)
+  left_carried caller world = (
+    held_by world.store.held _
+        (dropped_held (world.frame.own ++ calling.cell_of world.frame.result) world.store),
+    refl,
+  )
 
   -- objects end, and then the value is given
   settled_fits : (value : Value) → Same l i (λ E m. settle E m >> pure value)
@@ -92,7 +101,7 @@ module _ (l : Link) (i : Inners l) where
   abandoned_turns : (caller : World)
       → Turns l (calling.abandoned l.E (one i) caller) (calling.abandoned l.F (two i) caller)
   abandoned_turns caller =
-      record { joined = abandoned_joined caller; keeps = keeps; spends = spends; tells = tells }
+      record { joined = abandoned_joined caller; keeps = keeps; spends = spends; tells = tells; holds = holds }
     where
       keeps : (before : Account) (step : Step (State l.F) Value) → Kept account_at before step
           → Kept account_at before (calling.abandoned l.F (two i) caller step)
@@ -124,12 +133,28 @@ module _ (l : Link) (i : Inners l) where
       spends (Ends (stop.Wants call) s) = no_less (ticks_at s)
       spends (Ends stop.Memory s) = no_less (ticks_at s)
 
+      holds : HoldsOn {E = l.F} {A = Value} {B = Value} (calling.abandoned l.F (two i) caller)
+      holds (Returns value s) =
+          let t = in_world l.F (calling.left caller s.world) s in
+          carried_then s.world t.world (state_of ((settle l.F (two i) >> pure value) t)).world
+          (left_carried caller s.world) ((settled_fits value).holds t)
+      holds (Ends (stop.Error what line) s) =
+          let t = in_world l.F (calling.left caller s.world) s in
+          carried_then s.world t.world
+          (state_of ((settle l.F (two i) >> step_ends {A = Value} (stop.Error what line)) t)).world
+          (left_carried caller s.world)
+          ((then_fits (settle_fits l i) (λ done. error_fits {A = Value} l what line)).holds t)
+      holds (Ends stop.Page s) = left_carried caller s.world
+      holds (Ends (stop.Limit kind line) s) = carried_still s.world
+      holds (Ends (stop.Wants call) s) = carried_still s.world
+      holds (Ends stop.Memory s) = carried_still s.world
+
       tells : (noting : l.tells) → TellsOn (l.telling noting) (calling.abandoned l.F (two i) caller)
       tells noting s (Returns value after) right kept before =
-          (next_turns {A = Value} (λ given. moved_fits (calling.left caller) (left_still caller)
+          (next_turns {A = Value} (λ given. moved_fits (calling.left caller) (left_still caller) (left_carried caller)
           (settled_fits given))).tells noting s (Returns value after) right kept before
       tells noting s (Ends (stop.Error what line) after) right kept before =
-          (next_turns {A = Exit} (λ exit. moved_fits (calling.left caller) (left_still caller)
+          (next_turns {A = Exit} (λ exit. moved_fits (calling.left caller) (left_still caller) (left_carried caller)
           (then_fits (settle_fits l i) (λ done. error_fits {A = Value} l what line)))).tells noting s
           (Returns Next after) right kept before
       tells noting s (Ends stop.Page after) right kept before = changed_told (l.telling noting) s after
@@ -152,7 +177,7 @@ module _ (l : Link) (i : Inners l) where
   called_fits owner procedure arguments = seen_fits l i
       (λ E m world s. calling.abandoned E m world
       (calling.runs E m procedure arguments (in_world E (calling.entered owner s.world) s)))
-      (λ world. turned (abandoned_turns world) (moved_fits (calling.entered owner) (λ world. refl)
+      (λ world. turned (abandoned_turns world) (moved_fits (calling.entered owner) (λ world. refl) carried_still
       (runs_fits procedure arguments)))
 
   opened_fits : (owner : Owner) (procedure : Procedure) (arguments : List Argument)

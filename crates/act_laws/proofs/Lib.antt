@@ -11,6 +11,9 @@ pub mod Entering
 pub mod Telling
 pub mod Entered
 pub mod Spending
+pub mod Holding
+pub mod HeldData
+pub mod HeldReleases
 pub mod Ticking
 pub mod Counting
 pub mod Joined
@@ -37,6 +40,10 @@ pub mod Wanting
 pub mod Asking
 pub mod Lacking
 pub mod Placing
+pub mod HeldBegins
+pub mod HeldPoints
+pub mod HeldLeft
+pub mod HeldLaw
 pub mod Settled
 pub mod NoneBack
 pub mod OneText

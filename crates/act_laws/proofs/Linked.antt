@@ -11,7 +11,10 @@ use Rattle.vb_meaning.specs.Errors.{tick}
 use Rattle.vb_meaning.specs.Places.{held_so_far, let_go, letting_go}
 use Rattle.vb_meaning.specs.State.{State, Does, on_world}
 use Rattle.vb_meaning.specs.Step.{Step, Returns, Run, and_then, ◌>>=◌, pure, ends as step_ends, given, fails}
+use Rattle.vb_meaning.specs.Step.{state_of}
 use Rattle.act_laws.specs.Objects.{Account, Kept, account_at, account_of}
+use Rattle.act_laws.proofs.Holding.{Carried, Holds, HoldsOn, carried_still, carried_then, lifted_holds, next_holds}
+use Rattle.act_laws.proofs.Holding.{letting_holds, tick_holds, turned_holds}
 use Rattle.act_laws.proofs.Joined as sides
 use Rattle.act_laws.proofs.Joined.{Link, Joined, JoinedTurn}
 use Rattle.act_laws.proofs.Keeping.{Keeps, kept_moved, lifted_keeps, next_keeps, still_ends, still_gives, tick_keeps}
@@ -28,6 +31,7 @@ pub record Fits {A : Type 0} (l : Link) (first : Does l.E A) (second : Does l.F 
   pub keeps : Keeps account_at second
   pub spends : Spends ticks_at second
   pub tells : (noting : l.tells) → Tells (l.telling noting) second
+  pub holds : Holds second
 
 -- ---- steps
 
@@ -39,6 +43,7 @@ pub record Turns {A B : Type 0} (l : Link) (turn : Step (State l.E) A → Step (
       → Kept account_at before (other step)
   pub spends : SpendsOn ticks_at other
   pub tells : (noting : l.tells) → TellsOn (l.telling noting) other
+  pub holds : HoldsOn {E = l.F} {A = A} {B = B} other
 
 -- what is done, and then something is made of the step
 pub turned : {A B : Type 0} {l : Link} {turn : Step (State l.E) A → Step (State l.E) B}
@@ -50,6 +55,7 @@ turned {other} {second} turns fit = record {
   spends = turned_spends ticks_at other second turns.spends fit.spends;
   tells = λ noting s right.
       turns.tells noting s (second s) right (fit.keeps s right.adds_up) (fit.tells noting s right);
+  holds = turned_holds other second turns.holds fit.holds;
 }
 
 -- what follows a step
@@ -62,6 +68,7 @@ next_turns {l} {other} fit = record {
   spends = next_spends ticks_at other (λ value. (fit value).spends);
   tells = λ noting. next_tells (l.telling noting) other (λ value. (fit value).keeps)
       (λ value. (fit value).tells noting);
+  holds = next_holds other (λ value. (fit value).holds);
 }
 
 -- ---- what is done
@@ -79,6 +86,7 @@ value_fits l value = record {
   keeps = still_gives account_at value;
   spends = still_spends ticks_at value;
   tells = λ noting s right. still_told (l.telling noting) s;
+  holds = λ s. carried_still s.world;
 }
 
 -- an end for another reason than a call
@@ -89,6 +97,7 @@ error_fits {A} l what line = record {
   keeps = still_ends A account_at (stop.Error what line);
   spends = λ s. no_less (ticks_at s);
   tells = λ noting s right. still_told (l.telling noting) s;
+  holds = λ s. carried_still s.world;
 }
 
 pub limit_fits : {A : Type 0} (l : Link) (kind : LimitKind) (line : Option ℕ)
@@ -98,6 +107,7 @@ limit_fits {A} l kind line = record {
   keeps = still_ends A account_at (stop.Limit kind line);
   spends = λ s. no_less (ticks_at s);
   tells = λ noting s right. still_told (l.telling noting) s;
+  holds = λ s. carried_still s.world;
 }
 
 -- an error of the language
@@ -117,6 +127,7 @@ world_fits l {change} wantless = record {
   keeps = λ s right. lifted_keeps s (account_at s) (change s.world) (wantless.keeps s.world right);
   spends = λ s. lifted_spends s (change s.world);
   tells = λ noting s right. lifted_tells (l.telling noting) s (change s.world) (wantless.stays s.world);
+  holds = λ s. lifted_holds s (change s.world) (wantless.carries s.world);
 }
 
 -- one of two
@@ -135,16 +146,19 @@ either_fits false one other = other
 
 -- what is done in a changed world, whose account of objects is the same
 pub moved_fits : {A : Type 0} {l : Link} (change : World → World)
-    → ((world : World) → told (change world) ≡ told world) → {first : Does l.E A} {second : Does l.F A}
-    → Fits l first second
+    → ((world : World) → told (change world) ≡ told world) → ((world : World) → Carried world (change world))
+    → {first : Does l.E A} {second : Does l.F A} → Fits l first second
     → Fits l (λ s. first (record s { world = change s.world })) (λ s. second (record s { world = change s.world }))
-moved_fits {l} change same {first} {second} fit = record {
+moved_fits {l} change same carried {first} {second} fit = record {
   joined = sides.moved_joined change fit.joined;
   keeps = λ s right. kept_moved account_at (account_of s.world) (account_of (change s.world))
       (ap (λ found. found.0) (same s.world))
       (second (record s { world = change s.world })) (fit.keeps (record s { world = change s.world })) right;
   spends = λ s. fit.spends (record s { world = change s.world });
   tells = λ noting. moved_tells (l.telling noting) change same second fit.keeps (fit.tells noting);
+  holds = λ s. let moved = second (record s { world = change s.world }) in
+      carried_then s.world (change s.world) (state_of moved).world (carried s.world)
+      (fit.holds (record s { world = change s.world }));
 }
 
 -- what is done by how many ticks are left
@@ -156,6 +170,7 @@ counting_fits first second each = record {
   keeps = λ s right. (each s.ticks).keeps s right;
   spends = λ s. (each s.ticks).spends s;
   tells = λ noting s right. (each s.ticks).tells noting s right;
+  holds = λ s. (each s.ticks).holds s;
 }
 
 -- a tick
@@ -165,6 +180,7 @@ tick_fits l = record {
   keeps = tick_keeps;
   spends = tick_spends;
   tells = λ noting s right. tick_tells (l.telling noting) s;
+  holds = tick_holds;
 }
 
 -- what is done as the world has it
@@ -176,12 +192,29 @@ seeing_fits first second each = record {
   keeps = λ s right. (each s.world).keeps s right;
   spends = λ s. (each s.world).spends s;
   tells = λ noting s right. (each s.world).tells noting s right;
+  holds = λ s. (each s.world).holds s;
 }
 
 -- what is done, and what it held is held no more
 pub letting_fits : {A : Type 0} {l : Link} {first : Does l.E A} {second : Does l.F A} → Fits l first second
     → Fits l (letting_go first) (letting_go second)
-letting_fits {l} {first} {second} fit = seeing_fits
-    (λ world. first >>= (λ value s. Returns value (record s { world = let_go (held_so_far world) s.world })))
-    (λ world. second >>= (λ value s. Returns value (record s { world = let_go (held_so_far world) s.world })))
-    (λ world. then_fits fit (λ value. moved_fits (let_go (held_so_far world)) (λ other. refl) (value_fits l value)))
+letting_fits {A} {l} {first} {second} fit = record {
+  joined = sides.seeing_joined (λ world. first >>= lets world) (λ world. second >>= lets world)
+      (λ world. sides.turn_joined (sides.next_turn (λ value.
+      sides.moved_joined (let_go (held_so_far world)) (sides.value_joined l value))) fit.joined);
+  keeps = λ s right. next_keeps account_at (lets s.world) (lets_keep s.world) (account_at s) (second s)
+      (fit.keeps s right);
+  spends = λ s. turned_spends ticks_at (λ (step : Step (State l.F) A). and_then step (lets s.world)) second
+      (next_spends ticks_at (lets s.world) (λ value t. no_less (ticks_at t))) fit.spends s;
+  tells = λ noting s right. next_tells (l.telling noting) (lets s.world) (lets_keep s.world)
+      (λ value. moved_tells (l.telling noting) (let_go (held_so_far s.world)) (λ other. refl) (pure value)
+      (still_gives account_at value) (λ t right. still_told (l.telling noting) t)) s (second s) right
+      (fit.keeps s right.adds_up) (fit.tells noting s right);
+  holds = letting_holds second fit.holds;
+}
+  where
+    lets : {E : Type 0} → World → A → Does E A
+    lets world value s = Returns value (record s { world = let_go (held_so_far world) s.world })
+
+    lets_keep : (world : World) (value : A) → Keeps account_at (lets {E = l.F} world value)
+    lets_keep world value s right = still_gives account_at value s right

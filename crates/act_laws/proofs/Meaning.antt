@@ -18,13 +18,11 @@ use Rattle.vb_meaning.specs.declared.world.Exit.{Exit}
 use Rattle.vb_meaning.specs.declared.world.Exit.TheVariants.{Next, Leave}
 use Rattle.vb_meaning.specs.World.{World}
 use Rattle.vb_meaning.specs.Asking.{ask}
-use Rattle.vb_meaning.specs.Errors.{in_line, resumed, cleared}
+use Rattle.vb_meaning.specs.Errors.{cleared}
 use Rattle.vb_meaning.specs.Executing as executing
 use Rattle.vb_meaning.specs.Expressions.{bare}
 use Rattle.vb_meaning.specs.Inner.{Owner}
 use Rattle.vb_meaning.specs.Meaning as meaning
-use Rattle.vb_meaning.specs.Places.{held_so_far}
-use Rattle.vb_meaning.specs.Releases.{release}
 use Rattle.vb_meaning.specs.State.{Does}
 use Rattle.vb_meaning.specs.Statements.{clears_err}
 use Rattle.act_laws.proofs.Keeping.{told}
@@ -33,9 +31,10 @@ use Rattle.act_laws.proofs.Calling.{enter_of_fits}
 use Rattle.act_laws.proofs.Expressions.{valued_fits, argument_of_fits, written_or_fits}
 use Rattle.act_laws.proofs.Inside.{Inners, one, two, Same}
 use Rattle.act_laws.proofs.Joined.{Link}
-use Rattle.act_laws.proofs.Linked.{Fits, turned, then_fits, value_fits, tick_fits, world_fits, seeing_fits}
+use Rattle.act_laws.proofs.Linked.{Fits, turned, then_fits, value_fits, tick_fits, world_fits}
 use Rattle.act_laws.proofs.Looping.{do_fits, while_fits, for_fits, for_each_fits}
-use Rattle.act_laws.proofs.Releasing.{release_turns}
+use Rattle.act_laws.proofs.Holding.{Carried, carried_still}
+use Rattle.act_laws.proofs.Releasing.{release_fits}
 use Rattle.act_laws.proofs.Statements.{redim_fits, assignment_fits, if_fits, select_fits, with_fits, call_of_fits}
 use Rattle.act_laws.proofs.Statements.{write_fits, handles_fit}
 use Rattle.act_laws.proofs.Turning.{line_turns, resumed_turns}
@@ -53,8 +52,17 @@ left_still kind world = elim (clears_err kind)
       | false ↦ refl
     ]
 
+-- and what is held
+left_carried : (kind : ExitKind) (world : World)
+    → Carried world (if clears_err kind then cleared world else world)
+left_carried kind world = elim (clears_err kind)
+    as (λ b. Carried world (if b then cleared world else world)) [
+      | true ↦ carried_still world
+      | false ↦ carried_still world
+    ]
+
 module _ (l : Link) (i : Inners l) where
-  does_fits : (said : executing.Said) → Same l i (λ E m. executing.does E m said)
+  pub does_fits : (said : executing.Said) → Same l i (λ E m. executing.does E m said)
   does_fits StatementKind-F.Declaration = value_fits l Next
   does_fits StatementKind-F.Dim = value_fits l Next
   does_fits (StatementKind-F.ReDim preserve arrays) =
@@ -70,7 +78,8 @@ module _ (l : Link) (i : Inners l) where
   does_fits (StatementKind-F.While test body) = while_fits l i test body
   does_fits (StatementKind-F.With subject body) = with_fits l i subject body
   does_fits (StatementKind-F.Exit kind) = world_fits l
-      (change_wantless (Leave kind) (λ world. if clears_err kind then cleared world else world) (left_still kind))
+      (change_wantless (Leave kind) (λ world. if clears_err kind then cleared world else world) (left_still kind)
+      (left_carried kind))
   does_fits StatementKind-F.OnErrorResumeNext = handles_fit l i true
   does_fits StatementKind-F.OnErrorGoToZero = handles_fit l i false
   does_fits (StatementKind-F.Erase arrays) =
@@ -80,11 +89,7 @@ module _ (l : Link) (i : Inners l) where
 
   whole_fits : {first : Does l.E Exit} {second : Does l.F Exit} (line : ℕ) → Fits l first second
       → Fits l (executing.whole l.E (one i) line first) (executing.whole l.F (two i) line second)
-  whole_fits {first} {second} line fit = seeing_fits
-      (λ world s. in_line line (release l.E (one i) (held_so_far world) (resumed Next (first s))))
-      (λ world s. in_line line (release l.F (two i) (held_so_far world) (resumed Next (second s))))
-      (λ world. turned (line_turns l line) (turned (release_turns l i (held_so_far world))
-      (turned (resumed_turns l Next) fit)))
+  whole_fits line fit = turned (line_turns l line) (release_fits l i (turned (resumed_turns l Next) fit))
 
   executed_fits : (line : ℕ) (said : executing.Said) → Same l i (λ E m. executing.executed E m line said)
   executed_fits line StatementKind-F.Declaration = value_fits l Next

@@ -38,6 +38,7 @@ use Rattle.act_laws.proofs.Entering.{still_enters}
 use Rattle.act_laws.proofs.Expressions.{argument_of_fits, valued_fits, written_or_fits}
 use Rattle.act_laws.proofs.Inside.{Inners}
 use Rattle.act_laws.proofs.Joined.{Link, Alike, Joined, gives, ends, gone}
+use Rattle.act_laws.proofs.Holding.{Carried, ask_holds}
 use Rattle.act_laws.proofs.Keeping.{ask_keeps}
 use Rattle.act_laws.proofs.Linked.{Fits, then_fits, value_fits, world_fits}
 use Rattle.act_laws.proofs.Links.{ends_for}
@@ -160,6 +161,7 @@ module _ (E : Type 0) (host : Host E) (program : Program) where
     keeps = ask_keeps (beside_notes host) member arguments;
     spends = ask_spends (beside_notes host) member arguments;
     tells = λ noting. asks_told member arguments;
+    holds = ask_holds (beside_notes host) member arguments;
   }
 
   -- ---- a procedure that is entered
@@ -189,6 +191,11 @@ module _ (E : Type 0) (host : Host E) (program : Program) where
       → ticks_at (state_of (running_again running step)) ≡ ticks_at (state_of step)
   again_ticks running (Returns value s) = refl
   again_ticks running (Ends why s) = refl
+
+  again_carried : {A : Type 0} (running : List ℕ) (before : World) (step : Step (State (Noted E)) A)
+      → Carried before (state_of step).world → Carried before (state_of (running_again running step)).world
+  again_carried running before (Returns value s) carried = carried
+  again_carried running before (Ends why s) carried = carried
 
   again_entered : {A : Type 0} (object : ℕ) (found : Option Procedure) (s from : State (Noted E))
       (step : Step (State (Noted E)) A)
@@ -250,6 +257,8 @@ module _ (E : Type 0) (host : Host E) (program : Program) where
           (second owner procedure arguments (noting_in (ends_by owner s.world s.env.1) procedure s))))
           ((fits owner procedure arguments).spends (noting_in (ends_by owner s.world s.env.1) procedure s));
       tells = λ noting. entering_told owner procedure arguments;
+      holds = λ s. again_carried {A = Value} s.env.1.running s.world
+          (second owner procedure arguments (noting_in (ends_by owner s.world s.env.1) procedure s)) ((fits owner procedure arguments).holds (noting_in (ends_by owner s.world s.env.1) procedure s));
     }
 
     pub entering_notes : NotesEntries telling_of (entering second)

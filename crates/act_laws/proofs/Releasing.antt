@@ -10,7 +10,7 @@ use Rattle.vb_meaning.specs.World.{World}
 use Rattle.vb_meaning.specs.Errors.{in_line}
 use Rattle.vb_meaning.specs.Inner.{Inner}
 use Rattle.vb_meaning.specs.Objects.{class_at}
-use Rattle.vb_meaning.specs.Places.{let_go}
+use Rattle.vb_meaning.specs.Places.{held_so_far, let_go}
 use Rattle.vb_meaning.specs.Releases as releases
 use Rattle.vb_meaning.specs.State.{State, Does, with_store}
 use Rattle.vb_meaning.specs.Step.{Step, Returns, Ends, and_then, ◌>>◌, pure, ends as step_ends}
@@ -21,7 +21,9 @@ use Rattle.act_laws.proofs.Ending.{settle_keeps}
 use Rattle.act_laws.proofs.Joined.{Link, Alike, Joined, JoinedTurn, Past, gives, ends, gone, turn_joined, then_joined}
 use Rattle.act_laws.proofs.Joined.{moved_joined, seeing_joined, value_joined}
 use Rattle.act_laws.proofs.Keeping.{kept_from}
-use Rattle.act_laws.proofs.Linked.{Turns, then_fits, value_fits, error_fits}
+use Rattle.act_laws.proofs.HeldReleases.{release_holds, settle_holds}
+use Rattle.act_laws.proofs.Linked.{Fits, then_fits, value_fits, error_fits}
+use Rattle.act_laws.proofs.Spending.{ticks_at, turned_spends}
 use Rattle.act_laws.proofs.Entered.{release_tells, settle_tells}
 use Rattle.act_laws.proofs.Ticking.{release_spends, settle_spends}
 use Rattle.act_laws.proofs.Turning.{line_joined, terminated_joined}
@@ -79,6 +81,7 @@ module _ (l : Link) (i : Inners l) where
     spends = settle_spends l.F (two i) (λ owner procedure arguments. (i.enter_fits owner procedure arguments).spends);
     tells = λ noting. settle_tells (l.telling noting) (two i) (i.same_program noting)
         (λ owner procedure arguments. (i.enter_fits owner procedure arguments).keeps) (i.enters noting);
+    holds = settle_holds l.F (two i) (λ owner procedure arguments. (i.enter_fits owner procedure arguments).holds);
   }
 
   release_joined : {A : Type 0} (mark : ℕ)
@@ -116,31 +119,39 @@ module _ (l : Link) (i : Inners l) where
       alike _ second (gone call s _ past) =
           gone call s (releases.release l.F (two i) mark second) (goes_on call second past)
 
-  pub release_turns : {A : Type 0} (mark : ℕ)
-      → Turns {A = A} l (releases.release l.E (one i) mark) (releases.release l.F (two i) mark)
-  release_turns {A} mark = record {
-    joined = release_joined mark;
-    keeps = keeps;
-    spends = release_spends l.F (two i)
-        (λ owner procedure arguments. (i.enter_fits owner procedure arguments).spends) mark;
-    tells = λ noting. release_tells (l.telling noting) (two i) (i.same_program noting)
-        (λ owner procedure arguments. (i.enter_fits owner procedure arguments).keeps) (i.enters noting) mark;
+  -- what is done, and a release point behind it, as the end of a statement or of a head
+  pub release_fits : {A : Type 0} {first : Does l.E A} {second : Does l.F A} → Fits l first second
+      → Fits l (λ s. releases.release l.E (one i) (held_so_far s.world) (first s))
+      (λ s. releases.release l.F (two i) (held_so_far s.world) (second s))
+  release_fits {A} {first} {second} fit = record {
+    joined = seeing_joined (λ world s. releases.release l.E (one i) (held_so_far world) (first s))
+        (λ world s. releases.release l.F (two i) (held_so_far world) (second s))
+        (λ world. turn_joined (release_joined (held_so_far world)) fit.joined);
+    keeps = λ s right. keeps (held_so_far s.world) (account_at s) (second s) (fit.keeps s right);
+    spends = λ s. turned_spends ticks_at (releases.release l.F (two i) (held_so_far s.world)) second
+        (release_spends l.F (two i) (λ owner procedure arguments. (i.enter_fits owner procedure arguments).spends)
+        (held_so_far s.world)) fit.spends s;
+    tells = λ noting s right. release_tells (l.telling noting) (two i) (i.same_program noting)
+        (λ owner procedure arguments. (i.enter_fits owner procedure arguments).keeps) (i.enters noting)
+        (held_so_far s.world) s (second s) right (fit.keeps s right.adds_up) (fit.tells noting s right);
+    holds = λ s. release_holds l.F (two i)
+        (λ owner procedure arguments. (i.enter_fits owner procedure arguments).holds) s.world (second s) (fit.holds s);
   }
     where
-      keeps : (before : Account) (step : Step (State l.F) A) → Kept account_at before step
+      keeps : (mark : ℕ) (before : Account) (step : Step (State l.F) A) → Kept account_at before step
           → Kept account_at before (releases.release l.F (two i) mark step)
-      keeps before (Returns value s) kept =
+      keeps mark before (Returns value s) kept =
           let t = releases.in_world l.F (let_go mark s.world) s in
           kept_from account_at kept ((releases.settle l.F (two i) >> pure value) t)
           ((then_fits settle_fits (λ done. value_fits l value)).keeps t kept.onward.adds_up)
-      keeps before (Ends (stop.Error what line) s) kept =
+      keeps mark before (Ends (stop.Error what line) s) kept =
           let t = releases.in_world l.F (let_go mark s.world) s in
           kept_from account_at kept ((releases.settle l.F (two i) >> step_ends (stop.Error what line)) t)
           ((then_fits settle_fits (λ done. error_fits {A = A} l what line)).keeps t kept.onward.adds_up)
-      keeps before (Ends stop.Page s) kept = kept
-      keeps before (Ends (stop.Limit kind line) s) kept = kept
-      keeps before (Ends (stop.Wants call) s) kept = kept
-      keeps before (Ends stop.Memory s) kept = kept
+      keeps mark before (Ends stop.Page s) kept = kept
+      keeps mark before (Ends (stop.Limit kind line) s) kept = kept
+      keeps mark before (Ends (stop.Wants call) s) kept = kept
+      keeps mark before (Ends stop.Memory s) kept = kept
 
   -- ---- the page's end
 

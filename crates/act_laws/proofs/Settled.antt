@@ -21,6 +21,7 @@ use Rattle.act_laws.specs.Terminators.{NoneLoose}
 use Rattle.act_laws.proofs.Coming.{Later, One}
 use Rattle.act_laws.proofs.Ending.{ended_one, none_loose, one_ends}
 use Rattle.act_laws.proofs.Finishing.{levels_alone}
+use Rattle.act_laws.proofs.HeldLaw.{release_leaves}
 use Rattle.act_laws.proofs.Keeping.{Keeps}
 use Rattle.act_laws.proofs.Marks.{loose_is_live}
 use Rattle.act_laws.proofs.Once.{run_once}
@@ -164,6 +165,7 @@ settles_once E host program levels s =
       next = goes_on E m (λ owner procedure arguments. (i.enter_fits owner procedure arguments).keeps) s;
       leaves = settle_leaves E m s;
       place = settle_place E m (enter_place E host program levels) s;
+      held = release_leaves E host program levels s;
       again = λ right after is. still E m after
           (subst NoneLoose is (((run_once E).1 host program levels s right).0.settles));
     }

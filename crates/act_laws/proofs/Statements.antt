@@ -21,17 +21,16 @@ use Rattle.vb_meaning.specs.Accesses.{Access, accesses}
 use Rattle.vb_meaning.specs.Assigning.{assignable}
 use Rattle.vb_meaning.specs.Blocks.{block}
 use Rattle.vb_meaning.specs.Errors.{on_error}
-use Rattle.vb_meaning.specs.Places.{held_so_far}
-use Rattle.vb_meaning.specs.Releases.{release}
 use Rattle.vb_meaning.specs.State.{Does}
 use Rattle.vb_meaning.specs.Statements as statements
 use Rattle.act_laws.proofs.Calling.{block_fits}
 use Rattle.act_laws.proofs.Inside.{Inners, one, two, Same, seen_fits}
 use Rattle.act_laws.proofs.Joined.{Link}
 use Rattle.act_laws.proofs.Linked.{Fits, turned, then_fits, value_fits, fails_fit, given_fits, world_fits}
-use Rattle.act_laws.proofs.Linked.{choice_fits, moved_fits, seeing_fits}
+use Rattle.act_laws.proofs.Linked.{choice_fits, moved_fits}
 use Rattle.act_laws.proofs.Reading.{values_fit, head_fits}
-use Rattle.act_laws.proofs.Releasing.{release_turns}
+use Rattle.act_laws.proofs.Holding.{carried_still}
+use Rattle.act_laws.proofs.Releasing.{release_fits}
 use Rattle.act_laws.proofs.Turning.{line_turns, resumed_turns, with_turns}
 use Rattle.act_laws.proofs.Wantless.{then_wantless, change_wantless}
 use Rattle.act_laws.proofs.WantlessPlaces.{variable_wantless, element_wantless, target_wantless, held_wantless}
@@ -40,10 +39,7 @@ use Rattle.act_laws.proofs.WantlessScopes.{resize_wantless}
 module _ (l : Link) (i : Inners l) where
   pub in_head_fits : {A : Type 0} {first : Does l.E A} {second : Does l.F A} → Fits l first second
       → Fits l (statements.in_head l.E (one i) first) (statements.in_head l.F (two i) second)
-  in_head_fits {A} {first} {second} fit = seeing_fits
-      (λ world s. release l.E (one i) (held_so_far world) (first s))
-      (λ world s. release l.F (two i) (held_so_far world) (second s))
-      (λ world. turned (release_turns l i (held_so_far world)) fit)
+  in_head_fits = release_fits l i
 
   pub condition_fits : (test : Expression) → Same l i (λ E m. statements.condition E m test)
   unfolding statements.condition
@@ -104,7 +100,7 @@ module _ (l : Link) (i : Inners l) where
       (λ E m world s. statements.out_of_with E m world.frame.subjects (block E m body
       (record s { world = statements.with_subjects E m (s.world.frame.subjects ++ value ∷ []) s.world })))
       (λ world. turned (with_turns l (one i) (two i) world.frame.subjects) (moved_fits
-      (λ world. statements.with_subjects l.E (one i) (world.frame.subjects ++ value ∷ []) world) (λ world. refl)
+      (λ world. statements.with_subjects l.E (one i) (world.frame.subjects ++ value ∷ []) world) (λ world. refl) carried_still
       (block_fits l i body))))
 
   -- ---- assignments and calls
@@ -147,4 +143,4 @@ module _ (l : Link) (i : Inners l) where
   write_fits value = then_fits (i.asks ResponseWrite (value ∷ [])) (λ given. value_fits l Next)
 
   pub handles_fit : (resumes : Bool) → Same l i (λ E m. statements.handles E m resumes)
-  handles_fit resumes = world_fits l (change_wantless Next (on_error resumes) (λ world. refl))
+  handles_fit resumes = world_fits l (change_wantless Next (on_error resumes) (λ world. refl) carried_still)

@@ -13,6 +13,7 @@ use Rattle.vb_meaning.specs.State.{State}
 use Rattle.vb_meaning.specs.Statements.{out_of_with, with_subjects}
 use Rattle.vb_meaning.specs.Step.{Step, Returns, Ends}
 use Rattle.act_laws.proofs.Joined.{Link, Alike, gives, ends, gone, Past, JoinedTurn}
+use Rattle.act_laws.proofs.Holding.{HoldsOn, carried_still, line_holds, resumed_holds}
 use Rattle.act_laws.proofs.Keeping.{kept_onward, line_keeps, resumed_keeps}
 use Rattle.act_laws.proofs.Telling.{TellsOn, changed_told, line_tells, resumed_tells}
 use Rattle.act_laws.proofs.Spending.{SpendsOn, line_spends, no_less, resumed_spends, ticks_at}
@@ -53,6 +54,7 @@ line_turns l line = record {
   keeps = line_keeps account_at line;
   spends = line_spends ticks_at line;
   tells = λ noting. line_tells (l.telling noting) line;
+  holds = line_holds line;
 }
 
 -- On Error
@@ -114,6 +116,7 @@ resumed_turns l instead = record {
   keeps = resumed_keeps instead;
   spends = resumed_spends instead;
   tells = λ noting. resumed_tells (l.telling noting) instead;
+  holds = resumed_holds instead;
 }
 
 -- the end of a terminator
@@ -183,12 +186,16 @@ with_joined {A} l m other subjects = record { alike = alike; goes_on = goes_on }
 pub with_turns : {A : Type 0} (l : Link) (m : Inner l.E) (other : Inner l.F) (subjects : List Value)
     → Turns {A = A} l (out_of_with l.E m subjects) (out_of_with l.F other subjects)
 with_turns {A} l m other subjects =
-    record { joined = with_joined l m other subjects; keeps = keeps; spends = spends; tells = tells }
+    record { joined = with_joined l m other subjects; keeps = keeps; spends = spends; tells = tells; holds = holds }
   where
     keeps : (before : Account) (step : Step (State l.F) A) → Kept account_at before step
         → Kept account_at before (out_of_with l.F other subjects step)
     keeps before (Returns value s) kept = kept
     keeps before (Ends why s) kept = kept
+
+    holds : HoldsOn {E = l.F} {A = A} {B = A} (out_of_with l.F other subjects)
+    holds (Returns value s) = carried_still s.world
+    holds (Ends why s) = carried_still s.world
 
     spends : SpendsOn {A = A} ticks_at (out_of_with l.F other subjects)
     spends (Returns value s) = no_less (ticks_at s)

@@ -20,6 +20,7 @@ use Rattle.vb_heap.specs.Entries.{add_entry_of, emptied, entry_added, mode_set, 
 use Rattle.vb_heap.specs.Entries.{without_entries}
 use Rattle.vb_heap.specs.Held.{hold_of, with_held}
 use Rattle.vb_heap.specs.Places.{value_in}
+use Rattle.vb_heap.specs.References.{references}
 use Rattle.vb_heap.specs.Store.{Store}
 use Rattle.vb_meaning.specs.declared.cause.Cause.TheVariants.{Raised as ByRaise}
 use Rattle.vb_meaning.specs.declared.reached.Kind.{Kind}
@@ -37,6 +38,8 @@ use Rattle.vb_meaning.specs.Places.{element_place, held_at, read_place, is_fixed
 use Rattle.vb_meaning.specs.Errors.{cleared, with_err}
 use Rattle.vb_meaning.specs.Step.{given, pure}
 use Rattle.vb_meaning.specs.Values.{copied}
+use Rattle.act_laws.proofs.HeldData.{got_held, put_held, removed_held}
+use Rattle.act_laws.proofs.Holding.{carried_still, held_same}
 use Rattle.act_laws.proofs.Wantless.{Wantless, then_wantless, pure_wantless, fails_wantless, given_wantless}
 use Rattle.act_laws.proofs.Roomy.{add_roomy, get_roomy, hold_roomy, mode_roomy, new_cell_roomy, put_roomy}
 use Rattle.act_laws.proofs.Roomy.{remove_all_roomy, remove_roomy, store_roomy}
@@ -49,10 +52,12 @@ pub new_cell_wantless : (value : Value) → Wantless (new_cell value)
 unfolding new_cell
 new_cell_wantless value =
     heap_wantless (new_cell_of value) (with_new_cell value) (new_cell_roomy value) (λ store count. refl)
+    (λ store. held_same store.held)
 
 pub hold_wantless : (value : Value) → Wantless (hold value)
 unfolding hold
 hold_wantless value = heap_wantless (hold_of value) (with_held value) (hold_roomy value) (λ store count. refl)
+    (λ store. (references value, refl))
 
 pub holding_wantless : (value : Value) → Wantless (holding value)
 holding_wantless value = then_wantless (hold_wantless value) (λ done. pure_wantless value)
@@ -79,7 +84,8 @@ pub store_wantless : (place : Place) (value : Value) → Wantless (store_place p
 unfolding store_place
 store_wantless place value = then_wantless (held_wantless place) (λ old.
     choice_wantless (is_fixed old) (fails_wantless type_mismatch)
-    (heap_wantless (store_of place value) (with_stored place value) (store_roomy place value) (λ store count. refl)))
+    (heap_wantless (store_of place value) (with_stored place value) (store_roomy place value) (λ store count. refl)
+    (λ store. held_same store.held)))
 
 -- ---- dictionaries
 
@@ -91,7 +97,7 @@ pub item_wantless : (object : ObjNo) (key : Value) → Wantless (item object key
 unfolding item
 item_wantless object key =
     heap_wantless (dictionary.get_of object key) (dictionary.with_got object key)
-    (get_roomy object key) (got_still object key)
+    (get_roomy object key) (got_still object key) (got_held object key)
 
 pub item_by_wantless : (object : ObjNo) (keys : List Value) → Wantless (item_by object keys)
 item_by_wantless object (key ∷ []) = item_wantless object key
@@ -101,7 +107,7 @@ put_item_wantless : (object : ObjNo) (key value : Value) → Wantless (put_item 
 unfolding put_item
 put_item_wantless object key value =
     heap_wantless (dictionary.put_of object key value) (dictionary.with_put object key value)
-    (put_roomy object key value) (put_still object key value)
+    (put_roomy object key value) (put_still object key value) (put_held object key value)
 
 pub put_by_wantless : (object : ObjNo) (keys : List Value) (value : Value) → Wantless (put_by object keys value)
 put_by_wantless object (key ∷ []) value = put_item_wantless object key value
@@ -110,25 +116,25 @@ put_by_wantless object _ value = fails_wantless wrong_number
 set_mode_wantless : (object : ObjNo) (value : Value) → Wantless (set_mode object value)
 set_mode_wantless object value = then_wantless (given_wantless (to_long_of value)) (λ mode.
     heap_wantless (dictionary.set_mode_of object mode) (with_mode object mode)
-    (mode_roomy object mode) (dictionary_still (mode_set mode) object))
+    (mode_roomy object mode) (dictionary_still (mode_set mode) object) (λ store. held_same store.held))
 
 member_wantless : (object : ObjNo) (found : DictionaryMember) (arguments : List Value)
     → Wantless (member object found arguments)
 unfolding member
 member_wantless object word.Add (key ∷ value ∷ []) =
     then_wantless (heap_wantless (add_entry_of object key value) (with_entry object key value)
-    (add_roomy object key value) (dictionary_still (entry_added key value) object))
+    (add_roomy object key value) (dictionary_still (entry_added key value) object) (λ store. held_same store.held))
     (λ done. pure_wantless Empty)
 member_wantless object word.Item (key ∷ []) = item_wantless object key
 member_wantless object word.Exists (key ∷ []) =
     then_wantless (asking_wantless (dictionary.exists_of object key)) (λ truth. pure_wantless (Boolean truth))
 member_wantless object word.Remove (key ∷ []) =
     then_wantless (heap_wantless (dictionary.remove_of object key) (dictionary.with_removed object key)
-    (remove_roomy object key) (removed_still object key))
+    (remove_roomy object key) (removed_still object key) (removed_held object key))
     (λ done. pure_wantless Empty)
 member_wantless object word.RemoveAll [] =
     then_wantless (heap_wantless (dictionary.remove_all_of object) (without_entries object)
-    (remove_all_roomy object) (dictionary_still emptied object))
+    (remove_all_roomy object) (dictionary_still emptied object) (λ store. held_same store.held))
     (λ done. pure_wantless Empty)
 member_wantless object word.Keys [] = asking_wantless (dictionary.keys_of object)
 member_wantless object word.Items [] = asking_wantless (dictionary.items_of object)
@@ -233,7 +239,7 @@ err_wantless err.Description [] = seeing_wantless (λ world. pure (Str world.err
     (λ world. pure_wantless (Str world.err.description))
 err_wantless err.Source [] = seeing_wantless (λ world. pure (Str world.err.source))
     (λ world. pure_wantless (Str world.err.source))
-err_wantless err.Clear [] = change_wantless Empty cleared (λ world. refl)
+err_wantless err.Clear [] = change_wantless Empty cleared (λ world. refl) carried_still
 err_wantless err.Raise arguments = raise_wantless arguments
 err_wantless err.Absent arguments = fails_wantless unsupported
 err_wantless _ arguments = fails_wantless wrong_number
@@ -242,11 +248,11 @@ pub set_err_wantless : (found : ErrMember) (value : Value) → Wantless (set_err
 unfolding set_err
 set_err_wantless err.Number value =
     then_wantless (given_wantless (to_long_of value)) (λ number.
-    change_wantless tt (λ world. with_err (record world.err { number = number }) world) (λ world. refl))
+    change_wantless tt (λ world. with_err (record world.err { number = number }) world) (λ world. refl) carried_still)
 set_err_wantless err.Description value =
     then_wantless (given_wantless (to_str_of value)) (λ text.
-    change_wantless tt (λ world. with_err (record world.err { description = text }) world) (λ world. refl))
+    change_wantless tt (λ world. with_err (record world.err { description = text }) world) (λ world. refl) carried_still)
 set_err_wantless err.Source value =
     then_wantless (given_wantless (to_str_of value)) (λ text.
-    change_wantless tt (λ world. with_err (record world.err { source = text }) world) (λ world. refl))
+    change_wantless tt (λ world. with_err (record world.err { source = text }) world) (λ world. refl) carried_still)
 set_err_wantless _ value = fails_wantless unsupported

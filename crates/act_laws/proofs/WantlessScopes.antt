@@ -50,6 +50,7 @@ use Rattle.vb_meaning.specs.Statements as statements
 use Rattle.vb_meaning.specs.State.{on_store}
 use Rattle.vb_meaning.specs.Step.{◌>>=◌, ◌>>◌, pure, given}
 use Rattle.vb_meaning.specs.Values.{constant_value, declared_array, literal_value}
+use Rattle.act_laws.proofs.Holding.{carried_still, held_same}
 use Rattle.act_laws.proofs.Wantless.{Wantless, then_wantless, pure_wantless, fails_wantless, given_wantless}
 use Rattle.act_laws.proofs.Wantless.{seeing_wantless, heap_wantless, choice_wantless, line_wantless}
 use Rattle.act_laws.proofs.Wantless.{changing_wantless, framed_wantless, settling_wantless}
@@ -85,7 +86,7 @@ constants_from_wantless done (constant ∷ constants) =
 pub page_begins_wantless : (unit : Code) → Wantless (page_begins unit)
 page_begins_wantless unit =
     then_wantless (declared_cells_wantless [] (first_fault unit.constants) unit.variables) (λ cells.
-    changing_wantless (λ world. record world { page = cells }) (λ world. refl)
+    changing_wantless (λ world. record world { page = cells }) (λ world. refl) carried_still
     (then_wantless (constants_from_wantless [] unit.constants) (λ constants. pure_wantless tt)))
 
 -- ---- procedures
@@ -137,7 +138,8 @@ result_wantless None = pure_wantless Empty
 created_wantless : (name : List ℕ) → Wantless (created name)
 created_wantless name = choice_wantless (same_name (codes "scripting.dictionary") name)
     (then_wantless (settling_wantless new_table_of with_new_table table_roomy (λ world right fitting.
-    table_settles world.store world.finished right fitting) (object_stays (Entries no_entries)))
+    table_settles world.store world.finished right fitting) (object_stays (Entries no_entries))
+    (λ store. held_same store.held))
     (λ object. pure_wantless (Obj object)))
     (fails_wantless cannot_create_object)
 
@@ -161,7 +163,7 @@ field_sized_wantless object field (Some bounds) =
     (λ world. given_wantless (field_of field (numbered object.0 world.store.objects)))) (λ cell.
     then_wantless (given_wantless (declared_array bounds)) (λ value.
     heap_wantless (store_of (cell_place cell) value) (with_stored (cell_place cell) value)
-    (store_roomy (cell_place cell) value) (λ store count. refl)))
+    (store_roomy (cell_place cell) value) (λ store count. refl) (λ store. held_same store.held)))
 field_sized_wantless object field None = pure_wantless tt
 
 field_made_wantless : (object : ObjNo) (field : ℕ) (variable : Variable)
@@ -184,7 +186,8 @@ object_made_wantless number fields =
     (object_roomy number (length fields)) (λ world right fitting.
     object_settles number (length fields) world.store world.finished right fitting) (λ store.
     object_stays (Fields number (cells_from store.cells_made (length fields)))
-    (with_fields (cells_from store.cells_made (length fields)) (length fields) store)))
+    (with_fields (cells_from store.cells_made (length fields)) (length fields) store))
+    (λ store. held_same store.held))
     (λ object. then_wantless (then_wantless (hold_wantless (Obj object)) (λ done. fields_made_wantless object 0 fields))
     (λ done. pure_wantless object))
 
@@ -215,13 +218,14 @@ resize_wantless preserve bounds place old =
     then_wantless (then_wantless (given_wantless (statements.good_bounds found))
     (λ done. given_wantless (statements.resized_array preserve (out-Value old) found))) (λ array.
     heap_wantless (store_of place (Arr array)) (with_stored place (Arr array)) (store_roomy place (Arr array))
-    (λ store count. refl)))
+    (λ store count. refl) (λ store. held_same store.held)))
 
 erase_wantless : (found : Named) → Wantless (statements.erase found)
 erase_wantless (named.Place found) = then_wantless (variable_wantless found) (λ place.
     then_wantless (held_wantless place) (λ old.
     then_wantless (given_wantless (statements.erased (out-Value old))) (λ value.
-    heap_wantless (store_of place value) (with_stored place value) (store_roomy place value) (λ store count. refl))))
+    heap_wantless (store_of place value) (with_stored place value) (store_roomy place value) (λ store count. refl)
+    (λ store. held_same store.held))))
 erase_wantless named.Unknown = fails_wantless undefined_variable
 erase_wantless _ = fails_wantless type_mismatch
 

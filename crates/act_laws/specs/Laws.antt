@@ -1,7 +1,7 @@
 -- Laws of an act, of the replies that it is given, and of the objects that it makes, for the objects of a host whatever
 -- they do.
 use Rattle.std.specs.Prelude.{ℕ, ◌≡◌, ◌≢◌, Bool, Option, IsTrue, List, [], ◌∷◌, ◌++◌, length, slice_get, Some, None}
-use Rattle.std.specs.Prelude.{Ok, Err}
+use Rattle.std.specs.Prelude.{Ok, Err, false}
 use Rattle.vb_value.specs.declared.application.AppCall.{AppCall}
 use Rattle.vb_value.specs.declared.application.AppReply.{AppReply}
 use Rattle.vb_value.specs.declared.value.Value.{Value, Str}
@@ -29,6 +29,7 @@ use Rattle.vb_meaning.specs.State.{State, with_store}
 use Rattle.vb_meaning.specs.Step.{Step, Returns, Ends as Ends_of, ◌>>◌}
 use Rattle.act_laws.specs.Calls.{LeavesOnly, Noting, WantsOnly, calls_of, noting, wanted}
 use Rattle.act_laws.specs.Entries.{AreOf, EntersAll, Noted, entries_of, noted_act, noted_inside, terminators, no_notes}
+use Rattle.act_laws.specs.Held.{HeldLeft, HeldStays, LeavesHeld}
 use Rattle.act_laws.specs.Numbers.{GivesNew}
 use Rattle.act_laws.specs.Objects.{AddsUp, account_at, account_of}
 use Rattle.act_laws.specs.Terminators.{HaveEnded, KeepsAll, RunsEach}
@@ -129,7 +130,7 @@ LeavesPlace before (Ends_of stop.Memory s) = Unit {0}
 
 -- A release point where each live object has a reference does nothing, and neither does a second one right behind the
 -- first. Where a live object has none, the oldest such ends, and behind its terminator stands a release point again.
--- It leaves Err, and the place in the script.
+-- It leaves Err, and the place in the script, and before the page's end what is held.
 pub record ReleasesOnce (E : Type 0) (m : Inner E) (s : State E) : Type 0 where
   pub still : oldest_loose s.world.store ≡ None → settle E m s ≡ Returns tt s
   pub next : AddsUp (account_at s) → (object : ℕ) → oldest_loose s.world.store ≡ Some object
@@ -137,6 +138,7 @@ pub record ReleasesOnce (E : Type 0) (m : Inner E) (s : State E) : Type 0 where
       ≡ (terminate E m object >> settle E m) (in_world E (with_store (with_ending (Some object)) s.world) s)
   pub leaves : LeavesErr s (settle E m s)
   pub place : LeavesPlace s (settle E m s)
+  pub held : s.world.page_ended ≡ false → LeavesHeld s (settle E m s)
   pub again : AddsUp (account_at s) → (after : State E) → settle E m s ≡ Returns tt after
       → settle E m after ≡ Returns tt after
 
@@ -148,6 +150,13 @@ ReleasePointsSettle E = (host : Host E) (program : Program) (levels : ℕ) (s : 
 abbrev pub TicksNeverComeBack : Type 0 → Type 0
 TicksNeverComeBack E = (host : Host E) (program : Program) (levels : ℕ) (s : State E)
     → NoneComeBack E (inside E host program levels) s
+
+-- What is held stays held: at each level of a program, and from each state, nothing that is done lets go what was held
+-- before it. Where the page has not ended, a statement, a procedure, a terminator and a release point leave what is held.
+abbrev pub WhatIsHeldStays : Type 0 → Type 0
+WhatIsHeldStays E = (host : Host E) (program : Program) (levels : ℕ) (s : State E)
+    → HeldStays E (inside E host program levels) s
+    × (s.world.page_ended ≡ false → HeldLeft E (inside E host program levels) s)
 
 -- a page that is one text: no variables, no constants, and no statement but that
 pub record IsOneText (program : Program) (text : List ℕ) : Type 0 where

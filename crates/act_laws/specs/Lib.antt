@@ -4,4 +4,5 @@ pub mod Terminators
 pub mod Ticks
 pub mod Entries
 pub mod Numbers
+pub mod Held
 pub mod Laws

@@ -4,7 +4,7 @@ ghost use Rattle.act_laws.specs.Laws.{CallsInOrder, CallsStay, EntriesChangeNoth
 ghost use Rattle.act_laws.specs.Laws.{NoneEnteredTwice, NotesChangeNothing, ObjectsEnd, TerminatorsAreEntered};
 ghost use Rattle.act_laws.specs.Laws.{OneTextIsWritten, OnlyAskingChanges, OnlyObjectsLack, OnlyObjectsWant};
 ghost use Rattle.act_laws.specs.Laws.{ReleasePointsSettle, RepliesBeyond, TerminatorsRunOnce};
-ghost use Rattle.act_laws.specs.Laws.{TicksNeverComeBack};
+ghost use Rattle.act_laws.specs.Laws.{TicksNeverComeBack, WhatIsHeldStays};
 
 /// An act that has ended takes no account of more replies.
 pub fn replies_beyond<E>()
@@ -53,7 +53,7 @@ pub fn terminators_run_once<E>()
 
 /// A release point where each live object has a reference does nothing, and neither does a second one right behind the
 /// first. Where a live object has none, the oldest such ends, and behind its terminator stands a release point again.
-/// A release point leaves Err, and the place in the script.
+/// A release point leaves Err, the place in the script, and before the page's end what is held.
 pub fn release_points_settle<E>()
     ensures { ReleasePointsSettle E }
 {}
@@ -62,6 +62,12 @@ pub fn release_points_settle<E>()
 /// terminator and release point, and behind the act and the page's end, no more ticks are left than before it.
 pub fn ticks_never_come_back<E>()
     ensures { TicksNeverComeBack E }
+{}
+
+/// Nothing that is done lets go what was held before it. Before the page's end a statement, a procedure, a terminator and
+/// a release point that come to their end, or to an error, leave what is held as it was.
+pub fn what_is_held_stays<E>()
+    ensures { WhatIsHeldStays E }
 {}
 
 /// A page that is one text asks Response.Write once, with that text, and ends. Where that gives a value, no object was
