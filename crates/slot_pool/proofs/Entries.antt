@@ -1,6 +1,6 @@
 -- The values to which keys lead.
 use Rattle.std.proofs.Common.{◌≡◌, ◌≢◌, ℕ, zero, suc, ◌+◌, ◌<◌, ◌≤◌, ◌==◌, Bool, true, false, cond, List, [], ◌∷◌}
-use Rattle.std.proofs.Common.{length, get_or, All, Contains, Option, Some, None, is_some, IsSome, IfSome, inl, inr}
+use Rattle.std.proofs.Common.{length, get_or, All, Contains, filter_map, Option, Some, None, is_some, IsSome, IfSome, inl, inr}
 use Rattle.std.proofs.Common.{refl, sym, ap, ◌∙◌, arith}
 use Rattle.std.proofs.lemmas.Bool.{cases_eq}
 use Rattle.std.proofs.lemmas.List.Elements.{All-head, All-tail}
@@ -139,3 +139,26 @@ module _ {T : Type 0} where
             → NumbersRise low (cons_option entry (entries_of slots keys)) high
         by None is later = from_lower (entries_of slots keys) (key.number + 1) high low (omega (arith, rises.0)) later
         by (Some entry) is later = (omega (arith, rises.0, is), rw is later)
+
+    -- an entry by its number
+    by_number : (number : ℕ) (entry : Option (ℕ × T)) → IfSome entry (λ e. e.0 ≡ number)
+        → option_map (λ value. (number, value)) (option_map (λ (e : ℕ × T). e.1) entry) ≡ entry
+    by_number number None named = refl
+    by_number number (Some entry) named = rw (← named) refl
+
+    -- what the keys of a list find is what they lead to
+    pub all_led : (keys : List SlotKey) (next : ℕ) → IsRising keys next
+        → filter_map (λ (key : SlotKey). option_map (λ (value : T). (key.number, value))
+        (found_in key.number (entries_of slots keys))) keys ≡ entries_of slots keys
+    all_led keys next rising = some keys (λ key there. there)
+      where
+        some : (others : List SlotKey) → ((key : SlotKey) → Contains others key → Contains keys key)
+            → filter_map (λ (key : SlotKey). option_map (λ (value : T). (key.number, value))
+            (found_in key.number (entries_of slots keys))) others ≡ entries_of slots others
+        some [] inside = refl
+        some (key ∷ others) inside =
+            let there = inside key (zero, omega arith, refl) in
+            let one = leads keys 0 next key rising.rises there in
+            let same = by_number key.number (held slots key) (named key.number (get slots key.slot)) in
+            let rest = some others (λ other is. inside other (suc is.0, omega (arith, is.1), is.2)) in
+            rw (one, same, rest) refl

@@ -1,11 +1,13 @@
 -- What a contract sees of a pool.
 use Rattle.std.specs.Prelude.{◌≡◌, ℕ, ◌+◌, ◌-◌, ◌^◌, ◌≤◌, ◌==◌, ◌||◌, true, false, Bool, List, [], ◌∷◌, ◌++◌, length}
-use Rattle.std.specs.Prelude.{min, Option, is_some, if◌then◌else◌, refl}
+use Rattle.std.specs.Prelude.{min, max, Option, is_some, if◌then◌else◌, refl}
 use Rattle.std.specs.Coded.{Coded, code_by, coded×, coded_ℕ, coded_list}
 use Rattle.std.specs.Map.{lookup, remove_entry, set_value}
+use Rattle.std.specs.Option.{option_map}
 use Rattle.std.specs.Ordering.{is_eq, nat_cmp}
 use Rattle.slot_pool.specs.declared.key.PoolStop.{PoolStop}
 use Rattle.slot_pool.specs.declared.key.PoolStop.TheVariants.{Full, Memory}
+use Rattle.slot_pool.specs.declared.key.SlotKey.{SlotKey}
 
 -- a pool
 pub record Pool (T : Type 0) : Type 0 where
@@ -45,6 +47,10 @@ module _ {T : Type 0} where
   abbrev pub made : ℕ → ℕ → Pool T
   made slots most = record { entries = []; free = slots; most = most; next = 0 }
 
+  -- the entry to which a key leads
+  abbrev pub led_to : Pool T → SlotKey → Option (ℕ × T)
+  led_to p key = option_map (λ value. (key.number, value)) (numbered key.number p)
+
   -- the numbers of entries rise, from one number to below another
   abbrev pub NumbersRise : ℕ → List (ℕ × T) → ℕ → Type 0
   NumbersRise low [] high = low ≤ high
@@ -66,6 +72,10 @@ module _ {T : Type 0} where
     most = p.most;
     next = p.next + 1;
   }
+
+  -- a pool with slots for so many more values, or for as many as it had if these are more
+  abbrev pub with_room : ℕ → Pool T → Pool T
+  with_room count p = record p { free = max p.free count }
 
   -- a pool with another value under a number that is there
   abbrev pub with_value : ℕ → Pool T → T → Pool T

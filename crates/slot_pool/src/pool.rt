@@ -1,5 +1,5 @@
 //! The pool.
-ghost use Rattle.std.specs.Prelude.{◌≡◌, ◌≤◌, ◌<◌, ◌+◌, IfOk, IfErr, OnOk, OnErr, IsErr, IsSome, None, true, length};
+ghost use Rattle.std.specs.Prelude.{◌≡◌, ◌≤◌, ◌<◌, ◌+◌, IfOk, IfErr, OnOk, OnErr, IsErr, IsSome, None, true, length, filter_map};
 ghost use Rattle.std.specs.Option.{option_copied, option_copied_mut, MatchOption};
 ghost use Rattle.std.specs.Borrow.{sem};
 
@@ -35,7 +35,7 @@ impl<T> Model for Pool<T> {
 }
 
 impl<T> Pool<T> {
-    ghost use Rattle.slot_pool.specs.Pool.{NumbersRise, numbered, numbers, made, is_full, spare, with_put, without, emptied, Stops};
+    ghost use Rattle.slot_pool.specs.Pool.{NumbersRise, numbered, numbers, made, is_full, spare, with_put, with_room, without, emptied, led_to, Stops};
     ghost use Rattle.slot_pool.specs.Lends.{lends_value};
 
     /// A pool of `count` slots in which at most `most` values may be at once.
@@ -82,17 +82,19 @@ impl<T> Pool<T> {
         }
     }
 
-    /// Makes one more slot, with room for its keys.
-    fn grow(&mut self) -> Result<(), AllocError>
-        requires used { self.old.free ≡ 0 }
-        requires few { length self.old.entries < self.old.most }
-        ensures grown { OnOk result (self.new ≡ record self.old { free = 1 }) }
+    /// Makes slots, with room for their keys, until so many more values can be put with no memory.
+    pub fn reserve(&mut self, count: u32) -> Result<(), AllocError>
+        requires { length self.old.entries + count ≤ self.old.most }
+        ensures room { OnOk result (self.new ≡ with_room count self.old) }
         ensures refused { OnErr result (self.new ≡ self.old) }
     {
-        let made = self.made as usize + 1;
-        self.slots.reserve(1)?;
-        self.order.reserve(2 * made - self.order.len())?;
-        self.made += 1;
+        let made = self.slots.len() as u32 + count;
+        if made <= self.made {
+            return Ok(());
+        }
+        self.slots.reserve(count as usize)?;
+        self.order.reserve(2 * made as usize - self.order.len())?;
+        self.made = made;
         Ok(())
     }
 
@@ -107,7 +109,7 @@ impl<T> Pool<T> {
         if self.len() == self.most || self.next == u64::MAX {
             return Err((value, PoolStop::Full));
         }
-        if self.spare() == 0 && self.grow().is_err() {
+        if self.spare() == 0 && self.reserve(1).is_err() {
             return Err((value, PoolStop::Memory));
         }
         Ok(self.put_reserved(value))
@@ -157,6 +159,13 @@ impl<T> Pool<T> {
             (λ key. (key.number ≡ number) × IsSome (numbered number self.now)) }
     {
         key_of(&self.slots, self.order.as_slice(), self.next, number)
+    }
+
+    /// The keys of all values, in the order of the putting, with those of some that went.
+    pub fn keys(&self) -> &[SlotKey]
+        ensures { filter_map (led_to self.now) result.now ≡ self.now.entries }
+    {
+        self.order.as_slice()
     }
 
     /// Takes the value of a key out, if it is there.

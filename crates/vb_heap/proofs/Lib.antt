@@ -15,3 +15,4 @@ pub mod Ending
 pub mod TableWeights
 pub mod Changing
 pub mod Differing
+pub mod Walking

@@ -1,7 +1,6 @@
 -- What objects that are made weigh, and whether there is room for them.
 use Rattle.std.proofs.Common.{◌≡◌, ℕ, zero, suc, ◌+◌, ◌*◌, ◌≤◌, ◌<◌, ◌++◌, ◌∷◌, [], List, length, sum_by}
 use Rattle.std.proofs.Common.{true, false, refl, sym, ap, ◌∙◌, arith, add-one, length-append, append_assoc}
-use Rattle.std.proofs.Common.{append-nil, add-zero, subst}
 use Rattle.std.proofs.lemmas.List.Sums.{sum_by-append}
 use Rattle.std.specs.Map.{values_of}
 use Rattle.vb_value.specs.declared.value.Value.{Value, Empty}
@@ -10,7 +9,6 @@ use Rattle.vb_heap.specs.declared.heap.Heap.TheInside.{Inside}
 use Rattle.vb_heap.specs.declared.object.Content.TheVariants.{Fields, Entries}
 use Rattle.vb_heap.specs.declared.object.Object.{Object}
 use Rattle.vb_heap.specs.declared.place.CellNo.{CellNo}
-use Rattle.vb_heap.specs.Below.{AreBelow}
 use Rattle.vb_heap.specs.Dictionary.{no_entries}
 use Rattle.vb_heap.specs.Entries.{with_new_table}
 use Rattle.vb_heap.specs.Inside.{IsKept, store_of as page}
@@ -20,7 +18,7 @@ use Rattle.vb_heap.specs.PageWeight.{weight_of_page, object_weight}
 use Rattle.vb_heap.specs.Room.{HasRoom}
 use Rattle.vb_heap.specs.Store.{Store}
 use Rattle.vb_heap.proofs.Fitting.{they_fit, too_heavy}
-use Rattle.vb_heap.proofs.Numbered.{below_more, values_both}
+use Rattle.vb_heap.proofs.Numbered.{values_both}
 use Rattle.vb_heap.proofs.ValueWeights.{empty_weight}
 
 map_both : (cells others : List CellNo) → empty_cells (cells ++ others) ≡ empty_cells cells ++ empty_cells others
@@ -130,19 +128,3 @@ module _ (heap : Inside) (kept : IsKept heap) (fields : ℕ) where
     -- that there is room
     pub there_is_room : HasRoom fields (page heap)
     there_is_room = let was = kept.weighed in record { light = omega arith; objects = omega arith; cells = cells }
-
-next_below : (cells : List (ℕ × Value)) (first count : ℕ)
-    → AreBelow (first + count) (cells ++ empty_cells (cells_from first count))
-    → AreBelow (first + (count + 1)) (cells ++ empty_cells (cells_from first (count + 1)))
-next_below cells first count below =
-    let same : first + (count + 1) ≡ first + count + 1 = omega arith in
-    rw (same, sym (added_more cells first count))
-    (below_more (cells ++ empty_cells (cells_from first count)) (first + count) Empty below)
-
--- numbers to come stay new
-pub below_empty : (cells : List (ℕ × Value)) (first count : ℕ) → AreBelow first cells
-    → AreBelow (first + count) (cells ++ empty_cells (cells_from first count))
-below_empty cells first zero below = rw (append-nil cells, add-zero first) below
-below_empty cells first (suc count) below =
-    let P : ℕ → Type 0 = λ n. AreBelow (first + n) (cells ++ empty_cells (cells_from first n)) in
-    subst P (add-one count) (next_below cells first count (below_empty cells first count below))

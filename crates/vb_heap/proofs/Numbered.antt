@@ -1,19 +1,18 @@
 -- Things by their numbers.
 use Rattle.std.proofs.Common.{◌≡◌, ℕ, ◌+◌, List, [], ◌∷◌, ◌++◌, refl, ap, sym, arith, true, false, cond, take, length}
-use Rattle.std.proofs.Common.{◌-◌, length-append, Option, Some, None, get_or, ◌<◌}
+use Rattle.std.proofs.Common.{Option, Some, None, get_or, ◌<◌}
 use Rattle.std.specs.Ordering.{nat_cmp}
 use Rattle.std.specs.BTreeMap.{insert_entry}
 use Rattle.std.specs.Cmp.{nat_cmp_is}
 use Rattle.std.specs.Map.{values_of}
 use Rattle.std.specs.declared.cmp.Ordering.TheVariants.{Greater}
-use Rattle.std.proofs.Math.Seq.{take-append_seam}
 use Rattle.std.proofs.lemmas.List.{take_more}
 use Rattle.std.specs.Option.{option_map_or}
 use Rattle.vb_value.specs.declared.value.Value.{Value}
 use Rattle.vb_heap.specs.declared.object.Object.{Object}
 use Rattle.vb_heap.specs.declared.place.CellNo.{CellNo}
 use Rattle.vb_heap.specs.Below.{AreBelow, EachBelow}
-use Rattle.vb_heap.specs.Releases.{ending, fields_of, without_all, without_fields}
+use Rattle.vb_heap.specs.Releases.{ending, without_all}
 use Rattle.vb_heap.specs.Store.{is_number, without, replaced}
 
 module _ {T : Type 0} where
@@ -73,22 +72,6 @@ module _ {T : Type 0} where
   values_both [] others = refl
   values_both (first ∷ rest) others = ap (λ values. first.1 ∷ values) (values_both rest others)
 
-  -- all but the last thing
-  pub before_last : (things others : List (ℕ × T)) (last : ℕ × T) → things ≡ others ++ last ∷ []
-      → others ≡ take (length things - 1) things
-  before_last things others last is =
-      let count : length things ≡ length others + 1 = rw is (length-append others (last ∷ [])) in
-      let less : length things - 1 ≡ length others = omega arith in
-      rw (less, is) (sym (take-append_seam others (last ∷ [])))
-
-  -- the things that were there before
-  pub before_more : (things others : List (ℕ × T)) (count : ℕ) → count ≡ length others
-      → take (length (things ++ others) - count) (things ++ others) ≡ things
-  before_more things others count is =
-      let all : length (things ++ others) ≡ length things + length others = length-append things others in
-      let less : length (things ++ others) - count ≡ length things = omega arith in
-      rw less (take-append_seam things others)
-
 gone_last : (gone : List CellNo) (last : CellNo) (cells : List (ℕ × Value))
     → without_all (gone ++ last ∷ []) cells ≡ without last.0 (without_all gone cells)
 gone_last [] last cells = refl
@@ -99,18 +82,6 @@ pub gone_more : (gone : List CellNo) (at : ℕ) (default : CellNo) (cells : List
     → without_all (take (at + 1) gone) cells ≡ without (get_or gone at default).0 (without_all (take at gone) cells)
 gone_more gone at default cells within =
     rw (take_more gone at default within) (gone_last (take at gone) (get_or gone at default) cells)
-
-below_all : (gone : List CellNo) (cells : List (ℕ × Value)) (number : ℕ) → AreBelow number cells
-    → AreBelow number (without_all gone cells)
-below_all [] cells number below = below
-below_all (first ∷ gone) cells number below =
-    below_all gone (without first.0 cells) number (below_less cells first.0 number below)
-
--- cells without those of an object's fields
-pub below_fields : (found : Option Object) (cells : List (ℕ × Value)) (number : ℕ) → AreBelow number cells
-    → AreBelow number (without_fields found cells)
-below_fields (Some object) cells number below = below_all (fields_of object.content) cells number below
-below_fields None cells number below = below
 
 -- objects of which one is ending
 pub below_ending : (found : Option Object) (at : ℕ) (objects : List (ℕ × Object)) (number : ℕ) → AreBelow number objects

@@ -1,24 +1,19 @@
 -- What storing at a place answers, and leaves.
-use Rattle.std.proofs.Common.{◌≡◌, ℕ, ◌+◌, ◌≤◌, ◌<◌, ◌-◌, ◌^◌, min, length, false, sym, ◌∙◌, arith, Ok, Err, List}
-use Rattle.std.proofs.Common.{Option, Some, None, ℤ}
-use Rattle.std.specs.Option.{option_map_or}
+use Rattle.std.proofs.Common.{◌≡◌, ℕ, ◌+◌, ◌≤◌, ◌<◌, ◌-◌, ◌^◌, min, length, false, sym, ◌∙◌, arith, Ok, Err}
 use Rattle.vb_value.specs.declared.limit.LimitKind.TheVariants.{Data}
 use Rattle.vb_value.specs.declared.value.Value.{Value}
 use Rattle.vb_value.specs.Weight.{weight_of}
 use Rattle.vb_heap.specs.declared.fault.HeapStop.TheVariants.{Limit}
 use Rattle.vb_heap.specs.declared.heap.Heap.TheInside.{Inside}
 use Rattle.vb_heap.specs.declared.place.Place.{Place}
-use Rattle.vb_heap.specs.Below.{AreBelow}
 use Rattle.vb_heap.specs.Cells.{read_of, store_of, with_stored}
 use Rattle.vb_heap.specs.Inside.{IsKept, store_of as page}
 use Rattle.vb_heap.specs.Limits.{is_too_deep}
 use Rattle.vb_heap.specs.PageWeight.{weight_of_page}
-use Rattle.vb_heap.specs.Places.{with_value}
 use Rattle.vb_heap.specs.Saturated.{weight_told}
-use Rattle.vb_heap.specs.Store.{Store, replaced}
+use Rattle.vb_heap.specs.Store.{Store}
 use Rattle.vb_heap.proofs.CellWeights.{weight_put}
 use Rattle.vb_heap.proofs.Fitting.{they_fit, too_heavy, answer_fits, answer_heavy, answer_flat, goes_on}
-use Rattle.vb_heap.proofs.Numbered.{below_other}
 
 -- what the data weigh afterwards
 weight_stored : (place : Place) (new : Value) (store : Store) (old : ℕ) → Ok old ≡ weight_told (read_of place store)
@@ -59,11 +54,3 @@ module _ (heap : Inside) (kept : IsKept heap) (place : Place) (new : Value) (old
       let all = weight_stored place new (page heap) old told in
       let was = kept.weighed in
       omega arith
-
--- numbers to come stay new
-pub below_stored : (cells : List (ℕ × Value)) (number at : ℕ) (steps : List (List ℤ)) (new : Value)
-    (found : Option Value) → AreBelow number cells
-    → AreBelow number (option_map_or (λ value. replaced at (with_value steps new value) cells) found cells)
-below_stored cells number at steps new (Some value) below =
-    below_other cells at number (with_value steps new value) below
-below_stored cells number at steps new None below = below

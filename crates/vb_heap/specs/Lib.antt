@@ -1,5 +1,6 @@
 pub mod Answers
 pub mod Places
+pub mod Pooled
 pub mod Saturated
 pub mod Keys
 pub mod Dictionary

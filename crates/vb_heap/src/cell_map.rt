@@ -1,72 +1,99 @@
 //! Cells by their numbers.
-ghost use Rattle.std.specs.Prelude.{◌≡◌, ◌+◌, ◌≤◌, ◌++◌, ◌∷◌, ◌-◌, ◌<◌, ◌^◌, [], length, take, sum_by, IfOk};
+ghost use Rattle.std.specs.Prelude.{◌≡◌, ◌+◌, ◌≤◌, ◌++◌, ◌∷◌, ◌<◌, [], length, sum_by, IfOk, OnErr, OnOk};
 ghost use Rattle.std.specs.Map.{values_of};
-ghost use Rattle.std.specs.Option.{option_map_or};
+ghost use Rattle.std.specs.Option.{option_copied, option_map_or};
+ghost use Rattle.slot_pool.specs.Pool.{numbers};
+ghost use Rattle.vb_value.specs.declared.value.Value.{Empty};
 ghost use Rattle.vb_value.specs.Errors.{and_then};
 ghost use Rattle.vb_value.specs.Outcome.{Changes};
 ghost use Rattle.vb_value.specs.Weight.{weight_of};
-ghost use Rattle.vb_heap.specs.Below.{AreBelow};
 ghost use Rattle.vb_heap.specs.Cells.{value_there};
 ghost use Rattle.vb_heap.specs.Limits.{most_weight};
 ghost use Rattle.vb_heap.specs.Objects.{cells_from, empty_cells};
 ghost use Rattle.vb_heap.specs.Places.{value_in, with_value};
+ghost use Rattle.vb_heap.specs.Pooled.{IsPooled};
 ghost use Rattle.vb_heap.specs.Releases.{without_all};
 ghost use Rattle.vb_heap.specs.Saturated.{weight_told};
 ghost use Rattle.vb_heap.specs.Store.{numbered, without, replaced};
 
 use crate::place::CellNo;
 use crate::within;
-use std::alloc::Global;
-use std::collections::BTreeMap;
+use slot_pool::{Pool, PoolStop, SlotKey};
 use vb_value::{List, Memory, Value, VbError, weight};
 
 /// Cells by their numbers.
-pub type Cells = BTreeMap<u64, Value, Global>;
+pub type Cells = Pool<Value>;
 
-/// Adds a cell, whose number is above all others.
-#[tactic(auto, using(crate::proofs::Numbered::comes_last))]
-pub fn add_cell(cells: &mut Cells, number: u64, value: Value) -> Result<(), Memory>
-    requires { AreBelow number cells.old.entries }
-    ensures { Changes result cells.old.entries cells.new.entries (cells.old.entries ++ (number, value) ∷ []) }
+/// A key of a number whose slot is not known: it finds what has that number.
+fn by_number(number: u64) -> SlotKey
+    ensures { result.number ≡ number }
 {
-    cells.insert(number, value)?;
+    SlotKey { number, slot: 0 }
+}
+
+/// The value of a cell, if it is there.
+pub fn cell_at(cells: &Cells, number: u64) -> Option<&Value>
+    ensures { option_copied result ≡ numbered number cells.now.entries }
+{
+    cells.get(by_number(number))
+}
+
+/// Adds a cell, with the next number.
+pub fn add_cell(cells: &mut Cells, value: Value) -> Result<(), Memory>
+    requires few { length cells.old.entries < cells.old.most }
+    requires numbers { cells.old.next < numbers }
+    ensures cells { Changes result cells.old.entries cells.new.entries
+        (cells.old.entries ++ (cells.old.next, value) ∷ []) }
+    ensures made { Changes result cells.old.next cells.new.next (cells.old.next + 1) }
+    ensures most { cells.new.most ≡ cells.old.most }
+{
+    match cells.put(value) {
+        Ok(_) => Ok(()),
+        Err((_, PoolStop::Memory)) => Err(Memory),
+        Err((_, PoolStop::Full)) => unreachable!(),
+    }
+}
+
+/// Makes room for so many cells more.
+pub fn reserve_cells(cells: &mut Cells, count: u32) -> Result<(), Memory>
+    requires { length cells.old.entries + count ≤ cells.old.most }
+    ensures cells { cells.new.entries ≡ cells.old.entries }
+    ensures pooled { IsPooled cells.old cells.new }
+    ensures free { OnOk result (count ≤ cells.new.free) }
+    ensures refused { OnErr result (cells.new ≡ cells.old) }
+{
+    cells.reserve(count)?;
     Ok(())
 }
 
-/// Drops the newest cell, if there is one.
-#[tactic(auto, using(crate::proofs::Numbered::before_last))]
-fn pop_cell(cells: &mut Cells)
-    ensures { cells.new.entries ≡ take (length cells.old.entries - 1) cells.old.entries }
+/// Adds a cell that is Empty, for which there is room.
+fn add_empty(cells: &mut Cells)
+    requires few { length cells.old.entries < cells.old.most }
+    requires numbers { cells.old.next < numbers }
+    requires free { 0 < cells.old.free }
+    ensures cells { cells.new.entries ≡ cells.old.entries ++ (cells.old.next, Empty) ∷ [] }
+    ensures made { cells.new.next ≡ cells.old.next + 1 }
+    ensures free { cells.new.free + 1 ≡ cells.old.free }
+    ensures most { cells.new.most ≡ cells.old.most }
 {
-    let _ = cells.pop_last();
+    match cells.put(Value::Empty) {
+        Ok(_) => {}
+        Err(_) => unreachable!(),
+    }
 }
 
-/// Drops so many of the newest cells.
-fn pop_cells(cells: &mut Cells, count: u32)
-    ensures { cells.new.entries ≡ take (length cells.old.entries - count) cells.old.entries }
+/// Adds so many cells, each of them Empty, for which there is room.
+pub fn add_cells(cells: &mut Cells, count: u32)
+    requires few { length cells.old.entries + count ≤ cells.old.most }
+    requires numbers { cells.old.next + count ≤ numbers }
+    requires free { count ≤ cells.old.free }
+    ensures cells { cells.new.entries ≡ cells.old.entries ++ empty_cells (cells_from cells.old.next count) }
+    ensures made { cells.new.next ≡ cells.old.next + count }
+    ensures most { cells.new.most ≡ cells.old.most }
 {
     for _ in 0..count {
-        pop_cell(cells);
+        add_empty(cells);
     }
-}
-
-/// Adds so many cells, each of them Empty, whose numbers begin above all others.
-pub fn add_cells(cells: &mut Cells, first: u64, count: u32) -> Result<(), Memory>
-    requires below { AreBelow first cells.old.entries }
-    requires fits { first + count < 2 ^ 64 }
-    ensures { Changes result cells.old.entries cells.new.entries
-        (cells.old.entries ++ empty_cells (cells_from first count)) }
-{
-    for done in 0..count {
-        match add_cell(cells, first + done as u64, Value::Empty) {
-            Ok(()) => {}
-            Err(Memory) => {
-                pop_cells(cells, done);
-                return Err(Memory);
-            }
-        }
-    }
-    Ok(())
 }
 
 /// Drops a cell, and says what it weighed: nothing if there is none.
@@ -74,10 +101,11 @@ pub fn add_cells(cells: &mut Cells, first: u64, count: u32) -> Result<(), Memory
 pub fn remove_cell(cells: &mut Cells, number: u64) -> u64
     requires { sum_by weight_of (values_of cells.old.entries) ≤ most_weight }
     ensures cells { cells.new.entries ≡ without number cells.old.entries }
+    ensures pooled { IsPooled cells.old cells.new }
     ensures weight { result + sum_by weight_of (values_of cells.new.entries)
         ≡ sum_by weight_of (values_of cells.old.entries) }
 {
-    match cells.remove(&number) {
+    match cells.take(by_number(number)) {
         Some(value) => weight(&value),
         None => 0,
     }
@@ -87,6 +115,7 @@ pub fn remove_cell(cells: &mut Cells, number: u64) -> u64
 pub fn remove_cells(cells: &mut Cells, gone: &[CellNo]) -> u64
     requires { sum_by weight_of (values_of cells.old.entries) ≤ most_weight }
     ensures cells { cells.new.entries ≡ without_all gone.now cells.old.entries }
+    ensures pooled { IsPooled cells.old cells.new }
     ensures weight { result + sum_by weight_of (values_of cells.new.entries)
         ≡ sum_by weight_of (values_of cells.old.entries) }
 {
@@ -105,7 +134,7 @@ pub fn weight_at(cells: &Cells, number: u64, steps: &[List<i32>]) -> Result<u64,
         ≡ weight_told (and_then (value_there (numbered number cells.now.entries)) (value_in steps.now)) }
     ensures within { IfOk result (λ weight. weight ≤ sum_by weight_of (values_of cells.now.entries)) }
 {
-    match cells.get(&number) {
+    match cell_at(cells, number) {
         Some(value) => Ok(weight(within::value_in(value, steps)?)),
         None => Err(VbError::OBJECT_NOT_SET),
     }
@@ -113,11 +142,12 @@ pub fn weight_at(cells: &Cells, number: u64, steps: &[List<i32>]) -> Result<u64,
 
 /// Puts a value at a place in a cell, if there is such a place.
 pub fn put_in_cell(cells: &mut Cells, number: u64, steps: &[List<i32>], new: Value)
-    ensures { cells.new.entries
+    ensures pooled { IsPooled cells.old cells.new }
+    ensures cells { cells.new.entries
         ≡ option_map_or (λ value. replaced number (with_value steps.now new value) cells.old.entries)
         (numbered number cells.old.entries) cells.old.entries }
 {
-    if let Some(value) = cells.get_mut(&number) {
+    if let Some(value) = cells.get_mut(by_number(number)) {
         within::put(value, steps, new);
     }
 }

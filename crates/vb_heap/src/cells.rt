@@ -5,7 +5,7 @@ ghost use Rattle.vb_value.specs.Outcome.{Answers, Changes};
 ghost use Rattle.vb_heap.specs.Saturated.{result_now};
 ghost use Rattle.vb_heap.specs.Cells.{new_cell_of, with_new_cell, without_cell, read_of, store_of, with_stored};
 
-use crate::cell_map::{add_cell, put_in_cell, remove_cell, weight_at};
+use crate::cell_map::{add_cell, cell_at, put_in_cell, remove_cell, weight_at};
 use crate::depth::is_too_deep;
 use crate::fault::HeapStop;
 use crate::heap::{Heap, MOST_WEIGHT};
@@ -29,7 +29,7 @@ impl Heap {
             return Err(HeapStop::Limit(LimitKind::Data));
         }
         let number = self.cells_made;
-        add_cell(&mut self.cells, number, value)?;
+        add_cell(&mut self.cells, value)?;
         self.cells_made = number + 1;
         self.weight = weight;
         Ok(CellNo(number))
@@ -48,7 +48,7 @@ impl Heap {
     pub fn look(&self, place: &Place) -> Result<&Value, VbError>
         ensures { result_now result ≡ read_of place.now self.now }
     {
-        let Some(value) = self.cells.get(&place.cell.0) else {
+        let Some(value) = cell_at(&self.cells, place.cell.0) else {
             return Err(VbError::OBJECT_NOT_SET);
         };
         value_in(value, place.steps.as_slice())
@@ -63,7 +63,6 @@ impl Heap {
 
     /// Puts another value at a place. Error 91 where the cell is gone, 9 where an index is out of range, 13 where an
     /// index is asked of no array, then the limit Nest, and then the limit Data.
-    #[tactic(auto, using(crate::proofs::Keeping::stored))]
     pub fn store(&mut self, place: &Place, value: Value) -> Result<(), HeapStop>
         ensures answer { Answers result HeapStop.Memory (store_of place.now value self.old) }
         ensures data { Changes result self.old self.new (with_stored place.now value self.old) }

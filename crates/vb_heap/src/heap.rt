@@ -5,6 +5,7 @@ ghost use Rattle.vb_heap.specs.Store.{no_data};
 ghost use Rattle.vb_heap.specs.PageWeight.{weight_of_page};
 
 use crate::object::Object;
+use slot_pool::Pool;
 use std::alloc::Global;
 use std::collections::BTreeMap;
 use std::marker::Model;
@@ -13,11 +14,14 @@ use vb_value::{List, Memory, Value};
 /// What all cells, objects and entries may weigh: 16 MiB.
 pub const MOST_WEIGHT: u64 = 16_777_216;
 
+/// How many cells may be there at once: no more fit into what all may weigh.
+const MOST_THERE: u32 = 524_288;
+
 /// The data of a page: cells by their numbers, objects by theirs, and the references in held values. A contract sees
 /// it as the record `Store`.
 #[derive(Drop)]
 pub struct Heap {
-    pub(crate) cells: BTreeMap<u64, Value, Global>,
+    pub(crate) cells: Pool<Value>,
     pub(crate) objects: BTreeMap<u32, Object, Global>,
     pub(crate) held: List<u32>,
     pub(crate) cells_made: u64,
@@ -47,7 +51,7 @@ impl Heap {
         ensures { Gives result no_data }
     {
         Ok(Heap {
-            cells: BTreeMap::new(alloc),
+            cells: Pool::with_reserve(alloc, 0, MOST_THERE)?,
             objects: BTreeMap::new(alloc),
             held: List::new(alloc),
             cells_made: 0,

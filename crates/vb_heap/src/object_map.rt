@@ -1,11 +1,12 @@
 //! Objects by their numbers.
-ghost use Rattle.std.specs.Prelude.{◌≡◌, ◌+◌, ◌≤◌, ◌++◌, ◌∷◌, ◌-◌, ◌^◌, [], length, min, sum_by, take};
+ghost use Rattle.std.specs.Prelude.{◌≡◌, ◌+◌, ◌≤◌, ◌++◌, ◌∷◌, ◌-◌, ◌^◌, [], min, sum_by};
 ghost use Rattle.std.specs.Map.{values_of};
 ghost use Rattle.vb_value.specs.Outcome.{Changes};
 ghost use Rattle.vb_value.specs.Weight.{weight_of};
 ghost use Rattle.vb_heap.specs.Below.{AreBelow};
 ghost use Rattle.vb_heap.specs.Limits.{most_weight};
 ghost use Rattle.vb_heap.specs.PageWeight.{object_weight};
+ghost use Rattle.vb_heap.specs.Pooled.{IsPooled};
 ghost use Rattle.vb_heap.specs.Releases.{ends_now, fields_of, objects_ending, without_all, without_fields};
 ghost use Rattle.vb_heap.specs.Store.{numbered, without};
 
@@ -26,14 +27,6 @@ pub fn add_object(objects: &mut Objects, number: u32, object: Object) -> Result<
 {
     objects.insert(number, object)?;
     Ok(())
-}
-
-/// Drops the newest object.
-#[tactic(auto, using(crate::proofs::Numbered::before_last))]
-pub fn pop_object(objects: &mut Objects)
-    ensures { objects.new.entries ≡ take (length objects.old.entries - 1) objects.old.entries }
-{
-    let _ = objects.pop_last();
 }
 
 /// Marks an object as ending, if it is there.
@@ -69,6 +62,7 @@ pub fn weight_of_object(object: &Object) -> u64
 fn remove_fields(cells: &mut Cells, content: &Content) -> u64
     requires { sum_by weight_of (values_of cells.old.entries) ≤ most_weight }
     ensures cells { cells.new.entries ≡ without_all (fields_of content.now) cells.old.entries }
+    ensures pooled { IsPooled cells.old cells.new }
     ensures weight { result + sum_by weight_of (values_of cells.new.entries)
         ≡ sum_by weight_of (values_of cells.old.entries) }
 {
@@ -87,6 +81,7 @@ pub fn remove_object(objects: &mut Objects, cells: &mut Cells, number: u32) -> u
         ≤ most_weight }
     ensures objects { objects.new.entries ≡ without number objects.old.entries }
     ensures cells { cells.new.entries ≡ without_fields (numbered number objects.old.entries) cells.old.entries }
+    ensures pooled { IsPooled cells.old cells.new }
     ensures weight { result
         + (sum_by weight_of (values_of cells.new.entries) + sum_by object_weight (values_of objects.new.entries))
         ≡ sum_by weight_of (values_of cells.old.entries) + sum_by object_weight (values_of objects.old.entries) }

@@ -7,11 +7,11 @@ ghost use Rattle.vb_heap.specs.Objects as spec;
 ghost use Rattle.vb_heap.specs.Room.{HasRoom};
 ghost use Rattle.vb_heap.specs.Store.{numbered};
 
-use crate::cell_map::add_cells;
+use crate::cell_map::{add_cells, reserve_cells};
 use crate::fault::HeapStop;
 use crate::heap::{Heap, MOST_WEIGHT};
 use crate::object::{Content, Object};
-use crate::object_map::{add_object, pop_object};
+use crate::object_map::add_object;
 use crate::place::CellNo;
 use std::alloc::Global;
 use vb_value::{LimitKind, List, Memory, ObjNo, VbError};
@@ -63,14 +63,9 @@ impl Heap {
             content: Content::Fields { class, cells },
             ending: false,
         };
+        reserve_cells(&mut self.cells, fields)?;
         add_object(&mut self.objects, self.objects_made, object)?;
-        match add_cells(&mut self.cells, self.cells_made, fields) {
-            Ok(()) => {}
-            Err(Memory) => {
-                pop_object(&mut self.objects);
-                return Err(HeapStop::Memory);
-            }
-        }
+        add_cells(&mut self.cells, fields);
         let number = self.objects_made;
         self.cells_made += fields as u64;
         self.objects_made = number + 1;

@@ -68,8 +68,10 @@ pub fn count_in_cells(cells: &Cells, object: u32) -> u32
     ensures most { 32 * result ≤ sum_by weight_of (values_of cells.now.entries) }
 {
     let mut count: u32 = 0;
-    for value in cells.values() {
-        count = count.saturating_add(count_in(value, object));
+    for key in cells.keys() {
+        if let Some(value) = cells.get(*key) {
+            count = count.saturating_add(count_in(value, object));
+        }
     }
     count
 }

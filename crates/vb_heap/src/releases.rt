@@ -86,7 +86,7 @@ impl Heap {
     pub fn reset(&mut self)
         ensures { self.new ≡ no_data }
     {
-        self.cells.clear();
+        self.cells.reset();
         self.objects.clear();
         self.held.truncate(0);
         self.cells_made = 0;

@@ -1,20 +1,23 @@
-use Rattle.std.proofs.Common.{◌≡◌, ◌+◌, arith}
-use Rattle.vb_heap.proofs.Making.{added_more, empty_count}
-use Rattle.vb_heap.proofs.Numbered.{below_more, before_more}
+use Rattle.std.proofs.Common.{[], ◌∷◌, ap, arith, length, length-append}
+use Rattle.vb_value.specs.declared.value.Value.{Empty}
+use Rattle.vb_heap.proofs.Making.{added_more}
 use Rattle.vb_heap.proofs.cell_map.add_cells.Goals as goal
 
-pub returns-in-Err : goal.returns-in-Err
-returns-in-Err c =
-    rw (c.pop_cells.ensures, c.in-Err.ensures, c.loop-done.invariant.cells)
-    (before_more c.args.cells.now.entries _ c.loop-done.done (empty_count c.args.first c.loop-done.done))
-
-pub loop-done-preserved : goal.loop-done-preserved
-loop-done-preserved c =
-    let next : c.args.first + (c.loop-done.done + 1) ≡ c.args.first + c.loop-done.done + 1 = omega arith in
+pub loop-preserved : goal.loop-preserved
+loop-preserved c =
+    let was = c.loop.invariant in
     record {
       cells =
-          rw (c.in-Ok.ensures, c.loop-done.invariant.cells)
-          (added_more c.args.cells.now.entries c.args.first c.loop-done.done);
-      below =
-          rw (next, c.in-Ok.ensures) (below_more c.loop-done.cells.entries _ _ c.loop-done.invariant.below);
+          rw (c.add_empty.ensures.cells, was.cells, was.made)
+          (added_more c.args.cells.now.entries c.args.cells.now.next c.loop.counter);
+      made = omega (arith, c.add_empty.ensures.made, was.made);
+      free = omega (arith, c.add_empty.ensures.free, was.free);
+      many =
+          omega (
+            arith,
+            ap length c.add_empty.ensures.cells,
+            length-append c.loop.cells.entries ((c.loop.cells.next, Empty) ∷ []),
+            was.many,
+          );
+      most = rw c.add_empty.ensures.most was.most;
     }

@@ -1,4 +1,4 @@
-use Rattle.std.proofs.Common.{sym, arith}
+use Rattle.std.proofs.Common.{sym, ◌∙◌, arith}
 use Rattle.vb_heap.proofs.Numbered.{gone_more}
 use Rattle.vb_heap.proofs.cell_map.remove_cells.Goals as goal
 
@@ -11,4 +11,8 @@ loop-cell-preserved c =
           rw (c.remove_cell-weight.ensures.cells, c.loop-cell.invariant.cells)
           (sym (gone_more c.args.gone.now c.loop-cell.cell-index _ c.args.cells.now.entries c.loop-cell-test.true));
       weight = omega arith;
+      pooled =
+          let still = c.remove_cell-weight.ensures.pooled in
+          let before = c.loop-cell.invariant.pooled in
+          (still.0 ∙ before.0, still.1 ∙ before.1);
     }

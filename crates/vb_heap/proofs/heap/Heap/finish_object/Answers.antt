@@ -1,6 +1,5 @@
-use Rattle.std.proofs.Common.{arith}
-use Rattle.vb_heap.specs.Store.{numbered}
-use Rattle.vb_heap.proofs.Numbered.{below_less, below_fields}
+use Rattle.std.proofs.Common.{◌∙◌, arith}
+use Rattle.vb_heap.proofs.Numbered.{below_less}
 use Rattle.vb_heap.proofs.heap.Heap.finish_object.Goals as goal
 
 pub invariant_of-self : goal.invariant_of-self
@@ -10,9 +9,10 @@ invariant_of-self c =
     let most = c.self.invariant.light in
     record {
       new_cells =
-          rw c.remove_object.ensures.cells
-          (below_fields (numbered c.args.object.0 c.self.inside.objects.entries)
-          c.self.inside.cells.entries c.self.inside.cells_made c.self.invariant.new_cells);
+          record {
+            next = c.remove_object.ensures.pooled.0 ∙ c.self.invariant.new_cells.next;
+            most = c.remove_object.ensures.pooled.1 ∙ c.self.invariant.new_cells.most;
+          };
       new_objects =
           rw c.remove_object.ensures.objects
           (below_less c.self.inside.objects.entries c.args.object.0 c.self.inside.objects_made

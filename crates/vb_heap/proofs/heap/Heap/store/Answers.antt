@@ -1,5 +1,5 @@
 use Rattle.std.proofs.Common.{sym, ◌∙◌, arith}
-use Rattle.vb_heap.proofs.Storing.{refuses, accepts, weighs, below_stored}
+use Rattle.vb_heap.proofs.Storing.{refuses, accepts, weighs}
 use Rattle.vb_heap.proofs.heap.Heap.store.Goals as goal
 
 pub returns-then-weight-gt-MOST_WEIGHT-clause-answer : goal.returns-then-weight-gt-MOST_WEIGHT-clause-answer
@@ -15,11 +15,13 @@ returns-then-weight-gt-MOST_WEIGHT-clause-answer c _ =
 pub invariant_of-self : goal.invariant_of-self
 invariant_of-self c = record {
   new_cells =
-      rw (c.put_in_cell.ensures) (below_stored c.self.inside.cells.entries c.self.inside.cells_made
-      c.args.place.now.cell.0 _ c.args.value _ c.self.invariant.new_cells);
+      record {
+        next = c.put_in_cell.ensures.pooled.0 ∙ c.self.invariant.new_cells.next;
+        most = c.put_in_cell.ensures.pooled.1 ∙ c.self.invariant.new_cells.most;
+      };
   new_objects = c.self.invariant.new_objects;
   weighed =
-      rw (c.put_in_cell.ensures, c.as_slice-steps.ensures)
+      rw (c.put_in_cell.ensures.cells, c.as_slice-steps.ensures)
       (weighs c.self.inside c.self.invariant c.args.place.now c.args.value c.in_ok-old.old
       c.saturating_add-weight.result (rw c.as_slice-steps.ensures at c.in_ok-old.ensures.answer)
       (omega (arith, c.in_ok-old.ensures.within, c.self.invariant.weighed))
