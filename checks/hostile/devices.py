@@ -8,6 +8,8 @@ import struct
 import subprocess
 import time
 
+from replaying.lines import read_records
+from replaying.sites import COUNT
 from serving.clients import Client, page, request
 from serving.hosts import IS_OPEN, sockets, wait_until
 
@@ -84,6 +86,27 @@ def sinks(program, tally):
     end = program.run("replay", site, "--workers", "4", source=ONE, failing=program.failing("sink", 3, most=10))
     tally.ends("write 3 of ten bytes fails", end, 5, WRITE, b"answer 2 141\nHTTP/1.")
     return f"{tried} writes"
+
+
+def are_counted(answers):
+    """Returns whether these answers of two clients, who ask in turn from run 2 on, are each client's first, in their order."""
+    of_clients = [[it for it in answers if it.run % 2 == client] for client in (0, 1)]
+    return all(
+        (it.run // 2, it.body) == (at, b"%d" % at) for asked in of_clients for at, it in enumerate(asked, start=1)
+    )
+
+
+def sinks_of_workers(program, tally):
+    """Each write of a replay by four workers fails once: the answers before it were written, each client's in their order."""
+    words, count = ["replay", program.folder({"/count.asp": COUNT}), "--workers", "4"], 6
+    source = recording(*((1 + at % 2, 0, GETS.format("/count.asp").encode()) for at in range(count)))
+    for at in range(1, count + 3):
+        end = program.run(*words, source=source, failing=program.failing("sink", at))
+        answers, rest = read_records(end.output)
+        told = (end.status, end.said, len(answers), rest)
+        wanted = (5, WRITE, at - 1, b"") if at <= count + 1 else (0, b"", count, b"done %d\n" % count)
+        tally.holds(f"write {at} of four workers fails", told == wanted and are_counted(answers), end)
+    return f"{count + 1} writes"
 
 
 def two_at_once(program, tally):
@@ -257,6 +280,7 @@ TRIALS = {
     "folders": folders,
     "standard input, read by read": sources,
     "standard output, write by write": sinks,
+    "standard output of four workers, write by write": sinks_of_workers,
     "two devices at once": two_at_once,
     "outputs that fail": outputs,
     "inputs that fail": inputs,

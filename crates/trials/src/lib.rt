@@ -14,5 +14,3 @@ mod memory;
 mod sockets;
 #[cfg(test)]
 mod streams;
-#[cfg(test)]
-mod turns;

@@ -1,6 +1,6 @@
 -- A list of lanes from which the last is taken, and a turn that adds nothing.
 use Rattle.std.proofs.Common.{◌≡◌, sym, ◌∙◌, ℕ, List, [], ◌∷◌, ◌++◌, All, append-nil, subst}
-use Rattle.std.proofs.lemmas.List.Elements.{All-nil}
+use Rattle.std.proofs.lemmas.List.Elements.{All-nil, All-push, All-same}
 use Rattle.turn_desk.proofs.Gathering.{All-front, All-last}
 use Rattle.turn_desk.specs.Histories.{GrowsBy}
 
@@ -12,6 +12,10 @@ module _ {A : Type 0} (Fact : A → Type 0) where
   -- and so has the one that was taken
   pub taken : (whole items : List A) (last : A) → whole ≡ items ++ last ∷ [] → All Fact whole → Fact last
   taken whole items last is all = All-last Fact items last (subst (λ xs. All Fact xs) is all)
+
+  -- with one that has it too, all have it
+  pub joined : (whole items : List A) (last : A) → whole ≡ items ++ last ∷ [] → All Fact items → Fact last → All Fact whole
+  joined whole items last is all one = All-same Fact whole (items ++ last ∷ []) is (All-push Fact items last all one)
 
 -- a history that stays as it was has grown by no entry
 pub added_nothing : {E : Type 0} (lane_of : E → ℕ) (lane : ℕ) (before after : List E) → after ≡ before
