@@ -8,3 +8,4 @@ pub mod TargetSteps
 pub mod AssignSteps
 pub mod Down
 pub mod Letting
+pub mod Lending

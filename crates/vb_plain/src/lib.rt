@@ -11,6 +11,7 @@ mod counted;
 mod executing;
 mod expressions;
 mod heads;
+mod lent;
 mod making;
 mod names;
 mod page_end;

@@ -1,0 +1,63 @@
+-- What variables yield whose values are lent.
+use Rattle.std.proofs.Common.{◌≡◌, ℕ, ◌-◌, ◌<◌, List, [], Ok, ap, sym, ◌∙◌, refl}
+use Rattle.std.proofs.lemmas.List.{append-nil}
+use Rattle.vb_value.specs.declared.value.Value.{Value, Empty}
+use Rattle.vb_value.specs.declared.value.Value.TheViews.{rolls-Empty}
+use Rattle.vb_value.specs.declared.value.Value.TheOpen.{Value-F}
+use Rattle.vb_value.specs.declared.value.Value.TheFolds.{fold-roll-Value}
+use Rattle.vb_syntax.specs.declared.program.Program.{Program}
+use Rattle.vb_syntax.specs.declared.program.expression.Expression.{Expression, out-Expression}
+use Rattle.vb_syntax.specs.declared.program.name.Slot.{Slot}
+use Rattle.vb_heap.specs.Cells.{read_of}
+use Rattle.vb_heap.specs.Held.{hold_of, with_held}
+use Rattle.vb_heap.specs.References.{references, value_references, array_references}
+use Rattle.vb_heap.specs.Store.{Store}
+use Rattle.vb_heap.specs.declared.place.Place.{Place}
+use Rattle.vb_meaning.specs.Asking.{Host}
+use Rattle.vb_meaning.specs.Expressions.{bare, valued, value_of}
+use Rattle.vb_meaning.specs.Meaning.{inside}
+use Rattle.vb_meaning.specs.Paths.{reached_value}
+use Rattle.vb_meaning.specs.Places.{variable, hold, holding, read_place}
+use Rattle.vb_meaning.specs.Reading.{reached}
+use Rattle.vb_meaning.specs.State.{State}
+use Rattle.vb_meaning.specs.Step.{Returns}
+use Rattle.vb_meaning.specs.World.{World}
+use Rattle.vb_plain.proofs.Down.{value_more}
+use Rattle.vb_plain.specs.Lent.{IsVariable, IsPlain, MayHold, Yields}
+
+-- Empty has no reference
+free_empty : references Empty ≡ []
+free_empty = ap references (sym rolls-Empty)
+    ∙ fold-roll-Value (List ℕ) (List ℕ) value_references array_references Value-F.Empty
+
+-- where nothing is held, nothing changes
+pub held_none : (store : Store) → with_held Empty store ≡ store
+held_none store = rw (free_empty, append-nil store.held) refl
+
+-- nor is there a change where a value is held in which no object occurs
+pub holding_free : (value : Value) (w : World) → references value ≡ [] → MayHold w.store
+    → holding value w ≡ Returns value w
+unfolding hold
+holding_free value w free may = rw (free, append-nil w.store.held, may) refl
+
+-- an expression without parentheses around it
+pub bare_variable : (e : Expression) (slot : Slot) → IsVariable e slot → bare e ≡ e
+bare_variable e slot is = rw is refl
+
+-- the value of a variable
+pub variable_valued : (E : Type 0) (host : Host E) (p : Program) (levels : ℕ) (e : Expression) (slot : Slot)
+    (place : Place) (found : Value) (s : State E) → IsVariable e slot → variable slot s.world ≡ Returns place s.world
+    → read_of place s.world.store ≡ Ok found → IsPlain found → MayHold s.world.store
+    → value_of E (inside E host p levels) e s ≡ Returns found s
+unfolding value_of reached reached_value read_place
+variable_valued E host p levels e slot place found s is at read plain may =
+    rw (is, at, read, plain.own, holding_free found s.world plain.free may) refl
+
+pub variable_yields : (E : Type 0) (host : Host E) (p : Program) (levels : ℕ) (e : Expression) (slot : Slot)
+    (place : Place) (found : Value) (s : State E) → 0 < levels → IsVariable e slot
+    → variable slot s.world ≡ Returns place s.world
+    → read_of place s.world.store ≡ Ok found → IsPlain found → MayHold s.world.store
+    → Yields E host p levels e s found
+variable_yields E host p levels e slot place found s some is at read plain may =
+    rw (value_more E host p levels e s some, bare_variable e slot is, is)
+    (variable_valued E host p (levels - 1) e slot place found s is at read plain may)

@@ -1,0 +1,35 @@
+-- Values of variables where they lie.
+use Rattle.std.specs.Prelude.{◌≡◌, [], ℕ, Ok}
+use Rattle.vb_value.specs.declared.value.Value.{Value}
+use Rattle.vb_syntax.specs.declared.program.Program.{Program}
+use Rattle.vb_syntax.specs.declared.program.expression.Expression.{Expression, out-Expression}
+use Rattle.vb_syntax.specs.declared.program.expression.Expression.TheOpen.{Expression-F}
+use Rattle.vb_syntax.specs.declared.program.expression.Head.TheVariants as head
+use Rattle.vb_syntax.specs.declared.program.name.Named.TheVariants as named
+use Rattle.vb_syntax.specs.declared.program.name.Slot.{Slot}
+use Rattle.vb_heap.specs.Limits.{if_fits}
+use Rattle.vb_heap.specs.References.{references}
+use Rattle.vb_heap.specs.Store.{Store}
+use Rattle.vb_meaning.specs.Asking.{Host}
+use Rattle.vb_meaning.specs.Meaning.{value}
+use Rattle.vb_meaning.specs.State.{State}
+use Rattle.vb_meaning.specs.Step.{Returns}
+use Rattle.vb_meaning.specs.Values.{copied}
+
+-- an expression is a variable, and nothing stands behind its name
+abbrev pub IsVariable : Expression → Slot → Type 0
+IsVariable expression slot =
+    out-Expression expression ≡ Expression-F.Path (record { head = head.Named (named.Place slot); steps = [] })
+
+-- the data keep within their limits, so that a value may be held in which no object occurs
+abbrev pub MayHold : Store → Type 0
+MayHold store = if_fits store (tt {0}) ≡ Ok tt
+
+-- an expression yields this value and changes nothing
+abbrev pub Yields : (E : Type 0) → Host E → Program → ℕ → Expression → State E → Value → Type 0
+Yields E host program levels expression s found = value E host program levels expression s ≡ Returns found s
+
+-- a value is neither an array nor an object: it is its own copy, and no object occurs in it
+pub record IsPlain (value : Value) : Type 0 where
+  pub own : copied value ≡ value
+  pub free : references value ≡ []

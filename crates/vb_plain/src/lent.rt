@@ -1,0 +1,96 @@
+//! Values of variables where they lie, which are lent to what changes nothing.
+ghost use Rattle.std.specs.Prelude.{◌≡◌, IfSome, IsTrue, Ok};
+ghost use Rattle.vb_heap.specs.Cells.{read_of};
+ghost use Rattle.vb_meaning.specs.Places as places;
+ghost use Rattle.vb_meaning.specs.Shown.{shown};
+ghost use Rattle.vb_meaning.specs.Step.{Returns, and_then};
+ghost use Rattle.vb_plain.specs.Lent.{IsVariable, IsPlain, MayHold, Yields};
+ghost use Rattle.vb_world.specs.Seen.{seen, host};
+
+use std::alloc::Global;
+use vb_heap::Place;
+use vb_meaning::World;
+use vb_syntax::Intrinsics;
+use vb_syntax::program::{Expression, Head, Named, Program, Slot};
+use vb_value::{Value, copy};
+use vb_world::places::variable;
+use vb_world::playing::Playing;
+
+/// Whether a value may be held in which no object occurs. That changes nothing.
+#[tactic(auto, using(crate::proofs::Lending::held_none))]
+pub fn may_hold(world: &mut World) -> bool
+    ensures same { shown world.new ≡ shown world.old }
+    ensures holds { IsTrue result → MayHold (shown world.old).store }
+{
+    match world.heap.hold(&Value::Empty) {
+        Ok(()) => true,
+        Err(_) => false,
+    }
+}
+
+/// The variable that an expression is, if nothing stands behind its name.
+fn variable_in(expression: &Expression) -> Option<Slot>
+    ensures { IfSome result (λ slot. IsVariable expression.now slot) }
+{
+    let Expression::Path(path) = expression else {
+        return None;
+    };
+    match (&path.head, path.steps.as_slice()) {
+        (Head::Named(Named::Place(slot)), []) => Some(*slot),
+        _ => None,
+    }
+}
+
+/// The place of a variable, if there is one.
+fn place_of(alloc: Global, world: &World, slot: Slot) -> Option<Place>
+    ensures { IfSome result (λ place. places.variable slot (shown world.now) ≡ Returns place (shown world.now)) }
+{
+    match variable(alloc, world, slot) {
+        Ok(place) => Some(place),
+        Err(_) => None,
+    }
+}
+
+/// Whether a value is neither an array nor an object.
+fn is_plain(value: &Value) -> bool
+    ensures { IsTrue result → IsPlain value.now }
+{
+    match value {
+        Value::Arr(_) | Value::Obj(_) => false,
+        Value::Empty | Value::Null | Value::Nothing => true,
+        Value::Bool(_) | Value::Int(_) | Value::Long(_) | Value::Cur(_) | Value::Str(_) => true,
+    }
+}
+
+/// What a place holds, where that is neither an array nor an object.
+fn plain_at<'a>(world: &'a World, place: &Place) -> Option<&'a Value>
+    ensures at { IfSome result (λ value. read_of place.now (shown world.now).store ≡ Ok value.now) }
+    ensures plain { IfSome result (λ value. IsPlain value.now) }
+{
+    match world.heap.look(place) {
+        Ok(value) if is_plain(value) => Some(value),
+        _ => None,
+    }
+}
+
+/// The value of an expression that is a variable, where it lies, if it is neither an array nor an object.
+#[tactic(auto, using(crate::proofs::Lending::variable_yields))]
+pub fn lent<'a, I: Intrinsics>(
+    alloc: Global,
+    levels: u32,
+    p: &Program,
+    playing: &'a Playing<'_>,
+    env: &I,
+    expression: &Expression,
+) -> Option<&'a Value>
+    requires { MayHold (shown playing.now.world).store }
+    ensures { IfSome result (λ found. Yields I (host I.asked I.answered) p.now levels expression.now
+        (seen playing.entry.now env.now) found.now) }
+{
+    if levels == 0 {
+        return None;
+    }
+    let slot = variable_in(expression)?;
+    let place = place_of(alloc, &playing.world, slot)?;
+    plain_at(&playing.world, &place)
+}
