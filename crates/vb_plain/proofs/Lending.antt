@@ -1,5 +1,5 @@
 -- What variables yield whose values are lent.
-use Rattle.std.proofs.Common.{◌≡◌, ℕ, ◌-◌, ◌<◌, List, [], Ok, ap, sym, ◌∙◌, refl}
+use Rattle.std.proofs.Common.{◌≡◌, ℕ, ◌-◌, ◌<◌, List, [], ◌∷◌, Result, Ok, IsTrue, true, ap, sym, ◌∙◌, refl}
 use Rattle.std.proofs.lemmas.List.{append-nil}
 use Rattle.vb_value.specs.declared.value.Value.{Value, Empty}
 use Rattle.vb_value.specs.declared.value.Value.TheViews.{rolls-Empty}
@@ -14,16 +14,17 @@ use Rattle.vb_heap.specs.References.{references, value_references, array_referen
 use Rattle.vb_heap.specs.Store.{Store}
 use Rattle.vb_heap.specs.declared.place.Place.{Place}
 use Rattle.vb_meaning.specs.Asking.{Host}
-use Rattle.vb_meaning.specs.Expressions.{bare, valued, value_of}
+use Rattle.vb_meaning.specs.Expressions.{bare, value_of, is_written, written_value}
 use Rattle.vb_meaning.specs.Meaning.{inside}
 use Rattle.vb_meaning.specs.Paths.{reached_value}
 use Rattle.vb_meaning.specs.Places.{variable, hold, holding, read_place}
 use Rattle.vb_meaning.specs.Reading.{reached}
 use Rattle.vb_meaning.specs.State.{State}
-use Rattle.vb_meaning.specs.Step.{Returns}
+use Rattle.vb_meaning.specs.Step.{Returns, raising}
+use Rattle.vb_value.specs.declared.fault.VbError.{VbError}
 use Rattle.vb_meaning.specs.World.{World}
 use Rattle.vb_plain.proofs.Down.{value_more}
-use Rattle.vb_plain.specs.Lent.{IsVariable, IsPlain, MayHold, Yields}
+use Rattle.vb_plain.specs.Lent.{IsVariable, IsPlain, MayHold, Yields, GivesAtOnce}
 
 -- Empty has no reference
 free_empty : references Empty ≡ []
@@ -61,3 +62,30 @@ pub variable_yields : (E : Type 0) (host : Host E) (p : Program) (levels : ℕ) 
 variable_yields E host p levels e slot place found s some is at read plain may =
     rw (value_more E host p levels e s some, bare_variable e slot is, is)
     (variable_valued E host p (levels - 1) e slot place found s is at read plain may)
+
+-- the value of what is written down
+pub written_yields : (E : Type 0) (host : Host E) (p : Program) (levels : ℕ) (e : Expression) (found : Value)
+    (s : State E) → 0 < levels → is_written (out-Expression (bare e)) ≡ true
+    → written_value p (out-Expression (bare e)) s.world ≡ Returns found s.world
+    → Yields E host p levels e s found
+written_yields E host p levels e found s some written is =
+    rw (value_more E host p levels e s some, written, is) refl
+
+module _ (E : Type 0) (host : Host E) (p : Program) (levels : ℕ) (applied : List Value → Result Value VbError)
+    (s : State E) where
+  -- a function of one argument
+  pub one_argument : (e : Expression) (a found : Value) → Yields E host p levels e s a
+      → raising (applied (a ∷ [])) ≡ Ok found → GivesAtOnce E host p levels applied (e ∷ []) s found
+  one_argument e a found yields gives = rw (yields, gives) refl
+
+  -- of two
+  pub two_arguments : (e f : Expression) (a b found : Value) → Yields E host p levels e s a
+      → Yields E host p levels f s b → raising (applied (a ∷ b ∷ [])) ≡ Ok found
+      → GivesAtOnce E host p levels applied (e ∷ f ∷ []) s found
+  two_arguments e f a b found first second gives = rw (first, second, gives) refl
+
+  -- and of three
+  pub three_arguments : (e f g : Expression) (a b c found : Value) → Yields E host p levels e s a
+      → Yields E host p levels f s b → Yields E host p levels g s c → raising (applied (a ∷ b ∷ c ∷ [])) ≡ Ok found
+      → GivesAtOnce E host p levels applied (e ∷ f ∷ g ∷ []) s found
+  three_arguments e f g a b c found first second third gives = rw (first, second, third, gives) refl

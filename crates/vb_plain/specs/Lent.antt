@@ -1,5 +1,6 @@
 -- Values of variables where they lie.
-use Rattle.std.specs.Prelude.{◌≡◌, [], ℕ, Ok}
+use Rattle.std.specs.Prelude.{◌≡◌, List, [], ℕ, Result, Ok}
+use Rattle.vb_value.specs.declared.fault.VbError.{VbError}
 use Rattle.vb_value.specs.declared.value.Value.{Value}
 use Rattle.vb_syntax.specs.declared.program.Program.{Program}
 use Rattle.vb_syntax.specs.declared.program.expression.Expression.{Expression, out-Expression}
@@ -11,9 +12,10 @@ use Rattle.vb_heap.specs.Limits.{if_fits}
 use Rattle.vb_heap.specs.References.{references}
 use Rattle.vb_heap.specs.Store.{Store}
 use Rattle.vb_meaning.specs.Asking.{Host}
-use Rattle.vb_meaning.specs.Meaning.{value}
-use Rattle.vb_meaning.specs.State.{State}
-use Rattle.vb_meaning.specs.Step.{Returns}
+use Rattle.vb_meaning.specs.Meaning.{value, inside}
+use Rattle.vb_meaning.specs.Reading.{values}
+use Rattle.vb_meaning.specs.State.{State, on_world}
+use Rattle.vb_meaning.specs.Step.{Returns, ◌>>=◌, given}
 use Rattle.vb_meaning.specs.Values.{copied}
 
 -- an expression is a variable, and nothing stands behind its name
@@ -33,3 +35,10 @@ Yields E host program levels expression s found = value E host program levels ex
 pub record IsPlain (value : Value) : Type 0 where
   pub own : copied value ≡ value
   pub free : references value ≡ []
+
+-- a function of the language gives this value of its arguments, and nothing changes
+abbrev pub GivesAtOnce : (E : Type 0) → Host E → Program → ℕ → (List Value → Result Value VbError) → List Expression
+    → State E → Value → Type 0
+GivesAtOnce E host program levels applied supplied s found =
+    (values E (inside E host program levels) [] supplied >>= (λ arguments. on_world (given (applied arguments)))) s
+    ≡ Returns found s

@@ -15,6 +15,7 @@ use vb_syntax::program::{Expression, Head, Named, Program, Slot};
 use vb_value::{Value, copy};
 use vb_world::places::variable;
 use vb_world::playing::Playing;
+use vb_world::written::{bare, is_written, written_value};
 
 /// Whether a value may be held in which no object occurs. That changes nothing.
 #[tactic(auto, using(crate::proofs::Lending::held_none))]
@@ -93,4 +94,65 @@ pub fn lent<'a, I: Intrinsics>(
     let slot = variable_in(expression)?;
     let place = place_of(alloc, &playing.world, slot)?;
     plain_at(&playing.world, &place)
+}
+
+/// The value of an expression that is written down.
+#[tactic(auto, using(crate::proofs::Lending::written_yields))]
+fn written_in<I: Intrinsics>(
+    alloc: Global,
+    levels: u32,
+    p: &Program,
+    playing: &Playing<'_>,
+    env: &I,
+    expression: &Expression,
+) -> Option<Value>
+    ensures { IfSome result (λ found. Yields I (host I.asked I.answered) p.now levels expression.now
+        (seen playing.now env.now) found) }
+{
+    let bare = bare(expression);
+    if levels == 0 || !is_written(bare) {
+        return None;
+    }
+    match written_value(alloc, p, &playing.world, bare) {
+        Ok(value) => Some(value),
+        Err(_) => None,
+    }
+}
+
+/// The value of an expression that is a variable, if it is neither an array nor an object.
+fn read_in<I: Intrinsics>(
+    alloc: Global,
+    levels: u32,
+    p: &Program,
+    playing: &Playing<'_>,
+    env: &I,
+    expression: &Expression,
+) -> Option<Value>
+    requires { MayHold (shown playing.now.world).store }
+    ensures { IfSome result (λ found. Yields I (host I.asked I.answered) p.now levels expression.now
+        (seen playing.now env.now) found) }
+{
+    match copy(alloc, lent(alloc, levels, p, playing, env, expression)?) {
+        Ok(value) => Some(value),
+        Err(_) => None,
+    }
+}
+
+/// The value of an expression that is written down, or that is a variable, where nothing changes.
+pub fn quiet<I: Intrinsics>(
+    alloc: Global,
+    levels: u32,
+    p: &Program,
+    playing: &Playing<'_>,
+    env: &I,
+    expression: &Expression,
+) -> Option<Value>
+    requires { MayHold (shown playing.now.world).store }
+    ensures { IfSome result (λ found. Yields I (host I.asked I.answered) p.now levels expression.now
+        (seen playing.now env.now) found) }
+{
+    match written_in(alloc, levels, p, playing, env, expression) {
+        Some(value) => Some(value),
+        None => read_in(alloc, levels, p, playing, env, expression),
+    }
 }
