@@ -1,5 +1,5 @@
 -- What variables yield whose values are lent.
-use Rattle.std.proofs.Common.{◌≡◌, ℕ, ◌-◌, ◌<◌, List, [], ◌∷◌, Result, Ok, IsTrue, true, ap, sym, ◌∙◌, refl}
+use Rattle.std.proofs.Common.{◌≡◌, ℕ, ◌-◌, ◌<◌, List, [], ◌∷◌, Result, Ok, IsTrue, true, ap, sym, subst, ◌∙◌, refl}
 use Rattle.std.proofs.lemmas.List.{append-nil}
 use Rattle.vb_value.specs.declared.value.Value.{Value, Empty}
 use Rattle.vb_value.specs.declared.value.Value.TheViews.{rolls-Empty}
@@ -22,6 +22,7 @@ use Rattle.vb_meaning.specs.Reading.{reached}
 use Rattle.vb_meaning.specs.State.{State}
 use Rattle.vb_meaning.specs.Step.{Returns, raising}
 use Rattle.vb_value.specs.declared.fault.VbError.{VbError}
+use Rattle.vb_meaning.specs.Values.{copied}
 use Rattle.vb_meaning.specs.World.{World}
 use Rattle.vb_plain.proofs.Down.{value_more}
 use Rattle.vb_plain.specs.Lent.{IsVariable, IsPlain, MayHold, Yields, GivesAtOnce}
@@ -45,23 +46,34 @@ holding_free value w free may = rw (free, append-nil w.store.held, may) refl
 pub bare_variable : (e : Expression) (slot : Slot) → IsVariable e slot → bare e ≡ e
 bare_variable e slot is = rw is refl
 
--- the value of a variable
-pub variable_valued : (E : Type 0) (host : Host E) (p : Program) (levels : ℕ) (e : Expression) (slot : Slot)
+-- a copy of what a variable holds
+variable_valued : (E : Type 0) (host : Host E) (p : Program) (levels : ℕ) (e : Expression) (slot : Slot)
     (place : Place) (found : Value) (s : State E) → IsVariable e slot → variable slot s.world ≡ Returns place s.world
-    → read_of place s.world.store ≡ Ok found → IsPlain found → MayHold s.world.store
-    → value_of E (inside E host p levels) e s ≡ Returns found s
+    → read_of place s.world.store ≡ Ok found → references (copied found) ≡ [] → MayHold s.world.store
+    → value_of E (inside E host p levels) e s ≡ Returns (copied found) s
 unfolding value_of reached reached_value read_place
-variable_valued E host p levels e slot place found s is at read plain may =
-    rw (is, at, read, plain.own, holding_free found s.world plain.free may) refl
+variable_valued E host p levels e slot place found s is at read free may =
+    rw (is, at, read, holding_free (copied found) s.world free may) refl
 
+-- the value of a variable in which no object occurs
+pub copy_yields : (E : Type 0) (host : Host E) (p : Program) (levels : ℕ) (e : Expression) (slot : Slot)
+    (place : Place) (found : Value) (s : State E) → 0 < levels → IsVariable e slot
+    → variable slot s.world ≡ Returns place s.world
+    → read_of place s.world.store ≡ Ok found → references (copied found) ≡ [] → MayHold s.world.store
+    → Yields E host p levels e s (copied found)
+copy_yields E host p levels e slot place found s some is at read free may =
+    rw (value_more E host p levels e s some, bare_variable e slot is, is)
+    (variable_valued E host p (levels - 1) e slot place found s is at read free may)
+
+-- and of one that is neither an array nor an object
 pub variable_yields : (E : Type 0) (host : Host E) (p : Program) (levels : ℕ) (e : Expression) (slot : Slot)
     (place : Place) (found : Value) (s : State E) → 0 < levels → IsVariable e slot
     → variable slot s.world ≡ Returns place s.world
     → read_of place s.world.store ≡ Ok found → IsPlain found → MayHold s.world.store
     → Yields E host p levels e s found
 variable_yields E host p levels e slot place found s some is at read plain may =
-    rw (value_more E host p levels e s some, bare_variable e slot is, is)
-    (variable_valued E host p (levels - 1) e slot place found s is at read plain may)
+    subst (λ value. Yields E host p levels e s value) plain.own
+    (copy_yields E host p levels e slot place found s some is at read (ap references plain.own ∙ plain.free) may)
 
 -- the value of what is written down
 pub written_yields : (E : Type 0) (host : Host E) (p : Program) (levels : ℕ) (e : Expression) (found : Value)

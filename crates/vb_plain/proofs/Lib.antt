@@ -9,3 +9,4 @@ pub mod AssignSteps
 pub mod Down
 pub mod Letting
 pub mod Lending
+pub mod Arrays

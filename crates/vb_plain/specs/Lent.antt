@@ -1,5 +1,8 @@
 -- Values of variables where they lie.
-use Rattle.std.specs.Prelude.{◌≡◌, List, [], ℕ, Result, Ok}
+use Rattle.std.specs.Prelude.{◌≡◌, Bool, true, false, List, [], ℕ, Result, Ok}
+use Rattle.vb_value.specs.declared.function.PlainFn.{PlainFn}
+use Rattle.vb_value.specs.declared.function.PlainFn.TheVariants as function
+use Rattle.vb_value.specs.declared.value.Array.{Array}
 use Rattle.vb_value.specs.declared.fault.VbError.{VbError}
 use Rattle.vb_value.specs.declared.value.Value.{Value}
 use Rattle.vb_syntax.specs.declared.program.Program.{Program}
@@ -42,3 +45,16 @@ abbrev pub GivesAtOnce : (E : Type 0) → Host E → Program → ℕ → (List V
 GivesAtOnce E host program levels applied supplied s found =
     (values E (inside E host program levels) [] supplied >>= (λ arguments. on_world (given (applied arguments)))) s
     ≡ Returns found s
+
+-- an array of the same bounds without items
+abbrev pub shape_of : Array → Array
+shape_of array = record { bounds = array.bounds; fixed = false; items = [] }
+
+-- whether what a function gives of an array follows from its bounds
+abbrev pub is_by_shape : PlainFn → Bool
+is_by_shape function.UBound = true
+is_by_shape function.LBound = true
+is_by_shape function.IsArray = true
+is_by_shape function.VarType = true
+is_by_shape function.IsEmpty = true
+is_by_shape _ = false

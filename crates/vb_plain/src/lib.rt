@@ -12,6 +12,7 @@ mod executing;
 mod expressions;
 mod heads;
 mod lent;
+mod lent_arrays;
 mod lent_calls;
 mod lent_texts;
 mod making;
