@@ -3,16 +3,19 @@ ghost use Rattle.std.specs.Prelude.{◌≡◌, IfSome, IsTrue, Ok};
 ghost use Rattle.vb_heap.specs.Cells.{read_of};
 ghost use Rattle.vb_meaning.specs.Places as places;
 ghost use Rattle.vb_meaning.specs.Shown.{shown};
-ghost use Rattle.vb_meaning.specs.Step.{Returns, and_then};
+ghost use Rattle.vb_meaning.specs.Step.{Returns};
+ghost use Rattle.vb_meaning.specs.Values.{copied};
 ghost use Rattle.vb_plain.specs.Lent.{IsVariable, IsPlain, MayHold, Yields};
+ghost use Rattle.vb_value.specs.declared.value.Value.TheViews.{Arr};
 ghost use Rattle.vb_world.specs.Seen.{seen, host};
 
+use crate::lent_arrays::array_at;
 use std::alloc::Global;
 use vb_heap::Place;
 use vb_meaning::World;
 use vb_syntax::Intrinsics;
 use vb_syntax::program::{Expression, Head, Named, Program, Slot};
-use vb_value::{Value, copy};
+use vb_value::{Array, Value, copy};
 use vb_world::places::variable;
 use vb_world::playing::Playing;
 use vb_world::written::{bare, is_written, written_value};
@@ -94,6 +97,28 @@ pub fn lent<'a, I: Intrinsics>(
     let slot = variable_in(expression)?;
     let place = place_of(alloc, &playing.world, slot)?;
     plain_at(&playing.world, &place)
+}
+
+/// The array that an expression is which is a variable, where it lies, if no object occurs in it.
+#[tactic(auto, using(crate::proofs::Lending::copy_yields))]
+pub fn lent_array<'a, I: Intrinsics>(
+    alloc: Global,
+    levels: u32,
+    p: &Program,
+    playing: &'a Playing<'_>,
+    env: &I,
+    expression: &Expression,
+) -> Option<&'a Array>
+    requires { MayHold (shown playing.now.world).store }
+    ensures { IfSome result (λ array. Yields I (host I.asked I.answered) p.now levels expression.now
+        (seen playing.entry.now env.now) (copied (Arr array.now))) }
+{
+    if levels == 0 {
+        return None;
+    }
+    let slot = variable_in(expression)?;
+    let place = place_of(alloc, &playing.world, slot)?;
+    array_at(&playing.world, &place)
 }
 
 /// The value of an expression that is written down.

@@ -106,7 +106,10 @@ fn middle(alloc: Global, text: &Text, i: &Value, n: &Value) -> Option<Value>
         return None;
     }
     let skipped = place as usize - 1;
-    cut(alloc, front(behind(text.as_slice(), skipped), count as usize))
+    cut(
+        alloc,
+        front(behind(text.as_slice(), skipped), count as usize),
+    )
 }
 
 /// What a function gives of a value and one argument more, where that is a part of a text.
