@@ -1,5 +1,5 @@
 -- What variables yield whose values are lent.
-use Rattle.std.proofs.Common.{◌≡◌, ℕ, ◌-◌, ◌<◌, List, [], ◌∷◌, Result, Ok, IsTrue, true, ap, sym, subst, ◌∙◌, refl}
+use Rattle.std.proofs.Common.{◌≡◌, ℕ, ◌-◌, ◌<◌, List, [], ◌∷◌, Result, Ok, true, ap, sym, subst, ◌∙◌, refl}
 use Rattle.std.proofs.lemmas.List.{append-nil}
 use Rattle.vb_value.specs.declared.value.Value.{Value, Empty}
 use Rattle.vb_value.specs.declared.value.Value.TheViews.{rolls-Empty}
@@ -9,7 +9,7 @@ use Rattle.vb_syntax.specs.declared.program.Program.{Program}
 use Rattle.vb_syntax.specs.declared.program.expression.Expression.{Expression, out-Expression}
 use Rattle.vb_syntax.specs.declared.program.name.Slot.{Slot}
 use Rattle.vb_heap.specs.Cells.{read_of}
-use Rattle.vb_heap.specs.Held.{hold_of, with_held}
+use Rattle.vb_heap.specs.Held.{with_held}
 use Rattle.vb_heap.specs.References.{references, value_references, array_references}
 use Rattle.vb_heap.specs.Store.{Store}
 use Rattle.vb_heap.specs.declared.place.Place.{Place}
