@@ -8,3 +8,5 @@ pub mod TargetSteps
 pub mod AssignSteps
 pub mod Down
 pub mod Letting
+pub mod Lending
+pub mod Arrays

@@ -1,3 +1,4 @@
 pub mod Nests
 pub mod Ends
 pub mod Selects
+pub mod Lent

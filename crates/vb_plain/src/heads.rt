@@ -9,6 +9,7 @@ ghost use Rattle.vb_meaning.specs.Step.{Ran};
 ghost use Rattle.vb_plain.specs.Nests.{Evaluates, Passes, Enters};
 ghost use Rattle.vb_world.specs.Seen.{seen, host};
 
+use crate::lent_calls::{plain_at_once, string_at_once};
 use crate::rules::Rules;
 use std::alloc::Global;
 use vb_funcs::call_func;
@@ -110,6 +111,17 @@ impl<
             result (seen playing.new env.new) }
     {
         let (supplied, rest) = split_call(steps);
+        if let Some(value) = string_at_once(
+            self.alloc,
+            self.levels,
+            p,
+            playing,
+            env,
+            found,
+            supplied,
+        ) {
+            return self.walk(p, playing, env, Reached::Value(value), rest);
+        }
         let arguments = self.values(p, playing, env, supplied)?;
         if MOST_ARGUMENTS < arguments.len() {
             return Err(Stop::Memory);
@@ -138,6 +150,17 @@ impl<
             result (seen playing.new env.new) }
     {
         let (supplied, rest) = split_call(steps);
+        if let Some(value) = plain_at_once(
+            self.alloc,
+            self.levels,
+            p,
+            playing,
+            env,
+            found,
+            supplied,
+        ) {
+            return self.walk(p, playing, env, Reached::Value(value), rest);
+        }
         let arguments = self.values(p, playing, env, supplied)?;
         if MOST_ARGUMENTS < arguments.len() {
             return Err(Stop::Memory);
