@@ -10,3 +10,4 @@ pub mod Emptying
 pub mod Keys
 pub mod FieldArrays
 pub mod Resized
+pub mod Named
