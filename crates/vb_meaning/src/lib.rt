@@ -1,6 +1,7 @@
 //! What a script means: definitions, and the types that they speak of.
 #![tactic(auto)]
 
+mod answer;
 mod cause;
 mod constant_fault;
 mod plain_end;
@@ -9,6 +10,7 @@ mod reached;
 mod stop;
 mod world;
 
+pub use answer::Answer;
 pub use cause::{Cause, Raised};
 pub use constant_fault::ConstantFault;
 pub use plain_end::PlainEnd;
