@@ -1,3 +1,2 @@
 pub mod Nests
-pub mod Ends
 pub mod Selects

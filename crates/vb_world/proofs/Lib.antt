@@ -1,7 +1,6 @@
 pub mod Texts
 pub mod Steps
 pub mod Subjects
-pub mod Parentheses
 pub mod Products
 pub mod EmptyArrays
 pub mod Declared
