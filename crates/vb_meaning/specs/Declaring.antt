@@ -1,7 +1,7 @@
 -- Declarations: what they make at the start of their scope (VBScript 5.6 language reference, "Dim Statement", "Const
 -- Statement"), each in its place. What goes wrong with one arises there, with the line of the declaration, and of
 -- several the one that stands first counts.
-use Rattle.std.specs.Prelude.{◌++◌, ◌+◌, ℕ, ℤ, nat_lt, if◌then◌else◌, List, [], ◌∷◌, length, Option, Some, None}
+use Rattle.std.specs.Prelude.{◌++◌, ℕ, ℤ, nat_lt, if◌then◌else◌, List, [], ◌∷◌, length, Option, Some, None}
 use Rattle.std.specs.Prelude.{Result, Ok, Err}
 use Rattle.vb_value.specs.declared.fault.VbError.{VbError}
 use Rattle.vb_value.specs.declared.value.Value.{Value, Empty}

@@ -28,3 +28,5 @@ pub mod Executing
 pub mod Meaning
 pub mod Acts
 pub mod Ticks
+pub mod Ends
+pub mod Parentheses

@@ -2,6 +2,7 @@
 use Rattle.std.specs.Prelude.{ℕ, ◌==◌, Bool, true, false, not, ◌&&◌, if◌then◌else◌, List, [], ◌∷◌, codes, slice_get}
 use Rattle.std.specs.Prelude.{Option, Some, None, Result, Ok, Err, unwrap_or}
 use Rattle.std.specs.List.{position_from}
+use Rattle.std.specs.Option.{option_and_then}
 use Rattle.vb_value.specs.declared.fault.VbError.{VbError}
 use Rattle.vb_value.specs.declared.value.Value.{Value, Obj}
 use Rattle.vb_syntax.specs.declared.program.Program.{Program}
@@ -36,6 +37,11 @@ abbrev pub procedure_named : ℕ → (ProcedureKind → Bool) → List Procedure
 procedure_named name test [] = None
 procedure_named name test (first ∷ others) =
     if first.name == name && test first.kind then Some first else procedure_named name test others
+
+-- the procedure of a class that has this number among its procedures
+abbrev pub procedure_at : Option Class → Option ℕ → Option Procedure
+procedure_at (Some class) number = option_and_then (slice_get class.procedures) number
+procedure_at None number = None
 
 -- a procedure that is seen through an object
 abbrev pub if_public : Option Procedure → Option Procedure

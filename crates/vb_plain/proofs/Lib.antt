@@ -1,12 +1,4 @@
-pub mod Unknown
-pub mod Endings
 pub mod Groups
-pub mod Turns
-pub mod CallSteps
-pub mod AfterTurns
 pub mod TargetSteps
-pub mod AssignSteps
-pub mod Down
-pub mod Letting
 pub mod Lending
 pub mod Arrays

@@ -1,4 +1,3 @@
 pub mod Nests
-pub mod Ends
 pub mod Selects
 pub mod Lent

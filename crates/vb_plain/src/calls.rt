@@ -81,7 +81,7 @@ impl<
     }
 
     /// A call of where a path begins, with what stands behind.
-    #[tactic(auto, using(crate::proofs::CallSteps::call_more))]
+    #[tactic(auto, using(vb_meaning::proofs::CallSteps::call_more))]
     fn call_head(
         &self,
         p: &Program,

@@ -114,7 +114,7 @@ impl<
     }
 
     /// The turns of a For.
-    #[tactic(auto, using(crate::proofs::Turns::for_more, crate::proofs::Turns::for_none))]
+    #[tactic(auto, using(vb_meaning::proofs::Turns::for_more, vb_meaning::proofs::Turns::for_none))]
     fn for_turns(
         &self,
         p: &Program,

@@ -16,7 +16,7 @@ ghost use Rattle.vb_world.specs.Seen.{seen, host};
 
 use crate::rules::Rules;
 use std::alloc::Global;
-use vb_meaning::{Argument, Reached, Stop};
+use vb_meaning::{Argument, Reached, Stop, bare, raise};
 use vb_ops::apply1;
 use vb_syntax::Intrinsics;
 use vb_syntax::program::{Expression, Head, Operation, Path, Procedure, Program};
@@ -26,8 +26,8 @@ use vb_world::paths::reached_value;
 use vb_world::places::hold;
 use vb_world::playing::Playing;
 use vb_world::values::literal_value;
-use vb_world::world::{depth_stop, raise};
-use vb_world::written::{bare, is_written, written_value};
+use vb_world::world::depth_stop;
+use vb_world::written::{is_written, written_value};
 
 /// Whether a path may be a place: a name with no member behind it.
 fn may_be_place(path: &Path) -> bool

@@ -13,7 +13,7 @@ use crate::lent_calls::{plain_at_once, string_at_once};
 use crate::rules::Rules;
 use std::alloc::Global;
 use vb_funcs::call_func;
-use vb_meaning::{Argument, Reached, Stop};
+use vb_meaning::{Argument, Reached, Stop, raise};
 use vb_strings::call_string;
 use vb_syntax::Intrinsics;
 use vb_syntax::program::{Expression, Procedure, Program, Slot, Step};
@@ -21,7 +21,6 @@ use vb_value::{List, ObjNo, PlainFn, StrFn, Value};
 use vb_world::accesses::split_call;
 use vb_world::places::variable;
 use vb_world::playing::Playing;
-use vb_world::world::raise;
 
 /// The most arguments that a function of the language is given.
 const MOST_ARGUMENTS: usize = 255;

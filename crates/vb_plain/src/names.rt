@@ -16,9 +16,9 @@ use vb_syntax::program::{Expression, Named, Procedure, Program, Step};
 use vb_value::{List, ObjNo, Value, VbError};
 use vb_world::accesses::split_call;
 use vb_world::classes::own_read;
-use vb_world::functions::{create_object, local_constant, page_constant, type_name};
+use vb_world::functions::{create_object, type_name};
 use vb_world::playing::Playing;
-use vb_world::values::literal_value;
+use vb_world::values::{literal_value, local_constant, page_constant};
 
 impl<
     I: Intrinsics,
@@ -39,7 +39,7 @@ impl<
     ) -> Result<Value, Stop>,
 > Rules<I, V, A, S, C, T, N> {
     /// A name that stands for nothing. A call of it is error 13, once its arguments are evaluated.
-    #[tactic(auto, using(crate::proofs::Unknown::unknown_member))]
+    #[tactic(auto, using(vb_meaning::proofs::Unknown::unknown_member))]
     pub fn unknown(
         &self,
         p: &Program,

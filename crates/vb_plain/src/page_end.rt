@@ -4,19 +4,18 @@ ghost use Rattle.vb_meaning.specs.Meaning.{inside};
 ghost use Rattle.vb_meaning.specs.Releases as spec;
 ghost use Rattle.vb_meaning.specs.Step.{Ran};
 ghost use Rattle.vb_meaning.specs.Shown.{shown};
-ghost use Rattle.vb_plain.specs.Ends.{ends_last};
+ghost use Rattle.vb_meaning.specs.Ends.{ends_last};
 ghost use Rattle.vb_plain.specs.Nests.{Enters};
 ghost use Rattle.vb_world.specs.Seen.{seen, host};
 
 use crate::rules::Rules;
 use std::alloc::Global;
-use vb_meaning::{Argument, Stop};
+use vb_meaning::{Argument, Stop, stop_in};
 use vb_syntax::Intrinsics;
 use vb_syntax::program::{Procedure, Program};
 use vb_value::{List, ObjNo, Value};
 use vb_world::ending::{class_number, terminator};
 use vb_world::playing::Playing;
-use vb_world::world::stop_in;
 
 impl<
     I: Intrinsics,
@@ -49,7 +48,7 @@ impl<
 
     /// Ends an object where no statement does, so that its terminator is entered in its own line. The page has ended: a
     /// page stop in a terminator ends that terminator alone.
-    #[tactic(auto, unfolding(crate::specs::Ends::ends_last))]
+    #[tactic(auto, unfolding(vb_meaning::specs::Ends::ends_last))]
     fn end_one(
         &self,
         p: &Program,
@@ -70,7 +69,7 @@ impl<
     }
 
     /// While some live object has no reference, the oldest such ends. It is the page's end.
-    #[tactic(auto, using(crate::proofs::Endings::settle_last_more, crate::proofs::Endings::settle_last_none), unfolding(vb_meaning::specs::Releases::settle_last))]
+    #[tactic(auto, using(vb_meaning::proofs::Endings::settle_last_more, vb_meaning::proofs::Endings::settle_last_none), unfolding(vb_meaning::specs::Releases::settle_last))]
     pub fn settle_last(
         &self,
         p: &Program,
@@ -93,7 +92,7 @@ impl<
     }
 
     /// Each object that is left ends in the order of creation, and after each what it leaves without references.
-    #[tactic(auto, using(crate::proofs::Endings::end_more, crate::proofs::Endings::end_none), unfolding(vb_meaning::specs::Releases::end_all))]
+    #[tactic(auto, using(vb_meaning::proofs::Endings::end_more, vb_meaning::proofs::Endings::end_none), unfolding(vb_meaning::specs::Releases::end_all))]
     pub fn end_all(&self, p: &Program, playing: &mut Playing<'_>, env: &mut I) -> Result<(), Stop>
         requires { Enters I (host I.asked I.answered) self.now.levels (N.pre self.now.enter) (N.post self.now.enter) }
         ensures { Ran (spec.end_all I (inside I (host I.asked I.answered) p.now self.now.levels)

@@ -17,7 +17,7 @@ use vb_world::world::depth_stop;
 
 /// The value of an expression, where so many more constructs may be begun.
 #[cycle(down)]
-#[tactic(auto, using(crate::proofs::Down::value_none, crate::proofs::Down::value_more))]
+#[tactic(auto, using(vb_meaning::proofs::Down::value_none, vb_meaning::proofs::Down::value_more))]
 pub fn value<I: Intrinsics>(
     alloc: Global,
     levels: u32,
@@ -48,7 +48,7 @@ pub fn value<I: Intrinsics>(
 
 /// An expression as an argument, where so many more constructs may be begun.
 #[cycle(down)]
-#[tactic(auto, using(crate::proofs::Down::argument_none, crate::proofs::Down::argument_more))]
+#[tactic(auto, using(vb_meaning::proofs::Down::argument_none, vb_meaning::proofs::Down::argument_more))]
 pub fn argument<I: Intrinsics>(
     alloc: Global,
     levels: u32,
@@ -79,7 +79,7 @@ pub fn argument<I: Intrinsics>(
 
 /// Assigns a value to a path, where so many more constructs may be begun.
 #[cycle(down)]
-#[tactic(auto, using(crate::proofs::Down::assign_none, crate::proofs::Down::assign_more))]
+#[tactic(auto, using(vb_meaning::proofs::Down::assign_none, vb_meaning::proofs::Down::assign_more))]
 pub fn assign<I: Intrinsics>(
     alloc: Global,
     levels: u32,
@@ -112,7 +112,7 @@ pub fn assign<I: Intrinsics>(
 
 /// Calls a path as a statement does, where so many more constructs may be begun.
 #[cycle(down)]
-#[tactic(auto, using(crate::proofs::Down::call_none, crate::proofs::Down::call_more))]
+#[tactic(auto, using(vb_meaning::proofs::Down::call_none, vb_meaning::proofs::Down::call_more))]
 pub fn call<I: Intrinsics>(
     alloc: Global,
     levels: u32,
@@ -143,7 +143,7 @@ pub fn call<I: Intrinsics>(
 
 /// Executes a statement, where so many more constructs may be begun.
 #[cycle(down)]
-#[tactic(auto, using(crate::proofs::Down::statement_none, crate::proofs::Down::statement_more))]
+#[tactic(auto, using(vb_meaning::proofs::Down::statement_none, vb_meaning::proofs::Down::statement_more))]
 pub fn statement<I: Intrinsics>(
     alloc: Global,
     levels: u32,
@@ -174,7 +174,7 @@ pub fn statement<I: Intrinsics>(
 
 /// Enters a procedure, where so many more constructs may be begun.
 #[cycle(down)]
-#[tactic(auto, using(crate::proofs::Down::enter_none, crate::proofs::Down::enter_more))]
+#[tactic(auto, using(vb_meaning::proofs::Down::enter_none, vb_meaning::proofs::Down::enter_more))]
 pub fn enter<I: Intrinsics>(
     alloc: Global,
     levels: u32,

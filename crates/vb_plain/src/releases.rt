@@ -98,7 +98,7 @@ impl<
     }
 
     /// While some live object has no reference, the oldest such ends.
-    #[tactic(auto, using(crate::proofs::Endings::settle_more, crate::proofs::Endings::settle_none), unfolding(vb_meaning::specs::Releases::settle))]
+    #[tactic(auto, using(vb_meaning::proofs::Endings::settle_more, vb_meaning::proofs::Endings::settle_none), unfolding(vb_meaning::specs::Releases::settle))]
     pub fn settle(&self, p: &Program, playing: &mut Playing<'_>, env: &mut I) -> Result<(), Stop>
         requires { Enters I (host I.asked I.answered) self.now.levels (N.pre self.now.enter) (N.post self.now.enter) }
         ensures { Ran (spec.settle I (inside I (host I.asked I.answered) p.now self.now.levels)

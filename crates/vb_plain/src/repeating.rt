@@ -85,7 +85,7 @@ impl<
     }
 
     /// A Do without a condition.
-    #[tactic(auto, using(crate::proofs::Turns::before_more, crate::proofs::Turns::before_none))]
+    #[tactic(auto, using(vb_meaning::proofs::Turns::before_more, vb_meaning::proofs::Turns::before_none))]
     fn do_endless(
         &self,
         p: &Program,
@@ -110,7 +110,7 @@ impl<
     }
 
     /// A Do whose condition stands before each turn.
-    #[tactic(auto, using(crate::proofs::Turns::before_more, crate::proofs::Turns::before_none))]
+    #[tactic(auto, using(vb_meaning::proofs::Turns::before_more, vb_meaning::proofs::Turns::before_none))]
     fn do_before(
         &self,
         p: &Program,
@@ -163,7 +163,7 @@ impl<
     }
 
     /// A Do whose condition stands after each turn.
-    #[tactic(auto, using(crate::proofs::AfterTurns::after_more, crate::proofs::AfterTurns::after_none))]
+    #[tactic(auto, using(vb_meaning::proofs::AfterTurns::after_more, vb_meaning::proofs::AfterTurns::after_none))]
     fn do_after(
         &self,
         p: &Program,
@@ -228,7 +228,7 @@ impl<
     }
 
     /// `While` .. `Wend`. No Exit ends it alone.
-    #[tactic(auto, using(crate::proofs::Turns::before_more, crate::proofs::Turns::before_none), unfolding(vb_meaning::specs::Loops::while_statement))]
+    #[tactic(auto, using(vb_meaning::proofs::Turns::before_more, vb_meaning::proofs::Turns::before_none), unfolding(vb_meaning::specs::Loops::while_statement))]
     pub fn while_statement(
         &self,
         p: &Program,

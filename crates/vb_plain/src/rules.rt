@@ -10,13 +10,12 @@ ghost use Rattle.vb_plain.specs.Nests.{Evaluates, Passes, Enters};
 
 use std::alloc::Global;
 use std::marker::PhantomData;
-use vb_meaning::{Argument, Stop};
+use vb_meaning::{Argument, Stop, raise};
 use vb_ops::apply2;
 use vb_syntax::Intrinsics;
 use vb_syntax::program::{Expression, Operation, Procedure, Program};
 use vb_value::{List, ObjNo, Value};
 use vb_world::playing::Playing;
-use vb_world::world::raise;
 
 /// The functions that do what is inside a construct, where `levels` more may be begun.
 #[derive(Clone, Copy)]

@@ -10,13 +10,12 @@ ghost use Rattle.vb_world.specs.Seen.{seen, host};
 
 use crate::rules::Rules;
 use std::alloc::Global;
-use vb_meaning::{Argument, Exit, Stop};
+use vb_meaning::{Argument, Exit, Stop, raise};
 use vb_ops::{apply2, truth};
 use vb_syntax::Intrinsics;
 use vb_syntax::program::{Case, Expression, Procedure, Program, Statement};
 use vb_value::{List, ObjNo, Op2, Value};
 use vb_world::playing::{Playing, in_line};
-use vb_world::world::raise;
 
 /// The block of the Case of a number, or that of Case Else.
 fn case_block<'p>(

@@ -1,10 +1,10 @@
 -- What an array of Empty items weighs, how deep it nests, and when a page has no room for it.
-use Rattle.std.proofs.Common.{◌≡◌, ℕ, zero, suc, ◌+◌, ◌*◌, ◌-◌, ◌^◌, ◌<◌, min, max, nat_lt, Bool, true, false, List, [], ◌∷◌}
-use Rattle.std.proofs.Common.{map, fold, replicate, sum_by, refl, sym, ap, ◌∙◌, arith, ℤ, Err}
+use Rattle.std.proofs.Common.{◌≡◌, ℕ, zero, suc, ◌+◌, ◌*◌, ◌-◌, ◌^◌, ◌<◌, min, max, nat_lt, Bool, true, false, List}
+use Rattle.std.proofs.Common.{map, fold, replicate, refl, sym, ap, ◌∙◌, arith, ℤ, Err}
 use Rattle.std.proofs.lemmas.List.Folds.{sum_by-replicate}
 use Rattle.std.proofs.lemmas.Bool.Decides.{nat_tests}
 use Rattle.vb_value.specs.declared.limit.LimitKind.TheVariants.{Data}
-use Rattle.vb_value.specs.declared.value.Value.{Value, Empty}
+use Rattle.vb_value.specs.declared.value.Value.{Empty}
 use Rattle.vb_value.specs.declared.value.Value.TheOpen.{Value-F}
 use Rattle.vb_value.specs.declared.value.Value.TheFolds.{fold-roll-Value}
 use Rattle.vb_value.specs.declared.value.Value.TheViews.{Arr, rolls-Empty}

@@ -1,8 +1,7 @@
 -- A cell takes no array that alone weighs more than the data of a page may.
-use Rattle.std.proofs.Common.{◌≡◌, ℕ, ◌+◌, ◌*◌, ◌-◌, ◌^◌, ◌<◌, ◌≤◌, min, nat_lt, Bool, true, false, List, [], ap, sym, ◌∙◌, arith}
-use Rattle.std.proofs.Common.{ℤ, Option, Some, None, Ok, Err, refl, sum_by}
+use Rattle.std.proofs.Common.{◌≡◌, ◌+◌, ◌*◌, ◌-◌, ◌^◌, ◌<◌, min, nat_lt, Bool, true, List, [], ap, sym, ◌∙◌, arith}
+use Rattle.std.proofs.Common.{ℤ, Option, Some, None, Ok, Err}
 use Rattle.std.proofs.lemmas.Bool.Decides.{nat_tests}
-use Rattle.std.specs.Map.{values_of}
 use Rattle.vb_value.specs.declared.limit.LimitKind.TheVariants.{Data}
 use Rattle.vb_value.specs.declared.value.Value.{Value}
 use Rattle.vb_value.specs.declared.value.Value.TheViews.{Arr}

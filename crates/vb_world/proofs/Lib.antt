@@ -1,7 +1,6 @@
 pub mod Texts
 pub mod Steps
 pub mod Subjects
-pub mod Parentheses
 pub mod Products
 pub mod EmptyArrays
 pub mod Declared
@@ -10,3 +9,4 @@ pub mod Emptying
 pub mod Keys
 pub mod FieldArrays
 pub mod Resized
+pub mod Named

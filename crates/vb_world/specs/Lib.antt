@@ -1,4 +1,3 @@
 pub mod Seen
 pub mod Steps
-pub mod Written
 pub mod Kept

@@ -1,6 +1,7 @@
 //! What an act asks of the objects that the page is given.
 ghost use Rattle.std.specs.Prelude.{◌≡◌};
-ghost use Rattle.vb_value.specs.Outcome.{Gives};
+ghost use Rattle.vb_value.specs.Outcome.{Gives, Runs};
+ghost use Rattle.vb_syntax.specs.Asking.{stops};
 ghost use Rattle.vb_heap.specs.DictionaryCalls.{array_of};
 ghost use Rattle.vb_meaning.specs.Asking as spec;
 ghost use Rattle.vb_meaning.specs.Reading as reading;
@@ -10,8 +11,8 @@ ghost use Rattle.vb_world.specs.Seen.{seen, host};
 
 use crate::playing::Playing;
 use std::alloc::Global;
-use vb_meaning::Stop;
-use vb_syntax::{Given, Intrinsics, Member, Takes};
+use vb_meaning::{Answer, Stop};
+use vb_syntax::{AskStop, Given, Intrinsics, Member, Takes};
 use vb_value::{AppReply, Array, Copied, List, Memory, Text, Value, copy};
 
 /// A reply equal to that one.
@@ -59,7 +60,40 @@ fn names_array(alloc: Global, names: &[Text]) -> Result<Value, Memory>
     }))
 }
 
-/// Hands a reply to a member that wanted a call, and goes on with what it then says.
+/// What is said when a member is asked, or when the call that it wanted has its reply.
+fn said<I: Intrinsics>(
+    env: &mut I,
+    member: Member,
+    arguments: &[Value],
+    reply: Option<AppReply>,
+) -> Result<Given, AskStop>
+    ensures { Runs result stops env.new (spec.said (host I.asked I.answered) member arguments.now reply env.old) }
+{
+    match reply {
+        None => env.ask(member, arguments),
+        Some(reply) => env.answer(member, arguments, reply),
+    }
+}
+
+/// One question: a member is asked, or goes on with the reply to the call that it wanted.
+pub fn question<I: Intrinsics>(
+    alloc: Global,
+    env: &mut I,
+    member: Member,
+    arguments: &[Value],
+    reply: Option<AppReply>,
+) -> Result<Answer, Stop>
+    ensures { Ran (spec.question (host I.asked I.answered) member arguments.now reply env.old) result env.new }
+{
+    match said(env, member, arguments, reply) {
+        Ok(Given::Value(value)) => Ok(Answer::Value(value)),
+        Ok(Given::Names(names)) => Ok(Answer::Value(names_array(alloc, names.as_slice())?)),
+        Ok(Given::Call(call)) => Ok(Answer::Call(call)),
+        Err(why) => Err(Stop::from(why)),
+    }
+}
+
+/// A question, and those that follow it: each call that it wants takes the next reply.
 #[cycle(answering)]
 fn answered<I: Intrinsics>(
     alloc: Global,
@@ -67,24 +101,23 @@ fn answered<I: Intrinsics>(
     env: &mut I,
     member: Member,
     arguments: &[Value],
-    reply: AppReply,
+    reply: Option<AppReply>,
 ) -> Result<Value, Stop>
-    ensures { Ran (spec.heard (host I.asked I.answered) member arguments.now (shown playing.old.world)
-        playing.old.ticks playing.old.replies.now (I.answered member arguments.now reply env.old))
-        result (seen playing.new env.new) }
+    ensures { Ran (spec.replied (host I.asked I.answered) member arguments.now (shown playing.old.world)
+        playing.old.ticks playing.old.replies.now
+        (spec.question (host I.asked I.answered) member arguments.now reply env.old)) result
+        (seen playing.new env.new) }
 {
-    match env.answer(member, arguments, reply) {
-        Ok(Given::Value(value)) => Ok(value),
-        Ok(Given::Names(names)) => Ok(names_array(alloc, names.as_slice())?),
-        Ok(Given::Call(call)) => match playing.replies {
+    match question(alloc, env, member, arguments, reply)? {
+        Answer::Value(value) => Ok(value),
+        Answer::Call(call) => match playing.replies {
             [] => Err(Stop::Wants(call)),
             [next, rest @ ..] => {
                 let next = copy_reply(alloc, next)?;
                 playing.replies = rest;
-                answered(alloc, playing, env, member, arguments, next)
+                answered(alloc, playing, env, member, arguments, Some(next))
             }
         },
-        Err(why) => Err(Stop::from(why)),
     }
 }
 
@@ -101,19 +134,7 @@ pub fn ask<I: Intrinsics>(
     ensures { Ran (spec.ask (host I.asked I.answered) member arguments.now (seen playing.old env.old))
         result (seen playing.new env.new) }
 {
-    match env.ask(member, arguments) {
-        Ok(Given::Value(value)) => Ok(value),
-        Ok(Given::Names(names)) => Ok(names_array(alloc, names.as_slice())?),
-        Ok(Given::Call(call)) => match playing.replies {
-            [] => Err(Stop::Wants(call)),
-            [next, rest @ ..] => {
-                let next = copy_reply(alloc, next)?;
-                playing.replies = rest;
-                answered(alloc, playing, env, member, arguments, next)
-            }
-        },
-        Err(why) => Err(Stop::from(why)),
-    }
+    answered(alloc, playing, env, member, arguments, None)
 }
 
 /// Whether a member of the page's objects takes so many arguments.

@@ -1,6 +1,6 @@
 //! What may be assigned, and the properties that take it.
-ghost use Rattle.std.specs.Prelude.{◌≡◌};
-ghost use Rattle.std.specs.Option.{option_copied};
+ghost use Rattle.std.specs.Prelude.{◌≡◌, slice_get};
+ghost use Rattle.std.specs.Option.{option_copied, option_and_then};
 ghost use Rattle.vb_meaning.specs.Assigning as spec;
 ghost use Rattle.vb_meaning.specs.Objects as objects;
 
@@ -33,21 +33,48 @@ fn takes_assigned(how: Assigned, kind: ProcedureKind) -> bool
     )
 }
 
+/// The number of the first property of this name that a value is assigned to so.
+#[tactic(auto, using(crate::proofs::Named::named_here, crate::proofs::Named::named_nowhere))]
+pub fn assigned_number(name: u32, how: Assigned, procedures: &[Procedure]) -> Option<usize>
+    ensures { option_and_then (slice_get procedures.now) result
+        ≡ objects.procedure_named name (objects.takes_assigned how) procedures.now }
+{
+    let mut number = 0;
+    while let Some(procedure) = procedures.get(number) {
+        if procedure.name == name && takes_assigned(how, procedure.kind) {
+            return Some(number);
+        }
+        number += 1;
+    }
+    None
+}
+
 /// The first property of this name that a value is assigned to so.
 pub fn assigned_named<'a>(
     name: u32,
     how: Assigned,
-    mut procedures: &'a [Procedure],
+    procedures: &'a [Procedure],
 ) -> Option<&'a Procedure>
-    ensures { option_copied result ≡ objects.procedure_named name (objects.takes_assigned how) procedures.entry.now }
+    ensures { option_copied result ≡ objects.procedure_named name (objects.takes_assigned how) procedures.now }
 {
-    while let [first, others @ ..] = procedures {
-        if first.name == name && takes_assigned(how, first.kind) {
-            return Some(first);
-        }
-        procedures = others;
-    }
-    None
+    procedures.get(assigned_number(name, how, procedures)?)
+}
+
+/// The number, in the class around, of the property that a value is assigned to so, by the number of the first of its
+/// name.
+pub fn own_assigned_number(
+    p: &Program,
+    owner: Option<(ObjNo, u32)>,
+    how: Assigned,
+    number: u32,
+) -> Option<usize>
+    ensures { objects.procedure_at (objects.owner_class p.now owner) result
+        ≡ objects.own_procedure number (objects.takes_assigned how) (objects.owner_class p.now owner) }
+{
+    let (_, class) = owner?;
+    let class = class_at(p, class)?;
+    let first = class.procedures.get(number as usize)?;
+    assigned_number(first.name, how, class.procedures.as_slice())
 }
 
 /// Of the properties of the class around, by the number of the first of its name, the one that a value is assigned to so.
@@ -61,7 +88,7 @@ pub fn own_assigned<'a>(
         ≡ objects.own_procedure number (objects.takes_assigned how) (objects.owner_class p.now owner) }
 {
     let (_, class) = owner?;
-    let class = class_at(p, class)?;
-    let first = class.procedures.get(number as usize)?;
-    assigned_named(first.name, how, class.procedures.as_slice())
+    class_at(p, class)?
+        .procedures
+        .get(own_assigned_number(p, owner, how, number)?)
 }

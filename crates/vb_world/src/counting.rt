@@ -7,9 +7,8 @@ ghost use Rattle.vb_meaning.specs.Step.{Ran, given};
 ghost use Rattle.vb_meaning.specs.Shown.{shown};
 
 use crate::places::{read_place, store_place, target_variable};
-use crate::world::raise;
 use std::alloc::Global;
-use vb_meaning::{Range, Stop, World};
+use vb_meaning::{Range, Stop, World, raise};
 use vb_ops::{apply2, truth};
 use vb_syntax::program::Named;
 use vb_value::{List, ObjNo, Op2, Value, VbError, number_value, to_number};

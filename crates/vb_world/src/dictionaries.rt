@@ -5,10 +5,8 @@ ghost use Rattle.vb_meaning.specs.Dictionaries as spec;
 ghost use Rattle.vb_meaning.specs.Step.{Ran};
 ghost use Rattle.vb_meaning.specs.Shown.{shown};
 
-use crate::err_object::long_of;
-use crate::world::raise;
 use std::alloc::Global;
-use vb_meaning::{Stop, World};
+use vb_meaning::{Stop, World, long_of, raise};
 use vb_syntax::program::DictionaryMember;
 use vb_value::{ObjNo, Value, VbError, copy};
 

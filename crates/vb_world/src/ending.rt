@@ -21,13 +21,20 @@ pub fn class_number(world: &World, object: ObjNo) -> Option<u32>
     }
 }
 
+/// The number of the Class_Terminate of a class, if it has one.
+pub fn terminator_number(p: &Program, class: Option<u32>) -> Option<u32>
+    ensures { objects.procedure_at (objects.class_at p.now class) result
+        ≡ spec.terminator_in (objects.class_at p.now class) }
+{
+    class_at(p, class?)?.terminate
+}
+
 /// The Class_Terminate of a class, if it has one.
 pub fn terminator<'a>(p: &'a Program, class: Option<u32>) -> Option<&'a Procedure>
     ensures { option_copied result ≡ spec.terminator_in (objects.class_at p.now class) }
 {
-    let class = class_at(p, class?)?;
-    let number = class.terminate?;
-    class.procedures.get(number as usize)
+    let number = terminator_number(p, class)?;
+    class_at(p, class?)?.procedures.get(number as usize)
 }
 
 /// Ends an object whose terminator has run. Err is again as it was.

@@ -1,7 +1,6 @@
 //! The members of Err.
 ghost use Rattle.std.specs.Prelude.{◌≡◌};
 ghost use Rattle.std.specs.Option.{option_copied};
-ghost use Rattle.vb_value.specs.Conversions.{to_long_of, to_str_of};
 ghost use Rattle.vb_value.specs.Outcome.{Answers};
 ghost use Rattle.vb_meaning.specs.ErrObject as spec;
 ghost use Rattle.vb_meaning.specs.Step.{Ran, raising};
@@ -9,25 +8,10 @@ ghost use Rattle.vb_meaning.specs.declared.stop.Stop.TheVariants as stop;
 ghost use Rattle.vb_meaning.specs.Shown.{shown};
 
 use crate::errors::{clear, language_source};
-use crate::world::raise;
 use std::alloc::Global;
-use vb_meaning::{Cause, Raised, Stop, World};
+use vb_meaning::{Cause, Raised, Stop, World, long_of, text_of};
 use vb_syntax::program::ErrMember;
-use vb_value::{Copied, Text, Value, VbError, error_text, to_long, to_str};
-
-/// A value as a text.
-pub fn text_of(alloc: Global, value: &Value) -> Result<Text, Stop>
-    ensures { Answers result stop.Memory (raising (to_str_of value.now)) }
-{
-    raise(to_str(alloc, value))
-}
-
-/// A value as a Long.
-pub fn long_of(value: &Value) -> Result<i32, Stop>
-    ensures { Answers result stop.Memory (raising (to_long_of value.now)) }
-{
-    Ok(to_long(value)?)
-}
+use vb_value::{Copied, Value, VbError, error_text};
 
 /// The error that Raise raises with this number, source and description, those that are left out as the language's.
 fn raised(

@@ -16,10 +16,9 @@ ghost use Rattle.vb_meaning.specs.Shown.{shown};
 
 use crate::arrays::{empty_array, has_bad_bound, item_count};
 use crate::places::{cell_place, hold};
-use crate::world::stop_in;
 use std::alloc::Global;
 use vb_heap::CellNo;
-use vb_meaning::{Stop, World};
+use vb_meaning::{Stop, World, stop_in};
 use vb_syntax::program::{Class, Field, Procedure, Variable};
 use vb_value::{LimitKind, List, ObjNo, Value, VbError};
 

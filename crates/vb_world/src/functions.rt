@@ -1,4 +1,4 @@
-//! Functions of the language that ask for objects, and constants.
+//! Functions of the language that ask for objects.
 ghost use Rattle.std.specs.Prelude.{◌≡◌, [], slice_get, unwrap_or};
 ghost use Rattle.vb_meaning.specs.Reading as spec;
 ghost use Rattle.vb_meaning.specs.Objects as objects;
@@ -7,33 +7,11 @@ ghost use Rattle.vb_value.specs.Outcome.{Answers, Gives};
 ghost use Rattle.vb_meaning.specs.declared.stop.Stop.TheVariants as stop;
 ghost use Rattle.vb_meaning.specs.Shown.{shown};
 
-use crate::err_object::text_of;
-use crate::values::constant_value;
 use std::alloc::Global;
 use vb_dict::new_dict;
-use vb_meaning::{Stop, World};
+use vb_meaning::{Stop, World, text_of};
 use vb_syntax::program::Program;
-use vb_value::{Copied, Memory, Text, Value, VbError, copy, is_word};
-
-/// The value of a constant of the page.
-pub fn page_constant(p: &Program, number: u32) -> Result<Value, Stop>
-    ensures { Answers result stop.Memory (raising (spec.constant_of (slice_get p.now.unit.constants number))) }
-{
-    match p.unit.constants.get(number as usize) {
-        Some(constant) => constant_value(&constant.value),
-        None => Err(Stop::from(VbError::UNDEFINED_VARIABLE)),
-    }
-}
-
-/// The value of a constant of the procedure that runs.
-pub fn local_constant(alloc: Global, world: &World, number: u32) -> Result<Value, Stop>
-    ensures { Answers result stop.Memory (raising (spec.value_of_constant (slice_get world.now.frame.constants number))) }
-{
-    match world.frame.constants.get(number as usize) {
-        Some(value) => Ok(copy(alloc, value)?),
-        None => Err(Stop::from(VbError::UNDEFINED_VARIABLE)),
-    }
-}
+use vb_value::{Copied, Memory, Text, Value, VbError, is_word};
 
 /// The object of a class that the host has: a dictionary, for the name `Scripting.Dictionary`. Error 429 for any other.
 fn created(world: &mut World, name: &Text) -> Result<Value, Stop>

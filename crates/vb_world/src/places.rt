@@ -10,10 +10,9 @@ ghost use Rattle.vb_meaning.specs.Step.{Ran, raising};
 ghost use Rattle.vb_meaning.specs.Shown.{shown};
 
 use crate::copying::copied;
-use crate::err_object::long_of;
 use std::alloc::Global;
 use vb_heap::{CellNo, HeapStop, Place};
-use vb_meaning::{Stop, World};
+use vb_meaning::{Stop, World, long_of};
 use vb_syntax::program::{Named, Slot};
 use vb_value::{Copied, List, Memory, Value, VbError};
 

@@ -8,7 +8,7 @@ ghost use Rattle.vb_world.specs.Seen.{seen};
 
 use crate::errors::raised_by;
 use std::alloc::Global;
-use vb_meaning::{Stop, World};
+use vb_meaning::{Stop, World, stop_in};
 use vb_syntax::Intrinsics;
 use vb_value::{AppReply, LimitKind};
 
@@ -71,6 +71,6 @@ pub fn in_line<I: Intrinsics, T: Drop>(
 {
     match gave {
         Ok(value) => Ok(value),
-        Err(why) => Err(crate::world::stop_in(line, why)),
+        Err(why) => Err(stop_in(line, why)),
     }
 }

@@ -1,44 +1,15 @@
-//! Expressions that take no level: values that are written down, constants, and parentheses.
+//! Expressions that take no level: values that are written down, and constants.
 ghost use Rattle.std.specs.Prelude.{◌≡◌};
-ghost use Rattle.std.specs.Option.{option_copied};
 ghost use Rattle.vb_syntax.specs.declared.program.expression.Expression.{out-Expression};
 ghost use Rattle.vb_meaning.specs.Expressions as spec;
 ghost use Rattle.vb_meaning.specs.Step.{Ran};
 ghost use Rattle.vb_meaning.specs.Shown.{shown};
-ghost use Rattle.vb_world.specs.Written.{parenthesized};
 
-use crate::functions::{local_constant, page_constant};
-use crate::values::literal_value;
+use crate::values::{literal_value, local_constant, page_constant};
 use std::alloc::Global;
 use vb_meaning::{Stop, World};
 use vb_syntax::program::{Expression, Head, Named, Program};
 use vb_value::{Value, VbError};
-
-/// How many parentheses of its own may stand around an expression, which no script exceeds.
-const MOST_PARENTHESES: u32 = 200;
-
-/// What stands in parentheses of its own, while so many more of them may be taken away.
-fn parenthesized<'a>(more: u32, expression: &'a Expression) -> Option<&'a Expression>
-    ensures { option_copied result ≡ parenthesized more (out-Expression expression.now) }
-{
-    match expression {
-        Expression::Parenthesis(inside) if 0 < more => Some(inside.get()),
-        _ => None,
-    }
-}
-
-/// An expression without the parentheses of its own around it.
-#[tactic(auto, using(crate::proofs::Parentheses::bare_on, crate::proofs::Parentheses::bare_end))]
-pub fn bare<'a>(mut expression: &'a Expression) -> &'a Expression
-    ensures { result.now ≡ spec.bare expression.entry.now }
-{
-    let mut more = MOST_PARENTHESES;
-    while let Some(inside) = parenthesized(more, expression) {
-        expression = inside;
-        more -= 1;
-    }
-    expression
-}
 
 /// Whether a name is a constant.
 fn is_constant_name(head: &Head) -> bool

@@ -1,7 +1,7 @@
 use Rattle.std.proofs.Common.{rules, ◌≡◌}
 use Rattle.vb_meaning.specs.Calling.{called}
 use Rattle.vb_meaning.specs.Meaning.{inside}
-use Rattle.vb_plain.proofs.Letting.{ended_ran}
+use Rattle.vb_meaning.proofs.Letting.{ended_ran}
 use Rattle.vb_plain.proofs.rules.Rules.call_made.Goals as goal
 use Rattle.vb_world.specs.Seen.{seen, host}
 

@@ -1,4 +1,4 @@
-use Rattle.std.proofs.Common.{◌≡◌, [], length}
+use Rattle.std.proofs.Common.{◌≡◌, []}
 use Rattle.vb_meaning.specs.Accesses.{accesses}
 use Rattle.vb_meaning.specs.Meaning.{inside}
 use Rattle.vb_meaning.specs.Reading.{group_values}

@@ -1,9 +1,9 @@
 -- Counts of objects that may still end, at a number that is 0 and at one that isn't; and an object that is ending has
 -- the class that it had.
-use Rattle.std.proofs.Common.{◌≡◌, ℕ, suc, ◌-◌, ◌<◌, List, [], ◌∷◌, Option, Some, None, refl, sym, ap, ◌∙◌, arith}
+use Rattle.std.proofs.Common.{◌≡◌, ℕ, ◌-◌, ◌<◌, List, [], ◌∷◌, Option, Some, None, refl, sym, ap, ◌∙◌, arith}
 use Rattle.std.specs.Option.{option_map_or}
 use Rattle.vb_heap.specs.declared.object.Object.{Object}
-use Rattle.vb_heap.specs.Releases.{oldest_loose, oldest_live, ending, objects_ending, with_ending}
+use Rattle.vb_heap.specs.Releases.{oldest_loose, oldest_live, ending, with_ending}
 use Rattle.vb_heap.specs.Store.{numbered, replaced}
 use Rattle.vb_meaning.specs.Inner.{Inner}
 use Rattle.vb_meaning.specs.Releases.{settle_times, released_one, settle_last, settle_last_times, end_times, end_one}
@@ -13,10 +13,8 @@ use Rattle.vb_meaning.specs.Objects.{class_at}
 use Rattle.vb_meaning.specs.State.{State, Does, with_store}
 use Rattle.vb_meaning.specs.Step.{Returns, and_then, ◌>>◌}
 use Rattle.vb_meaning.specs.Stored.{class_found}
-use Rattle.vb_plain.specs.Ends.{ends_last}
-
-pub deeper : {X : Type 0} (f : ℕ → X) (n : ℕ) → 0 < n → f n ≡ f (suc (n - 1))
-deeper f n some = let e : n ≡ suc (n - 1) = omega arith in ap f e
+use Rattle.vb_meaning.specs.Ends.{ends_last}
+use Rattle.vb_meaning.proofs.Down.{deeper}
 
 found_again : (number : ℕ) (thing old : Object) (things : List (ℕ × Object)) → numbered number things ≡ Some old
     → numbered number (replaced number thing things) ≡ Some thing

@@ -10,8 +10,8 @@ use Rattle.vb_meaning.specs.declared.world.Exit.TheVariants.{Next}
 use Rattle.vb_meaning.specs.Inner.{Inner}
 use Rattle.vb_meaning.specs.Loops.{before_turns, for_turns, turn, leaves_for, is_within, add_step}
 use Rattle.vb_meaning.specs.State.{State, Does, on_world}
-use Rattle.vb_meaning.specs.Step.{Ends, and_then, pure, ◌>>=◌, ◌>>◌}
-use Rattle.vb_plain.proofs.Endings.{deeper}
+use Rattle.vb_meaning.specs.Step.{Ends, and_then, pure, ◌>>◌}
+use Rattle.vb_meaning.proofs.Down.{deeper}
 
 pub before_none : (E : Type 0) (m : Inner E) (n : ℕ) (leaves : ExitKind → Bool) (test : Does E Bool)
     (body : List Statement) (s : State E) → n ≡ 0

@@ -3,7 +3,7 @@ use Rattle.std.proofs.Common.{◌≡◌, ℕ, zero, suc, ◌-◌, Some, None, re
 use Rattle.vb_syntax.specs.declared.program.expression.Expression.{Expression, out-Expression}
 use Rattle.vb_syntax.specs.declared.program.expression.Expression.TheOpen.{Expression-F}
 use Rattle.vb_meaning.specs.Expressions.{Said, inside_or, without_parentheses}
-use Rattle.vb_world.specs.Written.{parenthesized}
+use Rattle.vb_meaning.specs.Parentheses.{parenthesized}
 
 said_end : (more : ℕ) (e : Expression) (said : Said) → parenthesized (suc more) said ≡ None
     → inside_or (without_parentheses more) e said ≡ e

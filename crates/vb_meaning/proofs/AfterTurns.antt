@@ -11,7 +11,7 @@ use Rattle.vb_meaning.specs.Inner.{Inner}
 use Rattle.vb_meaning.specs.Loops.{after_turns, turn, leaves_do}
 use Rattle.vb_meaning.specs.State.{State, Does}
 use Rattle.vb_meaning.specs.Step.{Returns, Ends, and_then, pure, ◌>>=◌}
-use Rattle.vb_plain.proofs.Endings.{deeper}
+use Rattle.vb_meaning.proofs.Down.{deeper}
 
 pub after_none : (E : Type 0) (m : Inner E) (n : ℕ) (test : Does E Bool) (body : List Statement) (s : State E) → n ≡ 0
     → after_turns E m n test body s ≡ Ends (stop.Limit Ticks None) s

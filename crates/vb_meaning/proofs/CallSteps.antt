@@ -2,7 +2,6 @@
 use Rattle.std.proofs.Common.{◌≡◌, List, ◌∷◌, refl}
 use Rattle.vb_syntax.specs.declared.program.expression.Head.{Head}
 use Rattle.vb_syntax.specs.declared.program.expression.Head.TheVariants as head
-use Rattle.vb_syntax.specs.declared.program.name.Named.{Named}
 use Rattle.vb_syntax.specs.declared.program.name.Named.TheVariants as named
 use Rattle.vb_meaning.specs.Accesses.{Access}
 use Rattle.vb_meaning.specs.Inner.{Inner}

@@ -1,0 +1,9 @@
+pub mod Parentheses
+pub mod Down
+pub mod Turns
+pub mod AfterTurns
+pub mod Endings
+pub mod Letting
+pub mod Unknown
+pub mod CallSteps
+pub mod AssignSteps
