@@ -9,7 +9,7 @@ use Rattle.vb_syntax.specs.declared.act.Act.TheVariants as acts
 use Rattle.vb_meaning.specs.declared.plain_end.PlainEnd.{PlainEnd}
 use Rattle.vb_meaning.specs.declared.plain_end.PlainEnd.TheVariants.{Wants as WantsCall, Ends as Ended}
 use Rattle.vb_meaning.specs.Acts.{act_of}
-use Rattle.vb_world.specs.Seen.{host}
+use Rattle.vb_objects.specs.Seen.{host}
 use Rattle.act_laws.proofs.Asking.{Leaves, asking_keeps}
 use Rattle.asp_job.specs.declared.answer.Answer.{Answer}
 use Rattle.asp_job.specs.declared.answer.Finished.{Finished}

@@ -8,7 +8,7 @@ use Rattle.vb_syntax.specs.declared.act.ActEnd.TheVariants as end
 use Rattle.vb_meaning.specs.declared.plain_end.PlainEnd.{PlainEnd}
 use Rattle.vb_meaning.specs.declared.plain_end.PlainEnd.TheVariants.{Ends as Ended}
 use Rattle.vb_meaning.specs.Acts.{act_of}
-use Rattle.vb_world.specs.Seen.{host}
+use Rattle.vb_objects.specs.Seen.{host}
 use Rattle.asp_job.specs.declared.job.Work.{Work}
 use Rattle.asp_job.specs.declared.job.Work.TheVariants as work
 use Rattle.asp_job.specs.declared.request.Request.{Request}

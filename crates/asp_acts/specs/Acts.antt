@@ -13,7 +13,7 @@ use Rattle.vb_syntax.specs.declared.program.Program.{Program}
 use Rattle.vb_meaning.specs.declared.plain_end.PlainEnd.{PlainEnd}
 use Rattle.vb_meaning.specs.declared.plain_end.PlainEnd.TheVariants.{Wants as WantsCall, Ends as Ended}
 use Rattle.vb_meaning.specs.Acts.{act_of}
-use Rattle.vb_world.specs.Seen.{host}
+use Rattle.vb_objects.specs.Seen.{host}
 use Rattle.act_laws.proofs.Lacking.{objects_lack}
 use Rattle.asp_job.specs.Told.{Told}
 use Rattle.asp_objects.specs.declared.objects.PageObjects.{PageObjects}

@@ -4,7 +4,7 @@ use Rattle.vb_value.specs.declared.application.AppReply.{AppReply}
 use Rattle.vb_syntax.specs.declared.act.Act.{Act}
 use Rattle.vb_syntax.specs.declared.act.Act.TheVariants as act
 use Rattle.vb_meaning.specs.Ticks.{ticks_of as act_ticks}
-use Rattle.vb_world.specs.Seen.{host}
+use Rattle.vb_objects.specs.Seen.{host}
 use Rattle.asp_job.specs.declared.job.Work.{Work}
 use Rattle.asp_job.specs.declared.job.Work.TheVariants as work
 use Rattle.asp_job.specs.declared.request.Request.{Request}

@@ -5,7 +5,7 @@ ghost use Rattle.vb_value.specs.declared.application.AppReply.{AppReply};
 ghost use Rattle.vb_syntax.specs.declared.act.Act.{Act};
 ghost use Rattle.vb_syntax.specs.declared.program.Program.{Program};
 ghost use Rattle.vb_meaning.specs.Acts.{act_of};
-ghost use Rattle.vb_world.specs.Seen.{host};
+ghost use Rattle.vb_objects.specs.Seen.{host};
 ghost use Rattle.asp_job.specs.Told.{Ends, Told};
 ghost use Rattle.asp_job.specs.declared.answer.Finished.{Finished};
 ghost use Rattle.asp_objects.specs.declared.objects.PageObjects.{PageObjects};

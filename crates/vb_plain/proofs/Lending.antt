@@ -24,7 +24,7 @@ use Rattle.vb_meaning.specs.Step.{Returns, raising}
 use Rattle.vb_value.specs.declared.fault.VbError.{VbError}
 use Rattle.vb_meaning.specs.Values.{copied}
 use Rattle.vb_meaning.specs.World.{World}
-use Rattle.vb_plain.proofs.Down.{value_more}
+use Rattle.vb_meaning.proofs.Down.{value_more}
 use Rattle.vb_plain.specs.Lent.{IsVariable, IsPlain, MayHold, Yields, GivesAtOnce}
 
 -- Empty has no reference

@@ -16,8 +16,8 @@ use Rattle.vb_meaning.specs.Asking.{Host}
 use Rattle.vb_meaning.specs.Inner.{Owner}
 use Rattle.vb_meaning.specs.Meaning.{value, argument, assign, call, statement, enter}
 use Rattle.vb_meaning.specs.Step.{Ran}
-use Rattle.vb_world.specs.declared.playing.Playing.{Playing}
-use Rattle.vb_world.specs.Seen.{seen}
+use Rattle.vb_objects.specs.declared.playing.Playing.{Playing}
+use Rattle.vb_objects.specs.Seen.{seen}
 
 -- a function value that evaluates expressions
 pub record Evaluates (E : Type 0) (host : Host E) (levels : ℕ)

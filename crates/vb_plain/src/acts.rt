@@ -8,21 +8,21 @@ ghost use Rattle.vb_meaning.specs.State.{State, on_world};
 ghost use Rattle.vb_meaning.specs.Step.{Step, Ran, and_then};
 ghost use Rattle.vb_meaning.specs.Shown.{shown};
 ghost use Rattle.vb_plain.specs.Nests.{Executes, Enters};
-ghost use Rattle.vb_world.specs.Seen.{seen, host};
+ghost use Rattle.vb_objects.specs.Seen.{seen, host};
 
 use crate::rules::Rules;
 use std::alloc::Global;
 use std::mem;
 use vb_heap::Heap;
 use vb_meaning::{Argument, Exit, PlainEnd, Raised, Stop, World};
+use vb_objects::errors::{no_error, raised_by};
+use vb_objects::playing::{Playing, in_line};
 use vb_syntax::program::{Procedure, Program, Statement};
 use vb_syntax::{Act, ActDone, ActEnd, Intrinsics};
 use vb_value::{List, Memory, ObjNo, Value, VbError};
 use vb_world::declaring::page_begins;
 use vb_world::entering::fresh_frame;
-use vb_world::errors::{no_error, raised_by};
 use vb_world::places::empty_cells;
-use vb_world::playing::{Playing, in_line};
 
 /// The world in which an act begins.
 pub fn fresh_world(alloc: Global) -> Result<World, Memory>

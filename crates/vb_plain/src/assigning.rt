@@ -7,22 +7,22 @@ ghost use Rattle.vb_meaning.specs.Meaning.{inside};
 ghost use Rattle.vb_meaning.specs.Reading.{field_place};
 ghost use Rattle.vb_meaning.specs.Step.{Ran, and_then};
 ghost use Rattle.vb_plain.specs.Nests.{Evaluates, Passes, Enters};
-ghost use Rattle.vb_world.specs.Seen.{seen, host};
+ghost use Rattle.vb_objects.specs.Seen.{seen, host};
 ghost use Rattle.vb_world.specs.Steps.{access_seen};
 
 use crate::rules::Rules;
 use std::alloc::Global;
 use vb_meaning::{Argument, Assigned, Reached, Stop};
+use vb_objects::assigned::assigned_named;
+use vb_objects::classes::{class_at, dictionary_word, field_named, if_public};
+use vb_objects::playing::Playing;
 use vb_syntax::Intrinsics;
 use vb_syntax::program::{Class, Expression, Procedure, Program, Step};
 use vb_value::{List, ObjNo, Value, VbError};
 use vb_world::accesses::{Access, first_access};
-use vb_world::assigned::assigned_named;
-use vb_world::classes::{class_at, dictionary_word, field_named, if_public};
 use vb_world::dictionaries::set_member;
 use vb_world::paths::{hold_reached, reached_value, store_element};
 use vb_world::places::{cell_place, hold, store_place};
-use vb_world::playing::Playing;
 use vb_world::values::object_in;
 
 impl<

@@ -4,14 +4,14 @@ ghost use Rattle.vb_meaning.specs.Blocks as spec;
 ghost use Rattle.vb_meaning.specs.Meaning.{statement, inside};
 ghost use Rattle.vb_meaning.specs.Step.{Ran};
 ghost use Rattle.vb_plain.specs.Nests.{Executes};
-ghost use Rattle.vb_world.specs.Seen.{seen, host};
+ghost use Rattle.vb_objects.specs.Seen.{seen, host};
 
 use crate::rules::Rules;
 use std::alloc::Global;
 use vb_meaning::{Exit, Stop};
+use vb_objects::playing::Playing;
 use vb_syntax::Intrinsics;
 use vb_syntax::program::{Program, Statement};
-use vb_world::playing::Playing;
 
 impl<
     I: Intrinsics,

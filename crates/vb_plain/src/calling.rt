@@ -10,18 +10,18 @@ ghost use Rattle.vb_meaning.specs.State.{State};
 ghost use Rattle.vb_meaning.specs.Step.{Step, Ran};
 ghost use Rattle.vb_meaning.specs.Shown.{shown};
 ghost use Rattle.vb_plain.specs.Nests.{Executes, Enters};
-ghost use Rattle.vb_world.specs.Seen.{seen, host};
+ghost use Rattle.vb_objects.specs.Seen.{seen, host};
 
 use crate::rules::Rules;
 use std::alloc::Global;
 use std::mem;
 use vb_meaning::{Argument, Exit, Frame, Stop};
+use vb_objects::playing::{Playing, tick};
+use vb_objects::world::depth_stop;
 use vb_syntax::Intrinsics;
 use vb_syntax::program::{Procedure, Program, Statement};
 use vb_value::{List, ObjNo, Value, VbError};
 use vb_world::entering::{begins, fresh_frame, given_value, leave};
-use vb_world::playing::{Playing, tick};
-use vb_world::world::depth_stop;
 
 /// How many procedures may be open.
 const MOST_CALLS: u32 = 200;

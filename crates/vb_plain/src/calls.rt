@@ -9,18 +9,18 @@ ghost use Rattle.vb_meaning.specs.Places.{variable};
 ghost use Rattle.vb_meaning.specs.Step.{Ran, and_then, pure};
 ghost use Rattle.vb_meaning.specs.Shown.{shown};
 ghost use Rattle.vb_plain.specs.Nests.{Evaluates, Passes, Enters};
-ghost use Rattle.vb_world.specs.Seen.{seen, host};
+ghost use Rattle.vb_objects.specs.Seen.{seen, host};
 
 use crate::rules::Rules;
 use std::alloc::Global;
 use vb_meaning::{Argument, Reached, Stop, World};
+use vb_objects::playing::Playing;
 use vb_syntax::Intrinsics;
 use vb_syntax::program::{Expression, Head, Named, Path, Procedure, Program, Slot, Step};
 use vb_value::{List, ObjNo, Value, VbError};
 use vb_world::accesses::first_access;
 use vb_world::paths::element;
 use vb_world::places::variable;
-use vb_world::playing::Playing;
 
 /// A variable alone that is called: it is asked for an element.
 fn call_variable(alloc: Global, world: &mut World, slot: Slot) -> Result<(), Stop>

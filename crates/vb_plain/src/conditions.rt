@@ -6,16 +6,16 @@ ghost use Rattle.vb_meaning.specs.Statements as spec;
 ghost use Rattle.vb_meaning.specs.Step.{Ran, and_then, given};
 ghost use Rattle.vb_ops.specs.Operators.{truth_of};
 ghost use Rattle.vb_plain.specs.Nests.{Evaluates, Executes, Enters};
-ghost use Rattle.vb_world.specs.Seen.{seen, host};
+ghost use Rattle.vb_objects.specs.Seen.{seen, host};
 
 use crate::rules::Rules;
 use std::alloc::Global;
 use vb_meaning::{Argument, Exit, Stop};
+use vb_objects::playing::{Playing, in_line, resumed};
 use vb_ops::truth;
 use vb_syntax::Intrinsics;
 use vb_syntax::program::{ElseIf, Expression, Procedure, Program, Statement};
 use vb_value::{List, ObjNo, Value};
-use vb_world::playing::{Playing, in_line, resumed};
 
 impl<
     I: Intrinsics,

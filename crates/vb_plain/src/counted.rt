@@ -6,17 +6,17 @@ ghost use Rattle.vb_meaning.specs.Meaning.{value, inside};
 ghost use Rattle.vb_meaning.specs.Step.{Ran, and_then, given};
 ghost use Rattle.vb_meaning.specs.declared.world.Exit.TheVariants.{Next, Leave};
 ghost use Rattle.vb_plain.specs.Nests.{Evaluates, Executes, Enters};
-ghost use Rattle.vb_world.specs.Seen.{seen, host};
+ghost use Rattle.vb_objects.specs.Seen.{seen, host};
 
 use crate::rules::Rules;
 use std::alloc::Global;
 use vb_meaning::{Argument, Exit, Range, Stop};
+use vb_objects::playing::Playing;
 use vb_syntax::program::{Expression, Named, Procedure, Program, Statement};
 use vb_syntax::{ExitKind, Intrinsics};
 use vb_value::{LimitKind, List, ObjNo, Value, number_value};
 use vb_world::copying::copied;
 use vb_world::counting::{add_step, is_within, items_of, range_of, set_variable};
-use vb_world::playing::Playing;
 
 /// How a For ends that an Exit in it leaves: an Exit For goes on behind it.
 fn behind_for(kind: ExitKind) -> Exit

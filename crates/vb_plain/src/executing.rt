@@ -5,14 +5,14 @@ ghost use Rattle.vb_meaning.specs.Executing as spec;
 ghost use Rattle.vb_meaning.specs.State.{on_world};
 ghost use Rattle.vb_meaning.specs.Step.{Ran};
 ghost use Rattle.vb_syntax.specs.declared.program.statement.StatementKind.{out-StatementKind};
-ghost use Rattle.vb_world.specs.Seen.{seen};
+ghost use Rattle.vb_objects.specs.Seen.{seen};
 
 use std::alloc::Global;
 use vb_meaning::{Exit, Stop};
+use vb_objects::playing::{Playing, in_line, resumed};
+use vb_objects::world::depth_stop;
 use vb_syntax::Intrinsics;
 use vb_syntax::program::{Statement, StatementKind};
-use vb_world::playing::{Playing, in_line, resumed};
-use vb_world::world::depth_stop;
 
 /// One construct too many.
 fn deep<I: Intrinsics>(playing: &Playing<'_>, env: &I) -> Result<Exit, Stop>

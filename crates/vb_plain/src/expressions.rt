@@ -12,11 +12,13 @@ ghost use Rattle.vb_meaning.specs.Step.{Ran, and_then, given, pure};
 ghost use Rattle.vb_meaning.specs.declared.reached.Argument.TheVariants.{Value as OfValue};
 ghost use Rattle.vb_ops.specs.Operators.{apply1_of};
 ghost use Rattle.vb_plain.specs.Nests.{Evaluates, Passes, Enters};
-ghost use Rattle.vb_world.specs.Seen.{seen, host};
+ghost use Rattle.vb_objects.specs.Seen.{seen, host};
 
 use crate::rules::Rules;
 use std::alloc::Global;
 use vb_meaning::{Argument, Reached, Stop, bare, raise};
+use vb_objects::playing::Playing;
+use vb_objects::world::depth_stop;
 use vb_ops::apply1;
 use vb_syntax::Intrinsics;
 use vb_syntax::program::{Expression, Head, Operation, Path, Procedure, Program};
@@ -24,9 +26,7 @@ use vb_value::{List, ObjNo, Op1, Value};
 use vb_world::accesses::only_groups;
 use vb_world::paths::reached_value;
 use vb_world::places::hold;
-use vb_world::playing::Playing;
 use vb_world::values::literal_value;
-use vb_world::world::depth_stop;
 use vb_world::written::{is_written, written_value};
 
 /// Whether a path may be a place: a name with no member behind it.

@@ -7,20 +7,20 @@ ghost use Rattle.vb_meaning.specs.Meaning.{inside};
 ghost use Rattle.vb_meaning.specs.Reading as spec;
 ghost use Rattle.vb_meaning.specs.Step.{Ran};
 ghost use Rattle.vb_plain.specs.Nests.{Evaluates, Passes, Enters};
-ghost use Rattle.vb_world.specs.Seen.{seen, host};
+ghost use Rattle.vb_objects.specs.Seen.{seen, host};
 
 use crate::lent_calls::{plain_at_once, string_at_once};
 use crate::rules::Rules;
 use std::alloc::Global;
 use vb_funcs::call_func;
 use vb_meaning::{Argument, Reached, Stop, raise};
+use vb_objects::playing::Playing;
 use vb_strings::call_string;
 use vb_syntax::Intrinsics;
 use vb_syntax::program::{Expression, Procedure, Program, Slot, Step};
 use vb_value::{List, ObjNo, PlainFn, StrFn, Value};
 use vb_world::accesses::split_call;
 use vb_world::places::variable;
-use vb_world::playing::Playing;
 
 /// The most arguments that a function of the language is given.
 const MOST_ARGUMENTS: usize = 255;

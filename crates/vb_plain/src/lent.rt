@@ -7,18 +7,18 @@ ghost use Rattle.vb_meaning.specs.Step.{Returns};
 ghost use Rattle.vb_meaning.specs.Values.{copied};
 ghost use Rattle.vb_plain.specs.Lent.{IsVariable, IsPlain, MayHold, Yields};
 ghost use Rattle.vb_value.specs.declared.value.Value.TheViews.{Arr};
-ghost use Rattle.vb_world.specs.Seen.{seen, host};
+ghost use Rattle.vb_objects.specs.Seen.{seen, host};
 
 use crate::lent_arrays::array_at;
 use std::alloc::Global;
 use vb_heap::Place;
-use vb_meaning::World;
+use vb_meaning::{World, bare};
+use vb_objects::playing::Playing;
 use vb_syntax::Intrinsics;
 use vb_syntax::program::{Expression, Head, Named, Program, Slot};
 use vb_value::{Array, Value, copy};
 use vb_world::places::variable;
-use vb_world::playing::Playing;
-use vb_world::written::{bare, is_written, written_value};
+use vb_world::written::{is_written, written_value};
 
 /// Whether a value may be held in which no object occurs. That changes nothing.
 #[tactic(auto, using(crate::proofs::Lending::held_none))]

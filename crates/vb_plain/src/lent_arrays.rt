@@ -14,8 +14,8 @@ use std::slice::from_ref;
 use vb_funcs::call_func;
 use vb_heap::Place;
 use vb_meaning::World;
+use vb_objects::world::raise;
 use vb_value::{Array, Copied, List, PlainFn, Value, copy};
-use vb_world::world::raise;
 
 /// Whether no object occurs in a value. It recurses once for each array inside another.
 #[tactic(auto, using(crate::proofs::Arrays::looking))]

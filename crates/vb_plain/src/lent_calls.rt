@@ -6,7 +6,7 @@ ghost use Rattle.vb_meaning.specs.Shown.{shown};
 ghost use Rattle.vb_meaning.specs.Step.{raising};
 ghost use Rattle.vb_plain.specs.Lent.{MayHold, GivesAtOnce};
 ghost use Rattle.vb_strings.specs.Functions.{call_string_of};
-ghost use Rattle.vb_world.specs.Seen.{seen, host};
+ghost use Rattle.vb_objects.specs.Seen.{seen, host};
 
 use crate::lent::{lent, lent_array, may_hold, quiet};
 use crate::lent_arrays::{of_array, of_array_and};
@@ -14,11 +14,11 @@ use crate::lent_texts::{of_one, of_three, of_two};
 use std::alloc::Global;
 use std::slice::from_ref;
 use vb_funcs::call_func;
+use vb_objects::playing::Playing;
+use vb_objects::world::raise;
 use vb_syntax::Intrinsics;
 use vb_syntax::program::{Expression, Program};
 use vb_value::{PlainFn, StrFn, Value};
-use vb_world::playing::Playing;
-use vb_world::world::raise;
 
 /// What a function on texts gives of one argument.
 #[tactic(auto, using(crate::proofs::Lending::one_argument))]

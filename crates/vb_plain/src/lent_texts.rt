@@ -8,9 +8,9 @@ ghost use Rattle.vb_value.specs.declared.value.Value.{Str};
 
 use std::alloc::Global;
 use std::slice::from_ref;
+use vb_objects::world::raise;
 use vb_strings::call_string;
 use vb_value::{StrFn, Text, Value, limited, to_long};
-use vb_world::world::raise;
 
 /// What a function gives of one argument.
 pub fn of_one(alloc: Global, found: StrFn, value: &Value) -> Option<Value>

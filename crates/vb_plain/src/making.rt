@@ -5,17 +5,17 @@ ghost use Rattle.vb_meaning.specs.Making as spec;
 ghost use Rattle.vb_meaning.specs.Meaning.{inside};
 ghost use Rattle.vb_meaning.specs.Step.{Ran};
 ghost use Rattle.vb_plain.specs.Nests.{Enters};
-ghost use Rattle.vb_world.specs.Seen.{seen, host};
+ghost use Rattle.vb_objects.specs.Seen.{seen, host};
 
 use crate::rules::Rules;
 use std::alloc::Global;
 use vb_meaning::{Argument, Stop};
+use vb_objects::classes::class_at;
+use vb_objects::playing::Playing;
 use vb_syntax::Intrinsics;
 use vb_syntax::program::{Class, Expression, Procedure, Program};
 use vb_value::{List, ObjNo, Value, VbError};
-use vb_world::classes::class_at;
 use vb_world::fields::{initializer, object_made};
-use vb_world::playing::Playing;
 
 impl<
     I: Intrinsics,

@@ -6,18 +6,18 @@ ghost use Rattle.vb_meaning.specs.Meaning.{inside};
 ghost use Rattle.vb_meaning.specs.Reading as spec;
 ghost use Rattle.vb_meaning.specs.Step.{Ran};
 ghost use Rattle.vb_plain.specs.Nests.{Evaluates, Passes, Enters};
-ghost use Rattle.vb_world.specs.Seen.{seen, host};
+ghost use Rattle.vb_objects.specs.Seen.{seen, host};
 
 use crate::rules::Rules;
 use std::alloc::Global;
 use vb_meaning::{Argument, Reached, Stop};
+use vb_objects::classes::own_read;
+use vb_objects::functions::{create_object, type_name};
+use vb_objects::playing::Playing;
 use vb_syntax::Intrinsics;
 use vb_syntax::program::{Expression, Named, Procedure, Program, Step};
 use vb_value::{List, ObjNo, Value, VbError};
 use vb_world::accesses::split_call;
-use vb_world::classes::own_read;
-use vb_world::functions::{create_object, type_name};
-use vb_world::playing::Playing;
 use vb_world::values::{literal_value, local_constant, page_constant};
 
 impl<

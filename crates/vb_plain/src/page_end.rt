@@ -6,16 +6,16 @@ ghost use Rattle.vb_meaning.specs.Step.{Ran};
 ghost use Rattle.vb_meaning.specs.Shown.{shown};
 ghost use Rattle.vb_meaning.specs.Ends.{ends_last};
 ghost use Rattle.vb_plain.specs.Nests.{Enters};
-ghost use Rattle.vb_world.specs.Seen.{seen, host};
+ghost use Rattle.vb_objects.specs.Seen.{seen, host};
 
 use crate::rules::Rules;
 use std::alloc::Global;
 use vb_meaning::{Argument, Stop, stop_in};
+use vb_objects::ending::{class_number, terminator};
+use vb_objects::playing::Playing;
 use vb_syntax::Intrinsics;
 use vb_syntax::program::{Procedure, Program};
 use vb_value::{List, ObjNo, Value};
-use vb_world::ending::{class_number, terminator};
-use vb_world::playing::Playing;
 
 impl<
     I: Intrinsics,

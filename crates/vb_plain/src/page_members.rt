@@ -6,19 +6,19 @@ ghost use Rattle.vb_meaning.specs.Meaning.{inside};
 ghost use Rattle.vb_meaning.specs.Reading as spec;
 ghost use Rattle.vb_meaning.specs.Step.{Ran};
 ghost use Rattle.vb_plain.specs.Nests.{Evaluates, Passes, Enters};
-ghost use Rattle.vb_world.specs.Seen.{seen, host};
+ghost use Rattle.vb_objects.specs.Seen.{seen, host};
 ghost use Rattle.vb_world.specs.Steps.{groups_seen};
 
 use crate::rules::Rules;
 use std::alloc::Global;
 use vb_meaning::{Argument, Reached, Stop};
+use vb_objects::asking::{ask, is_taken};
+use vb_objects::functions::create_object;
+use vb_objects::playing::Playing;
 use vb_syntax::program::{Expression, Procedure, Program, Step};
 use vb_syntax::{Intrinsics, Member, Takes};
 use vb_value::{List, ObjNo, Value, VbError};
 use vb_world::accesses::next_group;
-use vb_world::asking::{ask, is_taken};
-use vb_world::functions::create_object;
-use vb_world::playing::Playing;
 
 impl<
     I: Intrinsics,

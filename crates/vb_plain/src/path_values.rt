@@ -6,19 +6,19 @@ ghost use Rattle.vb_meaning.specs.Meaning.{inside};
 ghost use Rattle.vb_meaning.specs.Reading as spec;
 ghost use Rattle.vb_meaning.specs.Step.{Ran};
 ghost use Rattle.vb_plain.specs.Nests.{Evaluates, Passes, Enters};
-ghost use Rattle.vb_world.specs.Seen.{seen, host};
+ghost use Rattle.vb_objects.specs.Seen.{seen, host};
 
 use crate::rules::Rules;
 use std::alloc::Global;
 use vb_meaning::{Argument, Reached, Stop};
+use vb_objects::around::{me_value, subject};
+use vb_objects::err_object::err_value;
+use vb_objects::playing::Playing;
 use vb_syntax::Intrinsics;
 use vb_syntax::program::{ErrMember, Expression, Head, Path, Procedure, Program, Step};
 use vb_value::{List, ObjNo, Value};
 use vb_world::accesses::{member_access, split_call};
-use vb_world::around::{me_value, subject};
-use vb_world::err_object::err_value;
 use vb_world::paths::reached_value;
-use vb_world::playing::Playing;
 
 impl<
     I: Intrinsics,

@@ -1,7 +1,7 @@
 //! The rules joined: each hands itself on, one level down, to what is inside.
 ghost use Rattle.vb_meaning.specs.Meaning.{value, argument, assign, call, statement, enter};
 ghost use Rattle.vb_meaning.specs.Step.{Ran};
-ghost use Rattle.vb_world.specs.Seen.{seen, host};
+ghost use Rattle.vb_objects.specs.Seen.{seen, host};
 
 use crate::executing::refused;
 use crate::expressions::{refused_argument, refused_value};
@@ -9,11 +9,11 @@ use crate::rules::Rules;
 use std::alloc::Global;
 use std::marker::PhantomData;
 use vb_meaning::{Argument, Assigned, Exit, Stop};
+use vb_objects::playing::Playing;
+use vb_objects::world::depth_stop;
 use vb_syntax::Intrinsics;
 use vb_syntax::program::{Expression, Path, Procedure, Program, Statement};
 use vb_value::{List, ObjNo, Value};
-use vb_world::playing::Playing;
-use vb_world::world::depth_stop;
 
 /// The value of an expression, where so many more constructs may be begun.
 #[cycle(down)]

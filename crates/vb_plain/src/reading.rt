@@ -6,21 +6,21 @@ ghost use Rattle.vb_meaning.specs.Meaning.{inside};
 ghost use Rattle.vb_meaning.specs.Reading as spec;
 ghost use Rattle.vb_meaning.specs.Step.{Ran};
 ghost use Rattle.vb_plain.specs.Nests.{Evaluates, Passes, Enters};
-ghost use Rattle.vb_world.specs.Seen.{seen, host};
+ghost use Rattle.vb_objects.specs.Seen.{seen, host};
 ghost use Rattle.vb_world.specs.Steps.{access_seen};
 
 use crate::rules::Rules;
 use std::alloc::Global;
 use vb_meaning::{Argument, Reached, Stop};
+use vb_objects::classes::{class_at, dictionary_word, field_named, if_public, read_named};
+use vb_objects::playing::Playing;
 use vb_syntax::Intrinsics;
 use vb_syntax::program::{Class, Expression, Procedure, Program, Step};
 use vb_value::{List, ObjNo, Value, VbError};
 use vb_world::accesses::{Access, first_access};
-use vb_world::classes::{class_at, dictionary_word, field_named, if_public, read_named};
 use vb_world::dictionaries::named_member;
 use vb_world::paths::{element, hold_reached, reached_value};
 use vb_world::places::{cell_place, hold};
-use vb_world::playing::Playing;
 use vb_world::values::object_in;
 
 impl<

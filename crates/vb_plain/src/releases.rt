@@ -7,18 +7,18 @@ ghost use Rattle.vb_meaning.specs.Step.{Step, Ran};
 ghost use Rattle.vb_meaning.specs.Stored as stored;
 ghost use Rattle.vb_meaning.specs.Shown.{shown};
 ghost use Rattle.vb_plain.specs.Nests.{Enters};
-ghost use Rattle.vb_world.specs.Seen.{seen, host};
+ghost use Rattle.vb_objects.specs.Seen.{seen, host};
 
 use crate::rules::Rules;
 use std::alloc::Global;
 use std::mem;
 use vb_meaning::{Argument, Stop};
+use vb_objects::ending::{class_number, end_object, terminator};
+use vb_objects::errors::no_error;
+use vb_objects::playing::Playing;
 use vb_syntax::Intrinsics;
 use vb_syntax::program::{Procedure, Program};
 use vb_value::{List, ObjNo, Value};
-use vb_world::ending::{class_number, end_object, terminator};
-use vb_world::errors::no_error;
-use vb_world::playing::Playing;
 
 impl<
     I: Intrinsics,

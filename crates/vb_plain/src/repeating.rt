@@ -8,15 +8,15 @@ ghost use Rattle.vb_meaning.specs.Meaning.{inside};
 ghost use Rattle.vb_meaning.specs.Step.{Ran, and_then};
 ghost use Rattle.vb_meaning.specs.declared.world.Exit.TheVariants.{Next, Leave};
 ghost use Rattle.vb_plain.specs.Nests.{Evaluates, Executes, Enters};
-ghost use Rattle.vb_world.specs.Seen.{seen, host};
+ghost use Rattle.vb_objects.specs.Seen.{seen, host};
 
 use crate::rules::Rules;
 use std::alloc::Global;
 use vb_meaning::{Argument, Exit, Stop};
+use vb_objects::playing::{Playing, in_line, tick};
 use vb_syntax::program::{Condition, Expression, Procedure, Program, Repetition, Statement};
 use vb_syntax::{ExitKind, Intrinsics};
 use vb_value::{LimitKind, List, ObjNo, Value};
-use vb_world::playing::{Playing, in_line, tick};
 
 /// How a Do ends that an Exit in it leaves: an Exit Do goes on behind it.
 fn behind_do(kind: ExitKind) -> Exit

@@ -5,17 +5,17 @@ ghost use Rattle.vb_meaning.specs.Step.{Ran};
 ghost use Rattle.vb_meaning.specs.Meaning.{value, argument, enter, inside};
 ghost use Rattle.vb_meaning.specs.Reading as reading;
 ghost use Rattle.vb_meaning.specs.Expressions as spec;
-ghost use Rattle.vb_world.specs.Seen.{seen, host};
+ghost use Rattle.vb_objects.specs.Seen.{seen, host};
 ghost use Rattle.vb_plain.specs.Nests.{Evaluates, Passes, Enters};
 
 use std::alloc::Global;
 use std::marker::PhantomData;
 use vb_meaning::{Argument, Stop, raise};
+use vb_objects::playing::Playing;
 use vb_ops::apply2;
 use vb_syntax::Intrinsics;
 use vb_syntax::program::{Expression, Operation, Procedure, Program};
 use vb_value::{List, ObjNo, Value};
-use vb_world::playing::Playing;
 
 /// The functions that do what is inside a construct, where `levels` more may be begun.
 #[derive(Clone, Copy)]

@@ -1,7 +1,7 @@
 //! The run of an act.
 ghost use Rattle.std.specs.Prelude.{◌≡◌, IfOk, Some};
 ghost use Rattle.vb_meaning.specs.Acts.{act_of};
-ghost use Rattle.vb_world.specs.Seen.{host};
+ghost use Rattle.vb_objects.specs.Seen.{host};
 
 use crate::acts::fresh_world;
 use crate::plain::{argument, assign, call, enter, statement, value};
@@ -9,10 +9,10 @@ use crate::rules::Rules;
 use std::alloc::Global;
 use std::marker::PhantomData;
 use vb_meaning::PlainEnd;
+use vb_objects::playing::Playing;
 use vb_syntax::program::Program;
 use vb_syntax::{Act, Intrinsics};
 use vb_value::{AppReply, Memory};
-use vb_world::playing::Playing;
 
 /// How many ticks an act has.
 const MOST_TICKS: u32 = 1_000_000;

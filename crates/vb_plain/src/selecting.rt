@@ -6,16 +6,16 @@ ghost use Rattle.vb_meaning.specs.Statements as spec;
 ghost use Rattle.vb_meaning.specs.Step.{Ran};
 ghost use Rattle.vb_plain.specs.Selects.{selects};
 ghost use Rattle.vb_plain.specs.Nests.{Evaluates, Executes, Enters};
-ghost use Rattle.vb_world.specs.Seen.{seen, host};
+ghost use Rattle.vb_objects.specs.Seen.{seen, host};
 
 use crate::rules::Rules;
 use std::alloc::Global;
 use vb_meaning::{Argument, Exit, Stop, raise};
+use vb_objects::playing::{Playing, in_line};
 use vb_ops::{apply2, truth};
 use vb_syntax::Intrinsics;
 use vb_syntax::program::{Case, Expression, Procedure, Program, Statement};
 use vb_value::{List, ObjNo, Op2, Value};
-use vb_world::playing::{Playing, in_line};
 
 /// The block of the Case of a number, or that of Case Else.
 fn case_block<'p>(

@@ -11,16 +11,16 @@ ghost use Rattle.vb_meaning.specs.State.{on_world};
 ghost use Rattle.vb_meaning.specs.Statements as statements;
 ghost use Rattle.vb_meaning.specs.Step.{Ran, and_then, pure};
 ghost use Rattle.vb_plain.specs.Nests.{Assigns, Calls, Enters, Evaluates, Executes};
-ghost use Rattle.vb_world.specs.Seen.{seen, host};
+ghost use Rattle.vb_objects.specs.Seen.{seen, host};
 
 use crate::rules::Rules;
 use std::alloc::Global;
 use vb_meaning::{Argument, Assigned, Exit, Stop};
+use vb_objects::errors::clear;
+use vb_objects::playing::{Playing, in_line, resumed, tick};
 use vb_syntax::program::{Expression, Named, Path, Procedure, Program, Statement, StatementKind};
 use vb_syntax::{ExitKind, Intrinsics};
 use vb_value::{Copied, List, ObjNo, Text, Value};
-use vb_world::errors::clear;
-use vb_world::playing::{Playing, in_line, resumed, tick};
 use vb_world::resizing::erase_all;
 
 /// Whether an Exit clears Err: of a Sub, a Function or a Property.

@@ -4,19 +4,19 @@ ghost use Rattle.vb_meaning.specs.Meaning.{assign, inside};
 ghost use Rattle.vb_meaning.specs.Statements as spec;
 ghost use Rattle.vb_meaning.specs.Step.{Returns, Ran};
 ghost use Rattle.vb_plain.specs.Nests.{Assigns, Evaluates, Executes};
-ghost use Rattle.vb_world.specs.Seen.{seen, host};
+ghost use Rattle.vb_objects.specs.Seen.{seen, host};
 
 use crate::rules::Rules;
 use std::alloc::Global;
 use vb_meaning::{Assigned, Exit, Stop};
+use vb_objects::asking::ask;
+use vb_objects::assigned::assignable;
+use vb_objects::errors::on_error;
+use vb_objects::playing::Playing;
 use vb_syntax::program::{Expression, Path, Program, Resized, Statement};
 use vb_syntax::{Intrinsics, Member};
 use vb_value::Value;
-use vb_world::asking::ask;
-use vb_world::assigned::assignable;
-use vb_world::errors::on_error;
 use vb_world::places::target_variable;
-use vb_world::playing::Playing;
 use vb_world::resizing::{copies, resize};
 
 impl<

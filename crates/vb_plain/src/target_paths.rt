@@ -7,19 +7,19 @@ ghost use Rattle.vb_meaning.specs.Meaning.{inside};
 ghost use Rattle.vb_meaning.specs.Reading.{from_page_member};
 ghost use Rattle.vb_meaning.specs.Step.{Ran};
 ghost use Rattle.vb_plain.specs.Nests.{Evaluates, Passes, Enters};
-ghost use Rattle.vb_world.specs.Seen.{seen, host};
+ghost use Rattle.vb_objects.specs.Seen.{seen, host};
 
 use crate::rules::Rules;
 use std::alloc::Global;
 use vb_meaning::{Argument, Assigned, Reached, Stop};
+use vb_objects::around::{me_value, subject};
+use vb_objects::asking::{ask, is_taken};
+use vb_objects::err_object::set_err;
+use vb_objects::playing::Playing;
 use vb_syntax::program::{ErrMember, Expression, Head, Path, Procedure, Program, Step};
 use vb_syntax::{Intrinsics, Member, Takes};
 use vb_value::{List, ObjNo, Value, VbError};
 use vb_world::accesses::{first_access, member_access};
-use vb_world::around::{me_value, subject};
-use vb_world::asking::{ask, is_taken};
-use vb_world::err_object::set_err;
-use vb_world::playing::Playing;
 
 impl<
     I: Intrinsics,

@@ -8,19 +8,19 @@ ghost use Rattle.vb_meaning.specs.Reading.{from_name};
 ghost use Rattle.vb_meaning.specs.Step.{Ran};
 ghost use Rattle.vb_meaning.specs.Shown.{shown};
 ghost use Rattle.vb_plain.specs.Nests.{Evaluates, Passes, Enters};
-ghost use Rattle.vb_world.specs.Seen.{seen, host};
+ghost use Rattle.vb_objects.specs.Seen.{seen, host};
 
 use crate::rules::Rules;
 use std::alloc::Global;
 use vb_heap::Place;
 use vb_meaning::{Argument, Assigned, Reached, Stop};
+use vb_objects::assigned::own_assigned;
+use vb_objects::playing::Playing;
 use vb_syntax::Intrinsics;
 use vb_syntax::program::{Expression, Named, Procedure, Program, Slot, Step};
 use vb_value::{List, ObjNo, Value, VbError};
 use vb_world::accesses::{call_alone, first_access, first_call, only_groups};
-use vb_world::assigned::own_assigned;
 use vb_world::places::{store_place, variable};
-use vb_world::playing::Playing;
 
 impl<
     I: Intrinsics,

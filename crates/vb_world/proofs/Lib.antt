@@ -1,6 +1,4 @@
-pub mod Texts
 pub mod Steps
-pub mod Subjects
 pub mod Products
 pub mod EmptyArrays
 pub mod Declared
@@ -9,4 +7,3 @@ pub mod Emptying
 pub mod Keys
 pub mod FieldArrays
 pub mod Resized
-pub mod Named

@@ -3,7 +3,7 @@ use Rattle.vb_meaning.specs.Calling.{called}
 use Rattle.vb_meaning.specs.Meaning.{inside}
 use Rattle.vb_meaning.proofs.Letting.{ended_ran}
 use Rattle.vb_plain.proofs.rules.Rules.call_made.Goals as goal
-use Rattle.vb_world.specs.Seen.{seen, host}
+use Rattle.vb_objects.specs.Seen.{seen, host}
 
 pub returns-in_err-value : goal.returns-in_err-value
 returns-in_err-value g c =

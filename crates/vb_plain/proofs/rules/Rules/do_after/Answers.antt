@@ -1,6 +1,6 @@
 use Rattle.std.proofs.Common.{◌∙◌}
 use Rattle.vb_meaning.specs.Meaning.{inside}
-use Rattle.vb_world.specs.Seen.{host}
+use Rattle.vb_objects.specs.Seen.{host}
 use Rattle.vb_meaning.proofs.AfterTurns.{after_goes_on}
 use Rattle.vb_plain.proofs.rules.Rules.do_after.Goals as goal
 

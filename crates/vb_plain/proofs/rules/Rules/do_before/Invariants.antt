@@ -2,7 +2,7 @@ use Rattle.std.proofs.Common.{◌≡◌, ◌+◌}
 use Rattle.vb_syntax.specs.declared.program.statement.Repetition.TheVariants as repetition
 use Rattle.vb_meaning.specs.Loops.{do_turns, before_turns, leaves_do, goes_on}
 use Rattle.vb_meaning.specs.Meaning.{inside}
-use Rattle.vb_world.specs.Seen.{seen, host}
+use Rattle.vb_objects.specs.Seen.{seen, host}
 use Rattle.vb_plain.proofs.rules.Rules.do_before.Given as goal
 
 abbrev pub invariant-loop-most : goal.invariant-loop-most

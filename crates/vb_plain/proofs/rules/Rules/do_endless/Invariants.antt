@@ -3,7 +3,7 @@ use Rattle.vb_syntax.specs.declared.program.statement.Repetition.TheVariants as 
 use Rattle.vb_meaning.specs.Loops.{do_turns, before_turns, leaves_do}
 use Rattle.vb_meaning.specs.Meaning.{inside}
 use Rattle.vb_meaning.specs.Step.{pure}
-use Rattle.vb_world.specs.Seen.{seen, host}
+use Rattle.vb_objects.specs.Seen.{seen, host}
 use Rattle.vb_plain.proofs.rules.Rules.do_endless.Given as goal
 
 abbrev pub invariant-loop-most : goal.invariant-loop-most

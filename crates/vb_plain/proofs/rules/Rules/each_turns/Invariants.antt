@@ -1,7 +1,7 @@
 use Rattle.std.proofs.Common.{◌≡◌, length}
 use Rattle.vb_meaning.specs.Loops.{each_turns}
 use Rattle.vb_meaning.specs.Meaning.{inside}
-use Rattle.vb_world.specs.Seen.{seen, host}
+use Rattle.vb_objects.specs.Seen.{seen, host}
 use Rattle.vb_plain.proofs.rules.Rules.each_turns.Given as goal
 
 abbrev pub invariant-loop-items : goal.invariant-loop-items

@@ -1,7 +1,7 @@
 use Rattle.std.proofs.Common.{◌≡◌, ◌+◌}
 use Rattle.vb_meaning.specs.Loops.{for_turns}
 use Rattle.vb_meaning.specs.Meaning.{inside}
-use Rattle.vb_world.specs.Seen.{seen, host}
+use Rattle.vb_objects.specs.Seen.{seen, host}
 use Rattle.vb_plain.proofs.rules.Rules.for_turns.Given as goal
 
 abbrev pub invariant-loop-most : goal.invariant-loop-most

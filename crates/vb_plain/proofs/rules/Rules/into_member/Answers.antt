@@ -6,7 +6,7 @@ use Rattle.vb_meaning.specs.Step.{Returns}
 use Rattle.vb_meaning.specs.Stored.{class_of}
 use Rattle.vb_meaning.specs.Values.{object_in}
 use Rattle.vb_meaning.specs.Shown.{shown}
-use Rattle.vb_world.specs.Seen.{seen, host}
+use Rattle.vb_objects.specs.Seen.{seen, host}
 use Rattle.vb_meaning.proofs.AssignSteps.{member_taken}
 use Rattle.vb_plain.proofs.rules.Rules.into_member.Goals as goal
 

@@ -2,7 +2,7 @@ use Rattle.std.proofs.Common.{◌≡◌, length}
 use Rattle.vb_meaning.specs.Accesses.{accesses}
 use Rattle.vb_meaning.specs.Assigning.{into}
 use Rattle.vb_meaning.specs.Meaning.{inside}
-use Rattle.vb_world.specs.Seen.{seen, host}
+use Rattle.vb_objects.specs.Seen.{seen, host}
 use Rattle.vb_world.specs.Steps.{access_seen}
 use Rattle.vb_plain.proofs.rules.Rules.into_steps.Given as goal
 

@@ -1,7 +1,7 @@
 use Rattle.std.proofs.Common.{◌≡◌, length}
 use Rattle.vb_meaning.specs.Meaning.{inside}
 use Rattle.vb_meaning.specs.Statements.{redim}
-use Rattle.vb_world.specs.Seen.{seen, host}
+use Rattle.vb_objects.specs.Seen.{seen, host}
 use Rattle.vb_plain.proofs.rules.Rules.redim.Given as goal
 
 abbrev pub invariant-loop-arrays : goal.invariant-loop-arrays

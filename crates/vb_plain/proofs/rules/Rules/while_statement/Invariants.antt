@@ -2,7 +2,7 @@ use Rattle.std.proofs.Common.{◌≡◌}
 use Rattle.vb_meaning.specs.Loops.{while_statement, before_turns, leaves_none}
 use Rattle.vb_meaning.specs.Meaning.{inside}
 use Rattle.vb_meaning.specs.Statements.{condition}
-use Rattle.vb_world.specs.Seen.{seen, host}
+use Rattle.vb_objects.specs.Seen.{seen, host}
 use Rattle.vb_plain.proofs.rules.Rules.while_statement.Given as goal
 
 abbrev pub invariant-loop-most : goal.invariant-loop-most

@@ -4,7 +4,7 @@ ghost use Rattle.vb_meaning.specs.Step.{Step, Ran};
 ghost use Rattle.vb_meaning.specs.State.{State};
 ghost use Rattle.vb_meaning.specs.Errors as errors;
 ghost use Rattle.vb_meaning.specs.Asking as asking;
-ghost use Rattle.vb_world.specs.Seen.{seen};
+ghost use Rattle.vb_objects.specs.Seen.{seen};
 
 use crate::errors::raised_by;
 use std::alloc::Global;

@@ -6,7 +6,7 @@ use Rattle.vb_syntax.specs.declared.member.Member.{Member}
 use Rattle.vb_meaning.specs.Asking.{Host, Said}
 use Rattle.vb_meaning.specs.State.{State}
 use Rattle.vb_meaning.specs.Shown.{shown}
-use Rattle.vb_world.specs.declared.playing.Playing.{Playing}
+use Rattle.vb_objects.specs.declared.playing.Playing.{Playing}
 
 -- the state of an act
 abbrev pub seen : {E : Type 0} → Playing → E → State E

@@ -1,8 +1,8 @@
 use Rattle.std.proofs.Common.{length, sym, ◌∙◌, refl}
 use Rattle.std.proofs.lemmas.Option.{slice_get_read}
 use Rattle.vb_meaning.specs.Objects as objects
-use Rattle.vb_world.proofs.Named.{named_found}
-use Rattle.vb_world.proofs.assigned.assigned_number.Goals as goal
+use Rattle.vb_objects.proofs.Named.{named_found}
+use Rattle.vb_objects.proofs.assigned.assigned_number.Goals as goal
 
 pub returns-then-takes_assigned : goal.returns-then-takes_assigned
 returns-then-takes_assigned c = named_found c.args.name (objects.takes_assigned c.args.how) c.args.procedures.now

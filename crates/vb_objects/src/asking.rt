@@ -7,7 +7,7 @@ ghost use Rattle.vb_meaning.specs.Asking as spec;
 ghost use Rattle.vb_meaning.specs.Reading as reading;
 ghost use Rattle.vb_meaning.specs.Shown.{shown};
 ghost use Rattle.vb_meaning.specs.Step.{Ran};
-ghost use Rattle.vb_world.specs.Seen.{seen, host};
+ghost use Rattle.vb_objects.specs.Seen.{seen, host};
 
 use crate::playing::Playing;
 use std::alloc::Global;
