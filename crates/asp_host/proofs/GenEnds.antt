@@ -1,5 +1,5 @@
 -- What `gen` ran and wrote.
-use Rattle.std.proofs.Common.{◌≡◌, ℕ, Bool, subst, inl, inr}
+use Rattle.std.proofs.Common.{◌≡◌, ℕ, Bool, subst, inl, inr, false}
 use Rattle.asp_record.specs.declared.recording.Recording.{Recording}
 use Rattle.asp_record.specs.Generated.{count_files, generated}
 use Rattle.asp_replay.specs.declared.stop.FeedStop.{FeedStop}
@@ -15,7 +15,7 @@ use Rattle.asp_host.specs.declared.status.Status.TheVariants as status
 -- the output is that of the recording, fed to the site, and the sink has it
 abbrev Done : ℕ → Bool → Site → Change → Recording → Type 0
 Done count journal site sink recording =
-    HasSummedAll (rules_for site recording) recording.items count journal sink
+    HasSummedAll (rules_for false site recording) recording.items count journal sink
 
 -- what was made was replayed to its end
 pub gen_done : (count : ℕ) (journal : Bool) (site : Site) (recording : Recording) (sink : Change)
@@ -26,7 +26,7 @@ gen_done count journal site recording sink same accepted done =
 
 made_stopped : (count : ℕ) (journal : Bool) (site : Site) (sink : Change) (stop : FeedStop)
     → IsAccepted count_files site
-    → IsSumStop (rules_for site (generated count)) (generated count).items count journal sink stop
+    → IsSumStop (rules_for false site (generated count)) (generated count).items count journal sink stop
     → GenWrites count journal sink (feed_status_of stop)
 made_stopped count journal site sink (feed.StartFailed fail) accepted stopped =
     (record { site = site; accepted = accepted; failed = stopped.0 }, stopped.1)
@@ -41,9 +41,9 @@ made_stopped count journal site sink feed.Memory accepted (inr part) =
 -- or it stopped so
 pub gen_stopped : (count : ℕ) (journal : Bool) (site : Site) (recording : Recording) (sink : Change) (stop : FeedStop)
     → recording ≡ generated count → IsAccepted count_files site
-    → IsSumStop (rules_for site recording) recording.items count journal sink stop
+    → IsSumStop (rules_for false site recording) recording.items count journal sink stop
     → GenWrites count journal sink (feed_status_of stop)
 gen_stopped count journal site recording sink stop same accepted stopped =
     made_stopped count journal site sink stop accepted
-    (subst (λ (recording : Recording). IsSumStop (rules_for site recording) recording.items count journal sink stop)
+    (subst (λ (recording : Recording). IsSumStop (rules_for false site recording) recording.items count journal sink stop)
     same stopped)

@@ -15,22 +15,22 @@ use Rattle.asp_host.specs.Serve.{ServeMeets, rules_from}
 use Rattle.asp_host.specs.Status.{serve_status_of, status_of}
 
 -- where the folder is no site, nothing was served
-pub nothing_served : (requests : ℕ) (files : Option (List SiteFile)) (seed : List ℕ) (ends : Bool) (why : LoadStop)
-    → Refuses files why → ServeMeets requests files seed ends (status_of why)
-nothing_served requests files seed ends (load.Refused fault) stops = stops
-nothing_served requests files seed ends load.ReadFault stops = tt
-nothing_served requests files seed ends load.Memory stops = tt
+pub nothing_served : (requests : ℕ) (files : Option (List SiteFile)) (seed : List ℕ) (strict ends : Bool) (why : LoadStop)
+    → Refuses files why → ServeMeets requests files seed strict ends (status_of why)
+nothing_served requests files seed strict ends (load.Refused fault) stops = stops
+nothing_served requests files seed strict ends load.ReadFault stops = tt
+nothing_served requests files seed strict ends load.Memory stops = tt
 
 -- a host of the site did not serve to its end
 pub serve_stopped : (fails : Type 0) (requests : ℕ) (files : Option (List SiteFile)) (site : Site) (seed : List ℕ)
-    (ends : Bool) (why : ServeStop) → IfSome files (λ all. IsAccepted all site)
-    → IsStop fails (rules_from site seed) why → ServeMeets requests files seed ends (serve_status_of why)
-serve_stopped fails requests files site seed ends (stop.StartFailed fail) accepted failed =
+    (strict ends : Bool) (why : ServeStop) → IfSome files (λ all. IsAccepted all site)
+    → IsStop fails (rules_from site seed strict) why → ServeMeets requests files seed strict ends (serve_status_of why)
+serve_stopped fails requests files site seed strict ends (stop.StartFailed fail) accepted failed =
     record { site = site; accepted = accepted; failed = failed }
-serve_stopped fails requests files site seed ends (stop.JournalFull full) accepted filled =
+serve_stopped fails requests files site seed strict ends (stop.JournalFull full) accepted filled =
     record { site = site; accepted = accepted; filled = filled }
-serve_stopped fails requests files site seed ends stop.AcceptFault accepted failed = (site, accepted)
-serve_stopped fails requests files site seed ends stop.Memory accepted stopped = tt
+serve_stopped fails requests files site seed strict ends stop.AcceptFault accepted failed = (site, accepted)
+serve_stopped fails requests files site seed strict ends stop.Memory accepted stopped = tt
 
 -- where the wire failed, it may fail
 pub accept_failed : (fails : Type 0) (rules : Rules) (why : ServeStop) → IsStop fails rules why

@@ -1,5 +1,5 @@
 -- How `gen` ends, by its status, and what it then leaves in the sink.
-use Rattle.std.specs.Prelude.{◌≡◌, ◌⊎◌, ℕ, Bool, true, List, ◌++◌, None}
+use Rattle.std.specs.Prelude.{◌≡◌, ◌⊎◌, ℕ, Bool, true, List, ◌++◌, None, false}
 use Rattle.asp_io.specs.Copying.{AddsPart}
 use Rattle.asp_io.specs.Sink.{with_bytes}
 use Rattle.asp_job.specs.declared.answer.Fail.{Fail}
@@ -64,25 +64,25 @@ IsSumStop rules items count journal sink feed.Memory = IsLeft sink ⊎ HasSummed
 pub record GeneratesAll (count : ℕ) (journal : Bool) (sink : Change) : Type 0 where
   pub site : Site
   pub accepted : IsAccepted count_files site
-  pub all : HasSummedAll (rules_for site (generated count)) (generated count).items count journal sink
+  pub all : HasSummedAll (rules_for false site (generated count)) (generated count).items count journal sink
 
 -- so many requests that are made were fed to the site of the one page
 pub record HasGenerated (count : ℕ) (journal : Bool) (output : List ℕ) : Type 0 where
   pub site : Site
   pub accepted : IsAccepted count_files site
-  pub summed : HasSummed (rules_for site (generated count)) (generated count).items count journal output
+  pub summed : HasSummed (rules_for false site (generated count)) (generated count).items count journal output
 
 -- the first run of the site failed
 pub record FailsGenerated (count : ℕ) (fail : Fail) : Type 0 where
   pub site : Site
   pub accepted : IsAccepted count_files site
-  pub failed : HasNotStarted (rules_for site (generated count)) fail None None
+  pub failed : HasNotStarted (rules_for false site (generated count)) fail None None
 
 -- they were fed in part, until the journal was full
 pub record FillsGenerated (count : ℕ) (full : Full) : Type 0 where
   pub site : Site
   pub accepted : IsAccepted count_files site
-  pub filled : HasFilled gen_workers (rules_for site (generated count)) (generated count).items full None None
+  pub filled : HasFilled gen_workers (rules_for false site (generated count)) (generated count).items full None None
 
 -- the requests were fed, and a first part of what belongs to them was written
 abbrev pub GeneratesPart : ℕ → Bool → Change → Type 0

@@ -13,11 +13,11 @@ use Rattle.asp_host.specs.Serve.{ServeEnds}
 abbrev pub Ends : Command → Around → Status → Type 0
 Ends (Get site path query) around status = GetEnds path query around status
 Ends (Check site) around status = CheckEnds around status
-Ends (Replay site workers asked) around status = ReplayEnds workers asked around status
-Ends (Serve site requests workers port) around status = ServeEnds requests around status
+Ends (Replay site workers asked strict) around status = ReplayEnds workers asked strict around status
+Ends (Serve site requests workers port strict) around status = ServeEnds requests strict around status
 Ends (Gen count asked) around status = GenEnds count asked around status
 
 -- the command reads nothing of its source
 abbrev pub ReadsNothing : Command → Type 0
-ReadsNothing (Replay site workers asked) = ⊥
+ReadsNothing (Replay site workers asked strict) = ⊥
 ReadsNothing _ = Unit {0}

@@ -39,12 +39,12 @@ where
     R::Store: Drop,
     K: Sink,
     requires sound { IsSound recording.now }
-    ensures core { IfOk result (IsCoreOf runner site (setting_of recording.now.seed false)) }
+    ensures core { IfOk result (IsCoreOf runner site (setting_of recording.now.seed recording.now.strict)) }
     ensures ok { IfOk result (λ core. spec.HasFedBy 1 (rules_by (R.meaning runner site)
-        (setting_of recording.now.seed false))
+        (setting_of recording.now.seed recording.now.strict))
         recording.now.items (past_of core) (K.held sink.old) (K.held sink.new)) }
     ensures err { IfErr result (λ stop. spec.HasFedUntil 1 (rules_by (R.meaning runner site)
-        (setting_of recording.now.seed false))
+        (setting_of recording.now.seed recording.now.strict))
         recording.now.items stop (K.held sink.old) (K.held sink.new)) }
     ensures cause { HasCause FeedStop.WriteFault (K.faults sink.old) (K.faults sink.new) result }
 {
@@ -81,12 +81,12 @@ where
     K: Sink,
     requires sound { IsSound recording.now }
     requires workers { (1 ≤ workers) × (workers ≤ 32) }
-    ensures core { IfOk result (IsCoreOf runner site (setting_of recording.now.seed false)) }
+    ensures core { IfOk result (IsCoreOf runner site (setting_of recording.now.seed recording.now.strict)) }
     ensures ok { IfOk result (λ core. spec.HasFedBy workers (rules_by (R.meaning runner site)
-        (setting_of recording.now.seed false))
+        (setting_of recording.now.seed recording.now.strict))
         recording.now.items (past_of core) (K.held sink.old) (K.held sink.new)) }
     ensures err { IfErr result (λ stop. spec.HasFedUntil workers (rules_by (R.meaning runner site)
-        (setting_of recording.now.seed false))
+        (setting_of recording.now.seed recording.now.strict))
         recording.now.items stop (K.held sink.old) (K.held sink.new)) }
     ensures cause { HasCause FeedStop.WriteFault (K.faults sink.old) (K.faults sink.new) result }
 {

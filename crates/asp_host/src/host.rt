@@ -85,20 +85,25 @@ where
                 site: _,
                 workers,
                 journal,
+                strict,
             },
-        ) => replay(rt, alloc, workers, journal, folder, source, sink, &OpenGate),
+        ) => replay(
+            rt, alloc, workers, journal, strict, folder, source, sink, &OpenGate,
+        ),
         Ok(
             Command::Serve {
                 site: _,
                 requests,
                 workers,
                 port: _,
+                strict,
             },
         ) => {
             let terms = Terms {
                 seed,
                 requests,
                 workers,
+                strict,
             };
             serve(rt, alloc, &terms, folder, wire, clock)
         }

@@ -86,10 +86,10 @@ where
     requires sound { IsSound recording.now }
     requires workers { (1 ≤ workers) × (workers ≤ 32) }
     ensures ok { OnOk result (HasReplayed workers (rules_by (R.meaning runner site)
-        (setting_of recording.now.seed false))
+        (setting_of recording.now.seed recording.now.strict))
         recording.now.items journal (K.held sink.old) (K.held sink.new)) }
     ensures err { IfErr result (HasStopped workers (rules_by (R.meaning runner site)
-        (setting_of recording.now.seed false))
+        (setting_of recording.now.seed recording.now.strict))
         recording.now.items journal (K.held sink.old) (K.held sink.new)) }
     ensures cause { HasCause FeedStop.WriteFault (K.faults sink.old) (K.faults sink.new) result }
 {

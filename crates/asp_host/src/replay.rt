@@ -1,12 +1,12 @@
 //! The command `replay`.
-ghost use Rattle.std.specs.Prelude.{◌≡◌, ◌≤◌, ◌⊎◌, ℕ, Bool, List, map};
+ghost use Rattle.std.specs.Prelude.{◌≡◌, ◌≤◌, ◌⊎◌, ◌||◌, ℕ, Bool, List, map};
 ghost use Rattle.std.specs.String.{string_bytes};
 ghost use Rattle.asp_command.specs.Saying.{AreNoReplay};
 ghost use Rattle.asp_command.specs.Words.{SaysReplay};
 ghost use Rattle.asp_io.specs.Faults.{HasRisen};
 ghost use Rattle.asp_record.specs.Recorded.{IsSound};
 ghost use Rattle.asp_host.specs.Loaded.{RecordingWritesOf, ReplayWritesOf};
-ghost use Rattle.asp_host.specs.Replay.{ReplayWrites};
+ghost use Rattle.asp_host.specs.Replay.{ReplayWrites, with_rule};
 ghost use Rattle.asp_host.specs.Status.{IsUnsaid};
 
 use crate::output::write_replay;
@@ -42,9 +42,9 @@ where
     S: Source,
     K: Sink,
     G: Gate + Sync,
-    ensures ends { (site : List ℕ) (workers : ℕ) (journal : Bool)
-        → SaysReplay (map string_bytes words.now) site workers journal
-        → ReplayWrites workers journal (F.files folder.old)
+    ensures ends { (site : List ℕ) (workers : ℕ) (journal strict : Bool)
+        → SaysReplay (map string_bytes words.now) site workers journal strict
+        → ReplayWrites workers journal strict (F.files folder.old)
         (record { before = S.left source.old; after = S.left source.new })
         (record { before = K.held sink.old; after = K.held sink.new }) result }
     ensures other { AreNoReplay (map string_bytes words.now)
@@ -59,8 +59,11 @@ where
                 site: _,
                 workers,
                 journal,
+                strict,
             },
-        ) => replay(rt, alloc, workers, journal, folder, source, sink, gate),
+        ) => replay(
+            rt, alloc, workers, journal, strict, folder, source, sink, gate,
+        ),
         Ok(_) => Status::Usage,
         Err(WordStop::Usage) => Status::Usage,
         Err(WordStop::Memory) => Status::Memory,
@@ -68,12 +71,13 @@ where
 }
 
 /// Replays the recording that the source has by so many workers, whose runs pass the gate, and writes its answers, and its
-/// journal where that is asked for.
+/// journal where that is asked for. Where `strict` or the recording says so, the lock keeps readers out too.
 pub fn replay<Rt, F, S, K, G>(
     rt: &Rt,
     alloc: Global,
     workers: u32,
     journal: bool,
+    strict: bool,
     folder: &mut F,
     source: &mut S,
     sink: &mut K,
@@ -86,7 +90,7 @@ where
     K: Sink,
     G: Gate + Sync,
     requires { (1 ≤ workers) × (workers ≤ 32) }
-    ensures writes { ReplayWrites workers journal (F.files folder.old)
+    ensures writes { ReplayWrites workers journal strict (F.files folder.old)
         (record { before = S.left source.old; after = S.left source.new })
         (record { before = K.held sink.old; after = K.held sink.new }) result }
     ensures read_fault { result ≡ Status.ReadFault → HasRisen (F.faults folder.old) (F.faults folder.new)
@@ -94,7 +98,9 @@ where
     ensures write_fault { result ≡ Status.WriteFault → HasRisen (K.faults sink.old) (K.faults sink.new) }
 {
     match load(alloc, folder) {
-        Ok(site) => replay_source(rt, alloc, site, workers, journal, source, sink, gate),
+        Ok(site) => replay_source(
+            rt, alloc, site, workers, journal, strict, source, sink, gate,
+        ),
         Err(stop) => Status::from(stop),
     }
 }
@@ -106,6 +112,7 @@ fn replay_source<Rt, S, K, G>(
     site: Site,
     workers: u32,
     journal: bool,
+    strict: bool,
     source: &mut S,
     sink: &mut K,
     gate: &G,
@@ -116,16 +123,17 @@ where
     K: Sink,
     G: Gate + Sync,
     requires { (1 ≤ workers) × (workers ≤ 32) }
-    ensures writes { ReplayWritesOf workers journal site
+    ensures writes { ReplayWritesOf workers journal strict site
         (record { before = S.left source.old; after = S.left source.new })
         (record { before = K.held sink.old; after = K.held sink.new }) result }
     ensures read_fault { result ≡ Status.ReadFault → HasRisen (S.faults source.old) (S.faults source.new) }
     ensures write_fault { result ≡ Status.WriteFault → HasRisen (K.faults sink.old) (K.faults sink.new) }
 {
     match source_recording(alloc, source) {
-        Ok(recording) => replay_recording(
-            rt, alloc, site, &recording, workers, journal, sink, gate,
-        ),
+        Ok(recording) => {
+            let ruled = ruled(recording, strict);
+            replay_recording(rt, alloc, site, &ruled, workers, journal, sink, gate)
+        }
         Err(stop) => {
             drop(site);
             Status::from(stop)
@@ -133,7 +141,30 @@ where
     }
 }
 
-/// Replays the recording over the site.
+/// Whether one of two words was said.
+fn either(one: bool, other: bool) -> bool
+    ensures { result ≡ (one || other) }
+{
+    one || other
+}
+
+/// The recording with the rule of its lock, which the word or the recording says.
+fn ruled(recording: Recording, strict: bool) -> Recording
+    ensures { result ≡ with_rule strict recording }
+{
+    let Recording {
+        seed,
+        strict: said,
+        items,
+    } = recording;
+    Recording {
+        seed,
+        strict: either(strict, said),
+        items,
+    }
+}
+
+/// Replays the recording over the site, by the rule that it has.
 fn replay_recording<Rt, K, G>(
     rt: &Rt,
     alloc: Global,
@@ -150,7 +181,7 @@ where
     G: Gate + Sync,
     requires sound { IsSound recording.now }
     requires workers { (1 ≤ workers) × (workers ≤ 32) }
-    ensures writes { RecordingWritesOf workers journal site recording.now
+    ensures writes { (strict : Bool) → RecordingWritesOf workers journal strict site recording.now
         (record { before = K.held sink.old; after = K.held sink.new }) result }
     ensures no_read { result ≡ Status.ReadFault → ⊥ }
     ensures write_fault { result ≡ Status.WriteFault → HasRisen (K.faults sink.old) (K.faults sink.new) }

@@ -32,7 +32,7 @@ where
     W::L: Send + Drop,
     C: Clock + Sync,
     requires { (1 ≤ terms.now.workers) × (terms.now.workers ≤ 32) }
-    ensures meets { ServeMeets terms.now.requests (F.files folder.old) terms.now.seed W.ENDS result }
+    ensures meets { ServeMeets terms.now.requests (F.files folder.old) terms.now.seed terms.now.strict W.ENDS result }
     ensures read_fault { result ≡ Status.ReadFault → HasRisen (F.faults folder.old) (F.faults folder.new) }
     ensures accept_fault { result ≡ Status.AcceptFault → MayFail W.faults }
 {
@@ -57,7 +57,7 @@ where
     W::L: Send + Drop,
     C: Clock + Sync,
     requires { (1 ≤ terms.now.workers) × (terms.now.workers ≤ 32) }
-    ensures meets { ServeMeetsOf terms.now.requests site terms.now.seed W.ENDS result }
+    ensures meets { ServeMeetsOf terms.now.requests site terms.now.seed terms.now.strict W.ENDS result }
     ensures no_read { result ≡ Status.ReadFault → ⊥ }
     ensures accept_fault { result ≡ Status.AcceptFault → MayFail W.faults }
 {

@@ -91,10 +91,10 @@ where
     K: Sink,
     requires sound { IsSound recording.now }
     ensures ok { OnOk result (spec.HasSummedAll (rules_by (R.meaning runner site)
-        (setting_of recording.now.seed false)) recording.now.items count journal
+        (setting_of recording.now.seed recording.now.strict)) recording.now.items count journal
         (record { before = K.held sink.old; after = K.held sink.new })) }
     ensures err { IfErr result (spec.IsSumStop (rules_by (R.meaning runner site)
-        (setting_of recording.now.seed false))
+        (setting_of recording.now.seed recording.now.strict))
         recording.now.items count journal (record { before = K.held sink.old; after = K.held sink.new })) }
     ensures cause { HasCause FeedStop.WriteFault (K.faults sink.old) (K.faults sink.new) result }
 {

@@ -316,18 +316,18 @@ where
     R::Store: Drop,
     K: Sink,
     requires sound { IsSound recording.now }
-    ensures core { IfOk result (way.IsCoreOf runner.now site.now (setting_of recording.now.seed false)) }
+    ensures core { IfOk result (way.IsCoreOf runner.now site.now (setting_of recording.now.seed recording.now.strict)) }
     ensures ok { IfOk result (λ core. spec.HasFed (rules_by (R.meaning runner.now site.now)
-        (setting_of recording.now.seed false))
+        (setting_of recording.now.seed recording.now.strict))
         recording.now.items (past_of core) (K.held sink.old) (K.held sink.new)) }
     ensures err { IfErr result (λ stop. way.HasNotBegun stop (K.held sink.old) (K.held sink.new)
         ⊎ ((past : List Entry) × spec.HasFedPart (rules_by (R.meaning runner.now site.now)
-        (setting_of recording.now.seed false))
+        (setting_of recording.now.seed recording.now.strict))
         recording.now.items past stop (K.held sink.old) (K.held sink.new))) }
     ensures cause { HasCause FeedStop.WriteFault (K.faults sink.old) (K.faults sink.new) result }
 {
     let store = runner.store()?;
-    let mut core = match Core::new(alloc, 0, runner, site, recording.seed, false) {
+    let mut core = match Core::new(alloc, 0, runner, site, recording.seed, recording.strict) {
         Ok(core) => core,
         Err(memory) => {
             let_go::<R>(Load::Free(store));

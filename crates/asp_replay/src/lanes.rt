@@ -382,18 +382,18 @@ where
     K: Sink,
     requires sound { IsSound recording.now }
     requires workers { (1 ≤ workers) × (workers ≤ 32) }
-    ensures core { IfOk result (way.IsCoreOf runner site (setting_of recording.now.seed false)) }
+    ensures core { IfOk result (way.IsCoreOf runner site (setting_of recording.now.seed recording.now.strict)) }
     ensures lanes { IfOk result (λ core. AreOfLanes (λ entry. entry.lane) workers core.journal) }
     ensures ok { IfOk result (λ core. spec.HasFedBeside (rules_by (R.meaning runner site)
-        (setting_of recording.now.seed false))
+        (setting_of recording.now.seed recording.now.strict))
         recording.now.items (past_of core) (K.held sink.old) (K.held sink.new)) }
     ensures err { IfErr result (λ stop. way.HasNotBegun stop (K.held sink.old) (K.held sink.new)
         ⊎ ((past : List Entry) × spec.HasFedPartBeside workers (rules_by (R.meaning runner site)
-        (setting_of recording.now.seed false))
+        (setting_of recording.now.seed recording.now.strict))
         recording.now.items past stop (K.held sink.old) (K.held sink.new))) }
     ensures cause { HasCause FeedStop.WriteFault (K.faults sink.old) (K.faults sink.new) result }
 {
-    match Host::new(alloc, runner, site, recording.seed, false, workers) {
+    match Host::new(alloc, runner, site, recording.seed, recording.strict, workers) {
         Ok((host, hands)) => feed_hands(rt, alloc, host, hands, recording, gate, sink),
         Err(_back) => Err(FeedStop::Memory),
     }

@@ -32,6 +32,8 @@ pub struct Terms {
     pub requests: u32,
     /// How many workers there are, from 1 to 32.
     pub workers: u32,
+    /// Whether the lock of the Application object keeps readers out too.
+    pub strict: bool,
 }
 
 /// Why a host did not serve to its end.
@@ -232,7 +234,7 @@ where
     C: Clock + Sync,
     G: Gate + Sync,
     requires { (1 ≤ terms.now.workers) × (terms.now.workers ≤ 32) }
-    ensures { spec.HasServed (MayFail W.faults) (rules_by (R.meaning runner site) (setting_of terms.now.seed false))
+    ensures { spec.HasServed (MayFail W.faults) (rules_by (R.meaning runner site) (setting_of terms.now.seed terms.now.strict))
         W.ENDS terms.now.requests result }
 {
     let wire = Mutex::new(wire);
@@ -243,7 +245,7 @@ where
         gate,
         requests: terms.requests,
     };
-    match Host::new(alloc, runner, site, terms.seed, false, terms.workers) {
+    match Host::new(alloc, runner, site, terms.seed, terms.strict, terms.workers) {
         Ok((host, hands)) => run(rt, host, hands, &task),
         Err(_back) => Err(ServeStop::Memory),
     }

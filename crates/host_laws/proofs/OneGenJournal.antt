@@ -1,5 +1,5 @@
 -- A number of requests and what `gen` wrote of them with the lines of the journal tell the journal.
-use Rattle.std.proofs.Common.{◌≡◌, ◌∙◌, ℕ, true, List, ◌++◌, refl, sym, arith}
+use Rattle.std.proofs.Common.{◌≡◌, ◌∙◌, ℕ, true, List, ◌++◌, refl, sym, arith, false}
 use Rattle.asp_host.specs.Around.{Change}
 use Rattle.asp_host.specs.Gen.{GeneratesAll}
 use Rattle.asp_host.specs.Replay.{rules_for}
@@ -32,6 +32,6 @@ one_gen_journal begins lines journals count output sink other tells more one als
     (summary_lines (summary_of count second.past)) (one.all.lines refl) (also.all.lines refl)
     (no_line begins (summary_of count first.past)) (no_line begins (summary_of count second.past))
     (sym first.output_is ∙ wrote ∙ sym wrote_too ∙ second.output_is) in
-    journals (rules_for one.site (generated count)) (rules_for also.site (generated count)) (generated count).items
+    journals (rules_for false one.site (generated count)) (rules_for false also.site (generated count)) (generated count).items
     first.past second.past (record { valid = first.account; fed = first.whole.fed })
     (record { valid = second.account; fed = second.whole.fed }) same.0

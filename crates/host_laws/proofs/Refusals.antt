@@ -166,9 +166,9 @@ module _ (sites : OneSite) (faultless : SiteOrFault) where
   )
 
   pub gen_refuses_none : (count : ℕ) (journal : Bool) (around : Around) (status : Status)
-      → ((site : Site) → IsAccepted count_files site → NeverFails (rules_for site (generated count)))
+      → ((site : Site) → IsAccepted count_files site → NeverFails (rules_for false site (generated count)))
       → ((site : Site) → IsAccepted count_files site
-      → NeverFills gen_workers (rules_for site (generated count)) (generated count).items)
+      → NeverFills gen_workers (rules_for false site (generated count)) (generated count).items)
       → GenEnds count journal around status → GeneratesUnrefused count status
   gen_refuses_none count journal around Ok never little ends = tt
   gen_refuses_none count journal around Memory never little ends = tt
@@ -179,39 +179,39 @@ module _ (sites : OneSite) (faultless : SiteOrFault) where
   gen_refuses_none count journal around (JournalFull full) never little ends =
       let fills = ends.1.0 in (
         fills,
-        never_filled gen_workers (rules_for fills.site (generated count)) (generated count).items full None None
+        never_filled gen_workers (rules_for false fills.site (generated count)) (generated count).items full None None
             (little fills.site fills.accepted) fills.filled,
       )
   gen_refuses_none count journal around (StartFailed fail) never little ends =
       let fails = ends.1.0 in
-      not_started (rules_for fails.site (generated count)) fail None None (never fails.site fails.accepted)
+      not_started (rules_for false fails.site (generated count)) fail None None (never fails.site fails.accepted)
       fails.failed
   gen_refuses_none count journal around (RecordRefused offset) never little ends = ends.1
   gen_refuses_none count journal around Usage never little ends = ends.1
 
   -- ---- `serve`
 
-  not_begun : (around : Around) (site : Site) (fail : Fail) → TellsSite around site
-      → NeverFailsToStart (rules_from site around.seed) → serve.FailsToBegin around.files around.seed fail → ⊥
-  not_begun around site fail tells never fails =
+  not_begun : (strict : Bool) (around : Around) (site : Site) (fail : Fail) → TellsSite around site
+      → NeverFailsToStart (rules_from site around.seed strict) → serve.FailsToBegin around.files around.seed strict fail → ⊥
+  not_begun strict around site fail tells never fails =
       let same = same_site around tells.files site fails.site tells.tells tells.accepted fails.accepted in
-      never fail (subst (λ (site : Site). HasFailedToStart (rules_from site around.seed) fail) same fails.failed)
+      never fail (subst (λ (site : Site). HasFailedToStart (rules_from site around.seed strict) fail) same fails.failed)
 
-  pub serve_refuses_none : (requests : ℕ) (around : Around) (site : Site) (status : Status) → TellsSite around site
-      → NeverFailsToStart (rules_from site around.seed) → ServeEnds requests around status
-      → ServesUnrefused around status
-  serve_refuses_none requests around site Ok tells never ends = tt
-  serve_refuses_none requests around site Memory tells never ends = tt
-  serve_refuses_none requests around site ReadFault tells never ends = tt
-  serve_refuses_none requests around site WriteFault tells never ends = tt
-  serve_refuses_none requests around site AcceptFault tells never ends = tt
-  serve_refuses_none requests around site (SiteRefused fault) tells never ends =
+  pub serve_refuses_none : (requests : ℕ) (strict : Bool) (around : Around) (site : Site) (status : Status) → TellsSite around site
+      → NeverFailsToStart (rules_from site around.seed strict) → ServeEnds requests strict around status
+      → ServesUnrefused strict around status
+  serve_refuses_none requests strict around site Ok tells never ends = tt
+  serve_refuses_none requests strict around site Memory tells never ends = tt
+  serve_refuses_none requests strict around site ReadFault tells never ends = tt
+  serve_refuses_none requests strict around site WriteFault tells never ends = tt
+  serve_refuses_none requests strict around site AcceptFault tells never ends = tt
+  serve_refuses_none requests strict around site (SiteRefused fault) tells never ends =
       no_folder_fault around site fault tells ends.2
-  serve_refuses_none requests around site (StartFailed fail) tells never ends =
-      not_begun around site fail tells never ends.2
-  serve_refuses_none requests around site (JournalFull full) tells never ends = ends.2
-  serve_refuses_none requests around site (RecordRefused offset) tells never ends = ends.2
-  serve_refuses_none requests around site Usage tells never ends = ends.2
+  serve_refuses_none requests strict around site (StartFailed fail) tells never ends =
+      not_begun strict around site fail tells never ends.2
+  serve_refuses_none requests strict around site (JournalFull full) tells never ends = ends.2
+  serve_refuses_none requests strict around site (RecordRefused offset) tells never ends = ends.2
+  serve_refuses_none requests strict around site Usage tells never ends = ends.2
 
   -- ---- `replay`
 
@@ -245,40 +245,40 @@ module _ (sites : OneSite) (faultless : SiteOrFault) where
         (subst (λ site. P site last)
         (same_site around tells.files site other tells.tells tells.accepted is_for.accepted) holds)
 
-    no_start_failed : (around : Around) (site : Site) (recording : Recording) (fail : Fail) → TellsSite around site
-        → TellsRecording around recording → NeverFails (rules_for site recording)
-        → replay.FailsToBegin around.files around.source around.sink fail → ⊥
-    no_start_failed around site recording fail tells also never fails =
-        not_started (rules_for site recording) fail around.sink.before around.sink.after never
+    no_start_failed : (strict : Bool) (around : Around) (site : Site) (recording : Recording) (fail : Fail) → TellsSite around site
+        → TellsRecording around recording → NeverFails (rules_for strict site recording)
+        → replay.FailsToBegin strict around.files around.source around.sink fail → ⊥
+    no_start_failed strict around site recording fail tells also never fails =
+        not_started (rules_for strict site recording) fail around.sink.before around.sink.after never
         (of_same around site fails.site recording fails.recording (λ site recording. HasNotStarted
-        (rules_for site recording) fail around.sink.before around.sink.after) tells also fails.is_for fails.failed)
+        (rules_for strict site recording) fail around.sink.before around.sink.after) tells also fails.is_for fails.failed)
 
-    no_journal_full : (workers : ℕ) (around : Around) (site : Site) (recording : Recording) (full : Full)
+    no_journal_full : (workers : ℕ) (strict : Bool) (around : Around) (site : Site) (recording : Recording) (full : Full)
         → TellsSite around site → TellsRecording around recording
-        → NeverFills workers (rules_for site recording) recording.items
-        → (fills : Fills workers around.files around.source around.sink full)
+        → NeverFills workers (rules_for strict site recording) recording.items
+        → (fills : Fills workers strict around.files around.source around.sink full)
         → ¬ (NoneIs is_memory_end fills.filled.0)
-    no_journal_full workers around site recording full tells also never fills =
+    no_journal_full workers strict around site recording full tells also never fills =
         of_same around site fills.site recording fills.recording (λ site recording. NeverFills workers
-        (rules_for site recording) recording.items → ¬ (NoneIs is_memory_end fills.filled.0)) tells also fills.is_for
-        (λ nowhere. never_filled workers (rules_for fills.site fills.recording) fills.recording.items full
+        (rules_for strict site recording) recording.items → ¬ (NoneIs is_memory_end fills.filled.0)) tells also fills.is_for
+        (λ nowhere. never_filled workers (rules_for strict fills.site fills.recording) fills.recording.items full
         around.sink.before around.sink.after nowhere fills.filled) never
 
-    pub replay_refuses_none : (workers : ℕ) (journal : Bool) (around : Around) (site : Site) (recording : Recording)
+    pub replay_refuses_none : (workers : ℕ) (journal strict : Bool) (around : Around) (site : Site) (recording : Recording)
         (status : Status) → TellsSite around site → TellsRecording around recording
-        → NeverFails (rules_for site recording) → NeverFills workers (rules_for site recording) recording.items
-        → ReplayEnds workers journal around status → ReplaysUnrefused workers around status
-    replay_refuses_none workers journal around site recording Ok tells also never little ends = tt
-    replay_refuses_none workers journal around site recording Memory tells also never little ends = tt
-    replay_refuses_none workers journal around site recording ReadFault tells also never little ends = tt
-    replay_refuses_none workers journal around site recording WriteFault tells also never little ends = tt
-    replay_refuses_none workers journal around site recording AcceptFault tells also never little ends = tt
-    replay_refuses_none workers journal around site recording (SiteRefused fault) tells also never little ends =
+        → NeverFails (rules_for strict site recording) → NeverFills workers (rules_for strict site recording) recording.items
+        → ReplayEnds workers journal strict around status → ReplaysUnrefused workers strict around status
+    replay_refuses_none workers journal strict around site recording Ok tells also never little ends = tt
+    replay_refuses_none workers journal strict around site recording Memory tells also never little ends = tt
+    replay_refuses_none workers journal strict around site recording ReadFault tells also never little ends = tt
+    replay_refuses_none workers journal strict around site recording WriteFault tells also never little ends = tt
+    replay_refuses_none workers journal strict around site recording AcceptFault tells also never little ends = tt
+    replay_refuses_none workers journal strict around site recording (SiteRefused fault) tells also never little ends =
         no_folder_fault around site fault tells ends.0
-    replay_refuses_none workers journal around site recording (RecordRefused offset) tells also never little ends =
+    replay_refuses_none workers journal strict around site recording (RecordRefused offset) tells also never little ends =
         no_record_refused around recording offset also ends.0
-    replay_refuses_none workers journal around site recording (StartFailed fail) tells also never little ends =
-        no_start_failed around site recording fail tells also never ends
-    replay_refuses_none workers journal around site recording (JournalFull full) tells also never little ends =
-        (ends, no_journal_full workers around site recording full tells also little ends)
-    replay_refuses_none workers journal around site recording Usage tells also never little ends = ends
+    replay_refuses_none workers journal strict around site recording (StartFailed fail) tells also never little ends =
+        no_start_failed strict around site recording fail tells also never ends
+    replay_refuses_none workers journal strict around site recording (JournalFull full) tells also never little ends =
+        (ends, no_journal_full workers strict around site recording full tells also little ends)
+    replay_refuses_none workers journal strict around site recording Usage tells also never little ends = ends

@@ -103,10 +103,10 @@ NeverFills workers rules items = (full : Full) (filled : HasFilled workers rules
     → ¬ (NoneIs is_memory_end filled.0)
 
 -- a replay, or a `gen`, refused nothing, unless its journal came to be full after memory had run out for a run
-abbrev pub ReplaysUnrefused : ℕ → Around → Status → Type 0
-ReplaysUnrefused workers around (JournalFull full) =
-    (fills : Fills workers around.files around.source around.sink full) × ¬ (NoneIs is_memory_end fills.filled.0)
-ReplaysUnrefused workers around status = IsNoRefusal status
+abbrev pub ReplaysUnrefused : ℕ → Bool → Around → Status → Type 0
+ReplaysUnrefused workers strict around (JournalFull full) =
+    (fills : Fills workers strict around.files around.source around.sink full) × ¬ (NoneIs is_memory_end fills.filled.0)
+ReplaysUnrefused workers strict around status = IsNoRefusal status
 
 abbrev pub GeneratesUnrefused : ℕ → Status → Type 0
 GeneratesUnrefused count (JournalFull full) =
@@ -114,9 +114,9 @@ GeneratesUnrefused count (JournalFull full) =
 GeneratesUnrefused count status = IsNoRefusal status
 
 -- a host that serves refused nothing, unless at some point of its journal something did not fit
-abbrev pub ServesUnrefused : Around → Status → Type 0
-ServesUnrefused around (JournalFull full) = serve.Fills around.files around.seed full
-ServesUnrefused around status = IsNoRefusal status
+abbrev pub ServesUnrefused : Bool → Around → Status → Type 0
+ServesUnrefused strict around (JournalFull full) = serve.Fills around.files around.seed strict full
+ServesUnrefused strict around status = IsNoRefusal status
 
 -- `check` refuses no folder that is a site
 abbrev pub CheckRefusesNone : Type 0
@@ -132,31 +132,33 @@ GetRefusesNone = (path query : List ℕ) (around : Around) (site : Site) (answer
 -- `replay` refuses no recording for a site whose application never fails to begin with its seed, where no journal that
 -- its items feed by as many workers comes to be full before memory runs out for a run
 abbrev pub ReplayRefusesNone : Type 0
-ReplayRefusesNone = (workers : ℕ) (journal : Bool) (around : Around) (site : Site) (recording : Recording) (status : Status)
-    → TellsSite around site → TellsRecording around recording → NeverFails (rules_for site recording)
-    → NeverFills workers (rules_for site recording) recording.items → ReplayEnds workers journal around status
-    → ReplaysUnrefused workers around status
+ReplayRefusesNone = (workers : ℕ) (journal strict : Bool) (around : Around) (site : Site) (recording : Recording)
+    (status : Status)
+    → TellsSite around site → TellsRecording around recording → NeverFails (rules_for strict site recording)
+    → NeverFills workers (rules_for strict site recording) recording.items
+    → ReplayEnds workers journal strict around status
+    → ReplaysUnrefused workers strict around status
 
 -- `gen` refuses nothing, where its one page is a site whose application never fails to begin, and no journal that its
 -- requests feed comes to be full before memory runs out for a run
 abbrev pub GenRefusesNone : Type 0
 GenRefusesNone = (count : ℕ) (journal : Bool) (around : Around) (status : Status)
-    → ((site : Site) → IsAccepted count_files site → NeverFails (rules_for site (generated count)))
+    → ((site : Site) → IsAccepted count_files site → NeverFails (rules_for false site (generated count)))
     → ((site : Site) → IsAccepted count_files site
-    → NeverFills gen_workers (rules_for site (generated count)) (generated count).items)
+    → NeverFills gen_workers (rules_for false site (generated count)) (generated count).items)
     → GenEnds count journal around status → GeneratesUnrefused count status
 
 -- `serve` refuses no site whose application never fails to begin with its seed
 abbrev pub ServeRefusesNone : Type 0
-ServeRefusesNone = (requests : ℕ) (around : Around) (site : Site) (status : Status) → TellsSite around site
-    → NeverFailsToStart (rules_from site around.seed) → ServeEnds requests around status
-    → ServesUnrefused around status
+ServeRefusesNone = (requests : ℕ) (strict : Bool) (around : Around) (site : Site) (status : Status) → TellsSite around site
+    → NeverFailsToStart (rules_from site around.seed strict) → ServeEnds requests strict around status
+    → ServesUnrefused strict around status
 
 -- ---- what is written
 
 -- a replay to the end by one worker, in whose journal no run ended because memory ran out
-pub record ReplaysWell (journal : Bool) (around : Around) : Type 0 where
-  pub all : ReplaysAll 1 journal around.files around.source around.sink
+pub record ReplaysWell (journal strict : Bool) (around : Around) : Type 0 where
+  pub all : ReplaysAll 1 journal strict around.files around.source around.sink
   pub enough : NoneIs is_memory_end all.replayed.past
 
 -- both leave the same bytes behind what their sinks held
@@ -164,11 +166,12 @@ abbrev pub AreAddedAlike : Change → Change → Type 0
 AreAddedAlike sink other = (output : List ℕ) × (sink.after ≡ with_bytes sink.before output)
     × (other.after ≡ with_bytes other.before output)
 
--- two such replays of the same files and the same bytes of a source leave the same
+-- two such replays of the same files and the same bytes of a source, both with the word for the strict rule or both without,
+-- leave the same
 abbrev pub OneReplayOutput : Type 0
-OneReplayOutput = (journal : Bool) (files : List SiteFile) (bytes : List ℕ) (around other : Around)
+OneReplayOutput = (journal strict : Bool) (files : List SiteFile) (bytes : List ℕ) (around other : Around)
     → TellsFiles around files → TellsFiles other files → around.source.before ≡ Some bytes
-    → other.source.before ≡ Some bytes → ReplaysWell journal around → ReplaysWell journal other
+    → other.source.before ≡ Some bytes → ReplaysWell journal strict around → ReplaysWell journal strict other
     → AreAddedAlike around.sink other.sink
 
 -- the source tells these bytes, and the sink that it was left with this output behind what it held
@@ -178,14 +181,14 @@ pub record TellsOutput (around : Around) (bytes output : List ℕ) : Type 0 wher
   pub before : around.sink.before ≡ Some held
   pub after : around.sink.after ≡ Some (held ++ output)
 
--- Two replays to the end with `--journal` that read the same bytes and wrote the same, whatever their sites and however
--- many workers each had, have the same entries in their journals, but for the answers that were handed out and halts, which
+-- Two replays to the end with `--journal` that read the same bytes and wrote the same, whatever their sites and rules and
+-- however many workers each had, have the same entries in their journals, but for the answers that were handed out and halts, which
 -- have no line.
 abbrev pub OneReplayJournal : Type 0
-OneReplayJournal = (workers others : ℕ) (bytes output : List ℕ) (around other : Around)
+OneReplayJournal = (workers others : ℕ) (strict lock : Bool) (bytes output : List ℕ) (around other : Around)
     → TellsOutput around bytes output → TellsOutput other bytes output → length output < 2 ^ 64
-    → (one : ReplaysAll workers true around.files around.source around.sink)
-    → (also : ReplaysAll others true other.files other.source other.sink)
+    → (one : ReplaysAll workers true strict around.files around.source around.sink)
+    → (also : ReplaysAll others true lock other.files other.source other.sink)
     → printed one.replayed.past ≡ printed also.replayed.past
 
 -- the sink was left with this output behind what it held

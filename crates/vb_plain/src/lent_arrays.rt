@@ -13,8 +13,7 @@ use std::alloc::Global;
 use std::slice::from_ref;
 use vb_funcs::call_func;
 use vb_heap::Place;
-use vb_meaning::World;
-use vb_objects::world::raise;
+use vb_meaning::{World, raise};
 use vb_value::{Array, Copied, List, PlainFn, Value, copy};
 
 /// Whether no object occurs in a value. It recurses once for each array inside another.

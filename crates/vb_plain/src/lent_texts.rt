@@ -8,7 +8,7 @@ ghost use Rattle.vb_value.specs.declared.value.Value.{Str};
 
 use std::alloc::Global;
 use std::slice::from_ref;
-use vb_objects::world::raise;
+use vb_meaning::raise;
 use vb_strings::call_string;
 use vb_value::{StrFn, Text, Value, limited, to_long};
 

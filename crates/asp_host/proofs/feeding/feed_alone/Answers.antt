@@ -14,7 +14,7 @@ use Rattle.asp_host.proofs.feeding.feed_alone.Goals as goal
 
 pub returns-in_err-core-clause-err : goal.returns-in_err-core-clause-err
 returns-in_err-core-clause-err g c =
-    let m = rules_by (g.R.Runner.meaning c.args.runner c.args.site) (setting_of c.args.recording.now.seed false) in
+    let m = rules_by (g.R.Runner.meaning c.args.runner c.args.site) (setting_of c.args.recording.now.seed c.args.recording.now.strict) in
     let items = c.args.recording.now.items in
     let before = g.K.Sink.held c.args.sink.now in
     let after = g.K.Sink.held c.feed-fed.new.sink in
@@ -24,7 +24,7 @@ returns-in_err-core-clause-err g c =
 
 pub returns-then-are_of_first-clause-ok : goal.returns-then-are_of_first-clause-ok
 returns-then-are_of_first-clause-ok g c =
-    let m = rules_by (g.R.Runner.meaning c.args.runner c.args.site) (setting_of c.args.recording.now.seed false) in
+    let m = rules_by (g.R.Runner.meaning c.args.runner c.args.site) (setting_of c.args.recording.now.seed c.args.recording.now.strict) in
     fed_alone m c.args.recording.now.items c.in_ok-core.core.journal (g.K.Sink.held c.args.sink.now)
     (g.K.Sink.held c.feed-fed.new.sink) c.in_ok-core.ensures.ok
     (subst (λ (entries : List Entry). All (λ (entry : Entry). entry.lane < 1) entries) c.journal.ensures.journal
@@ -33,7 +33,7 @@ returns-then-are_of_first-clause-ok g c =
 pub returns-clause-err : goal.returns-clause-err
 returns-clause-err g c =
     let core = c.in_ok-core.core in
-    let setting = setting_of c.args.recording.now.seed false in
+    let setting = setting_of c.args.recording.now.seed c.args.recording.now.strict in
     let past = past_of core in
     let same = rules_here g.R.Runner.meaning core c.args.runner c.args.site setting c.in_ok-core.ensures.core in
     fed_strangely (rules_by (g.R.Runner.meaning c.args.runner c.args.site) setting) c.args.recording.now.items past

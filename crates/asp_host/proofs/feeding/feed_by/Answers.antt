@@ -9,7 +9,7 @@ use Rattle.asp_host.proofs.feeding.feed_by.Goals as goal
 
 pub returns-clause-ok : goal.returns-clause-ok
 returns-clause-ok g c =
-    let m = rules_by (g.R.Runner.meaning c.args.runner c.args.site) (setting_of c.args.recording.now.seed false) in
+    let m = rules_by (g.R.Runner.meaning c.args.runner c.args.site) (setting_of c.args.recording.now.seed c.args.recording.now.strict) in
     let items = c.args.recording.now.items in
     let before = g.K.Sink.held c.args.sink.now in
     let after = g.K.Sink.held c.feed_with.new.sink in

@@ -11,7 +11,7 @@ use Rattle.asp_host.proofs.output.write_replay.Goals as goal
 pub returns-in_err-core-clause-err : goal.returns-in_err-core-clause-err
 returns-in_err-core-clause-err g c =
     let m = rules_by (g.R.Runner.meaning c.args.runner c.args.site)
-    (setting_of c.args.recording.now.seed false) in
+    (setting_of c.args.recording.now.seed c.args.recording.now.strict) in
     let items = c.args.recording.now.items in
     let before = g.K.Sink.held c.args.sink.now in
     let after = g.K.Sink.held c.feed_by.new.sink in
@@ -22,7 +22,7 @@ returns-in_err-core-clause-err g c =
 pub returns-clause-ok : goal.returns-clause-ok
 returns-clause-ok g c =
     replay_ok c.args.workers g.R.Runner.meaning c.in_ok-core.core c.args.runner c.args.site
-    (setting_of c.args.recording.now.seed false)
+    (setting_of c.args.recording.now.seed c.args.recording.now.strict)
     c.args.recording.now.items c.args.journal (g.K.Sink.held c.args.sink.now) (g.K.Sink.held c.feed_by.new.sink)
     (g.K.Sink.held c.write_end-written.new.sink) c.write_end-written.result
     c.in_ok-core.ensures.core c.write_end-written.ensures.valid
@@ -31,7 +31,7 @@ returns-clause-ok g c =
 pub returns-clause-err : goal.returns-clause-err
 returns-clause-err g c =
     replay_err c.args.workers g.R.Runner.meaning c.in_ok-core.core c.args.runner c.args.site
-    (setting_of c.args.recording.now.seed false)
+    (setting_of c.args.recording.now.seed c.args.recording.now.strict)
     c.args.recording.now.items c.args.journal (g.K.Sink.held c.args.sink.now) (g.K.Sink.held c.feed_by.new.sink)
     (g.K.Sink.held c.write_end-written.new.sink) c.write_end-written.result
     c.in_ok-core.ensures.core c.write_end-written.ensures.valid

@@ -22,11 +22,12 @@ pub returns-in-Err-clause-meets : goal.returns-in-Err-clause-meets
 returns-in-Err-clause-meets g c = λ files accepted.
     let requests = c.args.terms.now.requests in
     let seed = c.args.terms.now.seed in
-    subst (λ (status : Status). ServeMeets requests files seed g.W.Wire.ENDS status) (sym c.from.ensures)
-    (serve_stopped (MayFail g.W.Wire.faults) requests files c.args.site seed g.W.Wire.ENDS c.in-Err.stop accepted
+    let strict = c.args.terms.now.strict in
+    subst (λ (status : Status). ServeMeets requests files seed strict g.W.Wire.ENDS status) (sym c.from.ensures)
+    (serve_stopped (MayFail g.W.Wire.faults) requests files c.args.site seed strict g.W.Wire.ENDS c.in-Err.stop accepted
     c.in-Err.ensures)
 
 pub returns-in-Err-clause-accept_fault : goal.returns-in-Err-clause-accept_fault
 returns-in-Err-clause-accept_fault g c = λ is.
-    accept_failed (MayFail g.W.Wire.faults) (rules_from c.args.site c.args.terms.now.seed) c.in-Err.stop
+    accept_failed (MayFail g.W.Wire.faults) (rules_from c.args.site c.args.terms.now.seed c.args.terms.now.strict) c.in-Err.stop
     c.in-Err.ensures (sym c.from.ensures ∙ is)

@@ -8,7 +8,7 @@ use Rattle.asp_host.proofs.summing.write_generated.Goals as goal
 pub returns-in_err-core-clause-err : goal.returns-in_err-core-clause-err
 returns-in_err-core-clause-err g c =
     let rules = rules_by (g.R.Runner.meaning c.args.runner c.args.site)
-    (setting_of c.args.recording.now.seed false) in
+    (setting_of c.args.recording.now.seed c.args.recording.now.strict) in
     let items = c.args.recording.now.items in
     let held = g.K.Sink.held c.args.sink.now in
     let ended = c.in_err-core.field-0.0 in
@@ -25,7 +25,7 @@ returns-in_err-core-clause-cause g c =
 pub returns-clause-ok : goal.returns-clause-ok
 returns-clause-ok g c =
     sum_ok g.R.Runner.meaning c.in_ok-core.core c.args.runner c.args.site
-    (setting_of c.args.recording.now.seed false)
+    (setting_of c.args.recording.now.seed c.args.recording.now.strict)
     c.args.recording.now.items c.args.count c.args.journal (g.K.Sink.held c.args.sink.now)
     (g.K.Sink.held c.write_summary-written.new.sink) c.write_summary-written.result
     c.in_ok-core.ensures.core c.write_summary-written.ensures.valid
@@ -34,7 +34,7 @@ returns-clause-ok g c =
 pub returns-clause-err : goal.returns-clause-err
 returns-clause-err g c =
     sum_err g.R.Runner.meaning c.in_ok-core.core c.args.runner c.args.site
-    (setting_of c.args.recording.now.seed false)
+    (setting_of c.args.recording.now.seed c.args.recording.now.strict)
     c.args.recording.now.items c.args.count c.args.journal (g.K.Sink.held c.args.sink.now)
     (g.K.Sink.held c.write_summary-written.new.sink) c.write_summary-written.result
     c.in_ok-core.ensures.core c.write_summary-written.ensures.valid

@@ -11,15 +11,15 @@ use Rattle.asp_replay.proofs.feeding.feed.Goals as goal
 pub returns-clause-core : goal.returns-clause-core
 returns-clause-core g c =
     let still = core_still c.in-Ok.core c.feed_core-fed.new.core c.args.runner.now c.args.site.now
-    (setting_of c.args.recording.now.seed false) c.in-Ok.ensures.host c.in-Ok.ensures.setting
+    (setting_of c.args.recording.now.seed c.args.recording.now.strict) c.in-Ok.ensures.host c.in-Ok.ensures.setting
     c.feed_core-fed.ensures.grows in
     core_handed c.feed_core-fed.result c.feed_core-fed.new.core c.core_back.result
-    (IsCoreOf c.args.runner.now c.args.site.now (setting_of c.args.recording.now.seed false)) c.core_back.ensures still
+    (IsCoreOf c.args.runner.now c.args.site.now (setting_of c.args.recording.now.seed c.args.recording.now.strict)) c.core_back.ensures still
 
 pub returns-clause-ok : goal.returns-clause-ok
 returns-clause-ok g c =
     let meaning = g.R.Runner.meaning in
-    let setting = setting_of c.args.recording.now.seed false in
+    let setting = setting_of c.args.recording.now.seed c.args.recording.now.strict in
     let here : IsCoreOf c.args.runner.now c.args.site.now setting c.in-Ok.core = record {
       runner_is = sym c.in-Ok.ensures.host.runner_is;
       site_is = sym c.in-Ok.ensures.host.site_is;
@@ -34,7 +34,7 @@ returns-clause-ok g c =
 pub returns-clause-err : goal.returns-clause-err
 returns-clause-err g c =
     let meaning = g.R.Runner.meaning in
-    let setting = setting_of c.args.recording.now.seed false in
+    let setting = setting_of c.args.recording.now.seed c.args.recording.now.strict in
     let still = core_still c.in-Ok.core c.feed_core-fed.new.core c.args.runner.now c.args.site.now setting
     c.in-Ok.ensures.host c.in-Ok.ensures.setting c.feed_core-fed.ensures.grows in
     let grows = c.feed_core-fed.ensures.grows in
