@@ -393,7 +393,14 @@ where
         recording.now.items past stop (K.held sink.old) (K.held sink.new))) }
     ensures cause { HasCause FeedStop.WriteFault (K.faults sink.old) (K.faults sink.new) result }
 {
-    match Host::new(alloc, runner, site, recording.seed, recording.strict, workers) {
+    match Host::new(
+        alloc,
+        runner,
+        site,
+        recording.seed,
+        recording.strict,
+        workers,
+    ) {
         Ok((host, hands)) => feed_hands(rt, alloc, host, hands, recording, gate, sink),
         Err(_back) => Err(FeedStop::Memory),
     }

@@ -13,6 +13,7 @@ pub fn served_port(alloc: Global, words: &[String]) -> Result<Option<u16>, Alloc
                 requests: _,
                 workers: _,
                 port,
+                strict: _,
             },
         ) => Ok(Some(port)),
         Ok(_other) => Ok(None),

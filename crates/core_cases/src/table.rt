@@ -82,5 +82,9 @@ pub fn recording(out: &mut Answer) -> Recording {
             out.stop(CaseStop::Memory);
         }
     }
-    Recording { seed: SEED, items }
+    Recording {
+        seed: SEED,
+        strict: false,
+        items,
+    }
 }

@@ -51,6 +51,7 @@ fn write_command(out: &mut Answer, command: &Command) {
             site,
             workers,
             journal,
+            strict,
         } => {
             out.put("replay ");
             out.text(site.as_slice());
@@ -58,12 +59,14 @@ fn write_command(out: &mut Answer, command: &Command) {
             out.show(workers);
             out.put(" workers");
             write_asked(out, *journal);
+            write_rule(out, *strict);
         }
         Command::Serve {
             site,
             requests,
             workers,
             port,
+            strict,
         } => {
             out.put("serve ");
             out.text(site.as_slice());
@@ -74,6 +77,7 @@ fn write_command(out: &mut Answer, command: &Command) {
             out.put(" requests with ");
             out.show(workers);
             out.put(" workers");
+            write_rule(out, *strict);
         }
         Command::Gen { count, journal } => {
             out.put("gen of ");
@@ -88,5 +92,12 @@ fn write_command(out: &mut Answer, command: &Command) {
 fn write_asked(out: &mut Answer, journal: bool) {
     if journal {
         out.put(" and its journal");
+    }
+}
+
+/// That a lock keeps readers out too, where it does.
+fn write_rule(out: &mut Answer, strict: bool) {
+    if strict {
+        out.put(" under a strict lock");
     }
 }

@@ -22,10 +22,10 @@ one_replay fronts rules items journal bytes other is also =
     one_output rules also.past journal bytes other
     (subst (λ some. IsOutput rules some journal bytes) same is.is_output) also.is_output
 
-pub one_replay_of_bytes : OneFront → OneRecording → (rules : List ℕ → Rules) (from : List ℕ) (journal : Bool)
+pub one_replay_of_bytes : OneFront → OneRecording → (rules : Recording → Rules) (from : List ℕ) (journal : Bool)
     (bytes other : List ℕ) → IsReplayOfBytes rules from journal bytes → IsReplayOfBytes rules from journal other
     → bytes ≡ other
 one_replay_of_bytes fronts recordings rules from journal bytes other is also =
     let same = recordings from is.recording also.recording is.end also.end is.stands also.stands in
-    let turned = subst (λ (some : Recording). IsReplay (rules some.seed) some.items journal bytes) same.0 is.replay in
-    one_replay fronts (rules also.recording.seed) also.recording.items journal bytes other turned also.replay
+    let turned = subst (λ (some : Recording). IsReplay (rules some) some.items journal bytes) same.0 is.replay in
+    one_replay fronts (rules also.recording) also.recording.items journal bytes other turned also.replay

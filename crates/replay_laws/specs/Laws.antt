@@ -34,16 +34,16 @@ OneReplay = (rules : Rules) (items : List Item) (journal : Bool) (bytes other : 
     → IsReplay rules items journal bytes → IsReplay rules items journal other → bytes ≡ other
 
 -- The bytes `from` have a recording at their front, and an output is that of the history of one lane for its items. The
--- rules are those that come of its seed.
-pub record IsReplayOfBytes (rules : List ℕ → Rules) (from : List ℕ) (journal : Bool) (bytes : List ℕ) : Type 0 where
+-- rules are those that come of its seed and the rule of its lock.
+pub record IsReplayOfBytes (rules : Recording → Rules) (from : List ℕ) (journal : Bool) (bytes : List ℕ) : Type 0 where
   pub recording : Recording
   pub end : ℕ
   pub stands : Stands from recording end
-  pub replay : IsReplay (rules recording.seed) recording.items journal bytes
+  pub replay : IsReplay (rules recording) recording.items journal bytes
 
 -- two such outputs for the same bytes are the same
 abbrev pub OneReplayOfBytes : Type 0
-OneReplayOfBytes = (rules : List ℕ → Rules) (from : List ℕ) (journal : Bool) (bytes other : List ℕ)
+OneReplayOfBytes = (rules : Recording → Rules) (from : List ℕ) (journal : Bool) (bytes other : List ℕ)
     → IsReplayOfBytes rules from journal bytes → IsReplayOfBytes rules from journal other → bytes ≡ other
 
 -- ---- journals by what is written of them
