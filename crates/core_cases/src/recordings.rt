@@ -6,8 +6,8 @@ use asp_record::{Item, Recording, read_recording, write_recording};
 use case_files::{Answer, CaseStop, Subject, read_text};
 use vb_value::Bytes;
 
-/// `read` and the text of a recording: how many items it has, whether it has the same text again, and where it ends; or
-/// where it is refused. `made again`: the same of the recording of twenty items that is made in code, and whether the same
+/// `read` and the text of a recording: how many items it has, the rule of its lock, whether it has the same text again, as
+/// the second version has it, and where it ends; or where it is refused. `made again`: the same of the recording of twenty items that is made in code, and whether the same
 /// items and seed are read again. `made text`: the text of that.
 pub struct Recordings;
 
@@ -24,15 +24,41 @@ fn text_of(out: &mut Answer, recording: &Recording) -> Bytes {
 
 fn write_told(out: &mut Answer, recording: &Recording, are_same: bool, end: u64) {
     out.show(&recording.items.len());
+    out.put(if recording.strict {
+        ", strict"
+    } else {
+        ", plain"
+    });
     out.put(if are_same { ", the same" } else { ", others" });
     out.put(", ends at ");
     out.show(&end);
 }
 
+/// Whether a text is the one of the second version that has the seed and the items of this one.
+fn is_again(again: &[u8], bytes: &[u8]) -> bool {
+    match bytes.strip_prefix(b"ASPREC 1\n") {
+        None => again == bytes,
+        Some(rest) => match (
+            rest.get(..70),
+            rest.get(70..),
+            again.strip_prefix(b"ASPREC 2\n"),
+        ) {
+            (Some(seed), Some(items), Some(text)) => match text.strip_prefix(seed) {
+                Some(text) => text.strip_prefix(b"lock plain\n") == Some(items),
+                None => false,
+            },
+            _ => false,
+        },
+    }
+}
+
 /// Writes what was read, and whether it is these bytes again.
 fn write_again(out: &mut Answer, recording: &Recording, end: u64, bytes: &[u8]) {
     let again = text_of(out, recording);
-    let are_same = bytes.starts_with(again.as_slice()) && again.len() as u64 == end;
+    let are_same = match bytes.get(..end as usize) {
+        Some(read) => is_again(again.as_slice(), read),
+        None => false,
+    };
     write_told(out, recording, are_same, end);
 }
 
@@ -72,9 +98,9 @@ fn is_same(item: &Item, other: &Item) -> bool {
     }
 }
 
-/// Whether recordings have the same seed and the same items.
+/// Whether recordings have the same seed, the same rule and the same items.
 fn are_same(one: &Recording, other: &Recording) -> bool {
-    let mut same = one.seed.as_slice() == other.seed.as_slice();
+    let mut same = one.seed.as_slice() == other.seed.as_slice() && one.strict == other.strict;
     same = same && one.items.len() == other.items.len();
     for (at, item) in one.items.as_slice().iter().enumerate() {
         same = match other.items.get(at) {
