@@ -51,7 +51,7 @@ class Key:
 class Account:
     def __init__(self, site, recording, lanes):
         self.site, self.recording, self.lanes = site, recording, lanes
-        self.application = Application()
+        self.application = Application(recording.strict)
         self.moment = self.place = self.made = self.opened = self.pages_waiting = 0
         self.count = 0  # of runs
         self.keys = {}  # those that live, in their order

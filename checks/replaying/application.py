@@ -3,7 +3,14 @@
 from .lines import Unfit
 
 MOST = 16 * 1024 * 1024
-WRITES = ("put", "remove", "removeall")
+# The calls that the lock of another run keeps out, under the plain rule; under the strict one it is all but an unlock.
+KEPT_OUT = ("put", "remove", "removeall", "lock")
+
+
+def is_kept_out(call, strict):
+    """Whether the lock of another run keeps the call out, under the strict rule or the plain one."""
+    word = call.split(" ")[0]
+    return word != "unlock" if strict else word in KEPT_OUT
 
 
 def chars(name):
@@ -27,9 +34,10 @@ def weight(value):
 
 
 class Application:
-    """Its values, by their names in the order of their first storing, and the run that holds the lock."""
+    """Its values, by their names in the order of their first storing, the run that holds the lock, and the lock's rule."""
 
-    def __init__(self):
+    def __init__(self, strict=False):
+        self.strict = strict
         self.values = {}
         self.holder = None
 
@@ -38,7 +46,7 @@ class Application:
 
     def blocks(self, run, call):
         """Whether the lock of another run keeps the call out."""
-        return self.holder not in (None, run) and call.split(" ")[0] in (*WRITES, "lock")
+        return self.holder not in (None, run) and is_kept_out(call, self.strict)
 
     def put(self, name, value):
         if bytes.fromhex(name[1:]).lower() != bytes.fromhex(name[1:]):

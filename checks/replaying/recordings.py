@@ -44,6 +44,7 @@ class Item(NamedTuple):
 class Recording(NamedTuple):
     seed: str
     items: list
+    strict: bool = False  # whether a lock keeps readers out
 
 
 def request(path, client=1, moment=0, *fields):
@@ -51,9 +52,11 @@ def request(path, client=1, moment=0, *fields):
     return Item(moment, client, "\r\n".join([f"GET {path} HTTP/1.1", "Host: x", *fields, "", ""]).encode())
 
 
-def written(items, seed=SEED):
-    """Returns the bytes of a recording."""
-    parts = [b"ASPREC 1\nseed %s\n" % seed.encode()]
+def written(items, seed=SEED, rule=None):
+    """Returns the bytes of a recording: of the second version where the rule of its lock is told, else of the first."""
+    parts = [b"ASPREC %d\nseed %s\n" % (2 if rule else 1, seed.encode())]
+    if rule:
+        parts.append(b"lock %s\n" % rule.encode())
     for item in items:
         if item.text:
             parts.append(b"request %d %d %d\n%s\n" % (item.client, item.moment, len(item.text), item.text))
@@ -64,7 +67,7 @@ def written(items, seed=SEED):
 
 def read_recording(text):
     """Reads the bytes of a recording."""
-    head = re.match(rb"ASPREC 1\nseed ([0-9a-f]{64})\n", text)
+    head = re.match(rb"ASPREC (?:1\nseed ([0-9a-f]{64})|2\nseed ([0-9a-f]{64})\nlock (plain|strict))\n", text)
     at, items = head.end(), []
     while not text.startswith(b"end\n", at):
         line = re.compile(rb"(?:request (\d+) (\d+) (\d+)|tick (\d+))\n").match(text, at)
@@ -77,7 +80,7 @@ def read_recording(text):
             last = at + int(line[3])
             items.append(Item(int(line[2]), int(line[1]), text[at:last]))
             at = last + 1
-    return Recording(head[1].decode(), items)
+    return Recording((head[1] or head[2]).decode(), items, head[3] == b"strict")
 
 
 def turned(word, by):

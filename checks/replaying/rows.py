@@ -1,7 +1,9 @@
 """Replays of pages of their own, on several lanes."""
 
+import itertools
 import re
 
+from .application import is_kept_out
 from .lines import read_line
 from .recordings import SEED, WITHOUT, Item, Site, request
 from .runs import LANES
@@ -20,12 +22,12 @@ MADE_ONE = """Q 1 start|B 1 0|E 1 done 0 0 0 0|A 2 1 0|B 2 1|P 2 lock done|P 2 g
 P 2 unlock done|E 2 done 200 1 0 0|S|Q 3 end 1|Q 4 stop|B 3 1|E 3 done 0 0 0 0|B 4 0|E 4 done 0 0 0 0"""
 
 
-def between_locks(lines):
-    """Returns the writes of other runs between a run's lock and its unlock or end."""
+def between_locks(lines, strict=False):
+    """Returns the calls of other runs between a run's lock and its unlock or end that the lock's rule keeps out."""
     holder, found = None, []
     for line in lines:
         word = line.word.split(" ")[0]
-        if line.kind == "P" and holder not in (None, line.run) and word in ("put", "remove", "removeall", "lock"):
+        if line.kind == "P" and holder not in (None, line.run) and is_kept_out(word, strict):
             found.append(line)
         if line.kind == "P" and word == "lock":
             holder = line.run
@@ -37,8 +39,8 @@ def between_locks(lines):
 def counted_under_the_lock(check):
     """Two clients count 100 times each, under the lock and in their sessions."""
     items = [request("/count.asp", 1 + at % 2) for at in range(200)]
-    for lanes in check.often():
-        account, output = check.replayed(COUNTS, items, lanes)
+    for lanes, strict in check.under_both_rules():
+        account, output = check.replayed(COUNTS, items, lanes, strict)
         if not account:
             return
         for client in (1, 2):
@@ -46,14 +48,14 @@ def counted_under_the_lock(check):
             check.same(f"client {client}", [it.body for it in asked], [b"%d" % (n + 1) for n in range(100)])
         puts = [it for it in output.lines if it.kind == "P" and it.word.startswith("put s6e ")]
         check.same("the last put", (len(puts), puts[-1].word, puts[-1].reply), (200, "put s6e i200", "done"))
-        check.same("writes beside a lock", between_locks(output.lines), [])
+        check.same("calls beside a lock", between_locks(output.lines, strict), [])
 
 
 def lock_to_the_last_tick(check):
     """A page loops under its lock, and another page stores what the first has stored."""
     items = [request("/l.asp", 1), request("/w.asp", 2)]
-    for lanes in check.often((2, 4)):
-        account, output = check.replayed(LOCKS, items, lanes)
+    for lanes, strict in check.under_both_rules((2, 4)):
+        account, output = check.replayed(LOCKS, items, lanes, strict)
         if not account:
             return
         order = [(it.kind, it.run, it.word) for it in output.lines]
@@ -64,10 +66,10 @@ def lock_to_the_last_tick(check):
 def one_request(check):
     site, recording = check.site(HI.files), b"ASPREC 1\nseed %s\nrequest 0 0 32\n" % SEED.encode()
     recording += b"GET /n.asp HTTP/1.1\r\nHost: x\r\n\r\n\nend\n"
-    for lanes in (1, 2, 16):
-        end = check.ran("replay", site, "--workers", lanes, recording=recording)
+    for lanes, words in itertools.product((1, 2, 16), ([], ["--strict-lock"])):
+        end = check.ran("replay", site, "--workers", lanes, *words, recording=recording)
         check.same(f"{lanes} lanes", end, (0, ONE_ANSWER + b"done 1\n", ""))
-        end = check.ran("replay", site, "--workers", lanes, "--journal", recording=recording)
+        end = check.ran("replay", site, "--workers", lanes, "--journal", *words, recording=recording)
         bare = re.sub(rb"(?m)^([A-Z]) \d+", rb"\1 0", end.output) if lanes > 1 else end.output
         check.same(f"{lanes} lanes, with its journal", bare, ONE_ANSWER + ONE_JOURNAL + b"done 1\n")
 

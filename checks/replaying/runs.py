@@ -38,11 +38,12 @@ class Replays(Check):
         said = [line for line in ran.stderr.decode(errors="replace").splitlines(True) if not line.startswith("asp: ")]
         return End(ran.returncode, ran.stdout, "".join(said))
 
-    def replayed(self, site, items, lanes):
-        """Replays items over a site on so many lanes. Returns the account of the journal and the output, or None where they
-        are not right."""
-        end = self.ran("replay", self.site(site.files), "--journal", "--workers", lanes, recording=written(items))
-        return self.right(site, Recording(SEED, items), lanes, end)
+    def replayed(self, site, items, lanes, strict=False):
+        """Replays items over a site on so many lanes, with a strict lock perhaps. Returns the account of the journal and the
+        output, or None where they are not right."""
+        words = ["replay", self.site(site.files), "--journal", "--workers", lanes, *["--strict-lock"] * strict]
+        end = self.ran(*words, recording=written(items))
+        return self.right(site, Recording(SEED, items, strict), lanes, end)
 
     def right(self, site, recording, lanes, end):
         """Returns the account of what a replay has written, and its output, where both are right."""
@@ -59,3 +60,8 @@ class Replays(Check):
         for count in lanes:
             for _ in range(self.many(TIMES)):
                 yield count
+
+    def under_both_rules(self, lanes=LANES):
+        """Goes over numbers of lanes, each as often as a recording is replayed, half of the times with a strict lock."""
+        for at, count in enumerate(self.often(lanes)):
+            yield count, at % 2 == 1
