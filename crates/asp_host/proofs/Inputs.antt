@@ -57,9 +57,11 @@ all_refused stay bytes rest offset ends (inr (recording, stands, more)) = inr (
   recording,
   record {
     sound = stands.sound;
+    version = stands.version;
+    says = stands.says;
     begins = (
       stands.begins.0 ++ rest,
-      ap (λ l. l ++ rest) stands.begins.1 ∙ append_assoc (recording_text recording) stands.begins.0 rest,
+      ap (λ l. l ++ rest) stands.begins.1 ∙ append_assoc (recording_text stands.version recording) stands.begins.0 rest,
     );
     ends = stands.ends;
     short = stands.short;
