@@ -1,4 +1,4 @@
--- Workers that are made of the hands of a host.
+-- Workers that are made of the hands of a host, and hands that come back with it.
 use Rattle.std.proofs.Common.{◌≡◌, ℕ, List, All, map, subst, sym}
 use Rattle.std.proofs.lemmas.List.Elements.{All-map}
 use Rattle.asp_job.specs.declared.entry.Entry.{Entry}
@@ -19,3 +19,10 @@ module _ {R Site State : Type 0} (meaning : R → Site → Meaning) (stands : R 
   placed {T} hands start crew is all =
       subst (λ (workers : List (WorkerOf Hand T)). All (λ worker. IsHandOf meaning stands host worker.hand) workers) (sym is)
       (All-map (λ (worker : WorkerOf Hand T). IsHandOf meaning stands host worker.hand) (with_place start) hands all)
+
+  -- what came back with the host are its hands still
+  pub carried : (hands : List Hand) (back : HostView R Site) (those : List Hand) → back ≡ host → those ≡ hands
+      → All (IsHandOf meaning stands host) hands → All (IsHandOf meaning stands back) those
+  carried hands back those same are all =
+      subst (λ (it : HostView R Site). All (IsHandOf meaning stands it) those) (sym same)
+      (subst (λ (items : List Hand). All (IsHandOf meaning stands host) items) (sym are) all)

@@ -1,8 +1,7 @@
--- A list of lanes from which the last is taken, and a turn that adds nothing.
-use Rattle.std.proofs.Common.{◌≡◌, sym, ◌∙◌, ℕ, List, [], ◌∷◌, ◌++◌, All, append-nil, subst}
-use Rattle.std.proofs.lemmas.List.Elements.{All-nil, All-push, All-same}
+-- Lists from which the last is taken, and to which one is added.
+use Rattle.std.proofs.Common.{◌≡◌, List, [], ◌∷◌, ◌++◌, All, subst}
+use Rattle.std.proofs.lemmas.List.Elements.{All-push, All-same}
 use Rattle.turn_desk.proofs.Gathering.{All-front, All-last}
-use Rattle.turn_desk.specs.Histories.{GrowsBy}
 
 module _ {A : Type 0} (Fact : A → Type 0) where
   -- what all had, those that are left have
@@ -16,9 +15,3 @@ module _ {A : Type 0} (Fact : A → Type 0) where
   -- with one that has it too, all have it
   pub joined : (whole items : List A) (last : A) → whole ≡ items ++ last ∷ [] → All Fact items → Fact last → All Fact whole
   joined whole items last is all one = All-same Fact whole (items ++ last ∷ []) is (All-push Fact items last all one)
-
--- a history that stays as it was has grown by no entry
-pub added_nothing : {E : Type 0} (lane_of : E → ℕ) (lane : ℕ) (before after : List E) → after ≡ before
-    → GrowsBy lane_of lane before after
-added_nothing lane_of lane before after same =
-    ([], same ∙ sym (append-nil before), All-nil (λ entry. lane_of entry ≡ lane))

@@ -1,10 +1,10 @@
-//! Tests of hosts and of the desk that they stand on: turns of lanes in threads, gates that hold runs back, and runs that wait
-//! for one another. No line of a file of cases can say them.
+//! Tests of hosts: gates that hold runs back, hands that are missed, and runs in two threads that wait for one another. No line
+//! of a file of cases can say them.
 #![tactic(auto)]
 
 #[cfg(test)]
 mod gates;
 #[cfg(test)]
-mod meetings;
+mod hosts;
 #[cfg(test)]
-mod turns;
+mod meetings;

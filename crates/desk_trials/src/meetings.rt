@@ -81,7 +81,16 @@ impl Gate for Meeting {
 /// A gate that holds run 2 back so many times.
 #[derive(Drop)]
 pub struct Holding {
-    pub times: AtomicU64,
+    times: AtomicU64,
+}
+
+impl Holding {
+    /// It has held no run yet.
+    pub const fn new(times: u64) -> Holding {
+        Holding {
+            times: AtomicU64::new(times),
+        }
+    }
 }
 
 impl Gate for Holding {

@@ -14,3 +14,5 @@ mod memory;
 mod sockets;
 #[cfg(test)]
 mod streams;
+#[cfg(test)]
+mod turns;

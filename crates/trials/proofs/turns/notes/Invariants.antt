@@ -1,5 +1,5 @@
 use Rattle.turn_desk.specs.Shown.{IsLaneOf}
-use Rattle.desk_trials.proofs.turns.notes.Given as goal
+use Rattle.trials.proofs.turns.notes.Given as goal
 
 abbrev pub invariant-loop-place : goal.invariant-loop-place
 invariant-loop-place g l = IsLaneOf l.desk l.lane
