@@ -1,5 +1,5 @@
 -- A recording and what a replay wrote of it with the lines of the journal tell the journal.
-use Rattle.std.proofs.Common.{◌≡◌, ◌∙◌, ℕ, ◌^◌, ◌<◌, true, List, ◌++◌, Option, Some, length, refl, sym, ap, subst}
+use Rattle.std.proofs.Common.{◌≡◌, ◌∙◌, ℕ, ◌^◌, ◌<◌, true, List, ◌++◌, Option, Some, length, refl, sym, ap, subst, Bool}
 use Rattle.std.proofs.lemmas.List.{append_cancel_left}
 use Rattle.asp_host.specs.Around.{Around}
 use Rattle.asp_host.specs.Replay.{ReplaysAll, rules_for}

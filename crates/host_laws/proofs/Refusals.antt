@@ -1,5 +1,5 @@
 -- A command refuses nothing without a cause.
-use Rattle.std.proofs.Common.{◌≡◌, inl, inr, ℕ, ◌≤◌, Bool, List, Option, Some, None, IfSome, Err, length}
+use Rattle.std.proofs.Common.{◌≡◌, inl, inr, ℕ, ◌≤◌, Bool, List, Option, Some, None, IfSome, Err, length, false}
 use Rattle.std.proofs.Common.{Ok as Given, map, arith, refl, subst}
 use Rattle.vb_value.specs.declared.site_file.SiteFault.{SiteFault}
 use Rattle.vb_value.specs.declared.site_file.SiteFile.{SiteFile}

@@ -1,5 +1,5 @@
 -- Laws of the host's commands, over the statements by which they end.
-use Rattle.std.specs.Prelude.{◌≡◌, ℕ, ◌^◌, ◌<◌, Bool, true, List, ◌++◌, Some, None, length, map, Result, Err}
+use Rattle.std.specs.Prelude.{◌≡◌, ℕ, ◌^◌, ◌<◌, Bool, true, List, ◌++◌, Some, None, length, map, Result, Err, false}
 use Rattle.std.specs.Prelude.{Ok as Given}
 use Rattle.vb_value.specs.declared.site_file.SiteFile.{SiteFile}
 use Rattle.asp_journal.specs.declared.full.Full.{Full}
