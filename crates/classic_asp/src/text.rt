@@ -10,8 +10,9 @@ usage:
   classic_asp check SITE      reads all of a site, and writes how many pages and files it has or its first fault
   classic_asp get SITE PATH   runs a request for PATH, and writes the body of its answer
   classic_asp replay SITE     runs the requests of the recording on standard input, and writes their answers;
-                              --journal adds what happened, line by line
-  classic_asp serve SITE --requests N [--workers N] [--port P]
+                              --journal adds what happened, line by line; --strict-lock lets readers wait for a
+                              lock of the Application object too
+  classic_asp serve SITE --requests N [--workers N] [--port P] [--strict-lock]
                               serves SITE over HTTP at 127.0.0.1 until N requests have come, and writes nothing;
                               --workers says how many connections at a time, --port at which port
   classic_asp gen N           makes a recording of N requests, runs them, and writes how many requests, answers and
