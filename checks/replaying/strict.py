@@ -108,9 +108,8 @@ def readers_behind_a_long_lock(check):
         check.holds(f"reads at {read}, the lock from {begin} to {end}", all(not begin < at < end for at in read))
 
 
-def pair_without_lock(check):
-    """A page that reads a pair without a lock of its own may read one half before and the other behind another's lock, under
-    either rule; one that locks reads both halves of one filling."""
+def pair_under_the_lock(check):
+    """A page that reads a pair under a lock of its own reads both halves of one filling, under either rule."""
     files = {
         "/global.asa": starting('Application("x") = 0 : Application("y") = 0'),
         "/w2.asp": f'{WITHOUT}<% Application.Lock : n = Application("x") + 1 : Application("x") = n : '
@@ -147,10 +146,43 @@ def pair_without_lock(check):
         check.same("pairs", [it for it in halves if it[0] != it[1]], [])
 
 
+def pair_without_lock(check):
+    """A page that reads a pair without a lock of its own may read one half before another's lock and the other behind it, also
+    where readers wait."""
+    files = {
+        "/global.asa": starting('Application("x") = 0 : Application("y") = 0'),
+        "/w2.asp": f'{WITHOUT}<% Application.Lock : Application("x") = 1 : Application("y") = 1 : Application.Unlock %>',
+        "/r2.asp": f'{WITHOUT}<% a = Application("x") : For i = 1 To 100000 : Next : b = Application("y") %><%= a %>,<%= b %>',
+    }
+
+    def begins_both(run):
+        yield f"put {X} i0"
+        yield f"put {Y} i0"
+
+    def fills_both(run):
+        yield "lock"
+        yield f"put {X} i1"
+        yield f"put {Y} i1"
+        yield "unlock"
+        return 200, b""
+
+    def reads_both(run):
+        one, other = (yield f"get {X}"), (yield f"get {Y}")
+        return 200, b"%d,%d" % (number(one), number(other))
+
+    site = Site(files, {"begin": begins_both, "/w2.asp": fills_both, "/r2.asp": reads_both}, shares=True)
+    for _ in range(TRIES):
+        account, output = check.replayed(site, [request("/r2.asp", 0), request("/w2.asp", 0)], 4, strict=True)
+        if not account or [it.body for it in output.answers if it.run == 2] == [b"0,1"]:
+            return
+    print(f"under a strict lock no pair was read on both sides of it in {TRIES} replays", file=sys.stderr)
+
+
 CHECKS = {
     "a strict lock, and no reader beside it": no_reader_beside_a_strict_lock,
     "the rule of the word and of the recording": rule_of_word_and_recording,
     "recordings on one lane under both rules": one_lane_under_both_rules,
     "readers behind a lock to the last tick": readers_behind_a_long_lock,
-    "pairs that are read under the lock": pair_without_lock,
+    "pairs that are read under the lock": pair_under_the_lock,
+    "a pair that is read on both sides of a strict lock": pair_without_lock,
 }
