@@ -1,4 +1,4 @@
--- What an answer says of an act that failed, after what of the page was flushed: the profile's texts.
+-- What an answer says of an act that failed, after what of the page was flushed: texts of our own.
 use Rattle.std.specs.Prelude.{ℕ, ◌+◌, nat_lt, nat_le, ◌/◌, ◌%◌, if◌then◌else◌, ℤ, pos, negsuc, ◌-◌, List, [], ◌∷◌, ◌++◌}
 use Rattle.std.specs.Prelude.{codes, decimal, Option, Some, None, ◌&&◌}
 use Rattle.vb_value.specs.declared.limit.LimitKind.{LimitKind}

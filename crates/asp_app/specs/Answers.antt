@@ -1,4 +1,4 @@
--- What a call of the Application object answers. All is the profile's.
+-- What a call of the Application object answers. All is our own.
 use Rattle.std.specs.Prelude.{ℕ, Bool, true, false, Option, Some, None, Result, Ok, Err}
 use Rattle.vb_value.specs.declared.application.AppCall.{AppCall}
 use Rattle.vb_value.specs.declared.application.AppCall.TheVariants as call

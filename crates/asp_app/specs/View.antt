@@ -1,4 +1,4 @@
--- What contracts see of the Application object. All is the profile's.
+-- What contracts see of the Application object. All is our own.
 use Rattle.std.specs.Prelude.{Bool}
 use Rattle.asp_job.specs.Application.{AppState, first_state}
 

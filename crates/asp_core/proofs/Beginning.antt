@@ -13,7 +13,7 @@ use Rattle.asp_core.specs.Ready.{bodies_with_one}
 use Rattle.asp_core.specs.Sessions.{account_begun, sessions_in}
 use Rattle.asp_core.specs.Stops.{begin_stop}
 use Rattle.asp_core.specs.declared.opening.SessionNumber.{SessionNumber}
-use Rattle.asp_core.specs.declared.ready.TheConstants.{MOST_BODIES}
+use Rattle.asp_core.specs.declared.ready.TheConstants.{MOST_BODY_BYTES}
 use Rattle.asp_core.specs.declared.stop.BeginStop.{BeginStop}
 use Rattle.asp_core.specs.declared.stop.BeginStop.TheVariants as stops
 use Rattle.asp_core.specs.declared.stop.EventStop.{EventStop}
@@ -119,7 +119,7 @@ can_open m past account answers run number can next =
 
 -- where a run is next and there is room for its body, the core is not idle
 pub not_idle : (past : List Entry) (answers : List (ℕ × Answer)) (run : ℕ) → IsNext past run →
-    bodies_with_one answers past ≤ MOST_BODIES → IsIdleWith answers past → ⊥
+    bodies_with_one answers past ≤ MOST_BODY_BYTES → IsIdleWith answers past → ⊥
 not_idle past answers run next light (inl (inl halted)) = let going = next.going in cc
 not_idle past answers run next light (inl (inr (inl many))) = let few = next.few in omega arith
 not_idle past answers run next light (inl (inr (inr none))) =
@@ -128,7 +128,7 @@ not_idle past answers run next light (inr heavy) = omega arith
 
 -- a run is next, and it does not fit
 pub refused_busy : (past : List Entry) (answers : List (ℕ × Answer)) (run : ℕ) (why : EventStop) (stop : BeginStop) →
-    IsNext past run → bodies_with_one answers past ≤ MOST_BODIES → stop ≡ begin_stop why →
+    IsNext past run → bodies_with_one answers past ≤ MOST_BODY_BYTES → stop ≡ begin_stop why →
     stop ≡ stops.Idle ↔ IsIdleWith answers past
 refused_busy past answers run (event.JournalFull full) stop next light e =
     (λ idle. absurd cc, λ idle. absurd (not_idle past answers run next light idle))

@@ -1,4 +1,4 @@
--- The entries of one session key alone. All of it is the profile's.
+-- The entries of one session key alone. All of it is our own.
 use Rattle.std.specs.Prelude.{ℕ, ◌==◌, if◌then◌else◌, List, [], ◌∷◌}
 use Rattle.asp_job.specs.declared.entry.Entry.{Entry}
 use Rattle.asp_job.specs.History.{run_in}

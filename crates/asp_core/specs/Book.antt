@@ -1,4 +1,4 @@
--- What contracts see of a book: a journal, and the answers that wait to be handed out. All of it is the profile's.
+-- What contracts see of a book: a journal, and the answers that wait to be handed out. All of it is our own.
 use Rattle.std.specs.Prelude.{◌≡◌, ℕ, ◌+◌, ◌*◌, ◌-◌, ◌≤◌, ◌++◌, ◌∷◌, List, length, reverse, Option}
 use Rattle.asp_job.specs.declared.answer.Answer.{Answer}
 use Rattle.asp_job.specs.declared.answer.Fail.{Fail}

@@ -1,4 +1,4 @@
--- The key that the session cookie of a request names (RFC 6265, section 4.2; its name and letters are the profile's).
+-- The key that the session cookie of a request names (RFC 6265, section 4.2; its name and letters are our own).
 use Rattle.std.specs.Prelude.{ℕ, ◌==◌, Bool, if◌then◌else◌, nat_eq, List, [], length, map, drop}
 use Rattle.std.specs.Prelude.{codes, Option, Some, None}
 use Rattle.std.specs.List.{flat_map, slice_split, starts_with, find}

@@ -1,4 +1,4 @@
--- All answers of a journal, and those that were handed out. All of it is the profile's.
+-- All answers of a journal, and those that were handed out. All of it is our own.
 use Rattle.std.specs.Prelude.{◌≡◌, ℕ, ◌==◌, Bool, true, false, List, [], ◌∷◌, ◌++◌, filter, Some, None}
 use Rattle.std.specs.List.{find}
 use Rattle.asp_job.specs.declared.answer.Answer.{Answer}

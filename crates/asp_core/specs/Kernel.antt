@@ -1,4 +1,4 @@
--- What contracts see of a core, and of a run that was moved out of it. All of it is the profile's.
+-- What contracts see of a core, and of a run that was moved out of it. All of it is our own.
 use Rattle.std.specs.Prelude.{◌≡◌, ℕ, ◌+◌, ◌*◌, ◌-◌, ◌≤◌, ◌<◌, ◌⊎◌, ◌++◌, ◌∷◌, true, false, if◌then◌else◌}
 use Rattle.std.specs.Prelude.{nat_lt, min, ◌^◌, Bool}
 use Rattle.std.specs.Prelude.{List, [], length, reverse, Option, Some, None, IfSome}
@@ -40,7 +40,7 @@ use Rattle.asp_core.specs.Cookie.{cookie_key_in}
 use Rattle.asp_core.specs.Sessions.{IsAccountOf}
 use Rattle.asp_core.specs.Standing.{is_head, stand_ins}
 use Rattle.asp_core.specs.Ready.{ready, IsAnswered, bodies_with_one}
-use Rattle.asp_core.specs.declared.ready.TheConstants.{MOST_BODIES}
+use Rattle.asp_core.specs.declared.ready.TheConstants.{MOST_BODY_BYTES}
 use Rattle.asp_core.specs.declared.run.Progress.{Progress}
 use Rattle.asp_core.specs.declared.run.Progress.TheVariants as progress
 use Rattle.asp_core.specs.declared.run.StandIns.{StandIns}
@@ -157,7 +157,7 @@ NoneIsNext past = (is_halted past ≡ true) ⊎ (MOST_UNFINISHED ≤ length (unf
 
 -- no run is next, or there is no room for the body of one more
 abbrev pub IsIdle : Rules → List Entry → Type 0
-IsIdle rules past = NoneIsNext past ⊎ (MOST_BODIES < bodies_with_one (ready rules past) past)
+IsIdle rules past = NoneIsNext past ⊎ (MOST_BODY_BYTES < bodies_with_one (ready rules past) past)
 
 -- there would be too much with the Begin of the next run
 abbrev pub IsBeginTooMuch : Rules → List Entry → ℕ → Full → Type 0

@@ -1,4 +1,4 @@
--- What stays while other entries come. All of it is the profile's.
+-- What stays while other entries come. All of it is our own.
 use Rattle.std.specs.Prelude.{◌≡◌, ◌≢◌, ℕ, ◌==◌, ◌&&◌, Bool, false, not, All, List, [], ◌∷◌}
 use Rattle.vb_value.specs.declared.application.AppCall.TheVariants.{Unlock}
 use Rattle.asp_job.specs.declared.entry.Entry.{Entry}

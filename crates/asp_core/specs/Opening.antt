@@ -19,7 +19,7 @@ use Rattle.asp_session.specs.Account.{Account}
 use Rattle.asp_session.specs.Letters.{letters_of}
 use Rattle.asp_core.specs.declared.opening.Opening.{Opening}
 use Rattle.asp_core.specs.declared.opening.SessionNumber.{SessionNumber}
-use Rattle.asp_core.specs.declared.ready.TheConstants.{MOST_BODIES}
+use Rattle.asp_core.specs.declared.ready.TheConstants.{MOST_BODY_BYTES}
 use Rattle.asp_core.specs.declared.run.Progress.TheVariants as progress
 use Rattle.asp_core.specs.Book.{BookView, Grows, past_in}
 use Rattle.asp_core.specs.Calm.{HasLoad, IsOver}
@@ -75,7 +75,7 @@ pub record HasOpened {State : Type 0} (stands : State → Told → ℕ → Type 
 
 -- none is next, or there is no room for the body of one more where these answers wait
 abbrev pub IsIdleWith : List (ℕ × Answer) → List Entry → Type 0
-IsIdleWith answers past = NoneIsNext past ⊎ (MOST_BODIES < bodies_with_one answers past)
+IsIdleWith answers past = NoneIsNext past ⊎ (MOST_BODY_BYTES < bodies_with_one answers past)
 
 -- what a run needs to begin: the parts of a core are those of its journal
 pub record CanBegin (rules : Rules) (past : List Entry) (account : Account) (answers : List (ℕ × Answer)) : Type 0 where
@@ -95,7 +95,7 @@ pub record IsNextWith (past : List Entry) (account : Account) (answers : List (�
   pub next : IsNext past run
   pub number_is : IsNumberOf (draw_of past run) (sessions_in account (key_of past run)) account.opened number
   pub may : IsSessionIn (sessions_in account (key_of past run))
-  pub light : bodies_with_one answers past ≤ MOST_BODIES
+  pub light : bodies_with_one answers past ≤ MOST_BODY_BYTES
   pub load : HasLoad past 2 128
 
 -- it would be so full with the Begin of the run that is next: too many entries or too heavy
@@ -108,7 +108,7 @@ pub record IsNextOver (past : List Entry) (full : Full) : Type 0 where
 pub record HasBegun {State : Type 0} (rules : Rules) (stands : State → Told → ℕ → Type 0) (lane : ℕ) (old : BookView)
     (account : Account) (new : BookView) (then_account : Account) (run : RunView State) : Type 0 where
   pub next : IsNext (past_in old) run.number
-  pub light : bodies_with_one old.answers (past_in old) ≤ MOST_BODIES
+  pub light : bodies_with_one old.answers (past_in old) ≤ MOST_BODY_BYTES
   pub grows : Grows old (begin_entry rules (past_in old) lane run.number ∷ []) new
   pub account_is : then_account ≡ account_begun (past_in old) run.number account
   pub progress_is : run.progress ≡ progress.Going

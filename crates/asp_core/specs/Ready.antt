@@ -1,4 +1,4 @@
--- The answers that wait to be handed out, read off a journal. All of it is the profile's.
+-- The answers that wait to be handed out, read off a journal. All of it is our own.
 use Rattle.std.specs.Prelude.{◌≡◌, ℕ, ◌+◌, ◌*◌, ◌≤◌, ◌==◌, Bool, false, if◌then◌else◌, nat_eq}
 use Rattle.std.specs.Prelude.{List, [], ◌∷◌, ◌++◌, length, sum_by, Option, Some, None, Result, Ok, Err, is_some}
 use Rattle.std.specs.List.{find}
@@ -14,7 +14,7 @@ use Rattle.asp_job.specs.Running.{is_page}
 use Rattle.asp_job.specs.Runs.{job_of, has_ended, asking_lane_of, is_taken, unfinished}
 use Rattle.asp_core.specs.declared.stop.CollectStop.{CollectStop}
 use Rattle.asp_core.specs.declared.stop.CollectStop.TheVariants.{Foreign, NotEnded, NoAnswer, Taken}
-use Rattle.asp_core.specs.declared.ready.TheConstants.{MOST_BODIES, BODY_ROOM}
+use Rattle.asp_core.specs.declared.ready.TheConstants.{MOST_BODY_BYTES, BODY_ROOM}
 
 -- ---- answers that were made and not handed out
 
@@ -56,7 +56,7 @@ bodies_with_one answers past = bodies_of answers + BODY_ROOM * (length (unfinish
 
 -- there is room for the body of one more run
 abbrev pub HasBodyRoom : Rules → List Entry → Type 0
-HasBodyRoom rules past = bodies_with_one (ready rules past) past ≤ MOST_BODIES
+HasBodyRoom rules past = bodies_with_one (ready rules past) past ≤ MOST_BODY_BYTES
 
 -- ---- who is handed an answer
 

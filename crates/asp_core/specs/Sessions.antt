@@ -1,4 +1,4 @@
--- The account of the session keys, read off a journal, and what each entry makes of it. All of it is the profile's.
+-- The account of the session keys, read off a journal, and what each entry makes of it. All of it is our own.
 use Rattle.std.specs.Prelude.{◌≡◌, ℕ, ◌==◌, ◌&&◌, Bool, true, false, not, if◌then◌else◌}
 use Rattle.std.specs.Prelude.{List, [], ◌∷◌, filter, map, Option}
 use Rattle.std.specs.List.{list_any}

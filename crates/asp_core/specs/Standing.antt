@@ -1,4 +1,4 @@
--- The answers that stand in for that of a page. They are the profile's.
+-- The answers that stand in for that of a page. They are our own.
 use Rattle.std.specs.Prelude.{Bool, true, false, Option, Some, None}
 use Rattle.asp_job.specs.declared.answer.Answer.{Answer}
 use Rattle.asp_job.specs.declared.job.Work.{Work}

@@ -1,4 +1,4 @@
--- Why the first run failed. All of it is the profile's.
+-- Why the first run failed. All of it is our own.
 use Rattle.std.specs.Prelude.{ℕ, ◌==◌, if◌then◌else◌, List, [], ◌∷◌, Option, None}
 use Rattle.asp_job.specs.declared.answer.Fail.{Fail}
 use Rattle.asp_job.specs.declared.entry.EndKind.{EndKind}

@@ -1,4 +1,4 @@
--- Which calls a run makes. All of it is the profile's.
+-- Which calls a run makes. All of it is our own.
 use Rattle.std.specs.Prelude.{◌≡◌, ℕ, List, length, take, slice_get, Some}
 use Rattle.vb_value.specs.declared.application.AppCall.{AppCall}
 use Rattle.asp_job.specs.Told.{Told, Wants, Meaning}

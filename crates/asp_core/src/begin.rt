@@ -16,7 +16,7 @@ ghost use Rattle.asp_core.specs.Kernel as kernel;
 ghost use Rattle.asp_core.specs.Opening as spec;
 ghost use Rattle.asp_core.specs.Ready as waits;
 ghost use Rattle.asp_core.specs.Sessions.{account_begun, sessions_in};
-ghost use Rattle.asp_core.specs.declared.ready.TheConstants.{MOST_BODIES};
+ghost use Rattle.asp_core.specs.declared.ready.TheConstants.{MOST_BODY_BYTES};
 
 use crate::account::start_key;
 use crate::book::Book;
@@ -40,7 +40,7 @@ fn next_to_begin(book: &Book) -> Option<u64>
     ensures none { IfNone result (spec.IsIdleWith book.now.answers (past_in book.now)) }
     ensures next { IfSome result (λ run. spec.IsNext (past_in book.now) run) }
     ensures within { IfSome result (λ run. run ≤ runs.drawn (past_in book.now)) }
-    ensures light { OnSome result (waits.bodies_with_one book.now.answers (past_in book.now) ≤ MOST_BODIES) }
+    ensures light { OnSome result (waits.bodies_with_one book.now.answers (past_in book.now) ≤ MOST_BODY_BYTES) }
 {
     if has_body_room(book) {
         least_run(book.journal())

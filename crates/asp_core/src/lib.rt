@@ -37,7 +37,7 @@ pub use laws::{
     events_bear_lane, handed_out_once, holder_is_unfinished, lock_holds, run_stays, runs_stay,
     sessions_apart, some_run_may_begin, strict_is_plain,
 };
-pub use ready::{BODY_ROOM, MOST_BODIES};
+pub use ready::{BODY_ROOM, MOST_BODY_BYTES};
 pub use run::{Progress, Run, StandIns};
 pub use setting::Setting;
 pub use stop::{AdmitStop, AppStepStop, BeginStop, CollectStop, EventStop};

@@ -11,7 +11,7 @@ use asp_job::Answer;
 use asp_journal::Journal;
 
 /// At most so many bytes have the bodies of the answers that wait, with the room of those that may come.
-pub const MOST_BODIES: u64 = 268_435_456;
+pub const MOST_BODY_BYTES: u64 = 268_435_456;
 
 /// So many bytes may the body of an answer have.
 pub const BODY_ROOM: u64 = 4_194_304;
@@ -30,10 +30,10 @@ fn bodies_of(answers: &[(u32, Answer)]) -> u64
 
 /// Whether there is room for the body of one more run.
 pub fn has_body_room(book: &Book) -> bool
-    ensures { result ≡ nat_le (spec.bodies_with_one book.now.answers (past_in book.now)) MOST_BODIES }
+    ensures { result ≡ nat_le (spec.bodies_with_one book.now.answers (past_in book.now)) MOST_BODY_BYTES }
 {
     let open = book.journal().unfinished() as u128 + 1;
-    bodies_of(book.answers()) as u128 + BODY_ROOM as u128 * open <= MOST_BODIES as u128
+    bodies_of(book.answers()) as u128 + BODY_ROOM as u128 * open <= MOST_BODY_BYTES as u128
 }
 
 fn is_asked_by(journal: &Journal, lane: u32, run: u32) -> bool

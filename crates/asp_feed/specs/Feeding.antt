@@ -1,5 +1,5 @@
--- Which journals a recording feeds. Items and events are given with the newest first, as pasts are. All of it is the
--- profile's.
+-- Which journals a recording feeds. Items and events are given with the newest first, as pasts are. All of it
+-- is our own.
 use Rattle.std.specs.Prelude.{◌≡◌, ◌⊎◌, ℕ, ◌==◌, ◌&&◌, Bool, true, false, if◌then◌else◌, nat_eq, nat_lt}
 use Rattle.std.specs.Prelude.{List, [], ◌∷◌, ◌++◌, length, reverse, Some, None}
 use Rattle.std.specs.Map.{lookup}

@@ -1,5 +1,5 @@
 -- The Application object (ASP 3.0, "Application Object"), as runs call it one after another. Its lock, its limit and
--- the form of its names are the profile's.
+-- the form of its names are our own.
 use Rattle.std.specs.Prelude.{◌≢◌, ℕ, zero, suc, ◌≤◌, ◌==◌, nat_eq, nat_lt, ℤ, pos, negsuc, Bool, true, false}
 use Rattle.std.specs.Prelude.{if◌then◌else◌, List, [], ◌∷◌, length, map, sum_by, slice_get, All, AllPairs}
 use Rattle.std.specs.Prelude.{Option, Some, None, IsSome, unwrap_or}

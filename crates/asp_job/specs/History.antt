@@ -1,4 +1,4 @@
--- The calls of the Application object in a journal, and the room that a journal has. All of it is the profile's.
+-- The calls of the Application object in a journal, and the room that a journal has. All of it is our own.
 use Rattle.std.specs.Prelude.{◌≡◌, ℕ, ◌+◌, ◌*◌, ◌<◌, ◌==◌, ◌⊎◌, Bool, true, false, if◌then◌else◌, MatchBool}
 use Rattle.std.specs.Prelude.{List, [], ◌∷◌, ◌++◌, length, sum_by, None}
 use Rattle.vb_value.specs.declared.application.AppCall.{AppCall}

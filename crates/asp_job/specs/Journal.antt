@@ -1,4 +1,4 @@
--- Which journals are valid, and which entries each event adds. All of it is the profile's.
+-- Which journals are valid, and which entries each event adds. All of it is our own.
 use Rattle.std.specs.Prelude.{◌≡◌, ℕ, ◌+◌, ◌&&◌, Bool, if◌then◌else◌, nat_lt, List, [], ◌∷◌, ◌++◌, Option}
 use Rattle.vb_value.specs.declared.application.AppCall.{AppCall}
 use Rattle.asp_job.specs.declared.answer.Finished.{Finished}

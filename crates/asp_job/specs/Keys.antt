@@ -1,4 +1,4 @@
--- The account of the session keys, read off a journal (ASP 3.0, "Session Object"; the order of runs is the profile's).
+-- The account of the session keys, read off a journal (ASP 3.0, "Session Object"; the order of runs is our own).
 use Rattle.std.specs.Prelude.{ℕ, ◌+◌, ◌*◌, ◌==◌, ◌&&◌, ◌||◌, Bool, true, false, not, if◌then◌else◌, nat_le}
 use Rattle.std.specs.Prelude.{List, [], ◌∷◌, filter, Option, Some, None, unwrap_or, is_some}
 use Rattle.std.specs.List.{list_any}

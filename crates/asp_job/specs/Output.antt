@@ -1,4 +1,4 @@
--- How runs end, and the answers of pages. The answers that stand in for a page's own are the profile's.
+-- How runs end, and the answers of pages. The answers that stand in for a page's own are our own.
 use Rattle.std.specs.Prelude.{ℕ, ◌==◌, if◌then◌else◌, List, [], ◌∷◌, length, Option, Some, None}
 use Rattle.std.specs.Option.{option_map_or}
 use Rattle.asp_job.specs.declared.answer.Answer.{Answer}

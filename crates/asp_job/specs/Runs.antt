@@ -1,5 +1,5 @@
--- The account of the runs, read off a journal. A past is a journal with its newest entry first. All of it is the
--- profile's.
+-- The account of the runs, read off a journal. A past is a journal with its newest entry first. All of it
+-- is our own.
 use Rattle.std.specs.Prelude.{ℕ, suc, zero, ◌+◌, ◌==◌, ◌||◌, Bool, true, false, if◌then◌else◌}
 use Rattle.std.specs.Prelude.{List, [], ◌∷◌, ◌++◌, filter, Option, Some, None, unwrap_or}
 use Rattle.std.specs.List.{list_any}

@@ -1,4 +1,4 @@
--- What a session may be (ASP 3.0, "Session Object"; the limits are the profile's).
+-- What a session may be (ASP 3.0, "Session Object"; the limits are our own).
 use Rattle.std.specs.Prelude.{◌≡◌, ◌≢◌, ℕ, ◌+◌, ◌*◌, ◌^◌, ◌<◌, ◌≤◌, [], length, sum_by, All, AllPairs}
 use Rattle.vb_value.specs.Folding.{folded}
 use Rattle.vb_value.specs.Plain.{IsPlain}

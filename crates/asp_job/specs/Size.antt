@@ -1,4 +1,4 @@
--- How large a job may be. The bound is the profile's, and far beyond what a request from bytes can be.
+-- How large a job may be. The bound is our own, and far beyond what a request from bytes can be.
 use Rattle.std.specs.Prelude.{ℕ, ◌+◌, ◌^◌, ◌<◌, length, sum_by}
 use Rattle.asp_job.specs.declared.job.Job.{Job}
 use Rattle.asp_job.specs.declared.job.Work.{Work}

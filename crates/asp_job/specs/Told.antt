@@ -1,4 +1,4 @@
--- What a run is told, and what it then does. All of it is the profile's.
+-- What a run is told, and what it then does. All of it is our own.
 use Rattle.std.specs.Prelude.{ℕ, Bool, List, [], ◌∷◌, ◌++◌, Option}
 use Rattle.vb_value.specs.declared.application.AppCall.{AppCall}
 use Rattle.vb_value.specs.declared.application.AppReply.{AppReply}

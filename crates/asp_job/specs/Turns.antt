@@ -1,4 +1,4 @@
--- Which entry may come next in a journal. All of it is the profile's.
+-- Which entry may come next in a journal. All of it is our own.
 use Rattle.std.specs.Prelude.{◌≡◌, ℕ, ◌+◌, ◌<◌, ◌==◌, ◌&&◌, ◌||◌, Bool, true, false, not, if◌then◌else◌, nat_lt, nat_le}
 use Rattle.std.specs.Prelude.{List, [], ◌∷◌, ◌++◌, length, filter, map, drop, Option, Some, unwrap_or}
 use Rattle.std.specs.List.{list_any}

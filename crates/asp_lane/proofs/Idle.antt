@@ -7,7 +7,7 @@ use Rattle.asp_job.specs.Journal.{AreRight}
 use Rattle.asp_job.specs.Rules.{Rules}
 use Rattle.asp_job.specs.Runs.{is_halted, unfinished, waiting}
 use Rattle.asp_job.specs.Told.{Meaning, Told}
-use Rattle.asp_core.specs.declared.ready.TheConstants.{MOST_BODIES}
+use Rattle.asp_core.specs.declared.ready.TheConstants.{MOST_BODY_BYTES}
 use Rattle.asp_core.specs.Kernel.{CoreView, RunView, IsIdle, grown, past_of, rules_of}
 use Rattle.asp_core.specs.Ready.{bodies_with_one, ready}
 use Rattle.asp_core.proofs.Idling.{none_waits}
@@ -17,7 +17,7 @@ use Rattle.asp_lane.specs.Turns.{AddsBegin, Fits, IsTurn}
 use Rattle.asp_lane.proofs.Turns.{grown_none}
 
 -- the body of one more has room where none waits
-light : (past : List Entry) → unfinished past ≡ [] → MOST_BODIES < bodies_with_one [] past → ⊥
+light : (past : List Entry) → unfinished past ≡ [] → MOST_BODY_BYTES < bodies_with_one [] past → ⊥
 light past none heavy =
     let few : length (unfinished past) ≡ 0 = ap length none in omega arith
 
@@ -30,7 +30,7 @@ nothing_waits m past right none (inl (inr (inl many))) answers going =
 nothing_waits m past right none (inl (inr (inr stuck))) answers going = none_waits m past right none stuck
 nothing_waits m past right none (inr heavy) answers going =
     absurd (light past none
-    (subst (λ (list : List (ℕ × Answer)). MOST_BODIES < bodies_with_one list past) answers heavy))
+    (subst (λ (list : List (ℕ × Answer)). MOST_BODY_BYTES < bodies_with_one list past) answers heavy))
 
 -- an idle turn had no run in hand, and changed nothing
 pub idle_turn : {R Site State : Type 0} → (meaning : R → Site → Meaning)

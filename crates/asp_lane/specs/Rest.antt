@@ -1,4 +1,4 @@
--- Turns of a lane, one after another. All of it is the profile's.
+-- Turns of a lane, one after another. All of it is our own.
 use Rattle.std.specs.Prelude.{◌≡◌, ℕ, zero, suc, ◌-◌, ◌^◌, ◌≤◌, Bool, true, false, Option}
 use Rattle.asp_job.specs.Told.{Meaning, Told}
 use Rattle.asp_core.specs.Kernel.{CoreView, RunView}

@@ -1,4 +1,4 @@
--- What a turn of a lane adds to a core, where no other lane has a run. All of it is the profile's.
+-- What a turn of a lane adds to a core, where no other lane has a run. All of it is our own.
 use Rattle.std.specs.Prelude.{◌≡◌, ◌⊎◌, ℕ, List, [], ◌∷◌, Option, Some, None}
 use Rattle.vb_value.specs.declared.application.AppCall.{AppCall}
 use Rattle.asp_job.specs.declared.entry.EndKind.TheVariants as kind

@@ -1,4 +1,4 @@
--- The line of an entry of a journal. It is the profile's.
+-- The line of an entry of a journal. It is our own.
 use Rattle.std.specs.Prelude.{ℕ, Bool, true, false, if◌then◌else◌, List, [], ◌++◌, codes}
 use Rattle.vb_value.specs.declared.application.AppCall.{AppCall}
 use Rattle.vb_value.specs.declared.application.AppReply.{AppReply}

@@ -1,4 +1,4 @@
--- Which line an entry of a journal has, and the lines of a journal. It is the profile's.
+-- Which line an entry of a journal has, and the lines of a journal. It is our own.
 use Rattle.std.specs.Prelude.{List, filter, Option, Some, None}
 use Rattle.std.specs.List.{filter_map}
 use Rattle.std.specs.Option.{option_map}

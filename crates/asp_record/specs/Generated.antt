@@ -1,4 +1,4 @@
--- What `gen` replays: the one page, and the recording of so many requests for it. Both are the profile's.
+-- What `gen` replays: the one page, and the recording of so many requests for it. Both are our own.
 use Rattle.std.specs.Prelude.{ℕ, ◌+◌, ◌/◌, ◌%◌, false, List, [], ◌∷◌, ◌++◌, map, codes, replicate}
 use Rattle.std.specs.List.{range_with_len}
 use Rattle.vb_value.specs.declared.site_file.SiteFile.{SiteFile}

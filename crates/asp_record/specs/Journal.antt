@@ -1,4 +1,4 @@
--- Which bytes are lines of a journal, and where others are refused. It is the profile's.
+-- Which bytes are lines of a journal, and where others are refused. It is our own.
 use Rattle.std.specs.Prelude.{◌≡◌, ◌≢◌, ℕ, ◌^◌, ◌<◌, ◌&&◌, Bool, true, List, [], ◌∷◌, ◌++◌, length, codes, IsTrue, ⊤}
 use Rattle.std.specs.Prelude.{ℤ, pos, negsuc, int_le}
 use Rattle.std.specs.List.{flat_map, list_all}

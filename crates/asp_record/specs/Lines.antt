@@ -1,4 +1,4 @@
--- How recordings and journals write numbers and bytes. It is the profile's.
+-- How recordings and journals write numbers and bytes. It is our own.
 use Rattle.std.specs.Prelude.{ℕ, ◌/◌, ◌%◌, Bool, false, if◌then◌else◌, List, [], ◌∷◌, ◌++◌, codes}
 use Rattle.std.specs.Fmt.{decimal, digit_glyph}
 use Rattle.std.specs.List.{flat_map}

@@ -1,4 +1,4 @@
--- Which entries have numbers and texts that are what their types say. It is the profile's.
+-- Which entries have numbers and texts that are what their types say. It is our own.
 use Rattle.std.specs.Prelude.{◌^◌, ◌<◌, List, [], ◌∷◌, IsTrue, ⊤}
 use Rattle.asp_job.specs.declared.entry.Entry.{Entry}
 use Rattle.asp_job.specs.declared.entry.What.{What}

@@ -1,4 +1,4 @@
--- Which bytes have a recording at their front, and where bytes have none. It is the profile's.
+-- Which bytes have a recording at their front, and where bytes have none. It is our own.
 use Rattle.std.specs.Prelude.{◌≡◌, ◌≢◌, ℕ, ◌^◌, ◌<◌, ◌≤◌, ◌⊎◌, List, [], ◌∷◌, ◌++◌, length, slice_index, ⊤}
 use Rattle.std.specs.Prelude.{Result, Ok, Err}
 use Rattle.std.specs.List.{flat_map}

@@ -1,4 +1,4 @@
--- The texts of a recording, line by line. They are the profile's.
+-- The texts of a recording, line by line. They are our own.
 use Rattle.std.specs.Prelude.{◌≡◌, ℕ, Bool, true, false, List, [], ◌++◌, length, codes, ⊤}
 use Rattle.std.specs.List.{flat_map}
 use Rattle.asp_record.specs.Lines.{field, hex, line, number}

@@ -1,4 +1,4 @@
--- Values, and the calls of the Application object with their replies, as a journal writes them. It is the profile's.
+-- Values, and the calls of the Application object with their replies, as a journal writes them. It is our own.
 use Rattle.std.specs.Prelude.{ℕ, Bool, List, [], ◌∷◌, ◌++◌, if◌then◌else◌, map, codes, encode_utf8_all}
 use Rattle.std.specs.Fmt.{signed_decimal}
 use Rattle.vb_value.specs.declared.application.AppCall.{AppCall}

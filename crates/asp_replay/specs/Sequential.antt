@@ -1,4 +1,4 @@
--- The history of one lane that is fed by a recording. All of it is the profile's.
+-- The history of one lane that is fed by a recording. All of it is our own.
 use Rattle.std.specs.Prelude.{◌≡◌, ◌⊎◌, ℕ, zero, suc, ◌&&◌, ◌||◌, Bool, true, false, nat_le, nat_lt}
 use Rattle.std.specs.Prelude.{List, [], ◌∷◌, is_some, length, map}
 use Rattle.vb_value.specs.declared.application.AppCall.{AppCall}

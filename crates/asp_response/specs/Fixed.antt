@@ -1,4 +1,4 @@
--- Answers whose text is fixed: the profile's. Each is a plain text, the reason of its status or another one.
+-- Answers whose text is fixed: our own. Each is a plain text, the reason of its status or another one.
 use Rattle.std.specs.Prelude.{ℕ, Bool, if◌then◌else◌, List, [], ◌∷◌, ◌++◌, codes, encode_utf8_all}
 use Rattle.asp_job.specs.declared.answer.Answer.{Answer}
 use Rattle.asp_job.specs.declared.request.Header.{Header}

@@ -1,4 +1,4 @@
--- The account of the session keys (ASP 3.0, "Session Object"; how they are numbered and forgotten is the profile's).
+-- The account of the session keys (ASP 3.0, "Session Object"; how they are numbered and forgotten is our own).
 use Rattle.std.specs.Prelude.{ℕ, ◌+◌, ◌*◌, ◌==◌, ◌&&◌, Bool, false, not, nat_eq, nat_le, if◌then◌else◌}
 use Rattle.std.specs.Prelude.{List, [], filter, Option, Some, None}
 use Rattle.std.specs.List.{list_any}

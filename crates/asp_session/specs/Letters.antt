@@ -1,4 +1,4 @@
--- The letters by which a client knows its key: the value of the session cookie. Their form is the profile's, and their
+-- The letters by which a client knows its key: the value of the session cookie. Their form is our own, and their
 -- words are those of ChaCha20 (RFC 8439, with a counter and a nonce of 64 bits).
 use Rattle.std.specs.Prelude.{ℕ, zero, suc, ◌+◌, ◌-◌, ◌*◌, ◌/◌, ◌%◌, ◌&&◌, nat_eq, nat_lt, Bool, if◌then◌else◌}
 use Rattle.std.specs.Prelude.{List, [], ◌∷◌, ◌++◌, take, fold, Option, Some, None}

@@ -1,4 +1,4 @@
--- What each call makes of the account of the session keys. All is the profile's.
+-- What each call makes of the account of the session keys. All is our own.
 use Rattle.std.specs.Prelude.{ℕ, ◌+◌, ◌==◌, ◌&&◌, ◌||◌, Bool, true, false, not, if◌then◌else◌, nat_eq, nat_lt}
 use Rattle.std.specs.Prelude.{List, [], ◌∷◌, ◌++◌, length, Option, None, Result, Ok, Err, is_some}
 use Rattle.std.specs.Map.{remove_entry}

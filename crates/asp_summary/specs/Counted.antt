@@ -1,4 +1,4 @@
--- What a journal comes to. All of it is the profile's. A past is a journal with its newest entry first.
+-- What a journal comes to. All of it is our own. A past is a journal with its newest entry first.
 use Rattle.std.specs.Prelude.{ℕ, ◌+◌, ◌==◌, nat_eq, nat_lt, ℤ, pos, Bool, false, if◌then◌else◌, List, [], ◌∷◌, map}
 use Rattle.std.specs.Prelude.{filter, codes, Option, Some, None, unwrap_or}
 use Rattle.std.specs.Set.{distinct_count}

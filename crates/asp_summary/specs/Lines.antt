@@ -1,4 +1,4 @@
--- The lines of a summary. All of it is the profile's.
+-- The lines of a summary. All of it is our own.
 use Rattle.std.specs.Prelude.{List, ℕ, ℤ, ◌∷◌, [], ◌++◌, codes}
 use Rattle.std.specs.Fmt.{decimal, signed_decimal}
 use Rattle.asp_summary.specs.declared.summary.Summary.{Summary}

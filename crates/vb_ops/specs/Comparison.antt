@@ -1,5 +1,5 @@
 -- `=`, `<>`, `<`, `>`, `<=`, `>=` and `Is` (VBScript 5.6, "Comparison Operators"). That a number is less than any
--- String is the profile's.
+-- String is our own.
 use Rattle.std.specs.Prelude.{ℕ, Bool, true, false, ◌||◌, ◌==◌, if◌then◌else◌, ℤ, pos, negsuc, ◌*ℤ◌, List, []}
 use Rattle.std.specs.Prelude.{Option, Some, None, Result, Ok, Err}
 use Rattle.std.specs.declared.cmp.Ordering.{Ordering}

@@ -1,4 +1,4 @@
--- What a function asks of its arguments before anything else. The order is the profile's: how many there are,
+-- What a function asks of its arguments before anything else. The order is our own: how many there are,
 -- then Null where that gives Null, then each argument's conversion from left to right, then what else a function
 -- asks.
 use Rattle.std.specs.Prelude.{Bool, true, false, if◌then◌else◌, List, [], ◌∷◌, Result, Ok, Err}

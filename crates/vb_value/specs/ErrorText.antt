@@ -1,4 +1,4 @@
--- The texts of the language's errors (VBScript 5.6, "VBScript Run-time Errors"); that of 1156 is the profile's.
+-- The texts of the language's errors (VBScript 5.6, "VBScript Run-time Errors"); that of 1156 is our own.
 use Rattle.std.specs.Prelude.{ℕ, ◌==◌, if◌then◌else◌, ℤ, pos, negsuc, List, [], ◌∷◌, codes}
 
 -- each error that has a text of its own

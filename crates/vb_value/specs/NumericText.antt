@@ -1,4 +1,4 @@
--- Texts that are numbers, and the texts of numbers. The profile writes numbers with digits alone: no
+-- Texts that are numbers, and the texts of numbers. We write numbers with digits alone: no
 -- exponent, no separator of thousands, no hexadecimal.
 use Rattle.std.specs.Prelude.{◌≡◌, ◌⊎◌, ℕ, suc, ◌+◌, ◌*◌, ◌-◌, ◌/◌, ◌%◌, ◌^◌, Bool, true, false, not, ◌&&◌, ◌||◌, ◌==◌}
 use Rattle.std.specs.Prelude.{if◌then◌else◌, ℤ, pos, negsuc, neg_ℤ, List, [], ◌∷◌, ◌++◌, length, map, reverse}

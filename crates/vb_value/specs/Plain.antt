@@ -1,4 +1,4 @@
--- Plain values, which a session or the application may keep. They are the profile's.
+-- Plain values, which a session or the application may keep. They are our own.
 use Rattle.std.specs.Prelude.{◌≡◌, ℕ, ◌+◌, ◌≤◌, max, Bool, true, false, List, fold}
 use Rattle.std.specs.List.{list_any}
 use Rattle.vb_value.specs.declared.value.Value.{Value}

@@ -1,4 +1,4 @@
--- The limit on texts, which no function's answer passes. It is the profile's.
+-- The limit on texts, which no function's answer passes. It is our own.
 use Rattle.std.specs.Prelude.{ℕ, List, length, nat_le, if◌then◌else◌, Result, Ok, Err}
 use Rattle.vb_value.specs.declared.fault.VbError.{VbError}
 use Rattle.vb_value.specs.declared.value.Value.{Value, Str}

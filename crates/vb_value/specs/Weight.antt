@@ -1,4 +1,4 @@
--- The weight of a value, by which a page, a session and the application are bounded. It is the profile's.
+-- The weight of a value, by which a page, a session and the application are bounded. It is our own.
 use Rattle.std.specs.Prelude.{ℕ, ◌+◌, ◌*◌, length, sum}
 use Rattle.vb_value.specs.declared.value.Value.{Value}
 use Rattle.vb_value.specs.declared.value.Value.TheOpen.{Value-F, Array-F}

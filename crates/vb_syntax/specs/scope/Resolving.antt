@@ -1,5 +1,5 @@
 -- The scope rules: which program a unit is (VBScript 5.6 language reference, "Scope and Lifetime of Variables", with
--- the profile's rules on what is unique and on what may stand where).
+-- our own rules on what is unique and on what may stand where).
 use Rattle.std.specs.Prelude.{◌≡◌, ℕ, [], ◌∷◌}
 use Rattle.vb_syntax.specs.declared.note.ScopeFault.{ScopeFault}
 use Rattle.vb_syntax.specs.declared.unit.Unit.{Unit as Script}

@@ -5,7 +5,7 @@ use Rattle.asp_core.specs.Kernel.{rules_by, rules_of, past_of, grown}
 use Rattle.asp_core.specs.Book.{past_in}
 use Rattle.asp_core.specs.Opening.{IsIdleWith}
 use Rattle.asp_core.specs.Ready.{HasBodyRoom, bodies_with_one}
-use Rattle.asp_core.specs.declared.ready.TheConstants.{MOST_BODIES}
+use Rattle.asp_core.specs.declared.ready.TheConstants.{MOST_BODY_BYTES}
 use Rattle.asp_core.specs.declared.stop.BeginStop.TheVariants as begin
 use Rattle.asp_job.specs.Journal.{begin_entry}
 use Rattle.asp_job.specs.Rules.{Rules}
@@ -72,7 +72,7 @@ returns-clause-light g c =
     subst (λ (v : CoreView g.row.R.Denot g.row.R-Site.Denot).
     OnOk c.begin_run.result (HasBodyRoom (rules_of g.R.Runner.meaning v) (past_of v))) c.self.view_is
     (on_each_ok c.begin_run.result _ (HasBodyRoom m past) (λ run has.
-    subst (λ (answers : List (ℕ × Answer)). bodies_with_one answers past ≤ MOST_BODIES)
+    subst (λ (answers : List (ℕ × Answer)). bodies_with_one answers past ≤ MOST_BODY_BYTES)
     c.self.invariant.0.answers_are has.light) ok)
 
 pub returns-clause-begun : goal.returns-clause-begun
