@@ -1,5 +1,5 @@
 -- How the acts of a run end, one after another, as many as came to an end.
-use Rattle.std.specs.Prelude.{ℕ, if◌then◌else◌, List, [], ◌∷◌, ◌++◌, codes, drop, Option, Some, None}
+use Rattle.std.specs.Prelude.{ℕ, ◌≡◌, if◌then◌else◌, List, [], ◌∷◌, ◌++◌, codes, drop, Option, Some, None, IsSomeAnd}
 use Rattle.vb_value.specs.declared.application.AppReply.{AppReply}
 use Rattle.vb_syntax.specs.declared.act.Act.{Act}
 use Rattle.vb_syntax.specs.declared.act.Act.TheVariants as act
@@ -9,6 +9,8 @@ use Rattle.vb_meaning.specs.declared.plain_end.PlainEnd.{PlainEnd}
 use Rattle.vb_meaning.specs.declared.plain_end.PlainEnd.TheVariants.{Ends as Ended}
 use Rattle.vb_meaning.specs.Acts.{act_of}
 use Rattle.vb_objects.specs.Seen.{host}
+use Rattle.asp_job.specs.declared.answer.Fail.{Fail}
+use Rattle.asp_job.specs.declared.answer.Fail.TheVariants as fail
 use Rattle.asp_job.specs.declared.job.Work.{Work}
 use Rattle.asp_job.specs.declared.job.Work.TheVariants as work
 use Rattle.asp_job.specs.declared.request.Request.{Request}
@@ -97,3 +99,16 @@ IsNoLimit _ = Unit {0}
 abbrev pub MetNoLimit : List ActEnd → Type 0
 MetNoLimit [] = Unit {0}
 MetNoLimit (first ∷ others) = IsNoLimit first × MetNoLimit others
+
+-- what is said of a failing run tells how one of its acts ended: the number of its error, or its limit
+abbrev pub Tells : Fail → ActEnd → Type 0
+Tells (fail.Error number at) (end.Error other source description line) = number ≡ other
+Tells (fail.Limit kind at) (end.Limit other line) = kind ≡ other
+Tells _ _ = ⊥
+
+-- the first of these that failed is told, and nothing where none did
+abbrev pub TellsFirst : List ActEnd → Option Fail → Type 0
+TellsFirst [] told = told ≡ None
+TellsFirst (end.Done ∷ others) told = TellsFirst others told
+TellsFirst (end.Stopped ∷ others) told = TellsFirst others told
+TellsFirst (first ∷ others) told = IsSomeAnd told (λ failed. Tells failed first)

@@ -11,7 +11,7 @@ ghost use Rattle.asp_job.specs.declared.answer.Finished.{Finished};
 ghost use Rattle.asp_objects.specs.declared.objects.PageObjects.{PageObjects};
 ghost use Rattle.asp_objects.specs.Members.{asked, answered};
 ghost use Rattle.asp_response.specs.Sound.{ArePrintable, IsSound};
-ghost use Rattle.asp_acts.specs.ActEnds.{MetNoLimit, ends_of};
+ghost use Rattle.asp_acts.specs.ActEnds.{MetNoLimit, TellsFirst, ends_of};
 ghost use Rattle.asp_acts.specs.Running.{does};
 ghost use Rattle.asp_site.specs.declared.site.Site.{Site};
 
@@ -27,6 +27,13 @@ pub fn acts_come()
 pub fn objects_end_in_runs()
     ensures { (site : Site) (told : Told) (finished : Finished) → MetNoLimit (ends_of site told)
         → does site told ≡ Ends finished → finished.made ≡ finished.finished }
+{}
+
+/// A run that has ended tells why the first of its acts that failed did, by the number of its error or by its limit, and
+/// nothing where none of them failed.
+pub fn first_failures_are_told()
+    ensures { (site : Site) (told : Told) (finished : Finished) → does site told ≡ Ends finished
+        → TellsFirst (ends_of site told) finished.fail }
 {}
 
 /// The answer of a run is sound, where the letters of its session's key are printable: of a page, whatever it says, of a
