@@ -16,3 +16,4 @@ pub mod TableWeights
 pub mod Changing
 pub mod Differing
 pub mod Walking
+pub mod Oldest

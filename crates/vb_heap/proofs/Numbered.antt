@@ -1,33 +1,15 @@
 -- Things by their numbers.
-use Rattle.std.proofs.Common.{◌≡◌, ℕ, ◌+◌, List, [], ◌∷◌, ◌++◌, refl, ap, sym, arith, true, false, cond, take, length}
-use Rattle.std.proofs.Common.{Option, Some, None, get_or, ◌<◌}
-use Rattle.std.specs.Ordering.{nat_cmp}
-use Rattle.std.specs.BTreeMap.{insert_entry}
-use Rattle.std.specs.Cmp.{nat_cmp_is}
+use Rattle.std.proofs.Common.{◌≡◌, ℕ, ◌+◌, List, [], ◌∷◌, ◌++◌, refl, ap, arith, true, false, cond, take, length}
+use Rattle.std.proofs.Common.{get_or, ◌<◌}
 use Rattle.std.specs.Map.{values_of}
-use Rattle.std.specs.declared.cmp.Ordering.TheVariants.{Greater}
 use Rattle.std.proofs.lemmas.List.{take_more}
-use Rattle.std.specs.Option.{option_map_or}
 use Rattle.vb_value.specs.declared.value.Value.{Value}
-use Rattle.vb_heap.specs.declared.object.Object.{Object}
 use Rattle.vb_heap.specs.declared.place.CellNo.{CellNo}
 use Rattle.vb_heap.specs.Below.{AreBelow, EachBelow}
-use Rattle.vb_heap.specs.Releases.{ending, without_all}
+use Rattle.vb_heap.specs.Releases.{without_all}
 use Rattle.vb_heap.specs.Store.{is_number, without, replaced}
 
 module _ {T : Type 0} where
-  ends : (things : List (ℕ × T)) (number : ℕ) (thing : T) → EachBelow number things
-      → insert_entry nat_cmp things number thing ≡ things ++ (number, thing) ∷ []
-  ends [] number thing below = refl
-  ends (first ∷ others) number thing below =
-      let greater : nat_cmp number first.0 ≡ Greater = sym (nat_cmp_is number first.0 Greater below.0) in
-      rw greater (ap (λ rest. first ∷ rest) (ends others number thing below.1))
-
-  -- a thing with a number to come stands last
-  pub comes_last : (things : List (ℕ × T)) (number : ℕ) (thing : T) → AreBelow number things
-      → insert_entry nat_cmp things number thing ≡ things ++ (number, thing) ∷ []
-  comes_last things number thing below = ends things number thing below.each
-
   one_more : (things : List (ℕ × T)) (number : ℕ) (thing : T) → EachBelow number things
       → EachBelow (number + 1) (things ++ (number, thing) ∷ [])
   one_more [] number thing below = (omega arith, tt)
@@ -82,9 +64,3 @@ pub gone_more : (gone : List CellNo) (at : ℕ) (default : CellNo) (cells : List
     → without_all (take (at + 1) gone) cells ≡ without (get_or gone at default).0 (without_all (take at gone) cells)
 gone_more gone at default cells within =
     rw (take_more gone at default within) (gone_last (take at gone) (get_or gone at default) cells)
-
--- objects of which one is ending
-pub below_ending : (found : Option Object) (at : ℕ) (objects : List (ℕ × Object)) (number : ℕ) → AreBelow number objects
-    → AreBelow number (option_map_or (λ object. replaced at (ending object) objects) found objects)
-below_ending (Some object) at objects number below = below_other objects at number (ending object) below
-below_ending None at objects number below = below

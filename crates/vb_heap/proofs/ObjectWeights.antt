@@ -18,6 +18,14 @@ object_there objects number weight object is light weighed =
     let whole = rw (sym is) at both in
     omega arith
 
+-- where no object was
+pub nothing_there : (objects : List (ℕ × Object)) (number : ℕ) → None ≡ numbered number objects
+    → sum_by object_weight (values_of (without number objects)) ≡ sum_by object_weight (values_of objects)
+nothing_there objects number is =
+    let both = sum_by-remove_entry object_weight (is_number number) objects in
+    let whole = rw (sym is) at both in
+    omega arith
+
 -- an object weighs no more than all
 pub object_within : (objects : List (ℕ × Object)) (number : ℕ) (object : Object) → Some object ≡ numbered number objects
     → object_weight object ≤ sum_by object_weight (values_of objects)

@@ -14,7 +14,6 @@ use Rattle.vb_value.specs.Weight.{weight_of}
 use Rattle.vb_heap.specs.declared.object.Content.{Content}
 use Rattle.vb_heap.specs.declared.object.Content.TheVariants.{Fields, Entries}
 use Rattle.vb_heap.specs.declared.object.Object.{Object}
-use Rattle.vb_heap.specs.Below.{AreBelow}
 use Rattle.vb_heap.specs.Dictionary.{Dictionary}
 use Rattle.vb_heap.specs.Entries.{dictionary_in, dictionary_there, entry_there, pair_there, found_changed}
 use Rattle.vb_heap.specs.Entries.{object_changed, objects_changed, content_changed, pair_added, item_set, mode_set}
@@ -23,7 +22,6 @@ use Rattle.vb_heap.specs.PageWeight.{object_weight, content_weight, found_weight
 use Rattle.vb_heap.specs.PairWeight.{entries_weight, pair_weight, item_weight}
 use Rattle.vb_heap.specs.Store.{is_number, numbered, replaced}
 use Rattle.vb_heap.proofs.Indexes.{weight_set, pair_within}
-use Rattle.vb_heap.proofs.Numbered.{below_other}
 use Rattle.vb_heap.proofs.ObjectWeights.{object_within, object_other}
 
 in_content : (content : Content) (table : Dictionary) → dictionary_in content ≡ Ok table
@@ -50,6 +48,15 @@ table_within objects number table is =
     let weighs = in_found (numbered number objects) table is in
     let within = found_within objects number (numbered number objects) refl in
     omega arith
+
+-- the same of the entries alone, for an object that is found
+pub entries_within : (objects : List (ℕ × Object)) (number : ℕ) (object : Object) (table : Dictionary)
+    → Some object ≡ numbered number objects → object.content ≡ Entries table
+    → sum_by object_weight (values_of objects) ≤ 16777216 → entries_weight table.pairs ≤ 16777216
+entries_within objects number object table there is light =
+    let within = object_within objects number object there in
+    let weighs : object_weight object ≡ 32 + entries_weight table.pairs = ap (λ content. 32 + content_weight content) is in
+    omega (arith, within, weighs, light)
 
 item_of_pair : (table : Dictionary) (at : ℕ) (found : Option Pair) → found ≡ slice_get table.pairs at
     → item_weight (pair_there found) ≤ entries_weight table.pairs
@@ -86,19 +93,6 @@ pub weight_changed : (change : Dictionary → Dictionary) (objects : List (ℕ �
     + found_weight (numbered number objects)
     ≡ sum_by object_weight (values_of objects) + found_weight (found_changed change (numbered number objects))
 weight_changed change objects number = changed_found change objects number (numbered number objects) refl
-
-below_found : (change : Dictionary → Dictionary) (objects : List (ℕ × Object)) (number new : ℕ) (found : Option Object)
-    → AreBelow new objects
-    → AreBelow new (option_map_or (λ object. replaced number (object_changed change object) objects) found objects)
-below_found change objects number new (Some object) below =
-    below_other objects number new (object_changed change object) below
-below_found change objects number new None below = below
-
--- numbers to come stay new
-pub below_changed : (change : Dictionary → Dictionary) (objects : List (ℕ × Object)) (number new : ℕ)
-    → AreBelow new objects → AreBelow new (objects_changed change number objects)
-below_changed change objects number new below =
-    below_found change objects number new (numbered number objects) below
 
 added_content : (content : Content) (pair : Pair) → IsOk (dictionary_in content)
     → content_weight (content_changed (pair_added pair) content) ≡ content_weight content + pair_weight pair

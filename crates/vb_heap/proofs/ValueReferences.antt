@@ -76,10 +76,10 @@ all_weighed value array items at is items_is seen =
 pub ruleset counting = (counted_more, all_counted)
 
 -- how many there are with one value more
-pub counted_next : (object : ℕ) (values : List Value) (value : Value)
-    → count_of object (flat_map references (values ++ value ∷ []))
-    ≡ count_of object (flat_map references values) + count_of object (references value)
-counted_next object values value =
-    ap (count_of object) (flat_map-append references values (value ∷ []))
-    ∙ (count_both object (flat_map references values) (references value ++ [])
-    ∙ ap (λ last. count_of object (flat_map references values) + count_of object last) (append-nil (references value)))
+pub counted_next : {T : Type 0} (each : T → List ℕ) (object : ℕ) (values : List T) (value : T)
+    → count_of object (flat_map each (values ++ value ∷ []))
+    ≡ count_of object (flat_map each values) + count_of object (each value)
+counted_next each object values value =
+    ap (count_of object) (flat_map-append each values (value ∷ []))
+    ∙ (count_both object (flat_map each values) (each value ++ [])
+    ∙ ap (λ last. count_of object (flat_map each values) + count_of object last) (append-nil (each value)))

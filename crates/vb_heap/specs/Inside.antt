@@ -1,7 +1,6 @@
 -- How the code keeps the data of a page.
 use Rattle.std.specs.Prelude.{◌≡◌, ◌≤◌, length}
 use Rattle.vb_heap.specs.declared.heap.Heap.TheInside.{Inside}
-use Rattle.vb_heap.specs.Below.{AreBelow}
 use Rattle.vb_heap.specs.Limits.{most_weight, most_held}
 use Rattle.vb_heap.specs.PageWeight.{weight_of_page}
 use Rattle.vb_heap.specs.Pooled.{IsPoolOf}
@@ -20,7 +19,7 @@ store_of heap = record {
 -- the numbers to come are new, the weight is told, and the limits are kept
 pub record IsKept (heap : Inside) : Type 0 where
   pub new_cells : IsPoolOf heap.cells_made heap.cells
-  pub new_objects : AreBelow heap.objects_made heap.objects.entries
+  pub new_objects : IsPoolOf heap.objects_made heap.objects
   pub weighed : heap.weight ≡ weight_of_page (store_of heap)
   pub light : heap.weight ≤ most_weight
   pub few : length heap.held ≤ most_held

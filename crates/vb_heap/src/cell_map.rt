@@ -17,19 +17,13 @@ ghost use Rattle.vb_heap.specs.Saturated.{weight_told};
 ghost use Rattle.vb_heap.specs.Store.{numbered, without, replaced};
 
 use crate::place::CellNo;
+use crate::pooled::by_number;
 use crate::within;
-use slot_pool::{Pool, PoolStop, SlotKey};
+use slot_pool::{Pool, PoolStop};
 use vb_value::{List, Memory, Value, VbError, weight};
 
 /// Cells by their numbers.
 pub type Cells = Pool<Value>;
-
-/// A key of a number whose slot is not known: it finds what has that number.
-fn by_number(number: u64) -> SlotKey
-    ensures { result.number ≡ number }
-{
-    SlotKey { number, slot: 0 }
-}
 
 /// The value of a cell, if it is there.
 pub fn cell_at(cells: &Cells, number: u64) -> Option<&Value>

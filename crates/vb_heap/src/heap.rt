@@ -7,14 +7,13 @@ ghost use Rattle.vb_heap.specs.PageWeight.{weight_of_page};
 use crate::object::Object;
 use slot_pool::Pool;
 use std::alloc::Global;
-use std::collections::BTreeMap;
 use std::marker::Model;
 use vb_value::{List, Memory, Value};
 
 /// What all cells, objects and entries may weigh: 16 MiB.
 pub const MOST_WEIGHT: u64 = 16_777_216;
 
-/// How many cells may be there at once: no more fit into what all may weigh.
+/// How many cells, and how many objects, may be there at once: no more fit into what all may weigh.
 const MOST_THERE: u32 = 524_288;
 
 /// The data of a page: cells by their numbers, objects by theirs, and the references in held values. A contract sees
@@ -22,7 +21,7 @@ const MOST_THERE: u32 = 524_288;
 #[derive(Drop)]
 pub struct Heap {
     pub(crate) cells: Pool<Value>,
-    pub(crate) objects: BTreeMap<u32, Object, Global>,
+    pub(crate) objects: Pool<Object>,
     pub(crate) held: List<u32>,
     pub(crate) cells_made: u64,
     pub(crate) objects_made: u32,
@@ -52,7 +51,7 @@ impl Heap {
     {
         Ok(Heap {
             cells: Pool::with_reserve(alloc, 0, MOST_THERE)?,
-            objects: BTreeMap::new(alloc),
+            objects: Pool::with_reserve(alloc, 0, MOST_THERE)?,
             held: List::new(alloc),
             cells_made: 0,
             objects_made: 0,

@@ -14,6 +14,7 @@ mod object_map;
 mod objects;
 mod pairs;
 mod place;
+mod pooled;
 mod references;
 mod releases;
 mod saying;

@@ -1,9 +1,10 @@
 //! Objects by their numbers.
-ghost use Rattle.std.specs.Prelude.{◌≡◌, ◌+◌, ◌≤◌, ◌++◌, ◌∷◌, ◌-◌, ◌^◌, [], min, sum_by};
+ghost use Rattle.std.specs.Prelude.{◌≡◌, ◌+◌, ◌≤◌, ◌++◌, ◌∷◌, ◌-◌, ◌<◌, ◌^◌, [], length, min, sum_by};
 ghost use Rattle.std.specs.Map.{values_of};
+ghost use Rattle.std.specs.Option.{option_copied};
+ghost use Rattle.slot_pool.specs.Pool.{numbers};
 ghost use Rattle.vb_value.specs.Outcome.{Changes};
 ghost use Rattle.vb_value.specs.Weight.{weight_of};
-ghost use Rattle.vb_heap.specs.Below.{AreBelow};
 ghost use Rattle.vb_heap.specs.Limits.{most_weight};
 ghost use Rattle.vb_heap.specs.PageWeight.{object_weight};
 ghost use Rattle.vb_heap.specs.Pooled.{IsPooled};
@@ -12,28 +13,42 @@ ghost use Rattle.vb_heap.specs.Store.{numbered, without};
 
 use crate::cell_map::{Cells, remove_cells};
 use crate::object::{Content, Object};
-use std::alloc::Global;
-use std::collections::BTreeMap;
+use crate::pooled::by_number;
+use slot_pool::{Pool, PoolStop};
 use vb_value::Memory;
 
 /// Objects by their numbers.
-pub type Objects = BTreeMap<u32, Object, Global>;
+pub type Objects = Pool<Object>;
 
-/// Adds an object, whose number is above all others.
-#[tactic(auto, using(crate::proofs::Numbered::comes_last))]
-pub fn add_object(objects: &mut Objects, number: u32, object: Object) -> Result<(), Memory>
-    requires { AreBelow number objects.old.entries }
-    ensures { Changes result objects.old.entries objects.new.entries (objects.old.entries ++ (number, object) ∷ []) }
+/// An object, if it is there.
+pub fn object_at(objects: &Objects, number: u32) -> Option<&Object>
+    ensures { option_copied result ≡ numbered number objects.now.entries }
 {
-    objects.insert(number, object)?;
-    Ok(())
+    objects.get(by_number(number as u64))
+}
+
+/// Adds an object, with the next number.
+pub fn add_object(objects: &mut Objects, object: Object) -> Result<(), Memory>
+    requires few { length objects.old.entries < objects.old.most }
+    requires numbers { objects.old.next < numbers }
+    ensures objects { Changes result objects.old.entries objects.new.entries
+        (objects.old.entries ++ (objects.old.next, object) ∷ []) }
+    ensures made { Changes result objects.old.next objects.new.next (objects.old.next + 1) }
+    ensures most { objects.new.most ≡ objects.old.most }
+{
+    match objects.put(object) {
+        Ok(_) => Ok(()),
+        Err((_, PoolStop::Memory)) => Err(Memory),
+        Err((_, PoolStop::Full)) => unreachable!(),
+    }
 }
 
 /// Marks an object as ending, if it is there.
 pub fn set_ending(objects: &mut Objects, number: u32)
-    ensures { objects.new.entries ≡ objects_ending number objects.old.entries }
+    ensures objects { objects.new.entries ≡ objects_ending number objects.old.entries }
+    ensures pooled { IsPooled objects.old objects.new }
 {
-    if let Some(object) = objects.get_mut(&number) {
+    if let Some(object) = objects.get_mut(by_number(number as u64)) {
         object.ending = true;
     }
 }
@@ -42,7 +57,7 @@ pub fn set_ending(objects: &mut Objects, number: u32)
 pub fn is_ending(objects: &Objects, number: u32) -> bool
     ensures { result ≡ ends_now (numbered number objects.now.entries) }
 {
-    match objects.get(&number) {
+    match object_at(objects, number) {
         Some(object) => object.ending,
         None => false,
     }
@@ -80,13 +95,14 @@ pub fn remove_object(objects: &mut Objects, cells: &mut Cells, number: u32) -> u
     requires { sum_by weight_of (values_of cells.old.entries) + sum_by object_weight (values_of objects.old.entries)
         ≤ most_weight }
     ensures objects { objects.new.entries ≡ without number objects.old.entries }
+    ensures objects_pooled { IsPooled objects.old objects.new }
     ensures cells { cells.new.entries ≡ without_fields (numbered number objects.old.entries) cells.old.entries }
     ensures pooled { IsPooled cells.old cells.new }
     ensures weight { result
         + (sum_by weight_of (values_of cells.new.entries) + sum_by object_weight (values_of objects.new.entries))
         ≡ sum_by weight_of (values_of cells.old.entries) + sum_by object_weight (values_of objects.old.entries) }
 {
-    match objects.remove(&number) {
+    match objects.take(by_number(number as u64)) {
         Some(object) => weight_of_object(&object) + remove_fields(cells, &object.content),
         None => 0,
     }

@@ -11,7 +11,7 @@ use crate::cell_map::{add_cells, reserve_cells};
 use crate::fault::HeapStop;
 use crate::heap::{Heap, MOST_WEIGHT};
 use crate::object::{Content, Object};
-use crate::object_map::add_object;
+use crate::object_map::{add_object, object_at};
 use crate::place::CellNo;
 use std::alloc::Global;
 use vb_value::{LimitKind, List, Memory, ObjNo, VbError};
@@ -64,7 +64,7 @@ impl Heap {
             ending: false,
         };
         reserve_cells(&mut self.cells, fields)?;
-        add_object(&mut self.objects, self.objects_made, object)?;
+        add_object(&mut self.objects, object)?;
         add_cells(&mut self.cells, fields);
         let number = self.objects_made;
         self.cells_made += fields as u64;
@@ -77,7 +77,7 @@ impl Heap {
     pub fn field(&self, object: ObjNo, field: u32) -> Result<CellNo, VbError>
         ensures { result ≡ spec.field_of field (numbered object.0 self.now.objects) }
     {
-        match self.objects.get(&object.0) {
+        match object_at(&self.objects, object.0) {
             Some(object) => field_in(&object.content, field),
             None => Err(VbError::OBJECT_NOT_SET),
         }
@@ -87,7 +87,7 @@ impl Heap {
     pub fn class(&self, object: ObjNo) -> Result<Option<u32>, VbError>
         ensures { result ≡ spec.class_of (numbered object.0 self.now.objects) }
     {
-        match self.objects.get(&object.0) {
+        match object_at(&self.objects, object.0) {
             Some(object) => Ok(class_in(&object.content)),
             None => Err(VbError::OBJECT_NOT_SET),
         }

@@ -94,8 +94,10 @@ pub fn count_in_objects(objects: &Objects, number: u32) -> u32
     ensures most { 32 * result ≤ sum_by object_weight (values_of objects.now.entries) }
 {
     let mut count: u32 = 0;
-    for object in objects.values() {
-        count = count.saturating_add(count_in_object(object, number));
+    for key in objects.keys() {
+        if let Some(object) = objects.get(*key) {
+            count = count.saturating_add(count_in_object(object, number));
+        }
     }
     count
 }

@@ -8,6 +8,7 @@ ghost use Rattle.vb_heap.specs.Store.{no_data, numbered};
 use crate::heap::Heap;
 use crate::object_map::{is_ending, remove_object, set_ending};
 use crate::references::{count_in_cells, count_in_objects};
+use slot_pool::numbers_rise;
 use vb_value::ObjNo;
 
 impl Heap {
@@ -31,9 +32,14 @@ impl Heap {
     fn oldest_loose(&self) -> Option<u32>
         ensures { result ≡ spec.oldest_loose self.now }
     {
-        for (number, object) in &self.objects {
-            if !object.ending && self.count(ObjNo(*number)) == 0 {
-                return Some(*number);
+        let _made = self.objects_made;
+        numbers_rise(&self.objects);
+        for key in self.objects.keys() {
+            if let Some(object) = self.objects.get(*key) {
+                let number = key.number as u32;
+                if !object.ending && self.count(ObjNo(number)) == 0 {
+                    return Some(number);
+                }
             }
         }
         None
@@ -54,9 +60,13 @@ impl Heap {
     fn oldest_live(&self) -> Option<u32>
         ensures { result ≡ spec.oldest_live self.now }
     {
-        for (number, object) in &self.objects {
-            if !object.ending {
-                return Some(*number);
+        let _made = self.objects_made;
+        numbers_rise(&self.objects);
+        for key in self.objects.keys() {
+            if let Some(object) = self.objects.get(*key) {
+                if !object.ending {
+                    return Some(key.number as u32);
+                }
             }
         }
         None
@@ -87,7 +97,7 @@ impl Heap {
         ensures { self.new ≡ no_data }
     {
         self.cells.reset();
-        self.objects.clear();
+        self.objects.reset();
         self.held.truncate(0);
         self.cells_made = 0;
         self.objects_made = 0;

@@ -9,24 +9,25 @@ ghost use Rattle.vb_heap.specs.Entries as spec;
 ghost use Rattle.vb_heap.specs.Keys.{key_of};
 ghost use Rattle.vb_heap.specs.Limits.{most_weight};
 ghost use Rattle.vb_heap.specs.PageWeight.{found_weight, object_weight};
+ghost use Rattle.vb_heap.specs.Pooled.{IsPooled};
 ghost use Rattle.vb_heap.specs.PairWeight.{entries_weight, item_weight, pair_weight};
 ghost use Rattle.vb_heap.specs.Saturated.{result_now};
 ghost use Rattle.vb_heap.specs.Store.{numbered};
 
 use crate::key::Key;
 use crate::object::Content;
-use crate::object_map::Objects;
+use crate::object_map::{Objects, object_at};
+use crate::pooled::by_number;
 use crate::table::Table;
 use vb_value::{Memory, Pair, Value, VbError, weight};
 
 /// The dictionary that an object is. Error 91 where the object has ended, and 438 where it is one of a class.
-#[tactic(auto, using(crate::proofs::TableWeights::table_within))]
 pub fn table_of<'a>(objects: &'a Objects, number: u32) -> Result<&'a Table, VbError>
     requires { sum_by object_weight (values_of objects.now.entries) ≤ most_weight }
     ensures table { result_now result ≡ spec.dictionary_there (numbered number objects.now.entries) }
     ensures light { IfOk result (λ table. entries_weight table.now.pairs ≤ most_weight) }
 {
-    match objects.get(&number) {
+    match object_at(objects, number) {
         Some(object) => match &object.content {
             Content::Entries(table) => Ok(table),
             Content::Fields { class: _, cells: _ } => Err(VbError::UNSUPPORTED),
@@ -50,10 +51,11 @@ pub fn add_pair(
         (λ dictionary. entry_of key dictionary ≡ None) }
     requires weighs { weight ≡ pair_weight pair }
     requires fits { weight ≤ most_weight }
-    ensures { Changes result objects.old.entries objects.new.entries
+    ensures pooled { IsPooled objects.old objects.new }
+    ensures entries { Changes result objects.old.entries objects.new.entries
         (spec.objects_changed (spec.pair_added pair) number objects.old.entries) }
 {
-    match objects.get_mut(&number) {
+    match objects.get_mut(by_number(number as u64)) {
         Some(object) => match &mut object.content {
             Content::Entries(table) => table.add(key, pair, weight),
             Content::Fields { class: _, cells: _ } => Ok(()),
@@ -66,9 +68,10 @@ pub fn add_pair(
 pub fn set_item_at(objects: &mut Objects, number: u32, at: usize, item: Value)
     requires light { sum_by object_weight (values_of objects.old.entries) ≤ most_weight }
     requires fits { weight_of item ≤ most_weight }
-    ensures { objects.new.entries ≡ spec.objects_changed (spec.item_set at item) number objects.old.entries }
+    ensures pooled { IsPooled objects.old objects.new }
+    ensures entries { objects.new.entries ≡ spec.objects_changed (spec.item_set at item) number objects.old.entries }
 {
-    if let Some(object) = objects.get_mut(&number) {
+    if let Some(object) = objects.get_mut(by_number(number as u64)) {
         if let Content::Entries(table) = &mut object.content {
             table.set(at, item);
         }
@@ -78,12 +81,13 @@ pub fn set_item_at(objects: &mut Objects, number: u32, at: usize, item: Value)
 /// Drops the entry at a place of a dictionary, and says what it weighed: nothing if there is none.
 pub fn drop_pair(objects: &mut Objects, number: u32, at: usize) -> u64
     requires { sum_by object_weight (values_of objects.old.entries) ≤ most_weight }
+    ensures pooled { IsPooled objects.old objects.new }
     ensures entries { objects.new.entries ≡ spec.objects_changed (spec.entry_dropped at) number objects.old.entries }
     ensures weight { result
         + found_weight (spec.found_changed (spec.entry_dropped at) (numbered number objects.old.entries))
         ≡ found_weight (numbered number objects.old.entries) }
 {
-    match objects.get_mut(&number) {
+    match objects.get_mut(by_number(number as u64)) {
         Some(object) => match &mut object.content {
             Content::Entries(table) => table.drop_at(at),
             Content::Fields { class: _, cells: _ } => 0,
@@ -95,11 +99,12 @@ pub fn drop_pair(objects: &mut Objects, number: u32, at: usize) -> u64
 /// Drops all entries of a dictionary, and says what they weighed.
 pub fn drop_pairs(objects: &mut Objects, number: u32) -> u64
     requires { sum_by object_weight (values_of objects.old.entries) ≤ most_weight }
+    ensures pooled { IsPooled objects.old objects.new }
     ensures entries { objects.new.entries ≡ spec.objects_changed spec.emptied number objects.old.entries }
     ensures weight { result + found_weight (spec.found_changed spec.emptied (numbered number objects.old.entries))
         ≡ found_weight (numbered number objects.old.entries) }
 {
-    match objects.get_mut(&number) {
+    match objects.get_mut(by_number(number as u64)) {
         Some(object) => match &mut object.content {
             Content::Entries(table) => table.clear(),
             Content::Fields { class: _, cells: _ } => 0,
@@ -110,9 +115,10 @@ pub fn drop_pairs(objects: &mut Objects, number: u32) -> u64
 
 /// Says how the keys of a dictionary compare, if it is there and has no entries.
 pub fn set_mode(objects: &mut Objects, number: u32, mode: i32)
-    ensures { objects.new.entries ≡ spec.objects_changed (spec.mode_set mode) number objects.old.entries }
+    ensures pooled { IsPooled objects.old objects.new }
+    ensures entries { objects.new.entries ≡ spec.objects_changed (spec.mode_set mode) number objects.old.entries }
 {
-    if let Some(object) = objects.get_mut(&number) {
+    if let Some(object) = objects.get_mut(by_number(number as u64)) {
         if let Content::Entries(table) = &mut object.content {
             table.set_mode(mode);
         }

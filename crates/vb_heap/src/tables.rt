@@ -57,7 +57,7 @@ impl Heap {
             ending: false,
         };
         let number = self.objects_made;
-        add_object(&mut self.objects, number, object)?;
+        add_object(&mut self.objects, object)?;
         self.objects_made = number + 1;
         self.weight += LEAST_WEIGHT;
         Ok(ObjNo(number))

@@ -1,4 +1,6 @@
 use Rattle.std.proofs.Common.{sym, arith}
+use Rattle.vb_value.specs.Weight.{weight_of}
+use Rattle.vb_heap.specs.References.{references}
 use Rattle.vb_heap.proofs.Walking.{led_count, led_weight, not_led}
 use Rattle.vb_heap.proofs.references.count_in_cells.Goals as goal
 use Rattle.vb_heap.proofs.references.count_in_cells.Goals.{in-Some, in_default}
@@ -8,8 +10,8 @@ loop-key-preserved c = elim c.match-get.branch [
   | in-Some w ↦
       let was = c.loop-key.invariant in
       let count = led_count c.args.cells.now c.keys-key-items.result.now c.loop-key.key-index _ c.loop-key-test.true
-      c.args.object _ (sym w.in-Some.ensures) in
-      let weight = led_weight c.args.cells.now c.keys-key-items.result.now c.loop-key.key-index _ c.loop-key-test.true _
+      references c.args.object _ (sym w.in-Some.ensures) in
+      let weight = led_weight c.args.cells.now c.keys-key-items.result.now c.loop-key.key-index _ c.loop-key-test.true weight_of _
       (sym w.in-Some.ensures) in
       record {
         count = omega (arith, w.count-is, w.saturating_add-count.ensures, w.count_in.ensures.count, was.count, count);

@@ -1,9 +1,9 @@
-use Rattle.std.proofs.Common.{sym, arith}
+use Rattle.std.proofs.Common.{sym, ◌∙◌, arith}
 use Rattle.vb_heap.specs.Entries.{pair_added}
 use Rattle.vb_heap.specs.PairWeight.{pair_weight}
 use Rattle.vb_heap.specs.Store.{numbered}
 use Rattle.vb_heap.proofs.Changing.{refuses, accepts, weighs}
-use Rattle.vb_heap.proofs.TableWeights.{below_changed, added_when}
+use Rattle.vb_heap.proofs.TableWeights.{added_when}
 use Rattle.vb_heap.proofs.heap.Heap.add_said.Goals as goal
 
 pub returns-then-weight-gt-MOST_WEIGHT-clause-answer : goal.returns-then-weight-gt-MOST_WEIGHT-clause-answer
@@ -21,10 +21,12 @@ invariant_of-self-2 c =
     record {
       new_cells = c.self.invariant.new_cells;
       new_objects =
-          rw c.in_ok-add_pair.ensures (below_changed (pair_added c.args.pair) c.self.inside.objects.entries
-          c.args.dictionary.0 c.self.inside.objects_made c.self.invariant.new_objects);
+          record {
+            next = c.in_ok-add_pair.ensures.pooled.0 ∙ c.self.invariant.new_objects.next;
+            most = c.in_ok-add_pair.ensures.pooled.1 ∙ c.self.invariant.new_objects.most;
+          };
       weighed =
-          rw c.in_ok-add_pair.ensures
+          rw c.in_ok-add_pair.ensures.entries
           (weighs c.self.inside c.self.invariant c.args.dictionary (pair_added c.args.pair) 0
           (pair_weight c.args.pair) c.saturating_add-weight.result more (omega arith) (omega arith)
           c.if-weight-gt-MOST_WEIGHT.false);

@@ -1,7 +1,7 @@
-use Rattle.std.proofs.Common.{refl, arith}
+use Rattle.std.proofs.Common.{refl, ◌∙◌, arith}
 use Rattle.vb_heap.specs.Entries.{emptied}
 use Rattle.vb_heap.specs.Store.{numbered}
-use Rattle.vb_heap.proofs.TableWeights.{weight_changed, below_changed, found_within}
+use Rattle.vb_heap.proofs.TableWeights.{weight_changed, found_within}
 use Rattle.vb_heap.proofs.heap.Heap.drop_entries.Goals as goal
 
 pub overflow_sub-self : goal.overflow_sub-self
@@ -21,8 +21,10 @@ invariant_of-self c =
     record {
       new_cells = c.self.invariant.new_cells;
       new_objects =
-          rw c.drop_pairs.ensures.entries (below_changed emptied c.self.inside.objects.entries
-          c.args.dictionary.0 c.self.inside.objects_made c.self.invariant.new_objects);
+          record {
+            next = c.drop_pairs.ensures.pooled.0 ∙ c.self.invariant.new_objects.next;
+            most = c.drop_pairs.ensures.pooled.1 ∙ c.self.invariant.new_objects.most;
+          };
       weighed = rw c.drop_pairs.ensures.entries (omega arith);
       light = omega arith;
       few = c.self.invariant.few;

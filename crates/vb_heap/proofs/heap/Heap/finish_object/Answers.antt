@@ -1,5 +1,4 @@
 use Rattle.std.proofs.Common.{◌∙◌, arith}
-use Rattle.vb_heap.proofs.Numbered.{below_less}
 use Rattle.vb_heap.proofs.heap.Heap.finish_object.Goals as goal
 
 pub invariant_of-self : goal.invariant_of-self
@@ -14,9 +13,10 @@ invariant_of-self c =
             most = c.remove_object.ensures.pooled.1 ∙ c.self.invariant.new_cells.most;
           };
       new_objects =
-          rw c.remove_object.ensures.objects
-          (below_less c.self.inside.objects.entries c.args.object.0 c.self.inside.objects_made
-          c.self.invariant.new_objects);
+          record {
+            next = c.remove_object.ensures.objects_pooled.0 ∙ c.self.invariant.new_objects.next;
+            most = c.remove_object.ensures.objects_pooled.1 ∙ c.self.invariant.new_objects.most;
+          };
       weighed = omega arith;
       light = omega arith;
       few = c.self.invariant.few;

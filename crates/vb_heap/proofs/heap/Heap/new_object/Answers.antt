@@ -3,9 +3,8 @@ use Rattle.vb_heap.specs.declared.object.Content.TheVariants.{Fields}
 use Rattle.vb_heap.specs.Inside.{store_of}
 use Rattle.vb_heap.specs.Objects.{live}
 use Rattle.vb_heap.specs.Room.{HasRoom}
-use Rattle.vb_heap.proofs.Keeping.{few_cells}
+use Rattle.vb_heap.proofs.Keeping.{few_cells, few_objects}
 use Rattle.vb_heap.proofs.Making.{cells_more, object_more}
-use Rattle.vb_heap.proofs.Numbered.{below_more}
 use Rattle.vb_heap.proofs.heap.Heap.new_object.Goals as goal
 
 pub reserve_cells-requires : goal.reserve_cells-requires
@@ -13,6 +12,12 @@ reserve_cells-requires c =
     let room : HasRoom c.args.fields (store_of c.self.inside) =
     rw c.self.view_is (c.has_room.ensures.room c.if-not-has_room.false) in
     omega (arith, few_cells c.self.inside.cells.entries, room.light, c.self.invariant.new_cells.most)
+
+pub add_object-requires-clause-few : goal.add_object-requires-clause-few
+add_object-requires-clause-few c =
+    let room : HasRoom c.args.fields (store_of c.self.inside) =
+    rw c.self.view_is (c.has_room.ensures.room c.if-not-has_room.false) in
+    omega (arith, few_objects c.self.inside.objects.entries, room.light, c.self.invariant.new_objects.most)
 
 pub add_cells-requires-clause-few : goal.add_cells-requires-clause-few
 add_cells-requires-clause-few c =
@@ -40,7 +45,7 @@ invariant_of-self-2 c =
     rw c.self.view_is (c.has_room.ensures.room c.if-not-has_room.false) in
     let still = c.in_ok-reserve_cells.ensures in
     let cells = cells_more c.self.inside.cells.entries c.self.inside.cells.next c.args.fields in
-    let objects = object_more c.self.inside.objects.entries c.self.inside.objects_made
+    let objects = object_more c.self.inside.objects.entries c.self.inside.objects.next
     (live (Fields c.args.class c.in_ok-cells.cells)) in
     let more = rw (still.cells, still.pooled.0) at c.add_cells.ensures.cells in
     let was = c.self.invariant.weighed in
@@ -51,8 +56,12 @@ invariant_of-self-2 c =
             next = omega (arith, c.add_cells.ensures.made, still.pooled.0, c.self.invariant.new_cells.next);
             most = omega (arith, c.add_cells.ensures.most, still.pooled.1, c.self.invariant.new_cells.most);
           };
-      new_objects = rw c.in_ok-add_object.ensures (below_more _ _ _ c.self.invariant.new_objects);
-      weighed = rw (more, c.in_ok-add_object.ensures) (omega (arith, cells, objects, was));
+      new_objects =
+          record {
+            next = omega (arith, c.in_ok-add_object.ensures.made, c.self.invariant.new_objects.next);
+            most = omega (arith, c.in_ok-add_object.ensures.most, c.self.invariant.new_objects.most);
+          };
+      weighed = rw (more, c.in_ok-add_object.ensures.objects) (omega (arith, cells, objects, was));
       light = omega arith;
       few = c.self.invariant.few;
     }

@@ -1,9 +1,9 @@
-use Rattle.std.proofs.Common.{sym, arith}
+use Rattle.std.proofs.Common.{sym, ◌∙◌, arith}
 use Rattle.vb_value.specs.Weight.{weight_of}
 use Rattle.vb_heap.specs.Entries.{item_set}
 use Rattle.vb_heap.specs.Store.{numbered}
 use Rattle.vb_heap.proofs.Changing.{refuses, accepts, weighs}
-use Rattle.vb_heap.proofs.TableWeights.{below_changed, set_when}
+use Rattle.vb_heap.proofs.TableWeights.{set_when}
 use Rattle.vb_heap.proofs.heap.Heap.put_item.Goals as goal
 
 pub returns-then-weight-gt-MOST_WEIGHT-clause-answer : goal.returns-then-weight-gt-MOST_WEIGHT-clause-answer
@@ -23,10 +23,12 @@ invariant_of-self c =
     record {
       new_cells = c.self.invariant.new_cells;
       new_objects =
-          rw c.set_item_at.ensures (below_changed (item_set c.args.at c.args.item) c.self.inside.objects.entries
-          c.args.dictionary.0 c.self.inside.objects_made c.self.invariant.new_objects);
+          record {
+            next = c.set_item_at.ensures.pooled.0 ∙ c.self.invariant.new_objects.next;
+            most = c.set_item_at.ensures.pooled.1 ∙ c.self.invariant.new_objects.most;
+          };
       weighed =
-          rw c.set_item_at.ensures
+          rw c.set_item_at.ensures.entries
           (weighs c.self.inside c.self.invariant c.args.dictionary (item_set c.args.at c.args.item)
           c.weight_of_item-old.result (weight_of c.args.item) c.saturating_add-weight.result
           (rw c.weight_of_item-old.ensures.weight other) (omega arith) (omega arith)

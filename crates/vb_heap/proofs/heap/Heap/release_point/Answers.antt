@@ -1,5 +1,4 @@
-use Rattle.std.proofs.Common.{arith}
-use Rattle.vb_heap.proofs.Numbered.{below_ending}
+use Rattle.std.proofs.Common.{◌∙◌, arith}
 use Rattle.vb_heap.proofs.ObjectWeights.{ending_weighs}
 use Rattle.vb_heap.proofs.heap.Heap.release_point.Goals as goal
 
@@ -9,8 +8,12 @@ invariant_of-self c =
     let was = c.self.invariant.weighed in
     record {
       new_cells = c.self.invariant.new_cells;
-      new_objects = rw c.set_ending.ensures (below_ending _ _ _ _ c.self.invariant.new_objects);
-      weighed = rw c.set_ending.ensures (omega arith);
+      new_objects =
+          record {
+            next = c.set_ending.ensures.pooled.0 ∙ c.self.invariant.new_objects.next;
+            most = c.set_ending.ensures.pooled.1 ∙ c.self.invariant.new_objects.most;
+          };
+      weighed = rw c.set_ending.ensures.objects (omega arith);
       light = c.self.invariant.light;
       few = c.self.invariant.few;
     }
