@@ -7,6 +7,7 @@ mod next;
 mod node;
 mod place;
 mod stack;
+mod stage;
 
 pub use frame::{ExpressionFrame, Frame, StatementFrame};
 pub use got::Got;
@@ -14,3 +15,4 @@ pub use next::{Go, Next};
 pub use node::{Node, has_item, has_statement, operator_at, part_of};
 pub use place::Place;
 pub use stack::{Placed, Stack};
+pub use stage::Stage;
