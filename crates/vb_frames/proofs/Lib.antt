@@ -1,0 +1,4 @@
+pub mod Walks
+pub mod Joins
+pub mod Pushes
+pub mod Stages
