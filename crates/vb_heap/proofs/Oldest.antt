@@ -1,5 +1,6 @@
 -- The oldest object that passes a test, found by the keys of a pool.
-use Rattle.std.proofs.Common.{◌≡◌, ℕ, ◌+◌, ◌<◌, ◌≤◌, ◌++◌, ◌∷◌, [], List, Option, Some, None, length, take, drop, get_or, ◌≢◌, ◌&&◌, ◌==◌, not, zero, suc}
+use Rattle.std.proofs.Common.{◌≡◌, ℕ, ◌+◌, ◌<◌, ◌≤◌, ◌++◌, ◌∷◌, [], List, Option, Some, None}
+use Rattle.std.proofs.Common.{length, take, drop, get_or, ◌≢◌, ◌&&◌, ◌==◌, not, zero, suc}
 use Rattle.std.proofs.Common.{filter_map, Bool, true, false, cond, refl, sym, ap, ◌∙◌, arith, append_assoc, inl, inr}
 use Rattle.std.proofs.lemmas.Bool.{cases_lt}
 use Rattle.std.proofs.lemmas.Bool.Decides.{nat_tests}

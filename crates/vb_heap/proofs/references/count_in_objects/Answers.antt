@@ -11,7 +11,8 @@ loop-key-preserved c = elim c.match-get.branch [
       let was = c.loop-key.invariant in
       let count = led_count c.args.objects.now c.keys-key-items.result.now c.loop-key.key-index _ c.loop-key-test.true
       object_references c.args.number _ (sym w.in-Some.ensures) in
-      let weight = led_weight c.args.objects.now c.keys-key-items.result.now c.loop-key.key-index _ c.loop-key-test.true object_weight _
+      let weight = led_weight c.args.objects.now c.keys-key-items.result.now c.loop-key.key-index _
+      c.loop-key-test.true object_weight _
       (sym w.in-Some.ensures) in
       record {
         count = omega (arith, w.count-is, w.saturating_add-count.ensures, w.count_in_object.ensures.count, was.count, count);

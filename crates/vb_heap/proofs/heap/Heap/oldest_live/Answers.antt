@@ -15,18 +15,21 @@ overflow_cast-result c =
 pub returns-then-not-object : goal.returns-then-not-object
 returns-then-not-object c =
     rw (sym c.self.view_is)
-    (sym (passed (λ _ object. not object.ending) c.self.inside.objects c.keys-key-items.result.now c.loop-key.key-index _ c.loop-key-test.true
+    (sym (passed (λ _ object. not object.ending) c.self.inside.objects c.keys-key-items.result.now
+    c.loop-key.key-index _ c.loop-key-test.true
     c.loop-key.invariant
     c.in-Some.object.now (sym c.in-Some.ensures) c.keys-key-items.ensures (ap not c.if-not-object.true)))
 
 pub loop-key-preserved : goal.loop-key-preserved
 loop-key-preserved c = elim c.match-get.branch [
   | in-Some+else-not-object w ↦
-      not_passed (λ _ object. not object.ending) c.self.inside.objects c.keys-key-items.result.now c.loop-key.key-index _ c.loop-key-test.true
+      not_passed (λ _ object. not object.ending) c.self.inside.objects c.keys-key-items.result.now
+      c.loop-key.key-index _ c.loop-key-test.true
       c.loop-key.invariant
       w.in-Some.object.now (sym w.in-Some.ensures) (ap not w.if-not-object.false)
   | in_default w ↦
-      nothing_there (λ _ object. not object.ending) c.self.inside.objects c.keys-key-items.result.now c.loop-key.key-index _ c.loop-key-test.true
+      nothing_there (λ _ object. not object.ending) c.self.inside.objects c.keys-key-items.result.now
+      c.loop-key.key-index _ c.loop-key-test.true
       c.loop-key.invariant
       (sym w.in_default.ensures)
 ]

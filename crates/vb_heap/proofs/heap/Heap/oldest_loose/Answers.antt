@@ -18,7 +18,8 @@ overflow_cast-number c =
 pub returns-then-count-eq0 : goal.returns-then-count-eq0
 returns-then-count-eq0 c =
     sym
-    (passed (is_loose c.args.self.now) c.self.inside.objects c.keys-key-items.result.now c.loop-key.key-index _ c.loop-key-test.true
+    (passed (is_loose c.args.self.now) c.self.inside.objects c.keys-key-items.result.now
+    c.loop-key.key-index _ c.loop-key-test.true
     c.loop-key.invariant
     c.in-Some.object.now (sym c.in-Some.ensures) c.keys-key-items.ensures
     (passes_loose _ _ c.if-not-object.true (sym c.count.ensures ∙ c.if-count-eq0.true)))
@@ -28,17 +29,20 @@ pub loop-key-preserved : goal.loop-key-preserved
 loop-key-preserved c = elim c.match-get.branch [
   | in-Some+else-not-object w ↦ elim w.else-not-object.branch [
     | else-not-object-via-then-not-object+else-count-eq0 v ↦
-        not_passed (is_loose c.args.self.now) c.self.inside.objects c.keys-key-items.result.now c.loop-key.key-index _ c.loop-key-test.true
+        not_passed (is_loose c.args.self.now) c.self.inside.objects c.keys-key-items.result.now
+        c.loop-key.key-index _ c.loop-key-test.true
         c.loop-key.invariant
         w.in-Some.object.now (sym w.in-Some.ensures)
         (fails_held _ _ (λ none. v.if-count-eq0.false (v.count.ensures ∙ none)))
     | else-not-object-via-else-not-object v ↦
-        not_passed (is_loose c.args.self.now) c.self.inside.objects c.keys-key-items.result.now c.loop-key.key-index _ c.loop-key-test.true
+        not_passed (is_loose c.args.self.now) c.self.inside.objects c.keys-key-items.result.now
+        c.loop-key.key-index _ c.loop-key-test.true
         c.loop-key.invariant
         w.in-Some.object.now (sym w.in-Some.ensures) (rw v.if-not-object.false refl)
   ]
   | in_default w ↦
-      nothing_there (is_loose c.args.self.now) c.self.inside.objects c.keys-key-items.result.now c.loop-key.key-index _ c.loop-key-test.true
+      nothing_there (is_loose c.args.self.now) c.self.inside.objects c.keys-key-items.result.now
+      c.loop-key.key-index _ c.loop-key-test.true
       c.loop-key.invariant
       (sym w.in_default.ensures)
 ]
