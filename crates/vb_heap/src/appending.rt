@@ -14,7 +14,7 @@ use crate::cell_map::{Cells, cell_at, weight_at};
 use crate::fault::HeapStop;
 use crate::heap::{Heap, MOST_WEIGHT};
 use crate::place::CellNo;
-use slot_pool::SlotKey;
+use crate::pooled::by_number;
 use vb_value::{LimitKind, Memory, Text, Value, VbError};
 
 /// The text that a cell holds. Error 91 where the cell is gone, and 13 where it holds another value.
@@ -49,7 +49,7 @@ fn grow(cells: &mut Cells, number: u64, more: &[char]) -> Result<(), Memory>
     ensures cells { (text : List ℕ) → numbered number cells.old.entries ≡ Some (Str text)
         → Changes result cells.old.entries cells.new.entries (replaced number (Str (text ++ more.now)) cells.old.entries) }
 {
-    match cells.get_mut(SlotKey { number, slot: 0 }) {
+    match cells.get_mut(by_number(number)) {
         Some(value) => lengthen(value, more),
         None => Ok(()),
     }
