@@ -75,7 +75,7 @@ impl Sleepers {
 }
 
 /// How often a bell was rung for each kind of sleepers.
-#[derive(Clone, Copy, Debug)]
+#[derive(Clone, Copy)]
 pub struct Rung {
     workers: u64,
     callers: u64,

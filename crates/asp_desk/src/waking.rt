@@ -8,7 +8,7 @@ use asp_core::BeginStop;
 use asp_job::Runner;
 
 /// What a turn leaves to do, where it may let a hand without a run go on and one sleeps.
-#[derive(Clone, Copy, Debug)]
+#[derive(Clone, Copy)]
 pub(crate) struct Left {
     // Whether runs wait.
     waits: bool,
