@@ -52,7 +52,7 @@ impl<R: Runner> HostOf<Placed<R>, R, R::Site> {
         let placed = turn.state();
         let done = placed.admit(number, &self.runner, &self.site, job);
         self.shut_event(hand, turn);
-        self.bell.ring_if(done.is_ok());
+        self.bell.ring_came(done.is_ok());
         done
     }
 
@@ -102,8 +102,9 @@ impl<R: Runner> HostOf<Placed<R>, R, R::Site> {
         let (number, mut turn) = self.open(rt, hand);
         let placed = turn.state();
         let done = placed.collect(number, run);
+        let left = placed.left(&self.bell, done.is_ok());
         self.shut_event(hand, turn);
-        self.bell.ring_if(done.is_ok());
+        self.bell.ring_left(left);
         done
     }
 
@@ -118,8 +119,9 @@ impl<R: Runner> HostOf<Placed<R>, R, R::Site> {
         let (number, mut turn) = self.open(rt, hand);
         let placed = turn.state();
         let given = placed.collect_first(number);
+        let left = placed.left(&self.bell, given.is_some());
         self.shut_event(hand, turn);
-        self.bell.ring_if(given.is_some());
+        self.bell.ring_left(left);
         given
     }
 

@@ -21,9 +21,10 @@ mod stands;
 mod steps;
 mod task;
 mod turns;
+mod waking;
 mod worker;
 
-pub use bell::Bell;
+pub use bell::{Bell, Rung};
 pub use beside::{Crew, Looping, Worker};
 pub use crew::CrewOf;
 pub use crossing::{hand_crosses, host_is_shared};

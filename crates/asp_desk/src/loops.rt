@@ -6,6 +6,7 @@ ghost use Rattle.asp_desk.specs.Hands.{IsHandOf};
 ghost use Rattle.asp_desk.specs.Loops as spec;
 ghost use Rattle.asp_desk.specs.Working.{AddsWork};
 
+use crate::bell::Rung;
 use crate::gate::Gate;
 use crate::hand::Hand;
 use crate::host::HostOf;
@@ -25,7 +26,7 @@ fn is_over(looked: &Looked) -> bool
 
 impl<R: Runner> HostOf<Placed<R>, R, R::Site> {
     /// Looks whether nothing is left to do, and sleeps where something is.
-    fn rest<Rt: Wait>(&self, rt: &Rt, hand: &mut Hand<R>, rung: u64) -> bool
+    fn rest<Rt: Wait>(&self, rt: &Rt, hand: &mut Hand<R>, rung: Rung) -> bool
         requires { IsHandOf R.meaning R.stands self.now hand.old }
         ensures hand { IsHandOf R.meaning R.stands self.now hand.new }
         ensures look { (looked : Looked) × spec.IsLook R.pace R.meaning R.stands self.now hand.old looked hand.new
@@ -34,7 +35,7 @@ impl<R: Runner> HostOf<Placed<R>, R, R::Site> {
         let looked = self.look(rt, hand);
         let over = is_over(&looked);
         if !over {
-            self.bell.sleep(rt, rung);
+            self.bell.sleep_in_loop(rt, rung);
         }
         over
     }
@@ -56,7 +57,7 @@ impl<R: Runner> HostOf<Placed<R>, R, R::Site> {
                 None
             }
             Slice::Blocked { holder: _ } => {
-                self.bell.sleep(rt, rung);
+                self.bell.sleep_blocked(rt, rung);
                 None
             }
             Slice::Idle => {
@@ -74,7 +75,7 @@ impl<R: Runner> HostOf<Placed<R>, R, R::Site> {
     /// Takes slices until nothing is left to do, an entry does not fit, or memory runs out before a run begins. Nothing
     /// is left, and the answer is `Idle`, where a Stop stands and no run waits or is unfinished, or a Halt and none is
     /// unfinished. Where no run may begin, or a lock keeps the run in hand out, it sleeps until another hand's call may
-    /// have changed that.
+    /// have changed that; as it leaves it wakes all, who find out the same.
     pub fn work_loop<Rt: Wait, G: Gate>(&self, rt: &Rt, hand: &mut Hand<R>, gate: &G) -> Slice
         requires { IsHandOf R.meaning R.stands self.now hand.old }
         ensures hand { IsHandOf R.meaning R.stands self.now hand.new }
@@ -84,6 +85,7 @@ impl<R: Runner> HostOf<Placed<R>, R, R::Site> {
     {
         for _ in rt.forever() {
             if let Some(came_to) = self.round(rt, hand, gate) {
+                self.bell.ring();
                 return came_to;
             }
         }

@@ -15,6 +15,7 @@ use crate::hand::{Hand, Load, put};
 use crate::host::HostOf;
 use crate::stands::Placed;
 use crate::steps::Stepped;
+use crate::waking::ends;
 use asp_core::{BeginStop, Progress, Run};
 use asp_job::{Runner, Step};
 use asp_journal::Full;
@@ -61,15 +62,6 @@ fn slice_of(stepped: Stepped) -> Slice
     }
 }
 
-/// Whether another run may go on after a step: an Unlock or an end lets a lock go, and an end a place.
-fn lets_go(unlocks: bool, stepped: Stepped) -> bool {
-    match stepped {
-        Stepped::Called => unlocks,
-        Stepped::Blocked { .. } => false,
-        Stepped::Ended | Stepped::JournalFull(_) => true,
-    }
-}
-
 /// What a hand carries after a begin.
 fn loaded<R: Runner>(
     done: Result<Run<R>, (R::Store, BeginStop)>,
@@ -106,9 +98,11 @@ impl<R: Runner> HostOf<Placed<R>, R, R::Site> {
         };
         let placed = turn.state();
         let done = placed.begin(number, &self.runner, &self.site, store);
+        let left = placed.left(&self.bell, done.is_ok());
         let (load, begun) = loaded(done);
         put(&mut hand.load, load);
         self.shut(hand, turn);
+        self.bell.ring_begun(&begun, left);
         begun
     }
 
@@ -182,9 +176,10 @@ impl<R: Runner> HostOf<Placed<R>, R, R::Site> {
         let unlocks = matches!(run.progress(), Progress::Wants(AppCall::Unlock));
         let placed = turn.state();
         let (load, stepped) = placed.step(number, &self.runner, run);
+        let left = placed.left(&self.bell, ends(stepped));
         put(&mut hand.load, load);
         self.shut(hand, turn);
-        self.bell.ring_if(lets_go(unlocks, stepped));
+        self.bell.ring_stepped(stepped, unlocks, left);
         stepped
     }
 

@@ -153,7 +153,7 @@ module _ (workers : ℕ) (m : Rules) (items : List Item) (past : List Entry) (be
       subst (λ some. HasFedPartBeside workers m items past some before after) (sym failed.1)
       (failed_part fail failed.0 is failed.2 is.passed)
   part_left (stop.StartFailed fail) early told none (inr memory) is met =
-      subst (λ some. HasFedPartBeside workers m items past some before after) (sym memory)
+      subst (λ some. HasFedPartBeside workers m items past some before after) (sym memory.0)
       (part_by (stop.StartFailed fail) stop.Memory is
       (passed_memory m past (stop.StartFailed fail) stop.Memory (λ e. cc) is.passed) tt tt)
   part_left (stop.JournalFull full) early told none same is met =

@@ -104,7 +104,7 @@ IsEarly workers rules past _ = ⊥
 abbrev pub StopsWith : Rules → List Entry → FeedStop → Option FeedStop → FeedStop → Type 0
 StopsWith rules past (stop.StartFailed fail) early told =
     ((then_fail : Fail) × (told ≡ stop.StartFailed then_fail) × (start_fail rules past ≡ Some then_fail))
-    ⊎ (told ≡ stop.Memory)
+    ⊎ ((told ≡ stop.Memory) × (start_fail rules past ≡ None))
 StopsWith rules past stop.Memory None told = told ≡ stop.Memory
 StopsWith rules past stop.Memory (Some early) told = told ≡ early
 StopsWith rules past ended early told = told ≡ ended

@@ -1,8 +1,8 @@
 //! A recording is fed to a host on which several lanes work, each in a thread of its own.
 #![tactic(auto)]
 
-ghost use Rattle.std.specs.Prelude.{◌≡◌, ◌⊎◌, ◌≤◌, ◌+◌, ◌↔◌, ◌∷◌, ◌++◌, [], ℕ, All, Err, IfErr, IfOk, IfSome, IsTrue, List, None};
-ghost use Rattle.std.specs.Prelude.{OnOk, Option, Some, false, length, vec_capacity};
+ghost use Rattle.std.specs.Prelude.{◌≡◌, ◌⊎◌, ◌≤◌, ◌↔◌, [], ℕ, All, Err, IfErr, IfOk, IfSome, IsTrue, List, None, OnOk};
+ghost use Rattle.std.specs.Prelude.{Option, Some, false};
 ghost use Rattle.std.specs.List.{AllZip};
 ghost use Rattle.turn_desk.specs.Histories.{AreOfLanes};
 ghost use Rattle.asp_core.specs.Kernel.{past_of, rules_by, rules_of, setting_of};
@@ -21,6 +21,7 @@ ghost use Rattle.asp_replay.specs.Underway as way;
 ghost use Rattle.asp_replay.specs.Workers as spec;
 
 use crate::beginning::begin_near;
+use crate::dealing::{dealt, gathered};
 use crate::leading::{Helping, Leading};
 use crate::leaving::{halt_near, wind_near};
 use crate::met::Met;
@@ -33,7 +34,7 @@ use asp_record::Recording;
 use std::alloc::Global;
 use std::sync::Wait;
 use std::thread::Threads;
-use vb_value::{List as Items, Memory};
+use vb_value::List as Items;
 
 /// Lane 0 feeds and works, and the crew works beside it.
 fn lead_crew<Rt, R, G, K>(
@@ -263,52 +264,6 @@ fn ended<R: Runner>(
             Err(stop)
         }
     }
-}
-
-/// Hands, where there is room for them.
-fn moved<R: Runner>(hands: Vec<Hand<R>>, mut room: Vec<Hand<R>>) -> Vec<Hand<R>>
-where
-    R::Store: Drop,
-    R::State: Drop,
-    requires { (room.items ≡ []) × (length hands.items ≤ vec_capacity room) }
-    ensures { (result.items ≡ hands.items) × (vec_capacity result ≡ vec_capacity room) }
-{
-    for hand in hands {
-        room.push_reserved(hand);
-    }
-    room
-}
-
-/// All hands in one list, lane 0's last.
-fn gathered<R: Runner>(hand: Hand<R>, rest: Vec<Hand<R>>, room: Vec<Hand<R>>) -> Vec<Hand<R>>
-where
-    R::Store: Drop,
-    R::State: Drop,
-    requires { (room.items ≡ []) × (length rest.items + 1 ≤ vec_capacity room) }
-    ensures { result.items ≡ rest.items ++ hand ∷ [] }
-{
-    let mut hands = moved(rest, room);
-    hands.push_reserved(hand);
-    hands
-}
-
-/// Lane 0's hand, a crew of the others, and room for all.
-fn dealt<R: Runner>(
-    alloc: Global,
-    mut hands: Vec<Hand<R>>,
-) -> Result<(Hand<R>, Crew<R, Slice>, Vec<Hand<R>>), Memory>
-where
-    R::Store: Drop,
-    R::State: Drop,
-    requires { 1 ≤ length hands.items }
-    ensures { IfOk result (λ made. spec.IsDealt hands.items made.0 made.1 made.2.items (vec_capacity made.2)) }
-{
-    let room = Vec::with_capacity(alloc, hands.len())?;
-    let hand = hands.remove(0);
-    let Ok(crew) = Crew::new(alloc, Items::from_vec(hands), Slice::Idle) else {
-        return Err(Memory);
-    };
-    Ok((hand, crew, room))
 }
 
 /// Feeds a host that was just made, and closes it.

@@ -5,6 +5,7 @@
 mod beginning;
 mod bringing;
 mod coming;
+mod dealing;
 mod feeding;
 mod handing;
 mod lanes;

@@ -14,7 +14,7 @@ use crate::met::Met;
 use crate::near::hand_out_near;
 use crate::slicing::work_near;
 use crate::stop::FeedStop;
-use asp_desk::{Gate, Hand, Host, Looked};
+use asp_desk::{Gate, Hand, Host, Looked, Rung};
 use asp_feed::Clients;
 use asp_io::Sink;
 use asp_job::{MOST_WAITING, Runner};
@@ -59,7 +59,7 @@ fn act<'a, Rt: Wait, R: Runner, G: Gate>(
     clients: &mut Clients,
     items: &'a [Item],
     looked: &Looked,
-    rung: u64,
+    rung: Rung,
 ) -> Result<Option<&'a [Item]>, FeedStop>
     requires lead { spec.IsLead R.meaning R.stands host.now hand.old }
     requires items { (now : ℕ) × recorded.AreItems now items.now }
@@ -91,7 +91,7 @@ fn act<'a, Rt: Wait, R: Runner, G: Gate>(
         }
         _ => {
             if !work_near(rt, host, hand, gate)? {
-                host.sleep(rt, rung);
+                host.sleep(rt, hand, rung);
             }
             Ok(Some(items))
         }

@@ -12,7 +12,7 @@ ghost use Rattle.asp_serve.specs.Steps as spec;
 use crate::ending::LinkEnd;
 use crate::working::{rest, work};
 use asp_core::{AdmitStop, Admitted};
-use asp_desk::{Gate, Hand, Host};
+use asp_desk::{Gate, Hand, Host, Rung};
 use asp_io::Clock;
 use asp_job::{Asked, Job, Request, Runner, Work};
 use std::sync::Wait;
@@ -70,7 +70,7 @@ fn work_on<Rt: Wait, R: Runner, G: Gate>(
     host: &Host<R>,
     hand: &mut Hand<R>,
     gate: &G,
-    rung: u64,
+    rung: Rung,
 ) -> Option<Result<Admitted, LinkEnd>>
     requires { IsHandOf R.meaning R.stands host.now hand.old }
     ensures hand { IsHandOf R.meaning R.stands host.now hand.new }

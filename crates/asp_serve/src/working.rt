@@ -6,7 +6,7 @@ ghost use Rattle.asp_desk.specs.Hands.{IsHandOf, rules_at};
 ghost use Rattle.asp_serve.specs.Steps as spec;
 
 use crate::ending::LinkEnd;
-use asp_desk::{Gate, Hand, Host, Looked, Slice};
+use asp_desk::{Gate, Hand, Host, Looked, Rung, Slice};
 use asp_job::{Answer, Runner};
 use std::sync::Wait;
 use std::thread::yield_now;
@@ -60,7 +60,7 @@ fn rest_free<Rt: Wait, R: Runner>(
     rt: &Rt,
     host: &Host<R>,
     hand: &mut Hand<R>,
-    rung: u64,
+    rung: Rung,
 ) -> Result<(), LinkEnd>
     requires { IsHandOf R.meaning R.stands host.now hand.old }
     ensures hand { IsHandOf R.meaning R.stands host.now hand.new }
@@ -72,7 +72,7 @@ fn rest_free<Rt: Wait, R: Runner>(
     if is_over(&looked) {
         return Err(LinkEnd::Drained);
     }
-    host.sleep(rt, rung);
+    host.sleep(rt, hand, rung);
     Ok(())
 }
 
@@ -82,7 +82,7 @@ pub fn rest<Rt: Wait, R: Runner>(
     host: &Host<R>,
     hand: &mut Hand<R>,
     idle: Idle,
-    rung: u64,
+    rung: Rung,
 ) -> Result<(), LinkEnd>
     requires { IsHandOf R.meaning R.stands host.now hand.old }
     ensures hand { IsHandOf R.meaning R.stands host.now hand.new }
@@ -93,7 +93,7 @@ pub fn rest<Rt: Wait, R: Runner>(
     match idle {
         Idle::No => Ok(()),
         Idle::Blocked => {
-            host.sleep(rt, rung);
+            host.sleep(rt, hand, rung);
             Ok(())
         }
         Idle::Free => rest_free(rt, host, hand, rung),
@@ -130,7 +130,7 @@ fn look_for<Rt: Wait, R: Runner>(
     hand: &mut Hand<R>,
     run: u32,
     idle: Idle,
-    rung: u64,
+    rung: Rung,
 ) -> Option<Result<Answer, LinkEnd>>
     requires { IsHandOf R.meaning R.stands host.now hand.old }
     ensures hand { IsHandOf R.meaning R.stands host.now hand.new }

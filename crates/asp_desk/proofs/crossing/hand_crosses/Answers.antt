@@ -1,4 +1,4 @@
-use denote.Param.Send.{param_send, sendable}
+use denote.Param.Send.{sendable}
 use Rattle.std.proofs.Crossing.{crosses}
 use Rattle.asp_desk.proofs.Moved.{placed, run}
 use Rattle.asp_desk.proofs.hand.HandOf.TheSendSync.{the_send}

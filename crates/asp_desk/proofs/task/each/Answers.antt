@@ -1,4 +1,4 @@
-use Rattle.std.proofs.Common.{rules, ℕ, ◌<◌, length, arith}
+use Rattle.std.proofs.Common.{rules, arith}
 use Rattle.asp_desk.proofs.Zipping.{zipped}
 use Rattle.asp_desk.proofs.task.each.Goals as goal
 
