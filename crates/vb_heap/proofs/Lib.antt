@@ -7,6 +7,7 @@ pub mod Keeping
 pub mod ValueWeights
 pub mod Fitting
 pub mod Storing
+pub mod Longer
 pub mod ValueReferences
 pub mod Making
 pub mod Indexes

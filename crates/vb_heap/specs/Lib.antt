@@ -14,6 +14,7 @@ pub mod Limits
 pub mod Below
 pub mod Inside
 pub mod Cells
+pub mod Appended
 pub mod Room
 pub mod Objects
 pub mod Held

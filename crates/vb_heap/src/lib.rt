@@ -2,6 +2,7 @@
 //! object.
 #![tactic(auto)]
 
+mod appending;
 mod cell_map;
 mod cells;
 mod depth;

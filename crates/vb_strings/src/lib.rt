@@ -23,3 +23,4 @@ pub use laws::{
     replaces_by_joining, results_are_sound, reverses, searches_agree, searches_letters, splits,
     splits_at_most, trims,
 };
+pub use searching::{place_from, place_in};

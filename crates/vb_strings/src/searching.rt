@@ -1,6 +1,8 @@
 //! Places of one text in another.
-ghost use Rattle.std.specs.Prelude.{◌≡◌};
+ghost use Rattle.std.specs.Prelude.{◌≡◌, ◌∷◌, []};
 ghost use Rattle.vb_strings.specs.Borders.{AreBorders};
+ghost use Rattle.vb_strings.specs.Functions.{call_string_of};
+ghost use Rattle.vb_value.specs.declared.function.StrFn.TheVariants.{InStr};
 ghost use Rattle.vb_value.specs.Errors.{reported};
 ghost use Rattle.vb_value.specs.Outcome.{Answers};
 ghost use Rattle.vb_strings.specs.Searching as spec;
@@ -24,6 +26,20 @@ pub fn in_str(alloc: Global, args: &[Value]) -> Result<Value, VbFault>
         [i, a, b, given] => first_place(alloc, to_long(i), a, b, comparison_named(given)),
         _ => Err(VbError::WRONG_NUMBER)?,
     }
+}
+
+/// `InStr` of two values that are lent.
+pub fn place_in(alloc: Global, a: &Value, b: &Value) -> Result<Value, VbFault>
+    ensures { Answers result VbFault.Memory (reported (call_string_of InStr (a.now ∷ b.now ∷ []))) }
+{
+    first_place(alloc, Ok(1), a, b, Ok(Comparison::Exact))
+}
+
+/// `InStr` from a place on, of values that are lent.
+pub fn place_from(alloc: Global, i: &Value, a: &Value, b: &Value) -> Result<Value, VbFault>
+    ensures { Answers result VbFault.Memory (reported (call_string_of InStr (i.now ∷ a.now ∷ b.now ∷ []))) }
+{
+    first_place(alloc, to_long(i), a, b, Ok(Comparison::Exact))
 }
 
 /// `InStr` with all its arguments.
