@@ -32,17 +32,26 @@ fn text_at(cells: &Cells, number: u64) -> Result<&Text, VbError>
     }
 }
 
+/// Adds characters behind the text that a value is.
+fn lengthen(value: &mut Value, more: &[char]) -> Result<(), Memory>
+    ensures { (text : List ℕ) → value.old ≡ Str text → Changes result value.old value.new (Str (text ++ more.now)) }
+{
+    match value {
+        Value::Str(text) => text.append_slice(more),
+        _ => Ok(()),
+    }
+}
+
 /// Adds characters behind the text that a cell holds.
-#[tactic(auto, using(crate::proofs::Longer::same_again))]
+#[tactic(auto, using(crate::proofs::Longer::grown))]
 fn grow(cells: &mut Cells, number: u64, more: &[char]) -> Result<(), Memory>
     ensures pooled { IsPooled cells.old cells.new }
     ensures cells { (text : List ℕ) → numbered number cells.old.entries ≡ Some (Str text)
-        → Changes result cells.old.entries cells.new.entries
-        (replaced number (Str (text ++ more.now)) cells.old.entries) }
+        → Changes result cells.old.entries cells.new.entries (replaced number (Str (text ++ more.now)) cells.old.entries) }
 {
     match cells.get_mut(SlotKey { number, slot: 0 }) {
-        Some(Value::Str(text)) => text.append_slice(more),
-        _ => Ok(()),
+        Some(value) => lengthen(value, more),
+        None => Ok(()),
     }
 }
 

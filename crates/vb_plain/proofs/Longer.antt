@@ -22,7 +22,7 @@ use Rattle.vb_syntax.specs.declared.program.expression.Path.{Path}
 use Rattle.vb_syntax.specs.declared.program.name.Named.TheVariants as named
 use Rattle.vb_syntax.specs.declared.program.name.Slot.{Slot}
 use Rattle.vb_syntax.specs.declared.program.name.Slot.TheVariants as slot
-use Rattle.vb_heap.specs.Appended.{of_cell, append_of, with_appended}
+use Rattle.vb_heap.specs.Appended.{append_of, with_appended}
 use Rattle.vb_heap.specs.Cells.{read_of}
 use Rattle.vb_heap.specs.References.{references, value_references, array_references}
 use Rattle.vb_heap.specs.declared.place.CellNo.{CellNo}
@@ -36,7 +36,7 @@ use Rattle.vb_meaning.specs.Inner.{Inner}
 use Rattle.vb_meaning.specs.Assigning.{assign_to, into_slot, into_place}
 use Rattle.vb_meaning.specs.Expressions.{bare, value_of, operations}
 use Rattle.vb_meaning.specs.Meaning.{value, inside}
-use Rattle.vb_meaning.specs.Places.{variable, store_place}
+use Rattle.vb_meaning.specs.Places.{cell_place, variable, store_place}
 use Rattle.vb_meaning.specs.State.{State, on_world, on_store}
 use Rattle.vb_meaning.specs.Statements.{assignment}
 use Rattle.vb_meaning.specs.Step.{Returns, Ends, ◌>>=◌, and_then, pure}
@@ -77,8 +77,8 @@ free_text text = ap references (sym (rolls-Str text))
     ∙ fold-roll-Value (List ℕ) (List ℕ) value_references array_references (Value-F.Str text)
 
 -- where a longer text is stored, it is appended
-pub stores : (cell : CellNo) (text more : List ℕ) (w : World) → read_of (of_cell cell) w.store ≡ Ok (Str text)
-    → store_place (of_cell cell) (Str (text ++ more)) w ≡ on_store (append_of cell more) (with_appended cell more) w
+pub stores : (cell : CellNo) (text more : List ℕ) (w : World) → read_of (cell_place cell) w.store ≡ Ok (Str text)
+    → store_place (cell_place cell) (Str (text ++ more)) w ≡ on_store (append_of cell more) (with_appended cell more) w
 unfolding store_place
 stores cell text more w there = rw there refl
 
@@ -154,7 +154,7 @@ pub grows : (E : Type 0) (host : Host E) (p : Program) (levels : ℕ) (target : 
     → operations E (inside E host p (levels - 1)) (Str text) rest s ≡ Returns (Str (text ++ more)) s
     → MayHold s.world.store → Grows E host p levels target given s place.cell more
 grows E host p levels target given found rest place text more s some parts is alone read joined may =
-    let cell : of_cell place.cell ≡ place = ap (λ steps. place_of place.cell steps) (sym alone) in
+    let cell : cell_place place.cell ≡ place = ap (λ steps. place_of place.cell steps) (sym alone) in
     let first : Yields E host p (levels - 1) parts.first s (Str text) =
     variable_yields E host p (levels - 1) parts.first found place (Str text) s (omega arith) parts.variable is read
     (plain_text text) may in
@@ -172,14 +172,14 @@ grows E host p levels target given found rest place text more s some parts is al
 module _ (E : Type 0) (host : Host E) (p : Program) (levels : ℕ) (target : Path) (given : Expression) (s : State E)
     (cell : CellNo) (more : List ℕ) (world : World) (grown : Grows E host p levels target given s cell more) where
   -- where the longer text is stored, the assignment is done
-  pub assigns : ((text : List ℕ) → read_of (of_cell cell) s.world.store ≡ Ok (Str text)
-      → store_place (of_cell cell) (Str (text ++ more)) s.world ≡ Returns tt world)
+  pub assigns : ((text : List ℕ) → read_of (cell_place cell) s.world.store ≡ Ok (Str text)
+      → store_place (cell_place cell) (Str (text ++ more)) s.world ≡ Returns tt world)
       → assignment E (inside E host p levels) assigned.Let target given s ≡ Returns Next (record s { world = world })
   assigns stored = grown.does ∙ rw (stored grown.text grown.there) refl
 
   -- and where that is refused, it ends so
-  pub refuses : (why : Stop) → ((text : List ℕ) → read_of (of_cell cell) s.world.store ≡ Ok (Str text)
-      → why ≢ stop.Memory → store_place (of_cell cell) (Str (text ++ more)) s.world ≡ Ends why world)
+  pub refuses : (why : Stop) → ((text : List ℕ) → read_of (cell_place cell) s.world.store ≡ Ok (Str text)
+      → why ≢ stop.Memory → store_place (cell_place cell) (Str (text ++ more)) s.world ≡ Ends why world)
       → why ≢ stop.Memory
       → assignment E (inside E host p levels) assigned.Let target given s ≡ Ends why (record s { world = world })
   refuses why stored some = grown.does ∙ rw (stored grown.text grown.there some) refl

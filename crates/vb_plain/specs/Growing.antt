@@ -10,13 +10,12 @@ use Rattle.vb_syntax.specs.declared.program.expression.Path.{Path}
 use Rattle.vb_syntax.specs.declared.program.name.Named.TheVariants as named
 use Rattle.vb_syntax.specs.declared.program.name.Slot.{Slot}
 use Rattle.vb_heap.specs.declared.place.CellNo.{CellNo}
-use Rattle.vb_heap.specs.Appended.{of_cell}
 use Rattle.vb_heap.specs.Cells.{read_of}
 use Rattle.vb_meaning.specs.declared.reached.Assigned.TheVariants as assigned
 use Rattle.vb_meaning.specs.declared.world.Exit.TheVariants.{Next}
 use Rattle.vb_meaning.specs.Asking.{Host}
 use Rattle.vb_meaning.specs.Meaning.{inside}
-use Rattle.vb_meaning.specs.Places.{store_place}
+use Rattle.vb_meaning.specs.Places.{cell_place, store_place}
 use Rattle.vb_meaning.specs.State.{State, on_world}
 use Rattle.vb_meaning.specs.Statements.{assignment}
 use Rattle.vb_meaning.specs.Step.{and_then, pure}
@@ -34,6 +33,6 @@ pub record Lengthens (target : Path) (given : Expression) (slot : Slot) (rest : 
 pub record Grows (E : Type 0) (host : Host E) (program : Program) (levels : ℕ) (target : Path) (given : Expression)
     (s : State E) (cell : CellNo) (more : List ℕ) : Type 0 where
   pub text : List ℕ
-  pub there : read_of (of_cell cell) s.world.store ≡ Ok (Str text)
+  pub there : read_of (cell_place cell) s.world.store ≡ Ok (Str text)
   pub does : assignment E (inside E host program levels) assigned.Let target given s
-      ≡ and_then (on_world (store_place (of_cell cell) (Str (text ++ more))) s) (λ _. pure Next)
+      ≡ and_then (on_world (store_place (cell_place cell) (Str (text ++ more))) s) (λ _. pure Next)

@@ -1,11 +1,10 @@
 //! Texts of variables that assignments `x = x & ..` make longer where they lie, where the rest changes nothing.
 ghost use Rattle.std.specs.Prelude.{◌≡◌, ◌∷◌, ◌++◌, List, ℕ, IfSome, IsTrue, MatchOption, Ok};
-ghost use Rattle.vb_heap.specs.Appended.{of_cell};
 ghost use Rattle.vb_heap.specs.Cells.{read_of};
 ghost use Rattle.vb_meaning.specs.declared.reached.Assigned.TheVariants.{Let};
 ghost use Rattle.vb_meaning.specs.Expressions.{operations};
 ghost use Rattle.vb_meaning.specs.Meaning.{inside};
-ghost use Rattle.vb_meaning.specs.Places.{store_place};
+ghost use Rattle.vb_meaning.specs.Places.{cell_place, store_place};
 ghost use Rattle.vb_meaning.specs.Shown.{shown};
 ghost use Rattle.vb_meaning.specs.Statements.{assignment};
 ghost use Rattle.vb_meaning.specs.Step.{Ran, Returns};
@@ -182,8 +181,8 @@ fn added<I: Intrinsics>(
 /// Puts more behind the text that a cell holds, as the longer text is stored.
 #[tactic(auto, using(crate::proofs::Longer::stores))]
 fn append(world: &mut World, cell: CellNo, more: &Text) -> Result<(), Stop>
-    ensures { (text : List ℕ) → read_of (of_cell cell) (shown world.old).store ≡ Ok (Str text)
-        → Ran (store_place (of_cell cell) (Str (text ++ more.now)) (shown world.old)) result (shown world.new) }
+    ensures { (text : List ℕ) → read_of (cell_place cell) (shown world.old).store ≡ Ok (Str text)
+        → Ran (store_place (cell_place cell) (Str (text ++ more.now)) (shown world.old)) result (shown world.new) }
 {
     Ok(world.heap.append(cell, more.as_slice())?)
 }
