@@ -136,16 +136,16 @@ fn joined<I: Intrinsics>(
     playing: &Playing<'_>,
     env: &I,
     held: &Text,
-    mut operations: &[Operation],
+    mut rest: &[Operation],
 ) -> Option<Text>
     requires { MayHold (shown playing.now.world).store }
     ensures { IfSome result (λ more. operations I (inside I (host I.asked I.answered) p.now levels) (Str held.now)
-        operations.entry.now (seen playing.now env.now) ≡ Returns (Str (held.now ++ more)) (seen playing.now env.now)) }
+        rest.entry.now (seen playing.now env.now) ≡ Returns (Str (held.now ++ more)) (seen playing.now env.now)) }
 {
     let mut more = Text::new(alloc);
-    while let [first, others @ ..] = operations {
+    while let [first, others @ ..] = rest {
         more = joined_once(alloc, levels, p, playing, env, held, more, first)?;
-        operations = others;
+        rest = others;
     }
     Some(more)
 }
