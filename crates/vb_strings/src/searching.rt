@@ -29,6 +29,7 @@ pub fn in_str(alloc: Global, args: &[Value]) -> Result<Value, VbFault>
 }
 
 /// `InStr` of two values that are lent.
+#[tactic(auto, using(crate::proofs::Bounds::same_answers))]
 pub fn place_in(alloc: Global, a: &Value, b: &Value) -> Result<Value, VbFault>
     ensures { Answers result VbFault.Memory (reported (call_string_of InStr (a.now ∷ b.now ∷ []))) }
 {
@@ -36,6 +37,7 @@ pub fn place_in(alloc: Global, a: &Value, b: &Value) -> Result<Value, VbFault>
 }
 
 /// `InStr` from a place on, of values that are lent.
+#[tactic(auto, using(crate::proofs::Bounds::same_answers))]
 pub fn place_from(alloc: Global, i: &Value, a: &Value, b: &Value) -> Result<Value, VbFault>
     ensures { Answers result VbFault.Memory (reported (call_string_of InStr (i.now ∷ a.now ∷ b.now ∷ []))) }
 {
