@@ -1,7 +1,7 @@
 -- Assignments `x = x & ..` by which the text of a variable grows where it lies.
 use Rattle.std.proofs.Common.{◌≡◌, ◌≢◌, ℕ, ℤ, ◌+◌, ◌-◌, ◌<◌, ◌≤◌, List, [], ◌∷◌, ◌++◌, length, Result, Ok, true, nat_le}
 use Rattle.std.proofs.Common.{ap, sym, subst, ◌∙◌, refl, arith}
-use Rattle.std.proofs.lemmas.List.{append_assoc, append-nil}
+use Rattle.std.proofs.lemmas.List.{append_assoc, append-nil, length-append}
 use Rattle.std.proofs.lemmas.Bool.Decides.{nat_tests}
 use Rattle.vb_value.specs.Arguments.{checked}
 use Rattle.vb_value.specs.declared.operator.Op2.TheVariants.{Join}
@@ -68,7 +68,8 @@ module _ (E : Type 0) (host : Host E) (p : Program) where
       → operations E (inside E host p levels) (Str (held ++ before)) (operation ∷ others) s
       ≡ operations E (inside E host p levels) (Str (held ++ (before ++ more))) others s
   joins_more levels s operation held before more value join yields is joined fits others =
-      let within : nat_le (length ((held ++ before) ++ more)) 1048576 ≡ true = grind (arith, nat_tests) in
+      let within : nat_le (length ((held ++ before) ++ more)) 1048576 ≡ true =
+      rw (length-append (held ++ before) more, length-append held before) (grind (arith, nat_tests)) in
       rw (join, yields, joins (held ++ before) more value is joined within, append_assoc held before more) refl
 
 -- a text has no reference
