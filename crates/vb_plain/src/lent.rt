@@ -33,7 +33,7 @@ pub fn may_hold(world: &mut World) -> bool
 }
 
 /// The variable that an expression is, if nothing stands behind its name.
-fn variable_in(expression: &Expression) -> Option<Slot>
+pub fn variable_in(expression: &Expression) -> Option<Slot>
     ensures { IfSome result (λ slot. IsVariable expression.now slot) }
 {
     let Expression::Path(path) = expression else {

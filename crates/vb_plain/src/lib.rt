@@ -14,6 +14,7 @@ mod heads;
 mod lent;
 mod lent_arrays;
 mod lent_calls;
+mod lent_operands;
 mod lent_texts;
 mod making;
 mod names;
