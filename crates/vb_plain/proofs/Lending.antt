@@ -7,12 +7,14 @@ use Rattle.vb_value.specs.declared.value.Value.TheOpen.{Value-F}
 use Rattle.vb_value.specs.declared.value.Value.TheFolds.{fold-roll-Value}
 use Rattle.vb_syntax.specs.declared.program.Program.{Program}
 use Rattle.vb_syntax.specs.declared.program.expression.Expression.{Expression, out-Expression}
+use Rattle.vb_syntax.specs.declared.program.expression.Operation.{Operation, out-Operation}
 use Rattle.vb_syntax.specs.declared.program.name.Slot.{Slot}
 use Rattle.vb_heap.specs.Cells.{read_of}
 use Rattle.vb_heap.specs.Held.{with_held}
 use Rattle.vb_heap.specs.References.{references, value_references, array_references}
 use Rattle.vb_heap.specs.Store.{Store}
 use Rattle.vb_heap.specs.declared.place.Place.{Place}
+use Rattle.vb_ops.specs.Operators.{apply2_of}
 use Rattle.vb_meaning.specs.Asking.{Host}
 use Rattle.vb_meaning.specs.Expressions.{bare, value_of, is_written, written_value}
 use Rattle.vb_meaning.specs.Meaning.{inside}
@@ -25,7 +27,7 @@ use Rattle.vb_value.specs.declared.fault.VbError.{VbError}
 use Rattle.vb_meaning.specs.Values.{copied}
 use Rattle.vb_meaning.specs.World.{World}
 use Rattle.vb_meaning.proofs.Down.{value_more}
-use Rattle.vb_plain.specs.Lent.{IsVariable, IsPlain, MayHold, Yields, GivesAtOnce}
+use Rattle.vb_plain.specs.Lent.{IsVariable, IsPlain, MayHold, Yields, GivesAtOnce, OperatesAtOnce}
 
 -- Empty has no reference
 free_empty : references Empty ≡ []
@@ -101,3 +103,11 @@ module _ (E : Type 0) (host : Host E) (p : Program) (levels : ℕ) (applied : Li
       → Yields E host p levels f s b → Yields E host p levels g s c → raising (applied (a ∷ b ∷ c ∷ [])) ≡ Ok found
       → GivesAtOnce E host p levels applied (e ∷ f ∷ g ∷ []) s found
   three_arguments e f g a b c found first second third gives = rw (first, second, third, gives) refl
+
+-- an operator between two operands
+pub two_operands : (E : Type 0) (host : Host E) (p : Program) (levels : ℕ) (s : State E) (e : Expression)
+    (operation : Operation) (a b found : Value) → Yields E host p levels e s a
+    → Yields E host p levels (out-Operation operation).operand s b
+    → raising (apply2_of (out-Operation operation).operator a b) ≡ Ok found
+    → OperatesAtOnce E host p levels e operation s found
+two_operands E host p levels s e operation a b found first second gives others = rw (first, second, gives) refl

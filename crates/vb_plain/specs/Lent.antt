@@ -1,5 +1,5 @@
 -- Values of variables where they lie.
-use Rattle.std.specs.Prelude.{◌≡◌, Bool, true, false, List, [], ℕ, Result, Ok}
+use Rattle.std.specs.Prelude.{◌≡◌, Bool, true, false, List, [], ◌∷◌, ℕ, Result, Ok}
 use Rattle.vb_value.specs.declared.function.PlainFn.{PlainFn}
 use Rattle.vb_value.specs.declared.function.PlainFn.TheVariants as function
 use Rattle.vb_value.specs.declared.value.Array.{Array}
@@ -9,12 +9,14 @@ use Rattle.vb_syntax.specs.declared.program.Program.{Program}
 use Rattle.vb_syntax.specs.declared.program.expression.Expression.{Expression, out-Expression}
 use Rattle.vb_syntax.specs.declared.program.expression.Expression.TheOpen.{Expression-F}
 use Rattle.vb_syntax.specs.declared.program.expression.Head.TheVariants as head
+use Rattle.vb_syntax.specs.declared.program.expression.Operation.{Operation}
 use Rattle.vb_syntax.specs.declared.program.name.Named.TheVariants as named
 use Rattle.vb_syntax.specs.declared.program.name.Slot.{Slot}
 use Rattle.vb_heap.specs.Limits.{if_fits}
 use Rattle.vb_heap.specs.References.{references}
 use Rattle.vb_heap.specs.Store.{Store}
 use Rattle.vb_meaning.specs.Asking.{Host}
+use Rattle.vb_meaning.specs.Expressions.{operations}
 use Rattle.vb_meaning.specs.Meaning.{value, inside}
 use Rattle.vb_meaning.specs.Reading.{values}
 use Rattle.vb_meaning.specs.State.{State, on_world}
@@ -45,6 +47,13 @@ abbrev pub GivesAtOnce : (E : Type 0) → Host E → Program → ℕ → (List V
 GivesAtOnce E host program levels applied supplied s found =
     (values E (inside E host program levels) [] supplied >>= (λ arguments. on_world (given (applied arguments)))) s
     ≡ Returns found s
+
+-- the first operator behind an operand gives this value, with which the operators behind it go on, and nothing changes
+abbrev pub OperatesAtOnce : (E : Type 0) → Host E → Program → ℕ → Expression → Operation → State E → Value → Type 0
+OperatesAtOnce E host program levels first operation s found = (others : List Operation)
+    → (value E host program levels first >>= (λ left. operations E (inside E host program levels) left
+    (operation ∷ others))) s
+    ≡ operations E (inside E host program levels) found others s
 
 -- an array of the same bounds without items
 abbrev pub shape_of : Array → Array

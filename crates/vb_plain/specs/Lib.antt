@@ -1,3 +1,4 @@
 pub mod Nests
 pub mod Selects
 pub mod Lent
+pub mod Growing

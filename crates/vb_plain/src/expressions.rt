@@ -14,6 +14,7 @@ ghost use Rattle.vb_ops.specs.Operators.{apply1_of};
 ghost use Rattle.vb_plain.specs.Nests.{Evaluates, Passes, Enters};
 ghost use Rattle.vb_objects.specs.Seen.{seen, host};
 
+use crate::lent_operands::operated_at_once;
 use crate::rules::Rules;
 use std::alloc::Global;
 use vb_meaning::{Argument, Reached, Stop, bare, raise};
@@ -123,6 +124,19 @@ impl<
         ensures { Ran (spec.yields I (inside I (host I.asked I.answered) p.now self.now.levels) (Expression-F.Chain
             first.now rest.now) (seen playing.old env.old)) result (seen playing.new env.new) }
     {
+        if let [operation, others @ ..] = rest {
+            if let Some(left) = operated_at_once(
+                self.alloc,
+                self.levels,
+                p,
+                playing,
+                env,
+                first,
+                operation,
+            ) {
+                return self.operations(p, playing, env, left, others);
+            }
+        }
         let left = self.value(p, playing, env, first)?;
         self.operations(p, playing, env, left, rest)
     }

@@ -33,7 +33,7 @@ pub fn may_hold(world: &mut World) -> bool
 }
 
 /// The variable that an expression is, if nothing stands behind its name.
-fn variable_in(expression: &Expression) -> Option<Slot>
+pub fn variable_in(expression: &Expression) -> Option<Slot>
     ensures { IfSome result (λ slot. IsVariable expression.now slot) }
 {
     let Expression::Path(path) = expression else {
@@ -46,7 +46,7 @@ fn variable_in(expression: &Expression) -> Option<Slot>
 }
 
 /// The place of a variable, if there is one.
-fn place_of(alloc: Global, world: &World, slot: Slot) -> Option<Place>
+pub fn place_of(alloc: Global, world: &World, slot: Slot) -> Option<Place>
     ensures { IfSome result (λ place. places.variable slot (shown world.now) ≡ Returns place (shown world.now)) }
 {
     match variable(alloc, world, slot) {

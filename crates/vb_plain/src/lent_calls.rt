@@ -6,11 +6,12 @@ ghost use Rattle.vb_meaning.specs.Shown.{shown};
 ghost use Rattle.vb_meaning.specs.Step.{raising};
 ghost use Rattle.vb_plain.specs.Lent.{MayHold, GivesAtOnce};
 ghost use Rattle.vb_strings.specs.Functions.{call_string_of};
+ghost use Rattle.vb_value.specs.declared.function.StrFn.TheVariants.{InStr};
 ghost use Rattle.vb_objects.specs.Seen.{seen, host};
 
 use crate::lent::{lent, lent_array, may_hold, quiet};
 use crate::lent_arrays::{of_array, of_array_and};
-use crate::lent_texts::{of_one, of_three, of_two};
+use crate::lent_texts::{of_one, of_three, of_two, place_behind};
 use std::alloc::Global;
 use std::slice::from_ref;
 use vb_funcs::call_func;
@@ -86,6 +87,52 @@ fn string_of_three<I: Intrinsics>(
     of_three(alloc, found, value, &second, &third)
 }
 
+/// `InStr` from a place on.
+#[tactic(auto, using(crate::proofs::Lending::three_arguments))]
+fn place_of_three<I: Intrinsics>(
+    alloc: Global,
+    levels: u32,
+    p: &Program,
+    playing: &Playing<'_>,
+    env: &I,
+    from: &Expression,
+    argument: &Expression,
+    sought: &Expression,
+) -> Option<Value>
+    requires { MayHold (shown playing.now.world).store }
+    ensures { IfSome result (λ given. GivesAtOnce I (host I.asked I.answered) p.now levels (call_string_of InStr)
+        (from.now ∷ argument.now ∷ sought.now ∷ []) (seen playing.now env.now) given) }
+{
+    let from = quiet(alloc, levels, p, playing, env, from)?;
+    let value = lent(alloc, levels, p, playing, env, argument)?;
+    let sought = quiet(alloc, levels, p, playing, env, sought)?;
+    place_behind(alloc, &from, value, &sought)
+}
+
+/// What a function on texts gives of three arguments: a part of the first, or a place in the second.
+fn string_of_either<I: Intrinsics>(
+    alloc: Global,
+    levels: u32,
+    p: &Program,
+    playing: &Playing<'_>,
+    env: &I,
+    found: StrFn,
+    argument: &Expression,
+    second: &Expression,
+    third: &Expression,
+) -> Option<Value>
+    requires { MayHold (shown playing.now.world).store }
+    ensures { IfSome result (λ given. GivesAtOnce I (host I.asked I.answered) p.now levels (call_string_of found)
+        (argument.now ∷ second.now ∷ third.now ∷ []) (seen playing.now env.now) given) }
+{
+    match found {
+        StrFn::InStr => place_of_three(alloc, levels, p, playing, env, argument, second, third),
+        _ => string_of_three(
+            alloc, levels, p, playing, env, found, argument, second, third,
+        ),
+    }
+}
+
 /// What a function on texts gives of its arguments, if that changes nothing.
 pub fn string_at_once<I: Intrinsics>(
     alloc: Global,
@@ -108,7 +155,7 @@ pub fn string_at_once<I: Intrinsics>(
         [argument, second] => {
             string_of_two(alloc, levels, p, playing, env, found, argument, second)
         }
-        [argument, second, third] => string_of_three(
+        [argument, second, third] => string_of_either(
             alloc, levels, p, playing, env, found, argument, second, third,
         ),
         _ => None,

@@ -9,7 +9,7 @@ ghost use Rattle.vb_value.specs.declared.value.Value.{Str};
 use std::alloc::Global;
 use std::slice::from_ref;
 use vb_meaning::raise;
-use vb_strings::call_string;
+use vb_strings::{call_string, place_from, place_in};
 use vb_value::{StrFn, Text, Value, limited, to_long};
 
 /// What a function gives of one argument.
@@ -112,7 +112,28 @@ fn middle(alloc: Global, text: &Text, i: &Value, n: &Value) -> Option<Value>
     )
 }
 
-/// What a function gives of a value and one argument more, where that is a part of a text.
+/// `InStr` of a value and a text in it.
+fn place(alloc: Global, value: &Value, sought: &Value) -> Option<Value>
+    ensures { IfSome result (λ given. raising (call_string_of on_texts.InStr (value.now ∷ sought.now ∷ [])) ≡ Ok given) }
+{
+    match raise(place_in(alloc, value, sought)) {
+        Ok(given) => Some(given),
+        Err(_) => None,
+    }
+}
+
+/// `InStr` from a place on, of a value and a text in it.
+pub fn place_behind(alloc: Global, from: &Value, value: &Value, sought: &Value) -> Option<Value>
+    ensures { IfSome result (λ given.
+        raising (call_string_of on_texts.InStr (from.now ∷ value.now ∷ sought.now ∷ [])) ≡ Ok given) }
+{
+    match raise(place_from(alloc, from, value, sought)) {
+        Ok(given) => Some(given),
+        Err(_) => None,
+    }
+}
+
+/// What a function gives of a value and one argument more, where that is a part of a text or a place in it.
 pub fn of_two(alloc: Global, found: StrFn, value: &Value, more: &Value) -> Option<Value>
     ensures { IfSome result (λ given. raising (call_string_of found (value.now ∷ more.now ∷ [])) ≡ Ok given) }
 {
@@ -123,6 +144,7 @@ pub fn of_two(alloc: Global, found: StrFn, value: &Value, more: &Value) -> Optio
         StrFn::Left => left(alloc, text, more),
         StrFn::Right => right(alloc, text, more),
         StrFn::Mid => rest(alloc, text, more),
+        StrFn::InStr => place(alloc, value, more),
         _ => None,
     }
 }

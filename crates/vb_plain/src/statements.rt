@@ -6,6 +6,7 @@ ghost use Rattle.vb_meaning.specs.Step.{Returns, Ran};
 ghost use Rattle.vb_plain.specs.Nests.{Assigns, Evaluates, Executes};
 ghost use Rattle.vb_objects.specs.Seen.{seen, host};
 
+use crate::growing::lengthened;
 use crate::rules::Rules;
 use std::alloc::Global;
 use vb_meaning::{Assigned, Exit, Stop};
@@ -107,6 +108,18 @@ impl<
         ensures { Ran (spec.assignment I (inside I (host I.asked I.answered) p.now self.now.levels) how target.now
             assigned.now (seen playing.old env.old)) result (seen playing.new env.new) }
     {
+        if let Some(gave) = lengthened(
+            self.alloc,
+            self.levels,
+            p,
+            playing,
+            env,
+            how,
+            target,
+            assigned,
+        ) {
+            return gave;
+        }
         let found = self.value(p, playing, env, assigned)?;
         assignable(how, &found)?;
         self.assign(p, playing, env, how, target, found)?;
