@@ -22,6 +22,7 @@ use Rattle.asp_job.specs.declared.session.SessionState.{SessionState}
 use Rattle.asp_job.specs.Told.{Told, Outcome, Wants, Ends}
 use Rattle.asp_objects.specs.declared.objects.PageObjects.{PageObjects}
 use Rattle.asp_objects.specs.Members.{asked, answered}
+use Rattle.asp_response.specs.Fixed.{not_allowed_of}
 use Rattle.asp_site.specs.declared.site.Page.{Page}
 use Rattle.asp_site.specs.declared.site.Site.{Site}
 use Rattle.asp_site.specs.Lookup.{page_at, static_at}
@@ -117,13 +118,16 @@ event_telling earlier replies None word course tells = no_more earlier course.ta
 starts_telling : (earlier : List ActEnd) (site : Site) (told : Told) (course : Course)
     → TellsFirst earlier course.tally.fail
     → Telling (earlier ++ ends.start_end site told course) (spec.starts site told course)
-starts_telling earlier site told course tells = choice_telling earlier told.is_new _ _ course tells
+starts_telling earlier site told course tells = choice_telling earlier told.is_new
+    (spec.event told.replies site.events (codes "Session_OnStart") course)
+    (ends.event_end told.replies site.events (codes "Session_OnStart") course) course tells
     (event_telling earlier told.replies site.events (codes "Session_OnStart") course tells)
 
 body_telling : (earlier : List ActEnd) (told : Told) (page : Page) (course : Course)
     → TellsFirst earlier course.tally.fail
     → Telling (earlier ++ ends.body_end told page course) (spec.body told page course)
-body_telling earlier told page course tells = choice_telling earlier course.tally.goes_on _ _ course tells
+body_telling earlier told page course tells = choice_telling earlier course.tally.goes_on (spec.act told.replies page acts.Body course)
+    (ends.act_end told.replies page acts.Body course) course tells
     (act_telling earlier told.replies page acts.Body course tells)
 
 quiet_telling : (ends : List ActEnd) (failure : Option (List ℕ)) (found : Way) → Telling ends found
@@ -134,8 +138,10 @@ quiet_telling ends failure (WantsReply call) tells = tt
 leaves_telling : (earlier : List ActEnd) (site : Site) (told : Told) (course : Course)
     → TellsFirst earlier course.tally.fail
     → Telling (earlier ++ ends.leave_end site told course) (spec.leaves site told course)
-leaves_telling earlier site told course tells = choice_telling earlier course.objects.is_abandoned _ _ course tells
-    (quiet_telling _ course.tally.failure (spec.ending site told course)
+leaves_telling earlier site told course tells = choice_telling earlier course.objects.is_abandoned (spec.closes site told course)
+    (ends.event_end told.replies site.events (codes "Session_OnEnd") (spec.outside course)) course tells
+    (quiet_telling (earlier ++ ends.event_end told.replies site.events (codes "Session_OnEnd") (spec.outside course))
+    course.tally.failure (spec.ending site told course)
     (event_telling earlier told.replies site.events (codes "Session_OnEnd") (spec.outside course) tells))
 
 page_telling : (site : Site) (told : Told) (page : Page) (course : Course) → TellsFirst [] course.tally.fail
@@ -163,8 +169,12 @@ taken_telling false run refused ends other goes = other
 
 found_telling : (site : Site) (told : Told) (request : Request) (page : Option Page) (file : Option SiteFile)
     → TellingOutcome (ends.found_ends site told request page) (pages.found_work site told request page file)
-found_telling site told request (Some page) file = taken_telling (pages.page_takes request.verb) _ _ _ refl
-    (page_outcome _ told request page _ (page_telling site told page (pages.page_begins told request page) refl))
+found_telling site told request (Some page) file =
+    let course = pages.page_begins told request page in
+    let all = ends.page_act_ends site told page course in
+    taken_telling (pages.page_takes request.verb) (pages.page_run site told request page)
+    (Ends (pages.only_answers told (not_allowed_of true (pages.is_head request.verb) request.close))) all refl
+    (page_outcome all told request page (spec.page_acts site told page course) (page_telling site told page course refl))
 found_telling site told request None (Some file) = refl
 found_telling site told request None None = refl
 
@@ -175,15 +185,21 @@ event_outcome ends session (WantsReply call) tells = tt
 
 session_telling : (site : Site) (told : Told) (session : Option SessionState)
     → TellingOutcome (ends.session_ends site told session) (events.session_end site told session)
-session_telling site told (Some session) = event_outcome _ None _ (event_telling [] told.replies site.events
-    (codes "Session_OnEnd") (spec.course_of (events.event_objects (Some session))) refl)
+session_telling site told (Some session) =
+    let course = spec.course_of (events.event_objects (Some session)) in
+    event_outcome (ends.event_end told.replies site.events (codes "Session_OnEnd") course) None
+    (spec.event told.replies site.events (codes "Session_OnEnd") course)
+    (event_telling [] told.replies site.events (codes "Session_OnEnd") course refl)
 session_telling site told None = refl
 
 application_telling : (site : Site) (told : Told) (word : List ℕ)
     → TellingOutcome (ends.event_end told.replies site.events word (spec.course_of (events.event_objects None)))
     (events.application_event site told word)
-application_telling site told word = event_outcome _ told.session _
-    (event_telling [] told.replies site.events word (spec.course_of (events.event_objects None)) refl)
+application_telling site told word =
+    let course = spec.course_of (events.event_objects None) in
+    event_outcome (ends.event_end told.replies site.events word course) told.session
+    (spec.event told.replies site.events word course)
+    (event_telling [] told.replies site.events word course refl)
 
 work_telling : (site : Site) (told : Told) (what : Work)
     → TellingOutcome (ends.work_ends site told what) (work_of site told what)

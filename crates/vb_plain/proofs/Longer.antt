@@ -1,13 +1,14 @@
 -- Assignments `x = x & ..` by which the text of a variable grows where it lies.
-use Rattle.std.proofs.Common.{◌≡◌, ◌≢◌, ℕ, ℤ, ◌+◌, ◌-◌, ◌<◌, ◌≤◌, List, [], ◌∷◌, ◌++◌, length, Result, Ok, true, nat_le}
+use Rattle.std.proofs.Common.{◌≡◌, ◌≢◌, ℕ, ℤ, ◌+◌, ◌-◌, ◌<◌, ◌≤◌, List, [], ◌∷◌, ◌++◌, length, Result, Ok, true, false, if◌then◌else◌, nat_le}
 use Rattle.std.proofs.Common.{ap, sym, subst, ◌∙◌, refl, arith}
 use Rattle.std.proofs.lemmas.List.{append_assoc, append-nil, length-append}
 use Rattle.std.proofs.lemmas.Bool.Decides.{nat_tests}
 use Rattle.vb_value.specs.Arguments.{checked}
+use Rattle.vb_value.specs.Errors.{type_mismatch}
 use Rattle.vb_value.specs.declared.operator.Op2.TheVariants.{Join}
 use Rattle.vb_value.specs.declared.value.Array.{Array}
 use Rattle.vb_value.specs.declared.value.Value.{Value, Str}
-use Rattle.vb_value.specs.declared.value.Value.TheViews.{rolls-Str}
+use Rattle.vb_value.specs.declared.value.Value.TheViews.{rolls-Str, outs-Str}
 use Rattle.vb_value.specs.declared.value.Value.TheOpen.{Value-F}
 use Rattle.vb_value.specs.declared.value.Value.TheFolds.{fold-roll-Value}
 use Rattle.vb_value.specs.TextLimit.{limited}
@@ -23,7 +24,8 @@ use Rattle.vb_syntax.specs.declared.program.name.Named.TheVariants as named
 use Rattle.vb_syntax.specs.declared.program.name.Slot.{Slot}
 use Rattle.vb_syntax.specs.declared.program.name.Slot.TheVariants as slot
 use Rattle.vb_heap.specs.Appended.{append_of, with_appended}
-use Rattle.vb_heap.specs.Cells.{read_of}
+use Rattle.vb_heap.specs.Cells.{read_of, store_of, with_stored}
+use Rattle.vb_heap.specs.Store.{Store}
 use Rattle.vb_heap.specs.References.{references, value_references, array_references}
 use Rattle.vb_heap.specs.declared.place.CellNo.{CellNo}
 use Rattle.vb_heap.specs.declared.place.Place.{Place}
@@ -36,10 +38,10 @@ use Rattle.vb_meaning.specs.Inner.{Inner}
 use Rattle.vb_meaning.specs.Assigning.{assign_to, into_slot, into_place}
 use Rattle.vb_meaning.specs.Expressions.{bare, value_of, operations}
 use Rattle.vb_meaning.specs.Meaning.{value, inside}
-use Rattle.vb_meaning.specs.Places.{cell_place, variable, store_place}
-use Rattle.vb_meaning.specs.State.{State, on_world, on_store}
+use Rattle.vb_meaning.specs.Places.{cell_place, variable, store_place, is_fixed, is_fixed_layer}
+use Rattle.vb_meaning.specs.State.{State, on_world, on_store, store_answer}
 use Rattle.vb_meaning.specs.Statements.{assignment}
-use Rattle.vb_meaning.specs.Step.{Returns, Ends, ◌>>=◌, and_then, pure}
+use Rattle.vb_meaning.specs.Step.{Run, Returns, Ends, ◌>>=◌, and_then, given, fails, pure}
 use Rattle.vb_meaning.specs.Values.{copied, value_copied, array_copied}
 use Rattle.vb_meaning.specs.World.{World}
 use Rattle.vb_meaning.proofs.Down.{value_more, assign_more}
@@ -77,11 +79,41 @@ free_text : (text : List ℕ) → references (Str text) ≡ []
 free_text text = ap references (sym (rolls-Str text))
     ∙ fold-roll-Value (List ℕ) (List ℕ) value_references array_references (Value-F.Str text)
 
+-- a text is no array of a fixed size
+text_moves : (text : List ℕ) → is_fixed (Str text) ≡ false
+text_moves text = ap is_fixed_layer (outs-Str text)
+
 -- where a longer text is stored, it is appended
+stored_answer : (cell : CellNo) (text more : List ℕ) (store : Store) → read_of (cell_place cell) store ≡ Ok (Str text)
+    → store_of (cell_place cell) (Str (text ++ more)) store ≡ append_of cell more store
+stored_answer cell text more store there = rw there refl
+
+stored_data : (cell : CellNo) (text more : List ℕ) (store : Store) → read_of (cell_place cell) store ≡ Ok (Str text)
+    → with_stored (cell_place cell) (Str (text ++ more)) store ≡ with_appended cell more store
+stored_data cell text more store there = rw there refl
+
+-- the place of a text takes another value
+text_goes : (text : List ℕ) (other : Run World (Unit {0})) (w : World)
+    → and_then (given (Ok (Str text)) w) (λ old. if is_fixed old then fails type_mismatch else other) ≡ other w
+text_goes text other w = rw (text_moves text) refl
+
+stored_place : (cell : CellNo) (text : List ℕ) (new : Value) (w : World)
+    → read_of (cell_place cell) w.store ≡ Ok (Str text)
+    → store_place (cell_place cell) new w ≡ on_store (store_of (cell_place cell) new) (with_stored (cell_place cell) new) w
+unfolding store_place
+stored_place cell text new w there =
+    let run : Run World (Unit {0}) = on_store (store_of (cell_place cell) new) (with_stored (cell_place cell) new) in
+    ap (λ found. and_then (given found w) (λ old. if is_fixed old then fails type_mismatch else run)) there
+    ∙ text_goes text run w
+
 pub stores : (cell : CellNo) (text more : List ℕ) (w : World) → read_of (cell_place cell) w.store ≡ Ok (Str text)
     → store_place (cell_place cell) (Str (text ++ more)) w ≡ on_store (append_of cell more) (with_appended cell more) w
-unfolding store_place
-stores cell text more w there = rw there refl
+stores cell text more w there =
+    let longer : Store = with_stored (cell_place cell) (Str (text ++ more)) w.store in
+    stored_place cell text (Str (text ++ more)) w there
+    ∙ (ap (λ answer. store_answer answer (record w { store = longer }) w) (stored_answer cell text more w.store there)
+    ∙ ap (λ store. store_answer (append_of cell more w.store) (record w { store = store }) w)
+    (stored_data cell text more w.store there))
 
 -- a text is its own copy
 own_text : (text : List ℕ) → copied (Str text) ≡ Str text
