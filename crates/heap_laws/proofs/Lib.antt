@@ -2,11 +2,9 @@ pub mod Cells
 pub mod Indices
 pub mod Reading
 pub mod Stored
-pub mod Sums
 pub mod Oldest
 pub mod Made
 pub mod Entries
 pub mod Keys
 pub mod Moves
-pub mod Items
 pub mod NewCells

@@ -18,3 +18,16 @@ pub mod Changing
 pub mod Differing
 pub mod Walking
 pub mod Oldest
+pub mod Parts
+pub mod Counting
+pub mod Sums
+pub mod Moves
+pub mod ItemMoves
+pub mod Told
+pub mod CountSteps
+pub mod CountsAfter
+pub mod CountBounds
+pub mod Tallying
+pub mod TableCounts
+pub mod CellCounts
+pub mod Nowhere

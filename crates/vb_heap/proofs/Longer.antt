@@ -1,6 +1,6 @@
 -- What a longer text in a cell weighs, and what is left where none is made.
 use Rattle.std.proofs.Common.{◌≡◌, ℕ, ◌+◌, ◌*◌, List, [], ◌∷◌, ◌++◌, ◌-◌, ◌^◌, ◌≤◌, ◌<◌, min, Some, Result, Ok, Err, true, false, cond, length, nat_lt}
-use Rattle.std.proofs.Common.{refl, sym, ap, ◌∙◌, arith}
+use Rattle.std.proofs.Common.{refl, subst, sym, ap, ◌∙◌, arith}
 use Rattle.std.proofs.lemmas.List.{length-append}
 use Rattle.vb_value.specs.declared.value.Value.{Value, Str}
 use Rattle.vb_value.specs.declared.value.Value.TheViews.{rolls-Str}
@@ -19,12 +19,14 @@ use Rattle.vb_heap.specs.declared.place.CellNo.{CellNo}
 use Rattle.vb_heap.specs.Answers as answers
 use Rattle.vb_heap.specs.Appended.{of_cell, text_at, append_of}
 use Rattle.vb_heap.specs.Cells.{value_there, read_of, store_of, with_stored}
+use Rattle.vb_heap.specs.Counted.{AreRight}
 use Rattle.vb_heap.specs.Inside.{IsKept, store_of as page}
 use Rattle.vb_heap.specs.Limits.{is_too_deep}
 use Rattle.vb_heap.specs.PageWeight.{weight_of_page}
 use Rattle.vb_heap.specs.Places.{value_in}
 use Rattle.vb_heap.specs.Saturated.{weight_told}
 use Rattle.vb_heap.specs.Store.{is_number, numbered, replaced}
+use Rattle.vb_heap.proofs.CellCounts.{text_right}
 use Rattle.vb_heap.proofs.Storing.{refuses, accepts, weighs}
 
 -- the same again in the place of something is no change
@@ -117,3 +119,11 @@ module _ (heap : Inside) (kept : IsKept heap) (cell : CellNo) (text more : List 
   weighs_more light =
       weighs heap kept (of_cell cell) (Str (text ++ more)) old weight told within sums (text_flat (text ++ more)) light
       ∙ ap weight_of_page same_data
+
+  -- the counts stay right
+  pub counted_more : AreRight heap.counts.entries heap.top
+      (record (page heap) { cells = replaced cell.0 (Str (text ++ more)) heap.cells.entries })
+  counted_more =
+      subst (AreRight heap.counts.entries heap.top) same_data
+      (text_right (page heap) heap.counts.entries heap.counts.entries heap.top kept.counted (of_cell cell) text
+      (text ++ more) (ap (λ found. and_then (value_there found) (value_in [])) there) refl)

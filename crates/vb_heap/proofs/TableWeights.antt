@@ -151,7 +151,8 @@ same_first : {T : Type 0} (first : ℕ × T) (others : List (ℕ × T)) (number 
 same_first first others number thing true is rest = let same : first.1 ≡ thing = cc in rw (sym same) refl
 same_first first others number thing false is rest = ap (λ things. first ∷ things) (rest is)
 
-same_value : {T : Type 0} (things : List (ℕ × T)) (number : ℕ) (thing : T) → numbered number things ≡ Some thing
+-- the same thing in its own place
+pub same_value : {T : Type 0} (things : List (ℕ × T)) (number : ℕ) (thing : T) → numbered number things ≡ Some thing
     → replaced number thing things ≡ things
 same_value [] number thing is = refl
 same_value (first ∷ others) number thing is =

@@ -9,6 +9,7 @@ pub mod Indexed
 pub mod Store
 pub mod Counts
 pub mod References
+pub mod Counted
 pub mod PageWeight
 pub mod Limits
 pub mod Below

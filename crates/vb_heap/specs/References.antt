@@ -1,6 +1,6 @@
 -- References to objects. They are found by looking everywhere: in each cell and each item of a dictionary with
 -- the items of its arrays at any depth, and among the held ones. The fields of an object are cells.
-use Rattle.std.specs.Prelude.{ℕ, List, [], ◌∷◌, ◌++◌}
+use Rattle.std.specs.Prelude.{ℕ, ◌≡◌, List, [], ◌∷◌, ◌++◌, Some}
 use Rattle.std.specs.List.{concat, flat_map}
 use Rattle.std.specs.Map.{values_of}
 use Rattle.vb_value.specs.declared.value.Value.{Value}
@@ -10,7 +10,7 @@ use Rattle.vb_heap.specs.declared.object.Content.{Content}
 use Rattle.vb_heap.specs.declared.object.Content.TheVariants.{Fields, Entries}
 use Rattle.vb_heap.specs.declared.object.Object.{Object}
 use Rattle.vb_heap.specs.Counts.{count_of}
-use Rattle.vb_heap.specs.Store.{Store}
+use Rattle.vb_heap.specs.Store.{Store, numbered}
 
 -- one value, with the references of an array in its place
 abbrev pub value_references : Value-F (List ℕ) (List ℕ) → List ℕ
@@ -44,3 +44,7 @@ all_references store =
 -- how many references there are to an object
 abbrev pub references_to : ℕ → Store → ℕ
 references_to object store = count_of object (all_references store)
+
+-- no cell refers to an object
+pub record RefersNowhere (store : Store) : Type 0 where
+  pub each : (cell : ℕ) (value : Value) → numbered cell store.cells ≡ Some value → references value ≡ []

@@ -3,23 +3,25 @@ ghost use Rattle.std.specs.Prelude.{◌≡◌, ◌+◌, ◌≤◌, ◌++◌, ◌
 ghost use Rattle.std.specs.Map.{values_of};
 ghost use Rattle.std.specs.Option.{option_copied, option_map_or};
 ghost use Rattle.slot_pool.specs.Pool.{numbers};
-ghost use Rattle.vb_value.specs.declared.value.Value.{Empty};
 ghost use Rattle.vb_value.specs.Errors.{and_then};
 ghost use Rattle.vb_value.specs.Outcome.{Changes};
 ghost use Rattle.vb_value.specs.Weight.{weight_of};
 ghost use Rattle.vb_heap.specs.Cells.{value_there};
+ghost use Rattle.vb_heap.specs.Counted.{counts_less, field_references};
 ghost use Rattle.vb_heap.specs.Limits.{most_weight};
 ghost use Rattle.vb_heap.specs.Objects.{cells_from, empty_cells};
 ghost use Rattle.vb_heap.specs.Places.{value_in, with_value};
 ghost use Rattle.vb_heap.specs.Pooled.{IsPooled};
+ghost use Rattle.vb_heap.specs.References.{references};
 ghost use Rattle.vb_heap.specs.Releases.{without_all};
 ghost use Rattle.vb_heap.specs.Saturated.{weight_told};
 ghost use Rattle.vb_heap.specs.Store.{numbered, without, replaced};
 
+use crate::counts::{Counts, lower_in};
 use crate::place::CellNo;
 use crate::pooled::by_number;
 use crate::within;
-use slot_pool::{Pool, PoolStop};
+use slot_pool::Pool;
 use vb_value::{List, Memory, Value, VbError, weight};
 
 /// Cells by their numbers.
@@ -30,22 +32,6 @@ pub fn cell_at(cells: &Cells, number: u64) -> Option<&Value>
     ensures { option_copied result ≡ numbered number cells.now.entries }
 {
     cells.get(by_number(number))
-}
-
-/// Adds a cell, with the next number.
-pub fn add_cell(cells: &mut Cells, value: Value) -> Result<(), Memory>
-    requires few { length cells.old.entries < cells.old.most }
-    requires numbers { cells.old.next < numbers }
-    ensures cells { Changes result cells.old.entries cells.new.entries
-        (cells.old.entries ++ (cells.old.next, value) ∷ []) }
-    ensures made { Changes result cells.old.next cells.new.next (cells.old.next + 1) }
-    ensures most { cells.new.most ≡ cells.old.most }
-{
-    match cells.put(value) {
-        Ok(_) => Ok(()),
-        Err((_, PoolStop::Memory)) => Err(Memory),
-        Err((_, PoolStop::Full)) => unreachable!(),
-    }
 }
 
 /// Makes room for so many cells more.
@@ -60,17 +46,17 @@ pub fn reserve_cells(cells: &mut Cells, count: u32) -> Result<(), Memory>
     Ok(())
 }
 
-/// Adds a cell that is Empty, for which there is room.
-fn add_empty(cells: &mut Cells)
+/// Adds a cell, for which there is room, with the next number.
+pub fn add_cell(cells: &mut Cells, value: Value)
     requires few { length cells.old.entries < cells.old.most }
     requires numbers { cells.old.next < numbers }
     requires free { 0 < cells.old.free }
-    ensures cells { cells.new.entries ≡ cells.old.entries ++ (cells.old.next, Empty) ∷ [] }
+    ensures cells { cells.new.entries ≡ cells.old.entries ++ (cells.old.next, value) ∷ [] }
     ensures made { cells.new.next ≡ cells.old.next + 1 }
     ensures free { cells.new.free + 1 ≡ cells.old.free }
     ensures most { cells.new.most ≡ cells.old.most }
 {
-    match cells.put(Value::Empty) {
+    match cells.put(value) {
         Ok(_) => {}
         Err(_) => unreachable!(),
     }
@@ -86,28 +72,36 @@ pub fn add_cells(cells: &mut Cells, count: u32)
     ensures most { cells.new.most ≡ cells.old.most }
 {
     for _ in 0..count {
-        add_empty(cells);
+        add_cell(cells, Value::Empty);
     }
 }
 
-/// Drops a cell, and says what it weighed: nothing if there is none.
+/// Drops a cell with its references, and says what it weighed: nothing if there is none.
 #[tactic(auto, using(crate::proofs::CellWeights::removed))]
-pub fn remove_cell(cells: &mut Cells, number: u64) -> u64
-    requires { sum_by weight_of (values_of cells.old.entries) ≤ most_weight }
+pub fn remove_cell(cells: &mut Cells, counts: &mut Counts, number: u64) -> u64
+    requires light { sum_by weight_of (values_of cells.old.entries) ≤ most_weight }
+    ensures counts { counts.new.entries
+        ≡ counts_less (option_map_or references (numbered number cells.old.entries) []) counts.old.entries }
+    ensures counts_pooled { IsPooled counts.old counts.new }
     ensures cells { cells.new.entries ≡ without number cells.old.entries }
     ensures pooled { IsPooled cells.old cells.new }
     ensures weight { result + sum_by weight_of (values_of cells.new.entries)
         ≡ sum_by weight_of (values_of cells.old.entries) }
 {
     match cells.take(by_number(number)) {
-        Some(value) => weight(&value),
+        Some(value) => {
+            lower_in(counts, &value);
+            weight(&value)
+        }
         None => 0,
     }
 }
 
-/// Drops cells, and says what they weighed.
-pub fn remove_cells(cells: &mut Cells, gone: &[CellNo]) -> u64
-    requires { sum_by weight_of (values_of cells.old.entries) ≤ most_weight }
+/// Drops cells with their references, and says what they weighed.
+pub fn remove_cells(cells: &mut Cells, counts: &mut Counts, gone: &[CellNo]) -> u64
+    requires light { sum_by weight_of (values_of cells.old.entries) ≤ most_weight }
+    ensures counts { counts.new.entries ≡ counts_less (field_references gone.now cells.old.entries) counts.old.entries }
+    ensures counts_pooled { IsPooled counts.old counts.new }
     ensures cells { cells.new.entries ≡ without_all gone.now cells.old.entries }
     ensures pooled { IsPooled cells.old cells.new }
     ensures weight { result + sum_by weight_of (values_of cells.new.entries)
@@ -115,7 +109,7 @@ pub fn remove_cells(cells: &mut Cells, gone: &[CellNo]) -> u64
 {
     let mut weight = 0;
     for cell in gone {
-        weight += remove_cell(cells, cell.0);
+        weight += remove_cell(cells, counts, cell.0);
     }
     weight
 }
@@ -131,6 +125,19 @@ pub fn weight_at(cells: &Cells, number: u64, steps: &[List<i32>]) -> Result<u64,
     match cell_at(cells, number) {
         Some(value) => Ok(weight(within::value_in(value, steps)?)),
         None => Err(VbError::OBJECT_NOT_SET),
+    }
+}
+
+/// Counts the references of the value at a place in a cell as gone, if there is such a place.
+pub fn lower_at(counts: &mut Counts, cells: &Cells, number: u64, steps: &[List<i32>])
+    ensures counts { IfOk (and_then (value_there (numbered number cells.now.entries)) (value_in steps.now))
+        (λ old. counts.new.entries ≡ counts_less (references old) counts.old.entries) }
+    ensures pooled { IsPooled counts.old counts.new }
+{
+    if let Some(value) = cell_at(cells, number) {
+        if let Ok(old) = within::value_in(value, steps) {
+            lower_in(counts, old);
+        }
     }
 }
 

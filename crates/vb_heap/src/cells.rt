@@ -5,7 +5,10 @@ ghost use Rattle.vb_value.specs.Outcome.{Answers, Changes};
 ghost use Rattle.vb_heap.specs.Saturated.{result_now};
 ghost use Rattle.vb_heap.specs.Cells.{new_cell_of, with_new_cell, without_cell, read_of, store_of, with_stored};
 
-use crate::cell_map::{add_cell, cell_at, put_in_cell, remove_cell, weight_at};
+use crate::cell_map::{
+    add_cell, cell_at, lower_at, put_in_cell, remove_cell, reserve_cells, weight_at,
+};
+use crate::counts::raise_in;
 use crate::depth::is_too_deep;
 use crate::fault::HeapStop;
 use crate::heap::{Heap, MOST_WEIGHT};
@@ -29,7 +32,9 @@ impl Heap {
             return Err(HeapStop::Limit(LimitKind::Data));
         }
         let number = self.cells_made;
-        add_cell(&mut self.cells, value)?;
+        reserve_cells(&mut self.cells, 1)?;
+        self.top = raise_in(&mut self.counts, &value, self.top);
+        add_cell(&mut self.cells, value);
         self.cells_made = number + 1;
         self.weight = weight;
         Ok(CellNo(number))
@@ -40,7 +45,7 @@ impl Heap {
     pub fn drop_cell(&mut self, cell: CellNo)
         ensures { self.new ≡ without_cell cell self.old }
     {
-        self.weight -= remove_cell(&mut self.cells, cell.0);
+        self.weight -= remove_cell(&mut self.cells, &mut self.counts, cell.0);
     }
 
     /// The value at a place, where it lies. Error 91 where the cell is gone, 9 where an index is out of range, and 13
@@ -76,6 +81,8 @@ impl Heap {
         if MOST_WEIGHT < weight {
             return Err(HeapStop::Limit(LimitKind::Data));
         }
+        lower_at(&mut self.counts, &self.cells, place.cell.0, steps);
+        self.top = raise_in(&mut self.counts, &value, self.top);
         put_in_cell(&mut self.cells, place.cell.0, steps, value);
         self.weight = weight;
         Ok(())

@@ -3,10 +3,7 @@ ghost use Rattle.std.specs.Prelude.{◌≡◌, nat_le};
 ghost use Rattle.vb_value.specs.Plain.{depth_of};
 ghost use Rattle.vb_heap.specs.Limits as spec;
 
-use vb_value::Value;
-
-/// How deep arrays may nest.
-const MOST_DEPTH: u32 = 64;
+use vb_value::{MOST_DEPTH, Value};
 
 /// Whether the arrays of a value nest so deep at most. It recurses no deeper than that.
 #[tactic(auto, using(crate::proofs::Depths::depths))]

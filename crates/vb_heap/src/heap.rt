@@ -1,9 +1,14 @@
 //! The data of a page.
-ghost use Rattle.std.specs.Prelude.{◌≡◌};
+ghost use Rattle.std.specs.Prelude.{◌≡◌, [], Ok, IsTrue};
+ghost use Rattle.vb_value.specs.declared.value.Value.{Value};
 ghost use Rattle.vb_value.specs.Outcome.{Gives};
+ghost use Rattle.vb_heap.specs.declared.place.Place.{Place};
+ghost use Rattle.vb_heap.specs.Cells.{read_of};
+ghost use Rattle.vb_heap.specs.References.{RefersNowhere, references};
 ghost use Rattle.vb_heap.specs.Store.{no_data};
 ghost use Rattle.vb_heap.specs.PageWeight.{weight_of_page};
 
+use crate::counts::Counts;
 use crate::object::Object;
 use slot_pool::Pool;
 use std::alloc::Global;
@@ -22,10 +27,12 @@ const MOST_THERE: u32 = 524_288;
 pub struct Heap {
     pub(crate) cells: Pool<Value>,
     pub(crate) objects: Pool<Object>,
+    pub(crate) counts: Counts,
     pub(crate) held: List<u32>,
     pub(crate) cells_made: u64,
     pub(crate) objects_made: u32,
     pub(crate) weight: u64,
+    pub(crate) top: u64,
 }
 
 impl Model for Heap {
@@ -52,10 +59,12 @@ impl Heap {
         Ok(Heap {
             cells: Pool::with_reserve(alloc, 0, MOST_THERE)?,
             objects: Pool::with_reserve(alloc, 0, MOST_THERE)?,
+            counts: Pool::with_reserve(alloc, 0, MOST_THERE)?,
             held: List::new(alloc),
             cells_made: 0,
             objects_made: 0,
             weight: 0,
+            top: 0,
         })
     }
 
@@ -71,5 +80,13 @@ impl Heap {
         ensures { result ≡ self.now.objects_made }
     {
         self.objects_made
+    }
+    /// Whether it is sure that no cell refers to an object. It is from the start until the first reference is kept.
+    pub fn refers_nowhere(&self) -> bool
+        ensures nowhere { IsTrue result → RefersNowhere self.now }
+        ensures read { IsTrue result → (place : Place) → (value : Value) → read_of place self.now ≡ Ok value
+            → references value ≡ [] }
+    {
+        self.top == 0
     }
 }

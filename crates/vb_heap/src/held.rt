@@ -3,6 +3,7 @@ ghost use Rattle.std.specs.Prelude.{◌≡◌, length};
 ghost use Rattle.vb_value.specs.Outcome.{Answers, Changes};
 ghost use Rattle.vb_heap.specs.Held as spec;
 
+use crate::counts::{lower_all, raise_all};
 use crate::fault::HeapStop;
 use crate::heap::Heap;
 use crate::references::references;
@@ -21,7 +22,10 @@ impl Heap {
         if MOST_HELD - self.held.len() < found.len() {
             return Err(HeapStop::Limit(LimitKind::Data));
         }
-        Ok(self.held.append(found)?)
+        let mark = self.held.len();
+        self.held.append(found)?;
+        self.top = raise_all(&mut self.counts, &self.held.as_slice()[mark..], self.top);
+        Ok(())
     }
 
     /// How many references are held: a mark to which `let_go` lets go.
@@ -35,6 +39,9 @@ impl Heap {
     pub fn let_go(&mut self, mark: u32)
         ensures { self.new ≡ spec.let_go_to mark self.old }
     {
-        self.held.truncate(mark as usize);
+        if (mark as usize) < self.held.len() {
+            lower_all(&mut self.counts, &self.held.as_slice()[mark as usize..]);
+            self.held.truncate(mark as usize);
+        }
     }
 }

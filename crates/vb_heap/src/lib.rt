@@ -5,6 +5,7 @@
 mod appending;
 mod cell_map;
 mod cells;
+mod counts;
 mod depth;
 mod fault;
 mod heap;
@@ -25,6 +26,6 @@ mod tables;
 mod within;
 
 pub use fault::HeapStop;
-pub use heap::Heap;
+pub use heap::{Heap, MOST_WEIGHT};
 pub use place::{CellNo, Place};
 pub use within::value_in;

@@ -1,10 +1,11 @@
 //! Objects by their numbers.
-ghost use Rattle.std.specs.Prelude.{◌≡◌, ◌+◌, ◌≤◌, ◌++◌, ◌∷◌, ◌-◌, ◌<◌, ◌^◌, [], length, min, sum_by};
+ghost use Rattle.std.specs.Prelude.{◌≡◌, ◌+◌, ◌≤◌, ◌++◌, ◌∷◌, ◌-◌, ◌<◌, ◌^◌, [], length, min, sum_by, IfSome};
 ghost use Rattle.std.specs.Map.{values_of};
 ghost use Rattle.std.specs.Option.{option_copied};
 ghost use Rattle.slot_pool.specs.Pool.{numbers};
 ghost use Rattle.vb_value.specs.Outcome.{Changes};
 ghost use Rattle.vb_value.specs.Weight.{weight_of};
+ghost use Rattle.vb_heap.specs.Counted.{content_gone, counts_less};
 ghost use Rattle.vb_heap.specs.Limits.{most_weight};
 ghost use Rattle.vb_heap.specs.PageWeight.{object_weight};
 ghost use Rattle.vb_heap.specs.Pooled.{IsPooled};
@@ -12,6 +13,7 @@ ghost use Rattle.vb_heap.specs.Releases.{ends_now, fields_of, objects_ending, wi
 ghost use Rattle.vb_heap.specs.Store.{numbered, without};
 
 use crate::cell_map::{Cells, remove_cells};
+use crate::counts::{Counts, remove_count};
 use crate::object::{Content, Object};
 use crate::pooled::by_number;
 use slot_pool::{Pool, PoolStop};
@@ -73,9 +75,12 @@ pub fn weight_of_object(object: &Object) -> u64
     }
 }
 
-/// Drops the cells of the fields of what an object consists of, and says what they weighed.
-fn remove_fields(cells: &mut Cells, content: &Content) -> u64
-    requires { sum_by weight_of (values_of cells.old.entries) ≤ most_weight }
+/// Drops the cells of the fields of what an object consists of, and says what they weighed. The references in them or
+/// in its entries are counted as gone.
+fn remove_fields(cells: &mut Cells, counts: &mut Counts, content: &Content) -> u64
+    requires light { sum_by weight_of (values_of cells.old.entries) ≤ most_weight }
+    ensures counts { counts.new.entries ≡ counts_less (content_gone content.now cells.old.entries) counts.old.entries }
+    ensures counts_pooled { IsPooled counts.old counts.new }
     ensures cells { cells.new.entries ≡ without_all (fields_of content.now) cells.old.entries }
     ensures pooled { IsPooled cells.old cells.new }
     ensures weight { result + sum_by weight_of (values_of cells.new.entries)
@@ -85,15 +90,26 @@ fn remove_fields(cells: &mut Cells, content: &Content) -> u64
         Content::Fields {
             class: _,
             cells: gone,
-        } => remove_cells(cells, gone.as_slice()),
-        Content::Entries(_) => 0,
+        } => remove_cells(cells, counts, gone.as_slice()),
+        Content::Entries(table) => {
+            table.lower(counts);
+            0
+        }
     }
 }
 
 /// Drops an object and the cells of its fields, and says what they weighed: nothing if it is not there.
-pub fn remove_object(objects: &mut Objects, cells: &mut Cells, number: u32) -> u64
-    requires { sum_by weight_of (values_of cells.old.entries) + sum_by object_weight (values_of objects.old.entries)
+pub fn remove_object(
+    objects: &mut Objects,
+    cells: &mut Cells,
+    counts: &mut Counts,
+    number: u32,
+) -> u64
+    requires light { sum_by weight_of (values_of cells.old.entries) + sum_by object_weight (values_of objects.old.entries)
         ≤ most_weight }
+    ensures counts { IfSome (numbered number objects.old.entries) (λ object. counts.new.entries
+        ≡ counts_less (content_gone object.content cells.old.entries) (without number counts.old.entries)) }
+    ensures counts_pooled { IsPooled counts.old counts.new }
     ensures objects { objects.new.entries ≡ without number objects.old.entries }
     ensures objects_pooled { IsPooled objects.old objects.new }
     ensures cells { cells.new.entries ≡ without_fields (numbered number objects.old.entries) cells.old.entries }
@@ -103,7 +119,10 @@ pub fn remove_object(objects: &mut Objects, cells: &mut Cells, number: u32) -> u
         ≡ sum_by weight_of (values_of cells.old.entries) + sum_by object_weight (values_of objects.old.entries) }
 {
     match objects.take(by_number(number as u64)) {
-        Some(object) => weight_of_object(&object) + remove_fields(cells, &object.content),
+        Some(object) => {
+            remove_count(counts, number);
+            weight_of_object(&object) + remove_fields(cells, counts, &object.content)
+        }
         None => 0,
     }
 }

@@ -8,6 +8,7 @@ ghost use Rattle.vb_heap.specs.Room.{HasRoom};
 ghost use Rattle.vb_heap.specs.Store.{numbered};
 
 use crate::cell_map::{add_cells, reserve_cells};
+use crate::counts::{add_count, reserve_count};
 use crate::fault::HeapStop;
 use crate::heap::{Heap, MOST_WEIGHT};
 use crate::object::{Content, Object};
@@ -63,8 +64,11 @@ impl Heap {
             content: Content::Fields { class, cells },
             ending: false,
         };
+        let count = self.first_count();
         reserve_cells(&mut self.cells, fields)?;
+        reserve_count(&mut self.counts)?;
         add_object(&mut self.objects, object)?;
+        add_count(&mut self.counts, count);
         add_cells(&mut self.cells, fields);
         let number = self.objects_made;
         self.cells_made += fields as u64;

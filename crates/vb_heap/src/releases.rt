@@ -5,6 +5,7 @@ ghost use Rattle.vb_heap.specs.Releases as spec;
 ghost use Rattle.vb_heap.specs.References.{references_to};
 ghost use Rattle.vb_heap.specs.Store.{no_data, numbered};
 
+use crate::counts::count_at;
 use crate::heap::Heap;
 use crate::object_map::{is_ending, remove_object, set_ending};
 use crate::references::{count_in_cells, count_in_objects};
@@ -13,8 +14,30 @@ use vb_value::ObjNo;
 
 impl Heap {
     /// How many references there are to an object.
-    #[tactic(auto, using(crate::proofs::ValueReferences::count_both))]
     pub fn count(&self, object: ObjNo) -> u32
+        ensures { result ≡ references_to object.0 self.now }
+    {
+        match count_at(&self.counts, object.0) {
+            Some(count) => count,
+            None => self.count_everywhere(object),
+        }
+    }
+
+    /// How many references there are to the next object that is made: none, unless a number that was not given yet was
+    /// stored or held.
+    pub(crate) fn first_count(&self) -> u32
+        ensures { result ≡ references_to self.now.objects_made self.now }
+    {
+        if self.top <= self.objects_made as u64 {
+            0
+        } else {
+            self.count_everywhere(ObjNo(self.objects_made))
+        }
+    }
+
+    /// How many references there are to an object, by looking everywhere.
+    #[tactic(auto, using(crate::proofs::ValueReferences::count_both))]
+    fn count_everywhere(&self, object: ObjNo) -> u32
         ensures { result ≡ references_to object.0 self.now }
     {
         let held = self
@@ -88,7 +111,12 @@ impl Heap {
         ensures { self.new ≡ spec.finished object.0 (numbered object.0 self.old.objects) self.old }
     {
         if is_ending(&self.objects, object.0) {
-            self.weight -= remove_object(&mut self.objects, &mut self.cells, object.0);
+            self.weight -= remove_object(
+                &mut self.objects,
+                &mut self.cells,
+                &mut self.counts,
+                object.0,
+            );
         }
     }
 
@@ -98,9 +126,11 @@ impl Heap {
     {
         self.cells.reset();
         self.objects.reset();
+        self.counts.reset();
         self.held.truncate(0);
         self.cells_made = 0;
         self.objects_made = 0;
         self.weight = 0;
+        self.top = 0;
     }
 }

@@ -4,9 +4,12 @@ ghost use Rattle.std.specs.Option.{option_copied};
 ghost use Rattle.std.specs.List.{flat_map};
 ghost use Rattle.vb_value.specs.Outcome.{Changes};
 ghost use Rattle.vb_value.specs.Weight.{weight_of};
+ghost use Rattle.vb_heap.specs.Counted.{counts_less, item_references};
 ghost use Rattle.vb_heap.specs.Counts.{count_of};
 ghost use Rattle.vb_heap.specs.PairWeight.{entries_weight, pair_weight};
+ghost use Rattle.vb_heap.specs.Pooled.{IsPooled};
 
+use crate::counts::{Counts, lower_in};
 use crate::key::Key;
 use crate::pairs::{Pairs, remove_pair, set_item};
 use crate::references::count_in;
@@ -158,6 +161,16 @@ impl Table {
     {
         if self.pairs.is_empty() {
             self.mode = mode;
+        }
+    }
+
+    /// Counts the references in the items as gone.
+    pub fn lower(&self, counts: &mut Counts)
+        ensures counts { counts.new.entries ≡ counts_less (item_references self.now) counts.old.entries }
+        ensures pooled { IsPooled counts.old counts.new }
+    {
+        for pair in self.pairs.values() {
+            lower_in(counts, &pair.item);
         }
     }
 

@@ -4,6 +4,7 @@ ghost use Rattle.std.specs.Map.{values_of};
 ghost use Rattle.std.specs.Option.{option_copied};
 ghost use Rattle.vb_value.specs.Outcome.{Changes};
 ghost use Rattle.vb_value.specs.Weight.{weight_of};
+ghost use Rattle.vb_heap.specs.Counted.{counts_less, item_references, item_there, items_there};
 ghost use Rattle.vb_heap.specs.Dictionary.{entry_of};
 ghost use Rattle.vb_heap.specs.Entries as spec;
 ghost use Rattle.vb_heap.specs.Keys.{key_of};
@@ -11,9 +12,11 @@ ghost use Rattle.vb_heap.specs.Limits.{most_weight};
 ghost use Rattle.vb_heap.specs.PageWeight.{found_weight, object_weight};
 ghost use Rattle.vb_heap.specs.Pooled.{IsPooled};
 ghost use Rattle.vb_heap.specs.PairWeight.{entries_weight, item_weight, pair_weight};
+ghost use Rattle.vb_heap.specs.References.{references};
 ghost use Rattle.vb_heap.specs.Saturated.{result_now};
 ghost use Rattle.vb_heap.specs.Store.{numbered};
 
+use crate::counts::{Counts, lower_in};
 use crate::key::Key;
 use crate::object::Content;
 use crate::object_map::{Objects, object_at};
@@ -147,5 +150,30 @@ pub fn weight_of_item(objects: &Objects, number: u32, at: usize) -> u64
     match pair_at(objects, number, at) {
         Ok(pair) => weight(&pair.item),
         Err(_) => 0,
+    }
+}
+
+/// Counts the references of the item of the entry at a place as gone, if there is one.
+pub fn lower_item(counts: &mut Counts, objects: &Objects, number: u32, at: usize)
+    requires light { sum_by object_weight (values_of objects.now.entries) ≤ most_weight }
+    ensures counts { counts.new.entries ≡ counts_less
+        (item_there (spec.entry_there at (spec.dictionary_there (numbered number objects.now.entries))))
+        counts.old.entries }
+    ensures pooled { IsPooled counts.old counts.new }
+{
+    if let Ok(pair) = pair_at(objects, number, at) {
+        lower_in(counts, &pair.item);
+    }
+}
+
+/// Counts the references of all items of a dictionary as gone, if it is there.
+pub fn lower_items(counts: &mut Counts, objects: &Objects, number: u32)
+    requires light { sum_by object_weight (values_of objects.now.entries) ≤ most_weight }
+    ensures counts { counts.new.entries ≡ counts_less
+        (items_there (spec.dictionary_there (numbered number objects.now.entries))) counts.old.entries }
+    ensures pooled { IsPooled counts.old counts.new }
+{
+    if let Ok(table) = table_of(objects, number) {
+        table.lower(counts);
     }
 }

@@ -8,6 +8,7 @@ ghost use Rattle.vb_heap.specs.Entries as spec;
 ghost use Rattle.vb_heap.specs.Keys as keys;
 ghost use Rattle.vb_heap.specs.Limits.{if_fits};
 
+use crate::counts::{add_count, raise_all, raise_in, reserve_count};
 use crate::depth::is_too_deep;
 use crate::fault::HeapStop;
 use crate::heap::{Heap, MOST_WEIGHT};
@@ -16,10 +17,12 @@ use crate::object::{Content, Object};
 use crate::object_map::add_object;
 use crate::objects::LEAST_WEIGHT;
 use crate::pairs::weight_of_pair;
+use crate::references::references;
 use crate::saying::key_of;
 use crate::table::Table;
 use crate::table_map::{
-    add_pair, drop_pair, drop_pairs, pair_at, set_item_at, set_mode, table_of, weight_of_item,
+    add_pair, drop_pair, drop_pairs, lower_item, lower_items, pair_at, set_item_at, set_mode,
+    table_of, weight_of_item,
 };
 use std::alloc::Global;
 use vb_value::{LimitKind, Memory, ObjNo, Pair, Value, VbError, VbFault, weight};
@@ -57,7 +60,10 @@ impl Heap {
             ending: false,
         };
         let number = self.objects_made;
+        let count = self.first_count();
+        reserve_count(&mut self.counts)?;
         add_object(&mut self.objects, object)?;
+        add_count(&mut self.counts, count);
         self.objects_made = number + 1;
         self.weight += LEAST_WEIGHT;
         Ok(ObjNo(number))
@@ -149,7 +155,9 @@ impl Heap {
         if MOST_WEIGHT < weight {
             return Err(HeapStop::Limit(LimitKind::Data));
         }
+        let found = references(*self.held.allocator(), &pair.item)?;
         add_pair(&mut self.objects, dictionary.0, key, pair, added)?;
+        self.top = raise_all(&mut self.counts, found.as_slice(), self.top);
         self.weight = weight;
         Ok(())
     }
@@ -178,6 +186,8 @@ impl Heap {
         if MOST_WEIGHT < weight {
             return Err(HeapStop::Limit(LimitKind::Data));
         }
+        lower_item(&mut self.counts, &self.objects, dictionary.0, at);
+        self.top = raise_in(&mut self.counts, &item, self.top);
         set_item_at(&mut self.objects, dictionary.0, at, item);
         self.weight = weight;
         Ok(())
@@ -187,6 +197,7 @@ impl Heap {
     pub fn drop_entry(&mut self, dictionary: ObjNo, at: u32)
         ensures { self.new ≡ spec.without_entry dictionary at self.old }
     {
+        lower_item(&mut self.counts, &self.objects, dictionary.0, at as usize);
         self.weight -= drop_pair(&mut self.objects, dictionary.0, at as usize);
     }
 
@@ -194,6 +205,7 @@ impl Heap {
     pub fn drop_entries(&mut self, dictionary: ObjNo)
         ensures { self.new ≡ spec.without_entries dictionary self.old }
     {
+        lower_items(&mut self.counts, &self.objects, dictionary.0);
         self.weight -= drop_pairs(&mut self.objects, dictionary.0);
     }
 

@@ -1,12 +1,14 @@
 -- Arrays that lie in variables: whether objects occur in them, and what their shape alone tells.
 use Rattle.std.proofs.Common.{◌≡◌, ℕ, ◌+◌, ◌<◌, ◌≤◌, ◌++◌, ◌∷◌, [], List, true, length, map, take, get_or}
-use Rattle.std.proofs.Common.{false, sym, ap, ◌∙◌, refl}
+use Rattle.std.proofs.Common.{false, sym, ap, ◌∙◌, refl, subst}
 use Rattle.std.specs.List.{flat_map}
 use Rattle.std.proofs.lemmas.List.{take_more, take_all, flat_map_more}
 use Rattle.vb_value.specs.declared.function.PlainFn.{PlainFn}
 use Rattle.vb_value.specs.declared.function.PlainFn.TheVariants as function
 use Rattle.vb_value.specs.declared.value.Array.{Array}
-use Rattle.vb_value.specs.declared.value.Value.{Value}
+use Rattle.vb_value.specs.declared.value.Value.{Value, map-Value, roll-Value}
+use Rattle.vb_value.specs.declared.value.Value.TheFolds.{fold-roll-Value, ind-Value}
+use Rattle.vb_value.specs.declared.value.Value.TheOpen.{Value-F}
 use Rattle.vb_value.specs.declared.value.Value.TheViews.{Arr, rolls-Arr}
 use Rattle.vb_funcs.specs.Functions.{call_func_of}
 use Rattle.vb_heap.specs.References.{references}
@@ -33,6 +35,58 @@ of_copies (item ∷ items) = ap (λ more. references (copied item) ++ more) (of_
 -- the objects in a copy of an array are those in copies of its items
 held_arr : (array : Array) → references (copied (Arr array)) ≡ flat_map held array.items
 held_arr array = ap references (copied_arr array) ∙ references_arr (copied_as array) ∙ of_copies array.items
+
+-- a copy has the objects that the value has
+abbrev IsAlike : Value → Type 0
+IsAlike value = references (copied value) ≡ references value
+
+abbrev AreAlike : Array → Type 0
+AreAlike array = flat_map held array.items ≡ flat_map references array.items
+
+alike_array : (array : Array) (y : Value-F ((value : Value) × IsAlike value) ((inner : Array) × AreAlike inner))
+    → map-Value ((value : Value) × IsAlike value) ((inner : Array) × AreAlike inner) Value Array (λ e. e.0) (λ e. e.0) y
+    ≡ Value-F.Arr array → AreAlike array
+alike_array array (Value-F.Arr inner) is = let same : inner.0 ≡ array = cc in subst AreAlike same inner.1
+alike_array array _ is = absurd (cc)
+
+-- a value that is no array is its own copy
+alike_itself : (value : Value) → copied value ≡ value → IsAlike value
+alike_itself value is = ap references is
+
+alike_value : (x : Value-F Value Array) (y : Value-F ((value : Value) × IsAlike value) ((inner : Array) × AreAlike inner))
+    → map-Value ((value : Value) × IsAlike value) ((inner : Array) × AreAlike inner) Value Array (λ e. e.0) (λ e. e.0) y
+    ≡ x → IsAlike (roll-Value x)
+alike_value (Value-F.Arr array) y is =
+    rw (rolls-Arr array) (held_arr array ∙ (alike_array array y is ∙ sym (references_arr array)))
+alike_value Value-F.Empty y is = alike_itself _ (fold-roll-Value Value Array value_copied array_copied Value-F.Empty)
+alike_value Value-F.Null y is = alike_itself _ (fold-roll-Value Value Array value_copied array_copied Value-F.Null)
+alike_value (Value-F.Bool truth) y is =
+    alike_itself _ (fold-roll-Value Value Array value_copied array_copied (Value-F.Bool truth))
+alike_value (Value-F.Int number) y is =
+    alike_itself _ (fold-roll-Value Value Array value_copied array_copied (Value-F.Int number))
+alike_value (Value-F.Long number) y is =
+    alike_itself _ (fold-roll-Value Value Array value_copied array_copied (Value-F.Long number))
+alike_value (Value-F.Cur amount) y is =
+    alike_itself _ (fold-roll-Value Value Array value_copied array_copied (Value-F.Cur amount))
+alike_value (Value-F.Str text) y is =
+    alike_itself _ (fold-roll-Value Value Array value_copied array_copied (Value-F.Str text))
+alike_value (Value-F.Obj object) y is =
+    alike_itself _ (fold-roll-Value Value Array value_copied array_copied (Value-F.Obj object))
+alike_value Value-F.Nothing y is =
+    alike_itself _ (fold-roll-Value Value Array value_copied array_copied Value-F.Nothing)
+
+alike_items : (items : List ((value : Value) × IsAlike value))
+    → flat_map held (map (λ e. e.0) items) ≡ flat_map references (map (λ e. e.0) items)
+alike_items [] = refl
+alike_items (item ∷ items) = rw item.1 (ap (λ rest. references item.0 ++ rest) (alike_items items))
+
+alike : (value : Value) → IsAlike value
+alike = ind-Value IsAlike AreAlike alike_value (λ x y is.
+    subst (λ z. flat_map held z.items ≡ flat_map references z.items) is (alike_items y.items))
+
+-- where a value has no object, its copy has none
+pub copy_free : (value : Value) → references value ≡ [] → references (copied value) ≡ []
+copy_free value free = alike value ∙ free
 
 -- one item more in which there is none
 pub item_free : (items : List Value) (at : ℕ) (item : Value) → at < length items → item ≡ get_or items at item

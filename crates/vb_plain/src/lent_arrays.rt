@@ -35,13 +35,26 @@ fn is_free(value: &Value) -> bool
     }
 }
 
+/// Whether no object occurs in the value at a place. It isn't looked through where the page refers to no object.
+#[tactic(auto, using(crate::proofs::Arrays::copy_free))]
+fn is_free_at(world: &World, place: &Place, value: &Value) -> bool
+    ensures { read_of place.now (shown world.now).store ≡ Ok value.now → IsTrue result
+        → references (copied value.now) ≡ [] }
+{
+    let _ = place;
+    if world.heap.refers_nowhere() {
+        return true;
+    }
+    is_free(value)
+}
+
 /// The array that a place holds, if no object occurs in it.
 pub fn array_at<'a>(world: &'a World, place: &Place) -> Option<&'a Array>
     ensures at { IfSome result (λ array. read_of place.now (shown world.entry.now).store ≡ Ok (Arr array.now)) }
     ensures free { IfSome result (λ array. references (copied (Arr array.now)) ≡ []) }
 {
     match world.heap.look(place) {
-        Ok(value) if is_free(value) => match value {
+        Ok(value) if is_free_at(world, place, value) => match value {
             Value::Arr(array) => Some(array),
             _ => None,
         },

@@ -1,4 +1,4 @@
-use Rattle.heap_laws.proofs.Items.{ended_object_refers, ended_table_refers}
+use Rattle.heap_laws.proofs.Moves.{ended_object_refers, ended_table_refers}
 use Rattle.heap_laws.proofs.laws.ended_references_go.Goals as goal
 
 pub returns : goal.returns

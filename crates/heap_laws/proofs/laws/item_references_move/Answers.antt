@@ -1,4 +1,4 @@
-use Rattle.heap_laws.proofs.Items.{added_item_refers, dropped_item_refers, dropped_items_refer, set_item_refers}
+use Rattle.heap_laws.proofs.Moves.{added_item_refers, dropped_item_refers, dropped_items_refer, set_item_refers}
 use Rattle.heap_laws.proofs.laws.item_references_move.Goals as goal
 
 pub returns : goal.returns

@@ -1,5 +1,6 @@
-use Rattle.heap_laws.proofs.Sums.{add_up}
+use Rattle.std.proofs.Common.{◌==◌}
+use Rattle.vb_heap.proofs.Sums.{add_up}
 use Rattle.heap_laws.proofs.laws.references_add_up.Goals as goal
 
 pub returns : goal.returns
-returns c = add_up
+returns c = λ object store. add_up (λ other. other == object) store

@@ -8,16 +8,16 @@ loop-preserved c =
     let was = c.loop.invariant in
     record {
       cells =
-          rw (c.add_empty.ensures.cells, was.cells, was.made)
+          rw (c.add_cell.ensures.cells, was.cells, was.made)
           (added_more c.args.cells.now.entries c.args.cells.now.next c.loop.counter);
-      made = omega (arith, c.add_empty.ensures.made, was.made);
-      free = omega (arith, c.add_empty.ensures.free, was.free);
+      made = omega (arith, c.add_cell.ensures.made, was.made);
+      free = omega (arith, c.add_cell.ensures.free, was.free);
       many =
           omega (
             arith,
-            ap length c.add_empty.ensures.cells,
+            ap length c.add_cell.ensures.cells,
             length-append c.loop.cells.entries ((c.loop.cells.next, Empty) ∷ []),
             was.many,
           );
-      most = rw c.add_empty.ensures.most was.most;
+      most = rw c.add_cell.ensures.most was.most;
     }

@@ -1,7 +1,8 @@
-use Rattle.std.proofs.Common.{sym, ap, ◌∙◌, arith}
+use Rattle.std.proofs.Common.{sym, subst, ap, ◌∙◌, arith}
+use Rattle.vb_heap.specs.Counted.{AreRight}
 use Rattle.vb_heap.specs.Inside.{store_of}
 use Rattle.vb_heap.specs.PageWeight.{weight_of_page}
-use Rattle.vb_heap.proofs.Longer.{refuses_more, accepts_more, weighs_more}
+use Rattle.vb_heap.proofs.Longer.{refuses_more, accepts_more, counted_more, weighs_more}
 use Rattle.vb_heap.proofs.heap.Heap.append.Goals as goal
 
 pub returns-then-weight-gt-MOST_WEIGHT-clause-answer : goal.returns-then-weight-gt-MOST_WEIGHT-clause-answer
@@ -22,6 +23,16 @@ invariant_of-self-2 c = record {
         most = c.in_ok-grow.ensures.pooled.1 ∙ c.self.invariant.new_cells.most;
       };
   new_objects = c.self.invariant.new_objects;
+  new_counts = c.self.invariant.new_counts;
+  counted =
+      subst (λ entries. AreRight c.self.inside.counts.entries c.self.inside.top
+      (record (store_of c.self.inside) { cells = entries }))
+      (sym (c.in_ok-grow.ensures.cells c.in_ok-text_at.field-0.now c.in_ok-text_at.ensures.there))
+      (counted_more c.self.inside c.self.invariant c.args.cell c.in_ok-text_at.field-0.now c.args.more.now
+      c.in_ok-old.old c.saturating_add-longer.result c.saturating_add-weight.result c.in_ok-text_at.ensures.answer
+      c.in_ok-text_at.ensures.there c.in_ok-old.ensures.answer
+      (omega (arith, c.in_ok-old.ensures.within, c.self.invariant.weighed))
+      (rw c.saturating_mul.ensures at c.saturating_add-longer.ensures) c.saturating_add-weight.ensures);
   weighed =
       weighs_more c.self.inside c.self.invariant c.args.cell c.in_ok-text_at.field-0.now c.args.more.now c.in_ok-old.old
       c.saturating_add-longer.result c.saturating_add-weight.result c.in_ok-text_at.ensures.answer

@@ -1,6 +1,8 @@
 use Rattle.std.proofs.Common.{refl, ◌∙◌, arith}
 use Rattle.vb_heap.specs.Entries.{entry_dropped}
+use Rattle.vb_heap.specs.Inside.{store_of}
 use Rattle.vb_heap.specs.Store.{numbered}
+use Rattle.vb_heap.proofs.TableCounts.{dropped_right}
 use Rattle.vb_heap.proofs.TableWeights.{weight_changed, found_within}
 use Rattle.vb_heap.proofs.heap.Heap.drop_entry.Goals as goal
 
@@ -25,6 +27,15 @@ invariant_of-self c =
             next = c.drop_pair.ensures.pooled.0 ∙ c.self.invariant.new_objects.next;
             most = c.drop_pair.ensures.pooled.1 ∙ c.self.invariant.new_objects.most;
           };
+      new_counts =
+          record {
+            next = c.lower_item.ensures.pooled.0 ∙ c.self.invariant.new_counts.next;
+            most = c.lower_item.ensures.pooled.1 ∙ c.self.invariant.new_counts.most;
+          };
+      counted =
+          rw c.drop_pair.ensures.entries
+          (dropped_right (store_of c.self.inside) _ _ _ c.self.invariant.counted c.args.dictionary c.args.at
+          c.lower_item.ensures.counts);
       weighed = rw c.drop_pair.ensures.entries (omega arith);
       light = omega arith;
       few = c.self.invariant.few;

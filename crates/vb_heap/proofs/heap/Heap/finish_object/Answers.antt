@@ -1,4 +1,6 @@
-use Rattle.std.proofs.Common.{◌∙◌, arith}
+use Rattle.std.proofs.Common.{◌∙◌, sym, arith}
+use Rattle.vb_heap.specs.Inside.{store_of}
+use Rattle.vb_heap.proofs.Ending.{ended_right}
 use Rattle.vb_heap.proofs.heap.Heap.finish_object.Goals as goal
 
 pub invariant_of-self : goal.invariant_of-self
@@ -17,6 +19,15 @@ invariant_of-self c =
             next = c.remove_object.ensures.objects_pooled.0 ∙ c.self.invariant.new_objects.next;
             most = c.remove_object.ensures.objects_pooled.1 ∙ c.self.invariant.new_objects.most;
           };
+      new_counts =
+          record {
+            next = c.remove_object.ensures.counts_pooled.0 ∙ c.self.invariant.new_counts.next;
+            most = c.remove_object.ensures.counts_pooled.1 ∙ c.self.invariant.new_counts.most;
+          };
+      counted =
+          rw (c.remove_object.ensures.objects, c.remove_object.ensures.cells)
+          (ended_right c.args.object.0 (store_of c.self.inside) _ _ _ c.self.invariant.counted
+          (sym c.is_ending.ensures ∙ c.if-is_ending.true) c.remove_object.ensures.counts);
       weighed = omega arith;
       light = omega arith;
       few = c.self.invariant.few;

@@ -1,7 +1,9 @@
 use Rattle.std.proofs.Common.{refl, sym, ◌∙◌, arith}
 use Rattle.std.proofs.lemmas.Int.{to_z-of_z}
 use Rattle.vb_heap.specs.Entries.{mode_set}
+use Rattle.vb_heap.specs.Inside.{store_of}
 use Rattle.vb_heap.specs.Store.{numbered}
+use Rattle.vb_heap.proofs.TableCounts.{mode_right}
 use Rattle.vb_heap.proofs.TableWeights.{weight_changed, mode_weighs}
 use Rattle.vb_heap.proofs.heap.Heap.set_table_mode.Goals as goal
 
@@ -19,6 +21,10 @@ invariant_of-self c =
             next = c.set_mode.ensures.pooled.0 ∙ c.self.invariant.new_objects.next;
             most = c.set_mode.ensures.pooled.1 ∙ c.self.invariant.new_objects.most;
           };
+      new_counts = c.self.invariant.new_counts;
+      counted =
+          rw set
+          (mode_right (store_of c.self.inside) _ _ _ c.self.invariant.counted c.args.dictionary c.args.mode refl);
       weighed = rw set (omega arith);
       light = c.self.invariant.light;
       few = c.self.invariant.few;

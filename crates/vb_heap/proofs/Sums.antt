@@ -1,39 +1,43 @@
--- References, counted in parts.
-use Rattle.std.proofs.Common.{ℕ, ◌+◌, ◌≡◌, List, [], ◌∷◌, ◌++◌, sum_by, refl, sym, ap, ◌∙◌, arith, cond, ◌==◌}
+-- References, counted in parts: those that pass a test.
+use Rattle.std.proofs.Common.{ℕ, ◌+◌, ◌≡◌, List, [], ◌∷◌, ◌++◌, sum_by, sym, ap, ◌∙◌, arith, cond, refl}
 use Rattle.std.proofs.Common.{Bool, true, false, if◌then◌else◌, Some}
+use Rattle.std.specs.Prelude.{count_by}
 use Rattle.std.proofs.lemmas.List.Sums.{sum_by-append, sum_by-cons}
 use Rattle.std.specs.List.{flat_map}
 use Rattle.std.specs.Map.{values_of}
-use Rattle.vb_heap.specs.Counts.{count_of}
-use Rattle.vb_heap.specs.References.{object_references, references, references_to}
-use Rattle.vb_heap.specs.Store.{is_number, numbered, replaced, without}
-use Rattle.heap_laws.specs.Laws.{ReferencesAddUp}
+use Rattle.vb_heap.specs.References.{all_references, object_references, references}
+use Rattle.vb_heap.specs.Store.{Store, is_number, numbered, replaced, without}
 
-pub count_both : (object : ℕ) (numbers others : List ℕ)
-    → count_of object (numbers ++ others) ≡ count_of object numbers + count_of object others
-count_both object numbers others = sum_by-append (λ other. cond (other == object) 1 0) numbers others
+module _ (test : ℕ → Bool) where
+  pub counted_both : (numbers others : List ℕ)
+      → count_by test (numbers ++ others) ≡ count_by test numbers + count_by test others
+  counted_both numbers others = sum_by-append (λ other. cond (test other) 1 0) numbers others
 
-pub counted : {T : Type 0} (object : ℕ) (part : T → List ℕ) (things : List T)
-    → count_of object (flat_map part things) ≡ sum_by (λ thing. count_of object (part thing)) things
-counted object part [] = refl
-counted object part (thing ∷ things) =
-    let first = count_both object (part thing) (flat_map part things) in
-    let rest = counted object part things in
-    let all = sum_by-cons (λ thing. count_of object (part thing)) thing things in
-    first ∙ (ap (λ n. count_of object (part thing) + n) rest ∙ sym all)
+  pub counted : {T : Type 0} (part : T → List ℕ) (things : List T)
+      → count_by test (flat_map part things) ≡ sum_by (λ thing. count_by test (part thing)) things
+  counted part [] = refl
+  counted part (thing ∷ things) =
+      let first = counted_both (part thing) (flat_map part things) in
+      let rest = counted part things in
+      let all = sum_by-cons (λ thing. count_by test (part thing)) thing things in
+      first ∙ (ap (λ n. count_by test (part thing) + n) rest ∙ sym all)
 
--- the references to an object, in parts
-pub add_up : ReferencesAddUp
-add_up object store =
-    let cells = counted object references (values_of store.cells) in
-    let objects = counted object object_references (values_of store.objects) in
-    let both = count_both object (flat_map references (values_of store.cells))
-    (flat_map object_references (values_of store.objects)) in
-    let all : references_to object store ≡ count_of object
-    (flat_map references (values_of store.cells) ++ flat_map object_references (values_of store.objects))
-    + count_of object store.held = count_both object
-    (flat_map references (values_of store.cells) ++ flat_map object_references (values_of store.objects)) store.held in
-    omega arith
+  -- all references, in parts
+  pub add_up : (store : Store) → count_by test (all_references store)
+      ≡ sum_by (λ value. count_by test (references value)) (values_of store.cells)
+      + sum_by (λ thing. count_by test (object_references thing)) (values_of store.objects)
+      + count_by test store.held
+  add_up store =
+      let cells = counted references (values_of store.cells) in
+      let objects = counted object_references (values_of store.objects) in
+      let both = counted_both (flat_map references (values_of store.cells))
+      (flat_map object_references (values_of store.objects)) in
+      let all : count_by test (all_references store) ≡ count_by test
+      (flat_map references (values_of store.cells) ++ flat_map object_references (values_of store.objects))
+      + count_by test store.held = counted_both
+      (flat_map references (values_of store.cells) ++ flat_map object_references (values_of store.objects))
+      store.held in
+      omega arith
 
 -- ---- sums over things by their numbers
 
