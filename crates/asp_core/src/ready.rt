@@ -9,12 +9,13 @@ ghost use Rattle.asp_core.specs.Ready as spec;
 use crate::book::Book;
 use asp_job::Answer;
 use asp_journal::Journal;
+use asp_response::MOST_BODY;
 
 /// At most so many bytes have the bodies of the answers that wait, with the room of those that may come.
 pub const MOST_BODY_BYTES: u64 = 268_435_456;
 
 /// So many bytes may the body of an answer have.
-pub const BODY_ROOM: u64 = 4_194_304;
+pub const BODY_ROOM: u64 = MOST_BODY as u64;
 
 /// The bytes of the bodies of the answers. 2^64 - 1 stands for more.
 #[tactic(auto, using(asp_journal::proofs::Past::sum_more))]

@@ -16,7 +16,7 @@ use Rattle.asp_core.specs.Kernel.{IsRunOf, RunView, progress_of, turns_after}
 use Rattle.asp_core.specs.Slice as ticks
 use Rattle.asp_desk.specs.declared.slices.Slice.{Slice}
 use Rattle.asp_desk.specs.declared.slices.Slice.TheVariants as slice
-use Rattle.asp_desk.specs.declared.slices.TheConstants.{QUANTUM}
+use Rattle.asp_job.specs.declared.entry.TheConstants.{QUANTUM}
 use Rattle.asp_desk.specs.declared.steps.Stepped.{Stepped}
 use Rattle.asp_desk.specs.declared.steps.Stepped.TheVariants as step
 use Rattle.asp_desk.specs.Calls.{IsTurn}

@@ -32,7 +32,7 @@ pub use gate::{Gate, OpenGate, Verdict};
 pub use hand::{Hand, HandOf, Load};
 pub use host::{Host, HostOf};
 pub use looking::Looked;
-pub use slices::{QUANTUM, Slice};
+pub use slices::Slice;
 pub use stands::Placed;
 pub use steps::Stepped;
 pub use task::{Lead, Task};

@@ -17,13 +17,10 @@ use crate::stands::Placed;
 use crate::steps::Stepped;
 use crate::waking::ends;
 use asp_core::{BeginStop, Progress, Run};
-use asp_job::{Runner, Step};
+use asp_job::{QUANTUM, Runner, Step};
 use asp_journal::Full;
 use std::sync::Wait;
 use vb_value::AppCall;
-
-/// How many ticks a run spends in a slice, at most.
-pub const QUANTUM: u32 = 10_000;
 
 /// What a slice came to.
 #[derive(Clone, Copy, Debug, PartialEq, Eq)]

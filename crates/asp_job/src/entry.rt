@@ -18,6 +18,9 @@ pub const MOST_ENTRIES: u64 = 1_000_000;
 /// At most so much a journal weighs, with one end for each unfinished run.
 pub const MOST_WEIGHT: u64 = 268_435_456;
 
+/// At most so many ticks a run spends in a slice.
+pub const QUANTUM: u32 = 10_000;
+
 /// How a run ended.
 #[derive(Clone, Copy, Debug, PartialEq, Eq)]
 pub enum EndKind {

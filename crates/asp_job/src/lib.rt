@@ -12,8 +12,8 @@ mod session;
 pub use answer::{Answer, Fail, Finished};
 pub use copying::{copy_call, copy_reply, copy_session};
 pub use entry::{
-    EndKind, Entry, MOST_ENTRIES, MOST_LIVE, MOST_UNFINISHED, MOST_WAITING, MOST_WEIGHT, Stage,
-    What,
+    EndKind, Entry, MOST_ENTRIES, MOST_LIVE, MOST_UNFINISHED, MOST_WAITING, MOST_WEIGHT, QUANTUM,
+    Stage, What,
 };
 pub use job::{Asked, Job, Work};
 pub use request::{Header, Request, Verb};

@@ -11,7 +11,7 @@ use Rattle.asp_job.specs.Running.{IsWithinSlice, Pace}
 use Rattle.asp_job.specs.Told.{Meaning, Told}
 use Rattle.asp_core.specs.Kernel.{CoreView, RunView, grown, past_of, rules_of}
 use Rattle.asp_core.specs.Slice.{IsSlice}
-use Rattle.asp_lane.specs.declared.turn.TheConstants.{QUANTUM}
+use Rattle.asp_job.specs.declared.entry.TheConstants.{QUANTUM}
 use Rattle.asp_lane.specs.declared.turn.TurnEnd.{TurnEnd}
 use Rattle.asp_lane.specs.declared.turn.TurnEnd.TheVariants as turn
 use Rattle.asp_lane.specs.Slice.{EndsInTurn, SpendsTicks}

@@ -6,7 +6,7 @@ use Rattle.asp_job.specs.Keys.{told}
 use Rattle.asp_job.specs.Running.{Pace, EndsSlice, IsWithinSlice}
 use Rattle.asp_job.specs.Told.{Meaning, Told}
 use Rattle.asp_core.specs.Kernel.{CoreView, RunView, grown, past_of, rules_of}
-use Rattle.asp_lane.specs.declared.turn.TheConstants.{QUANTUM}
+use Rattle.asp_job.specs.declared.entry.TheConstants.{QUANTUM}
 use Rattle.asp_lane.specs.declared.turn.TurnEnd.{TurnEnd}
 use Rattle.asp_lane.specs.declared.turn.TurnEnd.TheVariants as turn
 

@@ -11,4 +11,4 @@ pub use course::go_through;
 pub use first::begin_host;
 pub use rest::take_turns;
 pub use stop::RunStop;
-pub use turn::{Load, QUANTUM, TurnEnd, let_go, take_turn};
+pub use turn::{Load, TurnEnd, let_go, take_turn};

@@ -10,11 +10,8 @@ ghost use Rattle.asp_lane.specs.Slice.{SpendsTicks};
 ghost use Rattle.asp_lane.specs.Turns as spec;
 
 use asp_core::{AppStepStop, BeginStop, Core, Run};
-use asp_job::{EndKind, Runner, Step};
+use asp_job::{EndKind, QUANTUM, Runner, Step};
 use asp_journal::Full;
-
-/// How many ticks a run spends in a turn, at most.
-pub const QUANTUM: u32 = 10_000;
 
 /// What a lane carries. A run that is let go stays unfinished for ever.
 #[derive(Drop)]

@@ -24,7 +24,7 @@ use Rattle.asp_record.specs.declared.recording.Item.TheVariants as item
 use Rattle.asp_record.specs.declared.recording.Recording.{Recording}
 use Rattle.asp_record.specs.Lines.{field, line}
 use Rattle.asp_record.specs.Recorded.{AreItems, Begins, Begun, Ended, IsHeld, IsLast, IsLonger, IsNext, IsOneRequest, IsPart}
-use Rattle.asp_record.specs.Recorded.{IsPlace, IsRefusedAt, IsSound, Named, Nothing, Part, Seeded, last_of, part_text}
+use Rattle.asp_record.specs.Recorded.{IsPlace, IsRefusedAt, IsSound, Named, Nothing, Part, Seeded, last_of, most_bytes, part_text}
 use Rattle.asp_record.specs.Recording.{First, Second, Version, head_text, item_text, opening_text, rule_text, seed_text}
 use Rattle.asp_record.specs.Recording.{version_text}
 use Rattle.asp_record.proofs.OneRecording.{item_within, seed_size, seeded_size, text_size, version_size}
@@ -79,7 +79,7 @@ tick_length word moment = simp length-append (omega arith)
 
 item_is_short : (now : ℕ) (one : Item) → IsNext now one → length (item_text one) ≤ 2097152
 item_is_short now (item.Request client moment bytes) next =
-    let held : (client < 2 ^ 32) × (length bytes ≤ 67108864) × IsOneRequest bytes = next.held in
+    let held : (client < 2 ^ 32) × (length bytes ≤ most_bytes) × IsOneRequest bytes = next.held in
     let low : client < 2 ^ 32 = held.0 in
     let ends : moment ≤ 253402300799 = next.ends in
     let short = one_request_is_short bytes held.2 in

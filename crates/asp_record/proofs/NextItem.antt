@@ -13,19 +13,19 @@ use Rattle.asp_record.specs.declared.recording.Item.{Item}
 use Rattle.asp_record.specs.declared.recording.Item.TheVariants.{Request, Tick}
 use Rattle.asp_record.specs.Recording.{item_text}
 use Rattle.asp_record.specs.Reading.{item_at}
-use Rattle.asp_record.specs.Recorded.{AreItems, HasNoItem, IsNext, IsOneRequest, last_of, moment_of}
+use Rattle.asp_record.specs.Recorded.{AreItems, HasNoItem, IsNext, IsOneRequest, last_of, moment_of, most_bytes}
 use Rattle.asp_record.proofs.ItemLaws.{IsSmall, item_again, item_is}
 
 pub request_next : (now client moment : ℕ) (bytes : List ℕ) (told : Bool) → now ≤ moment → moment ≤ 253402300799
     → client < 2 ^ 32
-    → length bytes ≤ 67108864 → Decides told (IsOneRequest bytes)
+    → length bytes ≤ most_bytes → Decides told (IsOneRequest bytes)
     → Decides told (IsNext now (Request client moment bytes))
 request_next now client moment bytes told rises ends low short tells =
     (λ e. record { rises = rises; ends = ends; held = (low, short, tells.0 e) }, λ next. tells.1 next.held.2)
 
 pub request_told : (result : Result Bool Memory) (now client moment : ℕ) (bytes : List ℕ) → now ≤ moment
     → moment ≤ 253402300799
-    → client < 2 ^ 32 → length bytes ≤ 67108864 → IfOk result (λ told. Decides told (IsOneRequest bytes))
+    → client < 2 ^ 32 → length bytes ≤ most_bytes → IfOk result (λ told. Decides told (IsOneRequest bytes))
     → IfOk result (λ told. Decides told (IsNext now (Request client moment bytes)))
 request_told (Ok told) now client moment bytes rises ends low short tells =
     request_next now client moment bytes told rises ends low short tells
@@ -35,7 +35,7 @@ pub small : (now : ℕ) (item : Item) → IsNext now item → IsSmall item
 small now (Request client moment bytes) next =
     let ends : moment ≤ 253402300799 = next.ends in
     let low : client < 2 ^ 32 = next.held.0 in
-    let short : length bytes ≤ 67108864 = next.held.1 in
+    let short : length bytes ≤ most_bytes = next.held.1 in
     (omega (arith, low), omega (arith, ends), omega (arith, short))
 small now (Tick moment) next = let ends : moment ≤ 253402300799 = next.ends in omega (arith, ends)
 

@@ -12,7 +12,7 @@ use Rattle.asp_record.specs.Recording.{recording_text, rule_text, seed_text, ver
 use Rattle.asp_record.specs.Fields.{behind}
 use Rattle.asp_record.specs.Reading.{HasHead, HasNoRule, HasOpening, seed_line_at}
 use Rattle.asp_record.specs.Recorded.{AreItems, Begun, Begins, Ended, HasNoItem, IsLonger, IsPart, IsRefusedAt, IsSeed}
-use Rattle.asp_record.specs.Recorded.{IsSound, Named, Nothing, Part, Seeded, Stands, last_of, part_text}
+use Rattle.asp_record.specs.Recorded.{IsSound, Named, Nothing, Part, Seeded, Stands, last_of, most_bytes, part_text}
 use Rattle.asp_record.proofs.FieldLaws.{behind_again, behind_is}
 use Rattle.asp_record.proofs.NextItem.{text_more}
 use Rattle.asp_record.proofs.OneRecording.{ending_parts, head_parts, item_within, opening_parts, seed_line_again}
@@ -160,7 +160,7 @@ pub refused_item : (bytes rest : List ℕ) (recording : Recording) (at : ℕ) �
     → IsSound recording
     → HasNoItem (last_of 0 recording.items) rest → behind (codes "end" ++ 10 ∷ []) rest ≡ None
     → at ≡ length bytes - length rest
-    → at ≤ 67108864 → IsRefusedAt bytes at
+    → at ≤ most_bytes → IsRefusedAt bytes at
 refused_item bytes rest recording at opens sound last none is short =
     let size = is ∙ read_size bytes rest (opening_text opens.version recording) opens.text in
     record {
@@ -176,7 +176,7 @@ refused_item bytes rest recording at opens sound last none is short =
 
 pub refused_long : (bytes rest : List ℕ) (recording : Recording) → HasOpening bytes recording rest
     → IsSound recording
-    → 67108864 < length bytes - length rest → IsRefusedAt bytes 67108864
+    → most_bytes < length bytes - length rest → IsRefusedAt bytes most_bytes
 refused_long bytes rest recording opens sound long = record {
   part = Begun opens.version recording;
   right = (sound, opens.says);
@@ -196,8 +196,8 @@ whole bytes rest after version recording text ends =
 
 pub refused_end : (bytes rest after : List ℕ) (recording : Recording) → HasOpening bytes recording rest
     → IsSound recording
-    → behind (codes "end" ++ 10 ∷ []) rest ≡ Some after → 67108864 < length bytes - length rest + 4
-    → IsRefusedAt bytes 67108864
+    → behind (codes "end" ++ 10 ∷ []) rest ≡ Some after → most_bytes < length bytes - length rest + 4
+    → IsRefusedAt bytes most_bytes
 refused_end bytes rest after recording opens sound ends long = record {
   part = Ended opens.version recording;
   right = (sound, opens.says);
@@ -211,7 +211,7 @@ refused_end bytes rest after recording opens sound ends long = record {
 
 pub stands : (bytes rest after : List ℕ) (recording : Recording) (end : ℕ) → HasOpening bytes recording rest
     → IsSound recording
-    → behind (codes "end" ++ 10 ∷ []) rest ≡ Some after → end ≡ length bytes - length rest + 4 → end ≤ 67108864
+    → behind (codes "end" ++ 10 ∷ []) rest ≡ Some after → end ≡ length bytes - length rest + 4 → end ≤ most_bytes
     → Stands bytes recording end
 stands bytes rest after recording end opens sound ends is short =
     let size = read_size bytes rest (opening_text opens.version recording) opens.text in

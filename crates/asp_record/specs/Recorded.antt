@@ -13,6 +13,10 @@ use Rattle.asp_record.specs.declared.stop.RecordStop.TheVariants.{Refused, Memor
 use Rattle.asp_record.specs.Recording.{First, Says, Second, Version, item_text, opening_text, recording_text, seed_text}
 use Rattle.asp_record.specs.Recording.{version_text}
 
+-- how many bytes a recording may have: 64 MiB
+abbrev pub most_bytes : ℕ
+most_bytes = 67108864
+
 -- the bytes are one request, and nothing more
 abbrev pub IsOneRequest : List ℕ → Type 0
 IsOneRequest bytes = (h : RequestHead) × (body : List ℕ) × IsFront bytes (front.Request h body [])
@@ -23,7 +27,7 @@ moment_of (Tick moment) = moment
 
 -- what a request holds: a client of 32 bits, and one request, which has far fewer than 64 MiB
 abbrev pub IsHeld : Item → Type 0
-IsHeld (Request client moment bytes) = (client < 2 ^ 32) × (length bytes ≤ 67108864) × IsOneRequest bytes
+IsHeld (Request client moment bytes) = (client < 2 ^ 32) × (length bytes ≤ most_bytes) × IsOneRequest bytes
 IsHeld (Tick moment) = ⊤
 
 -- an item may come where time has come to a moment: it does not fall, and ends with the year 9999
@@ -115,8 +119,8 @@ pub record IsLast (bytes : List ℕ) (part : Part) : Type 0 where
 -- it is longer
 abbrev pub IsPlace : List ℕ → Part → ℕ → Type 0
 IsPlace bytes part offset =
-    (IsLast bytes part × (length (part_text part) ≤ 67108864) × (offset ≡ length (part_text part)))
-    ⊎ ((67108864 < length (part_text part)) × (offset ≡ 67108864))
+    (IsLast bytes part × (length (part_text part) ≤ most_bytes) × (offset ≡ length (part_text part)))
+    ⊎ ((most_bytes < length (part_text part)) × (offset ≡ most_bytes))
 
 -- the bytes have no recording at their front, and are refused there
 pub record IsRefusedAt (bytes : List ℕ) (offset : ℕ) : Type 0 where
@@ -132,7 +136,7 @@ pub record Stands (bytes : List ℕ) (recording : Recording) (end : ℕ) : Type 
   pub says : Says version recording.strict
   pub begins : Begins bytes (recording_text version recording)
   pub ends : end ≡ length (recording_text version recording)
-  pub short : end ≤ 67108864
+  pub short : end ≤ most_bytes
 
 -- the answer is no refusal, or the fact holds of its place
 abbrev pub OnRefused : {T : Type 0} → Result T RecordStop → (ℕ → Type 0) → Type 0

@@ -9,10 +9,7 @@ use crate::array_reading::value_at;
 use crate::scanning::behind;
 use crate::value_reading::{long_at, name_at};
 use std::alloc::Global;
-use vb_value::{AppCall, AppReply, List, Memory, Text};
-
-/// How deep the arrays of a value may nest.
-const MOST_DEPTH: u32 = 64;
+use vb_value::{AppCall, AppReply, List, MOST_DEPTH, Memory, Text};
 
 #[tactic(auto, unfolding(crate::specs::ReadingLines::named_at))]
 fn get_at(alloc: Global, bytes: &[u8]) -> Result<Option<(AppCall, &[u8])>, Memory>

@@ -7,7 +7,7 @@ ghost use Rattle.asp_record.specs.Entries.{entry_text};
 ghost use Rattle.asp_record.specs.EntryLines.{line_what};
 ghost use Rattle.asp_record.specs.Generated.{generated};
 ghost use Rattle.asp_record.specs.Journal.{IsJournal, IsNoJournalAt, line_text};
-ghost use Rattle.asp_record.specs.Recorded.{IsRefusedAt, IsSound, Stands};
+ghost use Rattle.asp_record.specs.Recorded.{IsRefusedAt, IsSound, Stands, most_bytes};
 ghost use Rattle.asp_record.specs.Recording.{Says, Version, recording_text};
 
 /// Bytes have at most one recording at their front.
@@ -20,7 +20,7 @@ pub fn one_recording()
 /// front, whatever follows.
 pub fn text_stands()
     ensures { (version : Version) (recording : Recorded) (rest : List ℕ) → IsSound recording
-        → Says version recording.strict → length (recording_text version recording) ≤ 67108864
+        → Says version recording.strict → length (recording_text version recording) ≤ most_bytes
         → Stands (recording_text version recording ++ rest) recording (length (recording_text version recording)) }
 {}
 

@@ -13,14 +13,11 @@ use crate::key::{KeyState, Waiter};
 use crate::keys::{self, Keys};
 use crate::stop::KeyStop;
 use crate::waiting;
-use asp_job::{SessionState, copy_session};
+use asp_job::{MOST_LIVE, SessionState, copy_session};
 use indexmap::IndexMap;
 use std::alloc::Global;
 use std::marker::Model;
 use vb_value::{List, Memory};
-
-/// At most so many keys are live at a time.
-pub const MOST_KEYS: usize = 4096;
 
 /// The session keys of a site: those that are live, each with its session, and the runs that wait for them (ASP 3.0,
 /// "Session Object").
@@ -85,7 +82,7 @@ impl Sessions {
     pub fn is_full(&self) -> bool
         ensures { result ≡ not (nat_lt (length self.now.account.keys) step.most_live) }
     {
-        self.keys.len() >= MOST_KEYS
+        self.keys.len() >= MOST_LIVE as usize
     }
 
     /// The session of the key, if it has one.
@@ -126,7 +123,7 @@ impl Sessions {
         ensures key_room { self.old.key_room ≤ self.new.key_room + 1 }
         ensures run_room { self.new.run_room ≡ self.old.run_room }
     {
-        if self.keys.len() >= MOST_KEYS {
+        if self.keys.len() >= MOST_LIVE as usize {
             return Err(KeyStop::Full);
         }
         let state = KeyState {

@@ -11,19 +11,13 @@ use crate::chosen::chosen_paths;
 use crate::stop::LoadStop;
 use asp_io::{Folder, IoStop};
 use std::alloc::Global;
-use vb_value::{Copied, FaultKind, List, Memory, SiteFault, SiteFile, Text};
-
-/// How many bytes a file may have.
-const MOST_OF_FILE: usize = 4_194_304;
+use vb_value::{
+    Copied, FaultKind, List, MOST_FILE_BYTES, MOST_FILES, MOST_SITE_BYTES, Memory, SiteFault,
+    SiteFile, Text,
+};
 
 /// How many bytes of a file are read: one more than it may have.
-const MOST_READ: u32 = 4_194_305;
-
-/// How many files a site may have.
-const MOST_FILES: usize = 4_096;
-
-/// How many bytes the files of a site may have together.
-const MOST_OF_SITE: usize = 67_108_864;
+const MOST_READ: u32 = MOST_FILE_BYTES as u32 + 1;
 
 /// The files of the folder's site, in the order of their folded paths: of those whose paths are equal without ASCII
 /// case, the one whose path comes first. A file that is too large, and the one by which the site is, is refused.
@@ -79,7 +73,7 @@ fn has_room(count: usize, total: usize, size: usize) -> bool
     requires { total ≤ most_of_site }
     ensures { IsTrue result ↔ HasRoom count total size }
 {
-    count < MOST_FILES && size <= MOST_OF_FILE && total + size <= MOST_OF_SITE
+    count < MOST_FILES && size <= MOST_FILE_BYTES && total + size <= MOST_SITE_BYTES
 }
 
 /// The refusal of the file at the path, which is too large or makes the site so.

@@ -7,19 +7,12 @@ use file_survey::{Kind, Table};
 use std::alloc::Global;
 use std::collections::BTreeMap;
 use std::rt::Files;
-use vb_value::{Bytes, Copied, Memory, SiteFile, Text, fold};
-
-/// How many bytes a file may have.
-const MOST_OF_FILE: usize = 4_194_304;
+use vb_value::{
+    Bytes, Copied, MOST_FILE_BYTES, MOST_FILES, MOST_SITE_BYTES, Memory, SiteFile, Text, fold,
+};
 
 /// How many bytes of a file are read: one more than it may have.
-const MOST_READ: u32 = 4_194_305;
-
-/// How many files a site may have.
-const MOST_FILES: usize = 4_096;
-
-/// How many bytes the files of a site may have together.
-const MOST_OF_SITE: usize = 67_108_864;
+const MOST_READ: u32 = MOST_FILE_BYTES as u32 + 1;
 
 /// The files of a site in the order of their folded paths. One that is too large has no bytes here.
 #[derive(Drop)]
@@ -68,11 +61,11 @@ pub fn read_sources<R: Files + AllocGlobal + Clone + Drop>(
     for (small, path) in paths {
         let bytes = read_file(alloc, folder, &path)?;
         total = total.saturating_add(bytes.len());
-        if total > MOST_OF_SITE || sources.files.len() >= MOST_FILES {
+        if total > MOST_SITE_BYTES || sources.files.len() >= MOST_FILES {
             found.tell_whole(table, &path, (Kind::File, "last"))?;
             return Ok(sources);
         }
-        if bytes.len() > MOST_OF_FILE {
+        if bytes.len() > MOST_FILE_BYTES {
             found.tell_whole(table, &path, (Kind::Fault, "TooLarge"))?;
         }
         add_source(alloc, &mut sources, small, path, bytes)?;
@@ -99,7 +92,7 @@ fn add_source(
     path: Text,
     bytes: Bytes,
 ) -> Result<(), Memory> {
-    let bytes = if bytes.len() > MOST_OF_FILE {
+    let bytes = if bytes.len() > MOST_FILE_BYTES {
         Bytes::new(alloc)
     } else {
         bytes

@@ -1,6 +1,1 @@
 mod Digits
-mod Floor
-mod ReadBack
-mod SoundResults
-mod Texts
-mod Fixing

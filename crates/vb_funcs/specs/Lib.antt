@@ -5,4 +5,3 @@ pub mod Testing
 pub mod Arrays
 pub mod Functions
 pub mod TypeNames
-pub mod Laws

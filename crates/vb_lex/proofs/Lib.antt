@@ -3,10 +3,3 @@ pub mod StringLemmas
 pub mod Within
 pub mod Cutting
 pub mod Unique
-pub mod Spelled
-pub mod Laid
-pub mod Beginnings
-pub mod Longest
-pub mod LongestNumbers
-pub mod LongestPieces
-pub mod Answered

@@ -7,4 +7,3 @@ pub mod Symbols
 pub mod Pieces
 pub mod Places
 pub mod Tokens
-pub mod Spelling

@@ -2,8 +2,7 @@
 ghost use Rattle.std.specs.Prelude.{◌≡◌, ℕ, List};
 ghost use Rattle.vb_value.specs.declared.token.Token.{Token};
 ghost use Rattle.vb_lex.specs.declared.fault.LexFault.{LexFault};
-ghost use Rattle.vb_lex.specs.Spelling.{AreLongest, IsLaid};
-ghost use Rattle.vb_lex.specs.Tokens.{FaultsAt, HasAnswer, Tokenizes};
+ghost use Rattle.vb_lex.specs.Tokens.{FaultsAt, Tokenizes};
 
 /// A text has at most one list of tokens.
 pub fn one_token_list()
@@ -21,19 +20,4 @@ pub fn one_fault()
 pub fn tokens_or_fault()
     ensures { (text : List ℕ) (tokens : List Token) (fault : LexFault) (line : ℕ) → Tokenizes text tokens
         → FaultsAt text fault line → ⊥ }
-{}
-
-/// The tokens of a text stand in it one behind another, each with its text from its start to its end.
-pub fn tokens_in_order()
-    ensures { (text : List ℕ) (tokens : List Token) → Tokenizes text tokens → IsLaid text 0 tokens }
-{}
-
-/// Each token is the longest word that stands at its place.
-pub fn longest_words()
-    ensures { (text : List ℕ) (tokens : List Token) → Tokenizes text tokens → AreLongest text tokens }
-{}
-
-/// Each text has tokens or a fault.
-pub fn some_answer()
-    ensures { (text : List ℕ) → HasAnswer text }
 {}

@@ -14,7 +14,5 @@ mod strings;
 mod symbols;
 
 pub use fault::{LexFault, LexStop};
-pub use laws::{
-    longest_words, one_fault, one_token_list, some_answer, tokens_in_order, tokens_or_fault,
-};
+pub use laws::{one_fault, one_token_list, tokens_or_fault};
 pub use lexer::lex;

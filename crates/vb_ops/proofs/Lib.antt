@@ -1,6 +1,2 @@
-mod Commuting
 mod Limits
 mod Orders
-mod SoundResults
-mod Turning
-mod Division

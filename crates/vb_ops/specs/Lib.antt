@@ -3,4 +3,3 @@ pub mod Joining
 pub mod Comparison
 pub mod Logic
 pub mod Operators
-pub mod Laws

@@ -4,15 +4,6 @@ pub mod Bounds
 pub mod Cuts
 pub mod Items
 pub mod Joins
-pub mod TextLaws
-pub mod TrimLaws
-pub mod OrderLaws
-pub mod CharacterLaws
-pub mod SearchLaws
-pub mod PartLaws
-pub mod SplitLaws
-pub mod SoundLaws
 pub mod Orders
 pub mod Found
 pub mod Searched
-pub mod Rejoined

@@ -11,4 +11,3 @@ pub mod Splitting
 pub mod Joining
 pub mod Replacing
 pub mod Functions
-pub mod Laws

@@ -1,6 +1,6 @@
 -- What a value is as a number, a text and a Boolean (VBScript 5.6, "Conversion Functions"), each in the
 -- order: Empty, Null, Boolean, Integer, Long, Currency, String, array, object, Nothing.
-use Rattle.std.specs.Prelude.{◌≡◌, ℕ, Bool, true, false, not, if◌then◌else◌, ℤ, pos, negsuc, List, [], Option}
+use Rattle.std.specs.Prelude.{ℕ, Bool, true, false, not, if◌then◌else◌, ℤ, pos, negsuc, List, [], Option}
 use Rattle.std.specs.Prelude.{Some, None, Result, Ok, Err, codes}
 use Rattle.vb_value.specs.declared.fault.VbError.{VbError}
 use Rattle.vb_value.specs.declared.number.Number.{Number}
@@ -73,9 +73,3 @@ to_str_of Empty = Ok []
 to_str_of (Boolean truth) = Ok (if truth then codes "True" else codes "False")
 to_str_of (Str text) = Ok text
 to_str_of value = and_then (to_number_of value) (λ n. Ok (number_text n))
-
--- ---- laws
-
--- the text of a Currency reads as that Currency
-abbrev pub ReadsBack : ℤ → Type 0
-ReadsBack amount = and_then (to_str_of (Cur amount)) cur_of_text_of ≡ Ok amount

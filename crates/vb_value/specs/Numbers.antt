@@ -1,6 +1,6 @@
 -- The numbers of the language: Integer has 16 bits, Long 32, and Currency 64 that count ten-thousandths
 -- (VBScript 5.6, "VBScript Data Types"). Each result is computed exactly, and its range is tested last.
-use Rattle.std.specs.Prelude.{◌≡◌, ◌<◌, ◌≤◌, ℕ, suc, ◌+◌, ◌*◌, ◌/◌, ◌%◌, ◌^◌, Bool, nat_lt, ◌==◌, ◌&&◌, false}
+use Rattle.std.specs.Prelude.{ℕ, suc, ◌+◌, ◌*◌, ◌/◌, ◌%◌, ◌^◌, Bool, nat_lt, ◌==◌, ◌&&◌, false}
 use Rattle.std.specs.Prelude.{if◌then◌else◌, ℤ, pos, negsuc, ◌*ℤ◌, neg_ℤ, int_div, int_rem, Result, Ok, Err}
 use Rattle.vb_value.specs.declared.fault.VbError.{VbError}
 use Rattle.vb_value.specs.declared.number.Number.{Number}
@@ -66,16 +66,3 @@ abbrev pub least_number : ℤ → Number
 least_number z =
     if is_zero (int_rem z (pos 10000)) && is_within (2 ^ 31) (int_div z (pos 10000))
     then whole_number (int_div z (pos 10000)) else Cur z
-
--- ---- laws
-
--- n is within half a unit of a count of units, and even where the count lies just between two
-pub record IsNearest (unit count n : ℕ) : Type 0 where
-  pub low : 2 * count ≤ 2 * (n * unit) + unit
-  pub high : 2 * (n * unit) ≤ 2 * count + unit
-  pub even_low : 2 * count ≡ 2 * (n * unit) + unit → n % 2 ≡ 0
-  pub even_high : 2 * (n * unit) ≡ 2 * count + unit → n % 2 ≡ 0
-
--- what is rounded lies nearest
-abbrev pub RoundsToNearest : Type 0
-RoundsToNearest = (unit count : ℕ) → 0 < unit → IsNearest unit count (rounded unit count)

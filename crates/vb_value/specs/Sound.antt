@@ -1,11 +1,10 @@
 -- Sound values: those that calls are given and give.
 use Rattle.std.specs.Prelude.{ℕ, ◌+◌, ◌*◌, ◌^◌, Bool, true, ◌&&◌, ◌==◌, nat_lt, nat_le, ℤ, pos, negsuc, List}
-use Rattle.std.specs.Prelude.{[], ◌∷◌, length, IsTrue, IfOk, int_le}
+use Rattle.std.specs.Prelude.{[], ◌∷◌, length, IsTrue, int_le}
 use Rattle.std.specs.List.{list_all}
-use Rattle.vb_value.specs.declared.value.Value.{Value, Str}
+use Rattle.vb_value.specs.declared.value.Value.{Value}
 use Rattle.vb_value.specs.declared.value.Value.TheOpen.{Value-F, Array-F}
 use Rattle.vb_value.specs.declared.value.Value.TheFolds.{fold-Value}
-use Rattle.vb_value.specs.Conversions.{to_str_of}
 
 -- how many places a dimension has: one more than its bound
 abbrev pub places : ℤ → ℕ
@@ -43,9 +42,3 @@ is_sound = fold-Value Bool Bool value_sound array_sound
 -- a sound value
 abbrev pub IsSound : Value → Type 0
 IsSound value = IsTrue (is_sound value)
-
--- ---- laws
-
--- the text of a sound value is sound
-abbrev pub ReadsSoundly : Value → Type 0
-ReadsSoundly value = IsSound value → IfOk (to_str_of value) (λ text. IsSound (Str text))

@@ -4,8 +4,8 @@ ghost use Rattle.vb_value.specs.Plain.{IsPlain, has_reference, depth_of};
 
 use crate::value::Value;
 
-/// How deep arrays may nest in a plain value.
-const MOST_DEPTH: u32 = 64;
+/// How deep arrays may nest in a value.
+pub const MOST_DEPTH: u32 = 64;
 
 /// Whether a value may be kept by a session or by the application: it holds neither an object nor Nothing,
 /// and its arrays nest 64 deep at most. It recurses no deeper than that.

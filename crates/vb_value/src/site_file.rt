@@ -5,6 +5,15 @@ use crate::text::Text;
 use std::error::Error;
 use std::fmt;
 
+/// At most so many bytes has a file of a site.
+pub const MOST_FILE_BYTES: usize = 4_194_304;
+
+/// At most so many files has a site.
+pub const MOST_FILES: usize = 4_096;
+
+/// At most so many bytes have the files of a site together.
+pub const MOST_SITE_BYTES: usize = 67_108_864;
+
 /// A file of a site.
 #[derive(Debug, Drop)]
 pub struct SiteFile {

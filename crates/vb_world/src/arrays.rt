@@ -10,11 +10,9 @@ ghost use Rattle.vb_meaning.specs.Values as spec;
 ghost use Rattle.vb_meaning.specs.Shown.{shown};
 
 use std::alloc::Global;
+use vb_heap::MOST_WEIGHT;
 use vb_meaning::World;
 use vb_value::{Array, List, Memory, Value};
-
-/// What the data of a page may weigh: 16 MiB.
-const MOST_WEIGHT: u64 = 16_777_216;
 
 /// How many places a dimension has.
 fn places(bound: &i32) -> u64

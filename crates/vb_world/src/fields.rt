@@ -17,13 +17,10 @@ ghost use Rattle.vb_meaning.specs.Shown.{shown};
 use crate::arrays::{empty_array, has_bad_bound, item_count};
 use crate::places::{cell_place, hold};
 use std::alloc::Global;
-use vb_heap::CellNo;
+use vb_heap::{CellNo, MOST_WEIGHT};
 use vb_meaning::{Stop, World, stop_in};
 use vb_syntax::program::{Class, Field, Procedure, Variable};
 use vb_value::{LimitKind, List, ObjNo, Value, VbError};
-
-/// What the data of a page may weigh: 16 MiB.
-const MOST_WEIGHT: u64 = 16_777_216;
 
 /// Whether an array of so many Empty items alone weighs more than the data of a page may.
 fn is_more_than_a_page(count: u64) -> bool

@@ -15,13 +15,10 @@ ghost use Rattle.vb_world.specs.Kept.{kept, most_kept};
 use crate::arrays::{empty_array, empty_items, has_bad_bound, item_count};
 use crate::places::{indices_of, variable};
 use std::alloc::Global;
-use vb_heap::Place;
+use vb_heap::{MOST_WEIGHT, Place};
 use vb_meaning::{Stop, World};
 use vb_syntax::program::Named;
-use vb_value::{Array, Copied, LimitKind, List, Memory, Value, VbError, copy};
-
-/// How deep arrays may nest.
-const MOST_DEPTH: usize = 64;
+use vb_value::{Array, Copied, LimitKind, List, MOST_DEPTH, Memory, Value, VbError, copy};
 
 /// Error 10 where a value is a fixed array.
 fn not_fixed(value: &Value) -> Result<(), VbError>
@@ -79,7 +76,7 @@ fn items_kept(alloc: Global, items: &[Value], count: usize) -> Result<List<Value
 }
 
 /// So many items weigh too much for any page.
-const TOO_MANY: u64 = 524_288;
+const TOO_MANY: u64 = MOST_WEIGHT / 32;
 
 /// An array of these bounds, with the items that it still has a place for. Of more items than any page has room for only
 /// so many are made.
@@ -107,7 +104,7 @@ fn array_into(
 {
     if TOO_MANY <= item_count(bounds.as_slice()) {
         world.heap.look(place)?;
-        if place.steps.len() < MOST_DEPTH {
+        if place.steps.len() < MOST_DEPTH as usize {
             return Err(Stop::Limit(LimitKind::Data, None));
         }
         return Err(Stop::Limit(LimitKind::Nest, None));

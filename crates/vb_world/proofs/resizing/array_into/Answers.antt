@@ -5,8 +5,8 @@ use Rattle.vb_meaning.specs.Shown.{shown}
 use Rattle.vb_world.proofs.Resized.{into_heavy}
 use Rattle.vb_world.proofs.resizing.array_into.Goals as goal
 
-pub returns-then-len-lt-MOST_DEPTH : goal.returns-then-len-lt-MOST_DEPTH
-returns-then-len-lt-MOST_DEPTH c =
+pub returns-then-len : goal.returns-then-len
+returns-then-len c =
     let there : read_of c.args.place.now (shown c.args.world.now).store ≡ Ok c.in_ok-look.field-0.now
     = search rules in
     let heavy : 524288 ≤ min (item_count c.args.bounds) (2 ^ 64 - 1) = search rules in

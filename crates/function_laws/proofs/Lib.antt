@@ -1,0 +1,5 @@
+mod Floor
+mod ReadBack
+mod SoundResults
+mod Texts
+mod Fixing

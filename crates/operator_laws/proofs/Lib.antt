@@ -1,0 +1,4 @@
+mod Commuting
+mod SoundResults
+mod Turning
+mod Division

@@ -1,0 +1,9 @@
+pub mod TextLaws
+pub mod TrimLaws
+pub mod OrderLaws
+pub mod CharacterLaws
+pub mod SearchLaws
+pub mod PartLaws
+pub mod Rejoined
+pub mod SplitLaws
+pub mod SoundLaws

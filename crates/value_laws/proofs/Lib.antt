@@ -1,0 +1,6 @@
+mod AllPass
+mod Nearest
+mod Numerals
+mod NumericTexts
+mod ReadBack
+mod SoundTexts

@@ -1,5 +1,0 @@
-use Rattle.vb_funcs.proofs.Fixing.{fixes_by_size}
-use Rattle.vb_funcs.proofs.laws.fix_is_by_size.Goals as goal
-
-pub returns : goal.returns
-returns c = fixes_by_size c.args.value.now

@@ -1,5 +1,0 @@
-use Rattle.vb_value.proofs.NumericTexts.{follows_grammar}
-use Rattle.vb_value.proofs.laws.numeric_texts_follow_the_grammar.Goals as goal
-
-pub returns : goal.returns
-returns c = follows_grammar c.args.text.now

@@ -1,5 +1,0 @@
-use Rattle.vb_value.proofs.SoundTexts.{whole_short}
-use Rattle.vb_value.proofs.laws.whole_is_short.Goals as goal
-
-pub returns : goal.returns
-returns c = whole_short c.args.n c.ranges.n.sfits
