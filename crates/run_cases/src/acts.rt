@@ -5,9 +5,9 @@ use crate::programs::program;
 use crate::stopped::write_stop;
 use case_files::{Answer, CaseStop, read_text};
 use vb_meaning::PlainEnd;
-use vb_plain::run_act;
+use vb_plain::{fresh_playing, run_act, run_act_in};
 use vb_syntax::{Act, ActDone, ActEnd, Program};
-use vb_value::{AppCall, AppReply, List, Text, Value};
+use vb_value::{AppCall, AppReply, List, Memory, Text, Value};
 
 /// Writes what a script writes, and how it ends where that is not at its end.
 pub fn write_plain(out: &mut Answer, case: &str) {
@@ -28,6 +28,38 @@ pub fn write_replied(out: &mut Answer, case: &str) {
             write_case(out, script, true, false, replies.as_slice());
         }
         None => out.stop(CaseStop::Unreadable),
+    }
+}
+
+/// Writes what a script writes and how it ends, in the wider environment, and how many of its 1,000,000 ticks it spent.
+pub fn write_spent(out: &mut Answer, case: &str) {
+    match read_text(out.alloc(), case) {
+        Ok(script) => match program(out, script.as_str()) {
+            Ok(program) => spend(out, &program),
+            Err(stop) => write_stop(out, &stop),
+        },
+        Err(stop) => out.stop(stop),
+    }
+}
+
+fn spend(out: &mut Answer, program: &Program) {
+    let alloc = out.alloc();
+    let mut notes = Notes {
+        alloc,
+        is_wide: true,
+        text: Text::new(alloc),
+    };
+    match fresh_playing(alloc, &[]) {
+        Ok(mut playing) => {
+            let most = playing.ticks;
+            let end = run_act_in(alloc, program, Act::Body, &mut playing, &mut notes);
+            out.text(notes.text.as_slice());
+            write_end(out, end, false);
+            write_blank(out);
+            out.show(&most.saturating_sub(playing.ticks));
+            out.put(" ticks");
+        }
+        Err(_) => out.stop(CaseStop::Memory),
     }
 }
 
@@ -84,6 +116,11 @@ fn write_run(
     };
     let end = run_act(alloc, program, Act::Body, &mut notes, replies);
     out.text(notes.text.as_slice());
+    write_end(out, end, is_counted);
+}
+
+/// Writes how an act ended, if not at its end, or what it wants.
+fn write_end(out: &mut Answer, end: Result<PlainEnd, Memory>, is_counted: bool) {
     match end {
         Ok(PlainEnd::Wants(call)) => write_call(out, &call),
         Ok(PlainEnd::Ends(done)) => write_done(out, &done, is_counted),

@@ -1,6 +1,6 @@
 //! What each file of cases is tried on.
 
-use crate::acts::{write_counted, write_plain, write_replied};
+use crate::acts::{write_counted, write_plain, write_replied, write_spent};
 use crate::pages::write_answered;
 use case_files::{Answer, Subject};
 
@@ -9,6 +9,7 @@ pub enum Cases {
     Written,
     Counted,
     Replied,
+    Spent,
     Answered,
 }
 
@@ -18,6 +19,7 @@ impl Subject for Cases {
             Cases::Written => write_plain(out, case),
             Cases::Counted => write_counted(out, case),
             Cases::Replied => write_replied(out, case),
+            Cases::Spent => write_spent(out, case),
             Cases::Answered => write_answered(out, case),
         }
     }

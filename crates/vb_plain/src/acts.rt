@@ -5,7 +5,8 @@ ghost use Rattle.vb_meaning.specs.Acts as spec;
 ghost use Rattle.vb_meaning.specs.Meaning.{inside};
 ghost use Rattle.vb_meaning.specs.Releases.{settle_last, end_all};
 ghost use Rattle.vb_meaning.specs.State.{State, on_world};
-ghost use Rattle.vb_meaning.specs.Step.{Step, Ran, and_then};
+ghost use Rattle.vb_meaning.specs.Step.{Step, Ran, and_then, state_of};
+ghost use Rattle.vb_meaning.specs.Ticks.{act_end, end_in, page_end};
 ghost use Rattle.vb_meaning.specs.Shown.{shown};
 ghost use Rattle.vb_plain.specs.Nests.{Executes, Enters};
 ghost use Rattle.vb_objects.specs.Seen.{seen, host};
@@ -179,8 +180,11 @@ impl<
         how: ActEnd,
         gave: Result<(), Stop>,
     ) -> Result<PlainEnd, Memory>
-        ensures { (step : Step (State I) (Unit {0})) → Ran step gave (seen playing.now env.now) → IfOk result (λ end.
-            spec.closed I (inside I (host I.asked I.answered) p.now self.now.levels) how step ≡ (Some end, env.now)) }
+        ensures end { (step : Step (State I) (Unit {0})) → Ran step gave (seen playing.now env.now) → IfOk result (λ
+            end. spec.closed I (inside I (host I.asked I.answered) p.now self.now.levels) how step
+            ≡ (Some end, env.now)) }
+        ensures state { (step : Step (State I) (Unit {0})) → Ran step gave (seen playing.now env.now) → IfOk result (λ
+            _. seen playing.now env.now ≡ state_of step) }
     {
         match gave {
             Ok(()) => Ok(self.done(p, how, &playing.world)),
@@ -218,8 +222,10 @@ impl<
         how: ActEnd,
     ) -> Result<PlainEnd, Memory>
         requires { Enters I (host I.asked I.answered) self.now.levels (N.pre self.now.enter) (N.post self.now.enter) }
-        ensures { IfOk result (λ end. spec.page_ends I (inside I (host I.asked I.answered) p.now self.now.levels) how
-            (seen playing.old env.old) ≡ (Some end, env.new)) }
+        ensures end { IfOk result (λ end. spec.page_ends I (inside I (host I.asked I.answered) p.now self.now.levels)
+            how (seen playing.old env.old) ≡ (Some end, env.new)) }
+        ensures state { IfOk result (λ _. seen playing.new env.new ≡ page_end I
+            (inside I (host I.asked I.answered) p.now self.now.levels) (seen playing.old env.old)) }
     {
         leave_page(self.alloc, &mut playing.world)?;
         let gave = self.last_objects(p, playing, env);
@@ -235,8 +241,11 @@ impl<
         gave: Result<(), Stop>,
     ) -> Result<PlainEnd, Memory>
         requires { Enters I (host I.asked I.answered) self.now.levels (N.pre self.now.enter) (N.post self.now.enter) }
-        ensures { (step : Step (State I) (Unit {0})) → Ran step gave (seen playing.old env.old) → IfOk result (λ end.
-            spec.ends_act I (inside I (host I.asked I.answered) p.now self.now.levels) step ≡ (Some end, env.new)) }
+        ensures end { (step : Step (State I) (Unit {0})) → Ran step gave (seen playing.old env.old) → IfOk result (λ
+            end. spec.ends_act I (inside I (host I.asked I.answered) p.now self.now.levels) step
+            ≡ (Some end, env.new)) }
+        ensures state { (step : Step (State I) (Unit {0})) → Ran step gave (seen playing.old env.old) → IfOk result (λ
+            _. seen playing.new env.new ≡ act_end I (inside I (host I.asked I.answered) p.now self.now.levels) step) }
     {
         match gave {
             Ok(()) => self.page_ends(p, playing, env, ActEnd::Done),
@@ -266,8 +275,10 @@ impl<
             (T.post self.now.statement) }
         requires enters { Enters I (host I.asked I.answered) self.now.levels (N.pre self.now.enter)
             (N.post self.now.enter) }
-        ensures { IfOk result (λ end. spec.act_in I (inside I (host I.asked I.answered) p.now self.now.levels) act
+        ensures end { IfOk result (λ end. spec.act_in I (inside I (host I.asked I.answered) p.now self.now.levels) act
             (seen playing.old env.old) ≡ (Some end, env.new)) }
+        ensures state { IfOk result (λ _. seen playing.new env.new ≡ end_in I
+            (inside I (host I.asked I.answered) p.now self.now.levels) act (seen playing.old env.old)) }
     {
         let gave = self.begun(p, playing, env, act);
         self.ends_act(p, playing, env, gave)

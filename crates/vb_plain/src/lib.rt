@@ -34,4 +34,4 @@ mod statements;
 mod target_paths;
 mod targets;
 
-pub use run::run_act;
+pub use run::{fresh_playing, run_act, run_act_in};
