@@ -1,4 +1,4 @@
--- Values of variables where they lie.
+-- Values of variables and of their elements where they lie.
 use Rattle.std.specs.Prelude.{◌≡◌, Bool, true, false, List, [], ◌∷◌, ℕ, Result, Ok}
 use Rattle.vb_value.specs.declared.function.PlainFn.{PlainFn}
 use Rattle.vb_value.specs.declared.function.PlainFn.TheVariants as function
@@ -10,8 +10,11 @@ use Rattle.vb_syntax.specs.declared.program.expression.Expression.{Expression, o
 use Rattle.vb_syntax.specs.declared.program.expression.Expression.TheOpen.{Expression-F}
 use Rattle.vb_syntax.specs.declared.program.expression.Head.TheVariants as head
 use Rattle.vb_syntax.specs.declared.program.expression.Operation.{Operation}
+use Rattle.vb_syntax.specs.declared.program.expression.Step.{Step}
 use Rattle.vb_syntax.specs.declared.program.name.Named.TheVariants as named
 use Rattle.vb_syntax.specs.declared.program.name.Slot.{Slot}
+use Rattle.vb_heap.specs.declared.place.Place.{Place}
+use Rattle.vb_heap.specs.Cells.{read_of}
 use Rattle.vb_heap.specs.Limits.{if_fits}
 use Rattle.vb_heap.specs.References.{references}
 use Rattle.vb_heap.specs.Store.{Store}
@@ -28,6 +31,11 @@ abbrev pub IsVariable : Expression → Slot → Type 0
 IsVariable expression slot =
     out-Expression expression ≡ Expression-F.Path (record { head = head.Named (named.Place slot); steps = [] })
 
+-- an expression is a path of one step behind a variable
+abbrev pub IsElement : Expression → Slot → Step → Type 0
+IsElement expression slot step =
+    out-Expression expression ≡ Expression-F.Path (record { head = head.Named (named.Place slot); steps = step ∷ [] })
+
 -- the data keep within their limits, so that a value may be held in which no object occurs
 abbrev pub MayHold : Store → Type 0
 MayHold store = if_fits store (tt {0}) ≡ Ok tt
@@ -35,6 +43,11 @@ MayHold store = if_fits store (tt {0}) ≡ Ok tt
 -- an expression yields this value and changes nothing
 abbrev pub Yields : (E : Type 0) → Host E → Program → ℕ → Expression → State E → Value → Type 0
 Yields E host program levels expression s found = value E host program levels expression s ≡ Returns found s
+
+-- an expression yields a copy of what a place holds, if no object occurs in it, and changes nothing
+abbrev pub Reaches : (E : Type 0) → Host E → Program → ℕ → Expression → State E → Place → Type 0
+Reaches E host program levels expression s place = (found : Value) → read_of place s.world.store ≡ Ok found
+    → references (copied found) ≡ [] → Yields E host program levels expression s (copied found)
 
 -- a value is neither an array nor an object: it is its own copy, and no object occurs in it
 pub record IsPlain (value : Value) : Type 0 where

@@ -16,7 +16,8 @@ ghost use Rattle.vb_syntax.specs.declared.program.expression.Operation.{Operatio
 ghost use Rattle.vb_value.specs.Arguments.{checked};
 ghost use Rattle.vb_value.specs.declared.value.Value.{Str};
 
-use crate::lent::{may_hold, place_of, quiet, variable_in};
+use crate::lent::{may_hold, quiet};
+use crate::lent_places::{place_of, variable_in};
 use std::alloc::Global;
 use vb_heap::{CellNo, Place};
 use vb_meaning::{Assigned, Exit, Stop, World};

@@ -1,4 +1,4 @@
-//! Operators whose operands are lent where they are variables.
+//! Operators whose operands are lent where they are variables or elements of them.
 ghost use Rattle.std.specs.Prelude.{◌≡◌, ◌∷◌, List, IfSome, Ok};
 ghost use Rattle.vb_meaning.specs.Expressions.{operations};
 ghost use Rattle.vb_meaning.specs.Meaning.{value, inside};
@@ -8,7 +8,8 @@ ghost use Rattle.vb_objects.specs.Seen.{seen, host};
 ghost use Rattle.vb_ops.specs.Operators.{apply2_of};
 ghost use Rattle.vb_plain.specs.Lent.{MayHold, OperatesAtOnce};
 
-use crate::lent::{lent, may_hold, quiet, variable_in};
+use crate::lent::{lent, may_hold, quiet};
+use crate::lent_places::is_lendable;
 use std::alloc::Global;
 use vb_meaning::raise;
 use vb_objects::playing::Playing;
@@ -27,7 +28,7 @@ fn of_both(alloc: Global, operator: Op2, a: &Value, b: &Value) -> Option<Value>
     }
 }
 
-/// What it gives of a variable on the left.
+/// What it gives of a variable or an element on the left.
 #[tactic(auto, using(crate::proofs::Lending::two_operands))]
 fn of_left<I: Intrinsics>(
     alloc: Global,
@@ -47,7 +48,7 @@ fn of_left<I: Intrinsics>(
     of_both(alloc, operation.operator, left, &right)
 }
 
-/// What it gives of a variable on the right.
+/// What it gives of a variable or an element on the right.
 #[tactic(auto, using(crate::proofs::Lending::two_operands))]
 fn of_right<I: Intrinsics>(
     alloc: Global,
@@ -67,7 +68,7 @@ fn of_right<I: Intrinsics>(
     of_both(alloc, operation.operator, &left, right)
 }
 
-/// What it gives of two variables.
+/// What it gives of two variables or elements.
 #[tactic(auto, using(crate::proofs::Lending::two_operands))]
 fn of_variables<I: Intrinsics>(
     alloc: Global,
@@ -87,7 +88,7 @@ fn of_variables<I: Intrinsics>(
     of_both(alloc, operation.operator, left, right)
 }
 
-/// What it gives of two operands of which one is a variable.
+/// What it gives of two operands of which one is a variable or an element.
 fn of_either<I: Intrinsics>(
     alloc: Global,
     levels: u32,
@@ -101,16 +102,16 @@ fn of_either<I: Intrinsics>(
     ensures { IfSome result (λ given. OperatesAtOnce I (host I.asked I.answered) p.now levels first.now operation.now
         (seen playing.now env.now) given) }
 {
-    match (variable_in(first), variable_in(&operation.operand)) {
-        (Some(_), Some(_)) => of_variables(alloc, levels, p, playing, env, first, operation),
-        (Some(_), None) => of_left(alloc, levels, p, playing, env, first, operation),
-        (None, Some(_)) => of_right(alloc, levels, p, playing, env, first, operation),
-        (None, None) => None,
+    match (is_lendable(first), is_lendable(&operation.operand)) {
+        (true, true) => of_variables(alloc, levels, p, playing, env, first, operation),
+        (true, false) => of_left(alloc, levels, p, playing, env, first, operation),
+        (false, true) => of_right(alloc, levels, p, playing, env, first, operation),
+        (false, false) => None,
     }
 }
 
-/// What an operator gives of operands of which one is a variable, and the other one is or is written down, if it gives a
-/// value.
+/// What an operator gives of operands of which one is a variable or an element of one, and the other one is so too or is
+/// written down, if it gives a value.
 pub fn operated_at_once<I: Intrinsics>(
     alloc: Global,
     levels: u32,

@@ -16,6 +16,7 @@ mod lent;
 mod lent_arrays;
 mod lent_calls;
 mod lent_operands;
+mod lent_places;
 mod lent_texts;
 mod making;
 mod names;
