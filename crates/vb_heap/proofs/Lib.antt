@@ -30,4 +30,8 @@ pub mod CountBounds
 pub mod Tallying
 pub mod TableCounts
 pub mod CellCounts
+pub mod Waiting
+pub mod Settling
+pub mod Falling
+pub mod Ends
 pub mod Nowhere

@@ -1,11 +1,12 @@
 -- How the code keeps the data of a page.
 use Rattle.std.specs.Prelude.{◌≡◌, ◌≤◌, length}
 use Rattle.vb_heap.specs.declared.heap.Heap.TheInside.{Inside}
-use Rattle.vb_heap.specs.Counted.{AreRight}
+use Rattle.vb_heap.specs.Counted.{AreRight, parts_of}
 use Rattle.vb_heap.specs.Limits.{most_weight, most_held}
 use Rattle.vb_heap.specs.PageWeight.{weight_of_page}
 use Rattle.vb_heap.specs.Pooled.{IsPoolOf}
 use Rattle.vb_heap.specs.Store.{Store}
+use Rattle.vb_heap.specs.Tally.{IsTallyOf}
 
 -- the data
 abbrev pub store_of : Inside → Store
@@ -21,7 +22,8 @@ store_of heap = record {
 pub record IsKept (heap : Inside) : Type 0 where
   pub new_cells : IsPoolOf heap.cells_made heap.cells
   pub new_objects : IsPoolOf heap.objects_made heap.objects
-  pub new_counts : IsPoolOf heap.objects_made heap.counts
+  pub new_counts : IsTallyOf heap.objects_made heap.counts
+  pub ends : heap.counts.ends ≡ parts_of (λ object. object.ending) heap.objects.entries
   pub counted : AreRight heap.counts.entries heap.top (store_of heap)
   pub weighed : heap.weight ≡ weight_of_page (store_of heap)
   pub light : heap.weight ≤ most_weight

@@ -10,6 +10,8 @@ pub mod Store
 pub mod Counts
 pub mod References
 pub mod Counted
+pub mod Tally
+pub mod Waiting
 pub mod PageWeight
 pub mod Limits
 pub mod Below

@@ -16,6 +16,7 @@ ghost use Rattle.vb_heap.specs.References.{references};
 ghost use Rattle.vb_heap.specs.Releases.{without_all};
 ghost use Rattle.vb_heap.specs.Saturated.{weight_told};
 ghost use Rattle.vb_heap.specs.Store.{numbered, without, replaced};
+ghost use Rattle.vb_heap.specs.Tally.{IsTallied};
 
 use crate::counts::{Counts, lower_in};
 use crate::place::CellNo;
@@ -82,7 +83,8 @@ pub fn remove_cell(cells: &mut Cells, counts: &mut Counts, number: u64) -> u64
     requires light { sum_by weight_of (values_of cells.old.entries) ≤ most_weight }
     ensures counts { counts.new.entries
         ≡ counts_less (option_map_or references (numbered number cells.old.entries) []) counts.old.entries }
-    ensures counts_pooled { IsPooled counts.old counts.new }
+    ensures ends { counts.new.ends ≡ counts.old.ends }
+    ensures counts_pooled { IsTallied counts.old counts.new }
     ensures cells { cells.new.entries ≡ without number cells.old.entries }
     ensures pooled { IsPooled cells.old cells.new }
     ensures weight { result + sum_by weight_of (values_of cells.new.entries)
@@ -101,7 +103,8 @@ pub fn remove_cell(cells: &mut Cells, counts: &mut Counts, number: u64) -> u64
 pub fn remove_cells(cells: &mut Cells, counts: &mut Counts, gone: &[CellNo]) -> u64
     requires light { sum_by weight_of (values_of cells.old.entries) ≤ most_weight }
     ensures counts { counts.new.entries ≡ counts_less (field_references gone.now cells.old.entries) counts.old.entries }
-    ensures counts_pooled { IsPooled counts.old counts.new }
+    ensures ends { counts.new.ends ≡ counts.old.ends }
+    ensures counts_pooled { IsTallied counts.old counts.new }
     ensures cells { cells.new.entries ≡ without_all gone.now cells.old.entries }
     ensures pooled { IsPooled cells.old cells.new }
     ensures weight { result + sum_by weight_of (values_of cells.new.entries)
@@ -132,7 +135,8 @@ pub fn weight_at(cells: &Cells, number: u64, steps: &[List<i32>]) -> Result<u64,
 pub fn lower_at(counts: &mut Counts, cells: &Cells, number: u64, steps: &[List<i32>])
     ensures counts { IfOk (and_then (value_there (numbered number cells.now.entries)) (value_in steps.now))
         (λ old. counts.new.entries ≡ counts_less (references old) counts.old.entries) }
-    ensures pooled { IsPooled counts.old counts.new }
+    ensures ends { counts.new.ends ≡ counts.old.ends }
+    ensures pooled { IsTallied counts.old counts.new }
 {
     if let Some(value) = cell_at(cells, number) {
         if let Ok(old) = within::value_in(value, steps) {

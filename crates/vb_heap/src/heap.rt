@@ -59,7 +59,7 @@ impl Heap {
         Ok(Heap {
             cells: Pool::with_reserve(alloc, 0, MOST_THERE)?,
             objects: Pool::with_reserve(alloc, 0, MOST_THERE)?,
-            counts: Pool::with_reserve(alloc, 0, MOST_THERE)?,
+            counts: Counts::new(alloc, MOST_THERE)?,
             held: List::new(alloc),
             cells_made: 0,
             objects_made: 0,

@@ -11,6 +11,7 @@ ghost use Rattle.vb_heap.specs.PageWeight.{object_weight};
 ghost use Rattle.vb_heap.specs.Pooled.{IsPooled};
 ghost use Rattle.vb_heap.specs.Releases.{ends_now, fields_of, objects_ending, without_all, without_fields};
 ghost use Rattle.vb_heap.specs.Store.{numbered, without};
+ghost use Rattle.vb_heap.specs.Tally.{IsTallied};
 
 use crate::cell_map::{Cells, remove_cells};
 use crate::counts::{Counts, remove_count};
@@ -80,7 +81,8 @@ pub fn weight_of_object(object: &Object) -> u64
 fn remove_fields(cells: &mut Cells, counts: &mut Counts, content: &Content) -> u64
     requires light { sum_by weight_of (values_of cells.old.entries) ≤ most_weight }
     ensures counts { counts.new.entries ≡ counts_less (content_gone content.now cells.old.entries) counts.old.entries }
-    ensures counts_pooled { IsPooled counts.old counts.new }
+    ensures ends { counts.new.ends ≡ counts.old.ends }
+    ensures counts_pooled { IsTallied counts.old counts.new }
     ensures cells { cells.new.entries ≡ without_all (fields_of content.now) cells.old.entries }
     ensures pooled { IsPooled cells.old cells.new }
     ensures weight { result + sum_by weight_of (values_of cells.new.entries)
@@ -109,7 +111,8 @@ pub fn remove_object(
         ≤ most_weight }
     ensures counts { IfSome (numbered number objects.old.entries) (λ object. counts.new.entries
         ≡ counts_less (content_gone object.content cells.old.entries) (without number counts.old.entries)) }
-    ensures counts_pooled { IsPooled counts.old counts.new }
+    ensures ends { counts.new.ends ≡ without number counts.old.ends }
+    ensures counts_pooled { IsTallied counts.old counts.new }
     ensures objects { objects.new.entries ≡ without number objects.old.entries }
     ensures objects_pooled { IsPooled objects.old objects.new }
     ensures cells { cells.new.entries ≡ without_fields (numbered number objects.old.entries) cells.old.entries }
@@ -118,9 +121,9 @@ pub fn remove_object(
         + (sum_by weight_of (values_of cells.new.entries) + sum_by object_weight (values_of objects.new.entries))
         ≡ sum_by weight_of (values_of cells.old.entries) + sum_by object_weight (values_of objects.old.entries) }
 {
+    remove_count(counts, number);
     match objects.take(by_number(number as u64)) {
         Some(object) => {
-            remove_count(counts, number);
             weight_of_object(&object) + remove_fields(cells, counts, &object.content)
         }
         None => 0,

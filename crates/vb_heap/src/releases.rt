@@ -5,7 +5,7 @@ ghost use Rattle.vb_heap.specs.Releases as spec;
 ghost use Rattle.vb_heap.specs.References.{references_to};
 ghost use Rattle.vb_heap.specs.Store.{no_data, numbered};
 
-use crate::counts::count_at;
+use crate::counts::{count_at, end_count, end_oldest};
 use crate::heap::Heap;
 use crate::object_map::{is_ending, remove_object, set_ending};
 use crate::references::{count_in_cells, count_in_objects};
@@ -51,32 +51,19 @@ impl Heap {
             + held as u32
     }
 
-    /// The number of the oldest live object without references, if there is one.
-    fn oldest_loose(&self) -> Option<u32>
-        ensures { result ≡ spec.oldest_loose self.now }
-    {
-        let _made = self.objects_made;
-        numbers_rise(&self.objects);
-        for key in self.objects.keys() {
-            if let Some(object) = self.objects.get(*key) {
-                let number = key.number as u32;
-                if !object.ending && self.count(ObjNo(number)) == 0 {
-                    return Some(number);
-                }
-            }
-        }
-        None
-    }
-
-    /// Marks the oldest live object without references as ending and names it, if there is one. Where no object is
-    /// live it looks at nothing else.
+    /// Marks the oldest live object without references as ending and names it, if there is one. It looks at
+    /// those alone that lost their last reference since.
     pub fn release_point(&mut self) -> Option<ObjNo>
         ensures object { result ≡ option_map spec.object_of (spec.oldest_loose self.old) }
         ensures data { self.new ≡ spec.with_ending (spec.oldest_loose self.old) self.old }
     {
-        let number = self.oldest_loose()?;
-        set_ending(&mut self.objects, number);
-        Some(ObjNo(number))
+        match end_oldest(&mut self.counts) {
+            Some(number) => {
+                set_ending(&mut self.objects, number);
+                Some(ObjNo(number))
+            }
+            None => None,
+        }
     }
 
     /// The number of the oldest live object, if there is one.
@@ -102,6 +89,7 @@ impl Heap {
     {
         let number = self.oldest_live()?;
         set_ending(&mut self.objects, number);
+        end_count(&mut self.counts, number);
         Some(ObjNo(number))
     }
 

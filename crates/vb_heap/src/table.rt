@@ -7,7 +7,7 @@ ghost use Rattle.vb_value.specs.Weight.{weight_of};
 ghost use Rattle.vb_heap.specs.Counted.{counts_less, item_references};
 ghost use Rattle.vb_heap.specs.Counts.{count_of};
 ghost use Rattle.vb_heap.specs.PairWeight.{entries_weight, pair_weight};
-ghost use Rattle.vb_heap.specs.Pooled.{IsPooled};
+ghost use Rattle.vb_heap.specs.Tally.{IsTallied};
 
 use crate::counts::{Counts, lower_in};
 use crate::key::Key;
@@ -167,7 +167,8 @@ impl Table {
     /// Counts the references in the items as gone.
     pub fn lower(&self, counts: &mut Counts)
         ensures counts { counts.new.entries ≡ counts_less (item_references self.now) counts.old.entries }
-        ensures pooled { IsPooled counts.old counts.new }
+        ensures ends { counts.new.ends ≡ counts.old.ends }
+        ensures pooled { IsTallied counts.old counts.new }
     {
         for pair in self.pairs.values() {
             lower_in(counts, &pair.item);

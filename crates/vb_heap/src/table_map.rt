@@ -15,6 +15,7 @@ ghost use Rattle.vb_heap.specs.PairWeight.{entries_weight, item_weight, pair_wei
 ghost use Rattle.vb_heap.specs.References.{references};
 ghost use Rattle.vb_heap.specs.Saturated.{result_now};
 ghost use Rattle.vb_heap.specs.Store.{numbered};
+ghost use Rattle.vb_heap.specs.Tally.{IsTallied};
 
 use crate::counts::{Counts, lower_in};
 use crate::key::Key;
@@ -159,7 +160,8 @@ pub fn lower_item(counts: &mut Counts, objects: &Objects, number: u32, at: usize
     ensures counts { counts.new.entries ≡ counts_less
         (item_there (spec.entry_there at (spec.dictionary_there (numbered number objects.now.entries))))
         counts.old.entries }
-    ensures pooled { IsPooled counts.old counts.new }
+    ensures ends { counts.new.ends ≡ counts.old.ends }
+    ensures pooled { IsTallied counts.old counts.new }
 {
     if let Ok(pair) = pair_at(objects, number, at) {
         lower_in(counts, &pair.item);
@@ -171,7 +173,8 @@ pub fn lower_items(counts: &mut Counts, objects: &Objects, number: u32)
     requires light { sum_by object_weight (values_of objects.now.entries) ≤ most_weight }
     ensures counts { counts.new.entries ≡ counts_less
         (items_there (spec.dictionary_there (numbered number objects.now.entries))) counts.old.entries }
-    ensures pooled { IsPooled counts.old counts.new }
+    ensures ends { counts.new.ends ≡ counts.old.ends }
+    ensures pooled { IsTallied counts.old counts.new }
 {
     if let Ok(table) = table_of(objects, number) {
         table.lower(counts);

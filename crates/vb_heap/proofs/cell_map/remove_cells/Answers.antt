@@ -7,6 +7,7 @@ use Rattle.vb_heap.proofs.cell_map.remove_cells.Goals as goal
 pub loop-cell-init : goal.loop-cell-init
 loop-cell-init c = record {
   counts = sym (less_none c.args.counts.now.entries);
+  ends = refl;
   counts_pooled = (refl, refl);
   cells = refl;
   weight = omega arith;
@@ -24,6 +25,7 @@ loop-cell-preserved c =
           rw (lowered.counts, before.counts, before.cells)
           (sym (fields_next c.args.gone.now c.loop-cell.cell-index _ c.args.cells.now.entries c.args.counts.now.entries
           c.loop-cell-test.true));
+      ends = lowered.ends ∙ before.ends;
       counts_pooled =
           (lowered.counts_pooled.0 ∙ before.counts_pooled.0, lowered.counts_pooled.1 ∙ before.counts_pooled.1);
       cells =

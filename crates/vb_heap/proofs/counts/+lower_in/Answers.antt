@@ -6,7 +6,7 @@ use Rattle.vb_heap.proofs.Tallying.{refers_to_none}
 use Rattle.vb_heap.proofs.counts.+lower_in.Goals as goal
 
 pub loop-item-init : goal.loop-item-init
-loop-item-init t c = record { counts = sym (less_none c.args.counts.now.entries); pooled = (refl, refl) }
+loop-item-init t c = record { counts = sym (less_none c.args.counts.now.entries); ends = refl; pooled = (refl, refl) }
 
 pub loop-item-preserved : goal.loop-item-preserved
 loop-item-preserved t c =
@@ -17,6 +17,7 @@ loop-item-preserved t c =
           rw (one.counts, was.counts)
           (sym (less_next references c.as_slice-item-items.result.now c.loop-item.item-index _ c.loop-item-test.true
           c.item-item.is c.args.counts.now.entries));
+      ends = one.ends ∙ was.ends;
       pooled = (one.pooled.0 ∙ was.pooled.0, one.pooled.1 ∙ was.pooled.1);
     }
 

@@ -1,12 +1,13 @@
 use Rattle.std.proofs.Common.{◌≡◌, take}
 use Rattle.std.specs.List.{flat_map}
 use Rattle.vb_heap.specs.Counted.{counts_less}
-use Rattle.vb_heap.specs.Pooled.{IsPooled}
+use Rattle.vb_heap.specs.Tally.{IsTallied}
 use Rattle.vb_heap.specs.References.{references}
 use Rattle.vb_heap.proofs.counts.+lower_in.Given as goal
 
 abbrev pub invariant-loop-item : goal.invariant-loop-item
 invariant-loop-item l = record {
   counts : l.counts.entries ≡ counts_less (flat_map references (take l.item-index l.item-items)) l.fn.counts.entries;
-  pooled : IsPooled l.fn.counts l.counts;
+  ends : l.counts.ends ≡ l.fn.counts.ends;
+  pooled : IsTallied l.fn.counts l.counts;
 }

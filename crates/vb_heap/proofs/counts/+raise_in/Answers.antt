@@ -8,6 +8,7 @@ use Rattle.vb_heap.proofs.counts.+raise_in.Goals as goal
 pub loop-item-init : goal.loop-item-init
 loop-item-init t c = record {
   counts = λ _. sym (more_none c.args.counts.now.entries);
+  ends = refl;
   pooled = (refl, refl);
   top = omega arith;
   below = refl;
@@ -22,6 +23,7 @@ loop-item-preserved t c =
     record {
       counts = rw next (λ room. came_behind _ _ c.args.counts.now.entries c.loop-item.counts.entries _ room was.counts
           one.counts);
+      ends = one.ends ∙ was.ends;
       pooled = (one.pooled.0 ∙ was.pooled.0, one.pooled.1 ∙ was.pooled.1);
       top = omega (arith, was.top, one.top);
       below =

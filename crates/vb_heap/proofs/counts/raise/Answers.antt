@@ -1,16 +1,34 @@
-use Rattle.std.proofs.Common.{◌≡◌, ◌+◌, Some, None, [], sym, arith}
-use Rattle.vb_heap.proofs.Counting.{raised, room_one}
+use Rattle.std.proofs.Common.{refl, sym}
+use Rattle.vb_heap.specs.Waiting.{raised}
+use Rattle.vb_heap.proofs.Falling.{raised_counts, raised_stands}
+use Rattle.vb_heap.proofs.Waiting.{apart_still, parts_stay, stands_still}
 use Rattle.vb_heap.proofs.counts.raise.Goals as goal
 
-pub returns-in-Some-clause-counts : goal.returns-in-Some-clause-counts
-returns-in-Some-clause-counts c room =
-    let there = rw c.by_number.ensures at (sym c.in-Some.ensures.value) in
-    let fits = room_one c.args.number _ [] c.args.counts.now.entries room there in
-    let exact : c.saturating_add.result ≡ c.in-Some.count.now + 1 = omega (arith, c.saturating_add.ensures, fits) in
-    rw (c.by_number.ensures, exact)
-    (raised c.args.number 0 _ c.args.counts.now.entries (Some _) c.numbers_rise.ensures there)
+pub invariant_of-counts : goal.invariant_of-counts
+invariant_of-counts c =
+    let was = c.counts.invariant in
+    record {
+      stand =
+          record {
+            ordered = was.stand.ordered;
+            each =
+                rw c.raise_one.ensures.counts
+                (stands_still _ c.args.number raised c.counts.inside.pool.entries _ refl
+                (λ count is one. raised_stands _ _ count one) was.stand.each);
+          };
+      room =
+          rw (
+            c.raise_one.ensures.counts,
+            apart_still c.args.number raised c.counts.inside.pool.entries _ refl (λ count is. refl),
+          ) was.room;
+    }
 
-pub returns-in_default-clause-counts : goal.returns-in_default-clause-counts
-returns-in_default-clause-counts c _ =
-    raised c.args.number 0 _ c.args.counts.now.entries None c.numbers_rise.ensures
-    (rw c.by_number.ensures at (sym c.in_default.ensures.value))
+pub returns-clause-counts : goal.returns-clause-counts
+returns-clause-counts c =
+    rw (sym c.counts.view_is, c.raise_one.ensures.counts)
+    (raised_counts c.args.number 0 _ c.counts.inside.pool.entries _ c.numbers_rise.ensures refl)
+
+pub returns-clause-ends : goal.returns-clause-ends
+returns-clause-ends c =
+    rw (sym c.counts.view_is, c.raise_one.ensures.counts)
+    (parts_stay (λ count. count.ends) c.args.number raised c.counts.inside.pool.entries _ refl (λ count is. refl))

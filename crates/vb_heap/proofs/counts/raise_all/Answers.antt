@@ -7,6 +7,7 @@ use Rattle.vb_heap.proofs.counts.raise_all.Goals as goal
 pub loop-number-init : goal.loop-number-init
 loop-number-init c = record {
   counts = λ _. sym (more_none c.args.counts.now.entries);
+  ends = refl;
   pooled = (refl, refl);
   top = omega arith;
   below = refl;
@@ -20,6 +21,7 @@ loop-number-preserved c =
     record {
       counts = rw next (λ room. came_behind _ _ c.args.counts.now.entries c.loop-number.counts.entries _ room was.counts
           c.raise.ensures.counts);
+      ends = c.raise.ensures.ends ∙ was.ends;
       pooled = (c.raise.ensures.pooled.0 ∙ was.pooled.0, c.raise.ensures.pooled.1 ∙ was.pooled.1);
       top = omega (arith, was.top, c.above-top.ensures.top);
       below =

@@ -4,6 +4,7 @@ use Rattle.vb_heap.specs.Inside.{store_of}
 use Rattle.vb_heap.specs.PairWeight.{pair_weight}
 use Rattle.vb_heap.specs.Store.{numbered}
 use Rattle.vb_heap.proofs.Changing.{refuses, accepts, weighs}
+use Rattle.vb_heap.proofs.Ends.{table_ends}
 use Rattle.vb_heap.proofs.TableCounts.{added_right}
 use Rattle.vb_heap.proofs.TableWeights.{added_when}
 use Rattle.vb_heap.proofs.heap.Heap.add_said.Goals as goal
@@ -37,6 +38,10 @@ invariant_of-self-2 c =
             next = raised.pooled.0 ∙ c.self.invariant.new_counts.next;
             most = raised.pooled.1 ∙ c.self.invariant.new_counts.most;
           };
+      ends =
+          rw c.in_ok-add_pair.ensures.entries
+          (table_ends _ _ (pair_added c.args.pair) c.args.dictionary.0 c.self.inside.objects.entries
+          c.self.invariant.ends raised.ends);
       counted =
           rw c.in_ok-add_pair.ensures.entries
           (added_right (store_of c.self.inside) _ _ _ c.self.invariant.counted c.args.dictionary c.args.pair _

@@ -24,6 +24,7 @@ invariant_of-self-2 c = record {
       };
   new_objects = c.self.invariant.new_objects;
   new_counts = c.self.invariant.new_counts;
+  ends = c.self.invariant.ends;
   counted =
       subst (λ entries. AreRight c.self.inside.counts.entries c.self.inside.top
       (record (store_of c.self.inside) { cells = entries }))

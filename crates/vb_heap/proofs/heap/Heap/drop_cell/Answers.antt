@@ -18,6 +18,7 @@ invariant_of-self c =
             next = removed.counts_pooled.0 ∙ c.self.invariant.new_counts.next;
             most = removed.counts_pooled.1 ∙ c.self.invariant.new_counts.most;
           };
+      ends = removed.ends ∙ c.self.invariant.ends;
       counted =
           rw removed.cells
           (dropped_cell_right (store_of c.self.inside) _ _ _ c.self.invariant.counted c.args.cell removed.counts);

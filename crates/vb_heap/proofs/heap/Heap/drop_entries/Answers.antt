@@ -2,6 +2,7 @@ use Rattle.std.proofs.Common.{refl, ◌∙◌, arith}
 use Rattle.vb_heap.specs.Entries.{emptied}
 use Rattle.vb_heap.specs.Inside.{store_of}
 use Rattle.vb_heap.specs.Store.{numbered}
+use Rattle.vb_heap.proofs.Ends.{table_ends}
 use Rattle.vb_heap.proofs.TableCounts.{emptied_right}
 use Rattle.vb_heap.proofs.TableWeights.{weight_changed, found_within}
 use Rattle.vb_heap.proofs.heap.Heap.drop_entries.Goals as goal
@@ -32,6 +33,10 @@ invariant_of-self c =
             next = c.lower_items.ensures.pooled.0 ∙ c.self.invariant.new_counts.next;
             most = c.lower_items.ensures.pooled.1 ∙ c.self.invariant.new_counts.most;
           };
+      ends =
+          rw c.drop_pairs.ensures.entries
+          (table_ends _ _ emptied c.args.dictionary.0 c.self.inside.objects.entries
+          c.self.invariant.ends c.lower_items.ensures.ends);
       counted =
           rw c.drop_pairs.ensures.entries
           (emptied_right (store_of c.self.inside) _ _ _ c.self.invariant.counted c.args.dictionary

@@ -2,6 +2,7 @@ use Rattle.std.proofs.Common.{refl, ◌∙◌, arith}
 use Rattle.vb_heap.specs.Entries.{entry_dropped}
 use Rattle.vb_heap.specs.Inside.{store_of}
 use Rattle.vb_heap.specs.Store.{numbered}
+use Rattle.vb_heap.proofs.Ends.{table_ends}
 use Rattle.vb_heap.proofs.TableCounts.{dropped_right}
 use Rattle.vb_heap.proofs.TableWeights.{weight_changed, found_within}
 use Rattle.vb_heap.proofs.heap.Heap.drop_entry.Goals as goal
@@ -32,6 +33,10 @@ invariant_of-self c =
             next = c.lower_item.ensures.pooled.0 ∙ c.self.invariant.new_counts.next;
             most = c.lower_item.ensures.pooled.1 ∙ c.self.invariant.new_counts.most;
           };
+      ends =
+          rw c.drop_pair.ensures.entries
+          (table_ends _ _ (entry_dropped c.args.at) c.args.dictionary.0 c.self.inside.objects.entries
+          c.self.invariant.ends c.lower_item.ensures.ends);
       counted =
           rw c.drop_pair.ensures.entries
           (dropped_right (store_of c.self.inside) _ _ _ c.self.invariant.counted c.args.dictionary c.args.at

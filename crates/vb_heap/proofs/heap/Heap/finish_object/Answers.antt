@@ -1,6 +1,7 @@
 use Rattle.std.proofs.Common.{◌∙◌, sym, arith}
 use Rattle.vb_heap.specs.Inside.{store_of}
 use Rattle.vb_heap.proofs.Ending.{ended_right}
+use Rattle.vb_heap.proofs.Ends.{gone_ends}
 use Rattle.vb_heap.proofs.heap.Heap.finish_object.Goals as goal
 
 pub invariant_of-self : goal.invariant_of-self
@@ -24,6 +25,10 @@ invariant_of-self c =
             next = c.remove_object.ensures.counts_pooled.0 ∙ c.self.invariant.new_counts.next;
             most = c.remove_object.ensures.counts_pooled.1 ∙ c.self.invariant.new_counts.most;
           };
+      ends =
+          rw c.remove_object.ensures.objects
+          (gone_ends _ _ c.args.object.0 c.self.inside.objects.entries c.self.invariant.ends
+          c.remove_object.ensures.ends);
       counted =
           rw (c.remove_object.ensures.objects, c.remove_object.ensures.cells)
           (ended_right c.args.object.0 (store_of c.self.inside) _ _ _ c.self.invariant.counted

@@ -2,6 +2,7 @@ use Rattle.std.proofs.Common.{Some, refl, ◌∙◌, arith}
 use Rattle.vb_heap.specs.Inside.{store_of}
 use Rattle.vb_heap.specs.Releases.{with_ending}
 use Rattle.vb_heap.proofs.CountsAfter.{ending_counts}
+use Rattle.vb_heap.proofs.Ends.{named_ends}
 use Rattle.vb_heap.proofs.ItemMoves.{ending_moves}
 use Rattle.vb_heap.proofs.ObjectWeights.{ending_weighs}
 use Rattle.vb_heap.proofs.Tallying.{still_right}
@@ -18,9 +19,17 @@ invariant_of-self c =
             next = c.set_ending.ensures.pooled.0 ∙ c.self.invariant.new_objects.next;
             most = c.set_ending.ensures.pooled.1 ∙ c.self.invariant.new_objects.most;
           };
-      new_counts = c.self.invariant.new_counts;
-      counted =
+      new_counts =
+          record {
+            next = c.end_count.ensures.pooled.0 ∙ c.self.invariant.new_counts.next;
+            most = c.end_count.ensures.pooled.1 ∙ c.self.invariant.new_counts.most;
+          };
+      ends =
           rw c.set_ending.ensures.objects
+          (named_ends _ _ c.in_ok-number.number c.self.inside.objects.entries c.self.invariant.ends
+          c.end_count.ensures.ends);
+      counted =
+          rw (c.set_ending.ensures.objects, c.end_count.ensures.counts)
           (still_right (store_of c.self.inside) (with_ending (Some c.in_ok-number.number) (store_of c.self.inside)) _ _ _
           c.self.invariant.counted (ending_moves (Some c.in_ok-number.number) (store_of c.self.inside))
           (ending_counts (Some c.in_ok-number.number) (store_of c.self.inside)) refl);

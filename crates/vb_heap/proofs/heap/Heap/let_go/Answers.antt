@@ -17,6 +17,7 @@ invariant_of-self c =
             next = lowered.pooled.0 ∙ c.self.invariant.new_counts.next;
             most = lowered.pooled.1 ∙ c.self.invariant.new_counts.most;
           };
+      ends = lowered.ends ∙ c.self.invariant.ends;
       counted =
           rw c.truncate.ensures
           (let_go_right (store_of c.self.inside) _ _ _ c.self.invariant.counted c.args.mark

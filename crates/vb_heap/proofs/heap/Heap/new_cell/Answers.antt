@@ -52,6 +52,7 @@ invariant_of-self-2 c =
             next = raised.pooled.0 ∙ c.self.invariant.new_counts.next;
             most = raised.pooled.1 ∙ c.self.invariant.new_counts.most;
           };
+      ends = raised.ends ∙ c.self.invariant.ends;
       counted =
           rw cells
           (new_cell_right (store_of c.self.inside) _ _ _ c.self.invariant.counted _ c.args.value raised.counts

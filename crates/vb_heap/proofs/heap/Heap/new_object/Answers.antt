@@ -1,9 +1,10 @@
-use Rattle.std.proofs.Common.{◌∙◌, ap, length, sym, arith}
+use Rattle.std.proofs.Common.{◌∙◌, ap, length, sym, arith, refl}
 use Rattle.vb_heap.specs.declared.object.Content.TheVariants.{Fields}
 use Rattle.vb_heap.specs.Inside.{store_of}
 use Rattle.vb_heap.specs.Objects.{live, with_new_object}
 use Rattle.vb_heap.specs.Room.{HasRoom}
 use Rattle.vb_heap.proofs.CountsAfter.{new_object_counts}
+use Rattle.vb_heap.proofs.Ends.{made_ends}
 use Rattle.vb_heap.proofs.Keeping.{few_cells, few_objects}
 use Rattle.vb_heap.proofs.Making.{cells_more, object_more}
 use Rattle.vb_heap.proofs.Moves.{new_object_moves}
@@ -98,6 +99,11 @@ invariant_of-self-2 c =
             next = omega (arith, c.add_count.ensures.made, tallied.pooled.0, c.self.invariant.new_counts.next);
             most = omega (arith, c.add_count.ensures.most, tallied.pooled.1, c.self.invariant.new_counts.most);
           };
+      ends =
+          rw c.in_ok-add_object.ensures.objects
+          (c.add_count.ensures.ends
+          ∙ made_ends _ c.self.inside.objects.entries _ _ _ (tallied.ends ∙ c.self.invariant.ends)
+          (tallied.pooled.0 ∙ (c.self.invariant.new_counts.next ∙ sym c.self.invariant.new_objects.next)) refl);
       counted =
           rw (
             more,

@@ -1,4 +1,4 @@
-use Rattle.std.proofs.Common.{◌∙◌, ap, length, sym, arith}
+use Rattle.std.proofs.Common.{◌∙◌, ap, length, sym, arith, refl}
 use Rattle.vb_heap.specs.declared.object.Content.TheVariants.{Entries}
 use Rattle.vb_heap.specs.Dictionary.{no_entries}
 use Rattle.vb_heap.specs.Entries.{with_new_table}
@@ -6,6 +6,7 @@ use Rattle.vb_heap.specs.Inside.{store_of}
 use Rattle.vb_heap.specs.Objects.{live}
 use Rattle.vb_heap.specs.Room.{HasRoom}
 use Rattle.vb_heap.proofs.CountsAfter.{new_table_counts}
+use Rattle.vb_heap.proofs.Ends.{made_ends}
 use Rattle.vb_heap.proofs.Keeping.{few_objects}
 use Rattle.vb_heap.proofs.Making.{object_more}
 use Rattle.vb_heap.proofs.Moves.{new_table_moves}
@@ -66,6 +67,11 @@ invariant_of-self-2 c =
             next = omega (arith, c.add_count.ensures.made, still.pooled.0, c.self.invariant.new_counts.next);
             most = omega (arith, c.add_count.ensures.most, still.pooled.1, c.self.invariant.new_counts.most);
           };
+      ends =
+          rw c.in_ok-add_object.ensures.objects
+          (c.add_count.ensures.ends
+          ∙ made_ends _ c.self.inside.objects.entries _ _ _ (still.ends ∙ c.self.invariant.ends)
+          (still.pooled.0 ∙ (c.self.invariant.new_counts.next ∙ sym c.self.invariant.new_objects.next)) refl);
       counted =
           rw (c.in_ok-add_object.ensures.objects, c.new.ensures, c.self.invariant.new_objects.next)
           (made_right (store_of c.self.inside) (with_new_table (store_of c.self.inside)) _ _ _ c.self.invariant.counted _ c.first_count-count.result

@@ -4,6 +4,7 @@ use Rattle.vb_heap.specs.Entries.{item_set}
 use Rattle.vb_heap.specs.Inside.{store_of}
 use Rattle.vb_heap.specs.Store.{numbered}
 use Rattle.vb_heap.proofs.Changing.{refuses, accepts, weighs}
+use Rattle.vb_heap.proofs.Ends.{table_ends}
 use Rattle.vb_heap.proofs.TableCounts.{set_right}
 use Rattle.vb_heap.proofs.TableWeights.{set_when}
 use Rattle.vb_heap.proofs.heap.Heap.put_item.Goals as goal
@@ -39,6 +40,10 @@ invariant_of-self c =
             next = raised.pooled.0 ∙ (lowered.pooled.0 ∙ c.self.invariant.new_counts.next);
             most = raised.pooled.1 ∙ (lowered.pooled.1 ∙ c.self.invariant.new_counts.most);
           };
+      ends =
+          rw c.set_item_at.ensures.entries
+          (table_ends _ _ (item_set c.args.at c.args.item) c.args.dictionary.0 c.self.inside.objects.entries
+          c.self.invariant.ends (raised.ends ∙ lowered.ends));
       counted =
           rw c.set_item_at.ensures.entries
           (set_right (store_of c.self.inside) _ _ _ c.self.invariant.counted c.args.dictionary c.args.at c.args.item _ _

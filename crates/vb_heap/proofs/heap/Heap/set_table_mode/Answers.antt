@@ -3,6 +3,7 @@ use Rattle.std.proofs.lemmas.Int.{to_z-of_z}
 use Rattle.vb_heap.specs.Entries.{mode_set}
 use Rattle.vb_heap.specs.Inside.{store_of}
 use Rattle.vb_heap.specs.Store.{numbered}
+use Rattle.vb_heap.proofs.Ends.{table_ends}
 use Rattle.vb_heap.proofs.TableCounts.{mode_right}
 use Rattle.vb_heap.proofs.TableWeights.{weight_changed, mode_weighs}
 use Rattle.vb_heap.proofs.heap.Heap.set_table_mode.Goals as goal
@@ -22,6 +23,10 @@ invariant_of-self c =
             most = c.set_mode.ensures.pooled.1 ∙ c.self.invariant.new_objects.most;
           };
       new_counts = c.self.invariant.new_counts;
+      ends =
+          rw set
+          (table_ends _ _ (mode_set c.args.mode) c.args.dictionary.0 c.self.inside.objects.entries
+          c.self.invariant.ends refl);
       counted =
           rw set
           (mode_right (store_of c.self.inside) _ _ _ c.self.invariant.counted c.args.dictionary c.args.mode refl);

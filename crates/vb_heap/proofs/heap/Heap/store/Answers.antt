@@ -36,6 +36,7 @@ invariant_of-self c =
             next = raised.pooled.0 ∙ (lowered.pooled.0 ∙ c.self.invariant.new_counts.next);
             most = raised.pooled.1 ∙ (lowered.pooled.1 ∙ c.self.invariant.new_counts.most);
           };
+      ends = raised.ends ∙ (lowered.ends ∙ c.self.invariant.ends);
       counted =
           rw (c.put_in_cell.ensures.cells, c.as_slice-steps.ensures)
           (stored_right (store_of c.self.inside) _ _ _ c.self.invariant.counted _ _ c.in_ok-old.old c.args.place.now

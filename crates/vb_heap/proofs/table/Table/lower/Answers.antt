@@ -10,7 +10,7 @@ use Rattle.vb_heap.proofs.CountSteps.{less_last}
 use Rattle.vb_heap.proofs.table.Table.lower.Goals as goal
 
 pub loop-pair-init : goal.loop-pair-init
-loop-pair-init c = record { counts = sym (less_none c.args.counts.now.entries); pooled = (refl, refl) }
+loop-pair-init c = record { counts = sym (less_none c.args.counts.now.entries); ends = refl; pooled = (refl, refl) }
 
 pub loop-pair-preserved : goal.loop-pair-preserved
 loop-pair-preserved c =
@@ -21,5 +21,6 @@ loop-pair-preserved c =
           rw (one.counts, was.counts, map-append deref c.loop-pair.yielded (c.in-Some.pair ∷ []))
           (sym (less_last (λ (pair : Pair). references pair.item) (map deref c.loop-pair.yielded) (deref c.in-Some.pair)
           c.args.counts.now.entries));
+      ends = one.ends ∙ was.ends;
       pooled = (one.pooled.0 ∙ was.pooled.0, one.pooled.1 ∙ was.pooled.1);
     }
