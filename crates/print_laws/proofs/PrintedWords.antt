@@ -23,7 +23,7 @@ use Rattle.vb_syntax.specs.grammar.Words.{tag, line_of, name_of, name_of_kind, l
 use Rattle.vb_syntax.specs.grammar.Words as words
 use Rattle.vb_syntax.specs.grammar.Expressions.{operator_of, keyword_operator, symbol_operator, operator_at, at_level}
 use Rattle.vb_print.specs.Words.{literal_word, operator_word}
-use Rattle.vb_print.proofs.Alike.{plain, kinds}
+use Rattle.print_laws.proofs.Alike.{plain, kinds}
 
 keyword_below : (keyword : Keyword) → tag_of keywords.the_type keyword < 54
 keyword_below keyword = tag_below (variants keywords.the_type) (keywords.the_type.to keyword)

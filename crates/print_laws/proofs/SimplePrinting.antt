@@ -24,16 +24,16 @@ use Rattle.vb_print.specs.Expressions.{head_words, expression_words, path_words,
 use Rattle.vb_print.specs.Statements as print
 use Rattle.vb_print.specs.Statements.{access_words, bound_words, declared_words, constant_value_words}
 use Rattle.vb_print.specs.Statements.{constant_words, resized_words, statement_words}
-use Rattle.vb_print.proofs.Alike.{Blind}
-use Rattle.vb_print.proofs.ExpressionWords as shown
-use Rattle.vb_print.proofs.ExpressionPrinting.{blind_name, blind_literal, blind_step, expressions_blind, blind_closed}
-use Rattle.vb_print.proofs.ExpressionPrinting.{prints_name, prints_literal, prints_step, expressions_print}
-use Rattle.vb_print.proofs.ExpressionPrinting.{prints_closed}
-use Rattle.vb_print.proofs.Prints.{Prints}
-use Rattle.vb_print.proofs.Again.{Again, AgainTail, TailAgain, again, alike, again_pure, again_bind}
-use Rattle.vb_print.proofs.Again.{again_last, again_or}
-use Rattle.vb_print.proofs.Again.{again_opened, again_many, again_word, behind, word_shown}
-use Rattle.vb_print.proofs.Again.{again_symbol, again_some}
+use Rattle.print_laws.proofs.Alike.{Blind}
+use Rattle.print_laws.proofs.ExpressionWords as shown
+use Rattle.print_laws.proofs.ExpressionPrinting.{blind_name, blind_literal, blind_step, expressions_blind, blind_closed}
+use Rattle.print_laws.proofs.ExpressionPrinting.{prints_name, prints_literal, prints_step, expressions_print}
+use Rattle.print_laws.proofs.ExpressionPrinting.{prints_closed}
+use Rattle.print_laws.proofs.Prints.{Prints}
+use Rattle.print_laws.proofs.Again.{Again, AgainTail, TailAgain, again, alike, again_pure, again_bind}
+use Rattle.print_laws.proofs.Again.{again_last, again_or}
+use Rattle.print_laws.proofs.Again.{again_opened, again_many, again_word, behind, word_shown}
+use Rattle.print_laws.proofs.Again.{again_symbol, again_some}
 
 pub again_name : (line : ℕ) → Again (one name_of) (λ text. name line text ∷ [])
 again_name line = alike blind_name (prints_name line)

@@ -25,13 +25,13 @@ use Rattle.vb_print.specs.Expressions.{expression_words}
 use Rattle.vb_print.specs.Statements.{loop_keyword, condition_words, before_words, after_words, step_words}
 use Rattle.vb_print.specs.Statements.{line_end, line_words, else_words, case_else_words}
 use Rattle.vb_print.specs.Statements.{statement_words, else_if_words, case_words, body_words}
-use Rattle.vb_print.proofs.StatementWords as shown
-use Rattle.vb_print.proofs.Again.{Again, again, self, again_pure, again_bind, again_changed}
-use Rattle.vb_print.proofs.Again.{again_given, again_last, again_or, again_where, again_none, again_opened, again_many}
-use Rattle.vb_print.proofs.Again.{again_word, behind, word_shown, again_keyword, again_symbol, quoted_shown}
-use Rattle.vb_print.proofs.Again.{again_listed}
-use Rattle.vb_print.proofs.SimplePrinting.{again_name, again_expression}
-use Rattle.vb_print.proofs.SimpleStatementPrinting.{again_const, again_simple}
+use Rattle.print_laws.proofs.StatementWords as shown
+use Rattle.print_laws.proofs.Again.{Again, again, self, again_pure, again_bind, again_changed}
+use Rattle.print_laws.proofs.Again.{again_given, again_last, again_or, again_where, again_none, again_opened, again_many}
+use Rattle.print_laws.proofs.Again.{again_word, behind, word_shown, again_keyword, again_symbol, quoted_shown}
+use Rattle.print_laws.proofs.Again.{again_listed}
+use Rattle.print_laws.proofs.SimplePrinting.{again_name, again_expression}
+use Rattle.print_laws.proofs.SimpleStatementPrinting.{again_const, again_simple}
 
 -- ---- ends
 

@@ -6,9 +6,9 @@ ghost use Rattle.vb_syntax.specs.declared.unit.Unit.{Unit as Script};
 ghost use Rattle.vb_print.specs.Units.{print_of};
 ghost use Rattle.vb_syntax.specs.grammar.Units.{Derives};
 
-use crate::units::print;
 use std::alloc::Global;
 use vb_parse::{ParseStop, parse};
+use vb_print::print;
 use vb_syntax::Unit;
 use vb_value::Stop;
 

@@ -1,8 +1,8 @@
 use Rattle.std.proofs.Common.{◌∙◌, sym, subst}
 use Rattle.vb_syntax.specs.grammar.Rules.{Tokens}
 use Rattle.vb_syntax.specs.grammar.Units.{Derives}
-use Rattle.vb_print.proofs.UnitPrinting.{printed_again}
-use Rattle.vb_print.proofs.laws.print_and_parse.Goals as goal
+use Rattle.print_laws.proofs.UnitPrinting.{printed_again}
+use Rattle.print_laws.proofs.laws.print_and_parse.Goals as goal
 
 pub returns : goal.returns
 returns c tokens spelled = c.parse.ensures.only c.args.unit.now

@@ -24,17 +24,17 @@ use Rattle.vb_syntax.specs.grammar.Units.{strict}
 use Rattle.vb_print.specs.Words.{keyword, symbol, listed}
 use Rattle.vb_print.specs.Expressions.{expression_words, path_words, head_words, path_step_words}
 use Rattle.vb_print.specs.Statements.{empty_group, argument_words, statement_words}
-use Rattle.vb_print.proofs.Alike.{plain, kinds, kinds-append, parts, Turns, turns, turns_word, turns_pure}
-use Rattle.vb_print.proofs.Alike.{turns_bind, turns_or}
-use Rattle.vb_print.proofs.Alike.{turns_one, blind_many}
-use Rattle.vb_print.proofs.PrintedWords.{kinds-symbol, kinds-keyword}
-use Rattle.vb_print.proofs.Prints.{Prints, prints, tail, prints_pure, prints_bind, prints_last, prints_or, prints_many}
-use Rattle.vb_print.proofs.Prints.{prints_symbol, prints_listed}
-use Rattle.vb_print.proofs.ExpressionWords as shown
-use Rattle.vb_print.proofs.StatementWords as shown_statements
-use Rattle.vb_print.proofs.ExpressionPrinting.{blind_name, prints_name, expressions_print, name-plain}
-use Rattle.vb_print.proofs.Again.{Again, again, again_pure, again_opened, again_symbol, again_listed, word_shown}
-use Rattle.vb_print.proofs.SimplePrinting.{again_path_at, again_expression, step_blind, step_prints}
+use Rattle.print_laws.proofs.Alike.{plain, kinds, kinds-append, parts, Turns, turns, turns_word, turns_pure}
+use Rattle.print_laws.proofs.Alike.{turns_bind, turns_or}
+use Rattle.print_laws.proofs.Alike.{turns_one, blind_many}
+use Rattle.print_laws.proofs.PrintedWords.{kinds-symbol, kinds-keyword}
+use Rattle.print_laws.proofs.Prints.{Prints, prints, tail, prints_pure, prints_bind, prints_last, prints_or, prints_many}
+use Rattle.print_laws.proofs.Prints.{prints_symbol, prints_listed}
+use Rattle.print_laws.proofs.ExpressionWords as shown
+use Rattle.print_laws.proofs.StatementWords as shown_statements
+use Rattle.print_laws.proofs.ExpressionPrinting.{blind_name, prints_name, expressions_print, name-plain}
+use Rattle.print_laws.proofs.Again.{Again, again, again_pure, again_opened, again_symbol, again_listed, word_shown}
+use Rattle.print_laws.proofs.SimplePrinting.{again_path_at, again_expression, step_blind, step_prints}
 
 -- ---- what begins with a path and "="
 

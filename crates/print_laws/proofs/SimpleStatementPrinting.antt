@@ -17,15 +17,15 @@ use Rattle.vb_print.specs.Expressions.{expression_words, path_words}
 use Rattle.vb_print.specs.Statements.{access_words, constant_words, declared_words, resized_words}
 use Rattle.vb_print.specs.Statements.{preserve_words}
 use Rattle.vb_print.specs.Statements.{exit_word, name_words, statement_words}
-use Rattle.vb_print.proofs.StatementWords as shown
-use Rattle.vb_print.proofs.Again.{Again, again, self, again_pure, again_bind, again_changed}
-use Rattle.vb_print.proofs.Again.{again_last}
-use Rattle.vb_print.proofs.Again.{again_or, again_opened, again_word, behind, word_shown, again_keyword}
-use Rattle.vb_print.proofs.Again.{again_symbol, quoted_shown}
-use Rattle.vb_print.proofs.Again.{again_listed}
-use Rattle.vb_print.proofs.SimplePrinting.{again_name, again_expression, again_access, again_declared, again_constant}
-use Rattle.vb_print.proofs.SimplePrinting.{again_path_at, path_shown}
-use Rattle.vb_print.proofs.CallPrinting.{again_call}
+use Rattle.print_laws.proofs.StatementWords as shown
+use Rattle.print_laws.proofs.Again.{Again, again, self, again_pure, again_bind, again_changed}
+use Rattle.print_laws.proofs.Again.{again_last}
+use Rattle.print_laws.proofs.Again.{again_or, again_opened, again_word, behind, word_shown, again_keyword}
+use Rattle.print_laws.proofs.Again.{again_symbol, quoted_shown}
+use Rattle.print_laws.proofs.Again.{again_listed}
+use Rattle.print_laws.proofs.SimplePrinting.{again_name, again_expression, again_access, again_declared, again_constant}
+use Rattle.print_laws.proofs.SimplePrinting.{again_path_at, path_shown}
+use Rattle.print_laws.proofs.CallPrinting.{again_call}
 
 pub again_page_text : Again statements.page_text (λ found. printed found.0 (kind.PageText found.1) ∷ [])
 again_page_text = record {

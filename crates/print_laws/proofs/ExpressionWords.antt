@@ -10,7 +10,6 @@ use Rattle.vb_syntax.specs.declared.expression.Expression.TheFolds.{fold-roll-Pa
 use Rattle.vb_syntax.specs.declared.expression.Expression.TheOpen.{Expression-F, Step-F}
 use Rattle.vb_syntax.specs.declared.expression.Expression.TheVariants as e
 use Rattle.vb_syntax.specs.declared.expression.Literal.{Literal}
-use Rattle.vb_syntax.specs.declared.expression.Operation.{Operation}
 use Rattle.vb_syntax.specs.declared.expression.Path.{Path}
 use Rattle.vb_syntax.specs.declared.expression.PathHead.{PathHead}
 use Rattle.vb_syntax.specs.declared.expression.Step.{Step}
@@ -64,12 +63,6 @@ module _ (line : ℕ) where
   words-not operand = ap (expression_words line) (sym (e.rolls-Not operand))
       ∙ fold-roll-Expression Tokens Tokens Tokens Tokens
       (expression_layer line) (step_layer line) (operation_layer line) (path_layer line) (Expression-F.Not operand)
-
-  pub words-chain : (first : Expression) → (rest : List Operation) → expression_words line (e.Chain first rest)
-      ≡ expression_words line first ++ flat_map (λ (x : Tokens). x) (map (operation_words line) rest)
-  words-chain first rest = ap (expression_words line) (sym (e.rolls-Chain first rest))
-      ∙ fold-roll-Expression Tokens Tokens Tokens Tokens
-      (expression_layer line) (step_layer line) (operation_layer line) (path_layer line) (Expression-F.Chain first rest)
 
   pub words-member : (text : List ℕ) → path_step_words line (behind.Member text)
       ≡ symbol line s.PathPoint ∷ name line text ∷ []

@@ -25,13 +25,14 @@ use Rattle.vb_syntax.specs.grammar.Expressions.{chain, operation, path_of}
 use Rattle.vb_print.specs.Words.{printed as word_at, name, listed, literal_word, operator_word}
 use Rattle.vb_print.specs.Expressions.{head_words, expression_words, path_words, path_step_words}
 use Rattle.vb_print.specs.Expressions.{operation_words}
-use Rattle.vb_print.proofs.Alike.{plain, Blind, blind_pure, blind_none, blind_one, blind_bind}
-use Rattle.vb_print.proofs.Alike.{blind_or, blind_where, blind_many, blind_keyword, blind_symbol}
-use Rattle.vb_print.proofs.PrintedWords.{kinds-name, kinds-literal, kinds-operator}
-use Rattle.vb_print.proofs.Prints.{Prints, PrintsTail, prints, tail, prints_pure, prints_bind, prints_last}
-use Rattle.vb_print.proofs.Prints.{prints_keyword}
-use Rattle.vb_print.proofs.Prints.{prints_symbol, prints_or, prints_where, prints_none, prints_many, prints_listed}
-use Rattle.vb_print.proofs.ExpressionWords as printed
+use Rattle.print_laws.proofs.Alike.{plain, Blind, blind_pure, blind_none, blind_one, blind_bind}
+use Rattle.print_laws.proofs.Alike.{blind_or, blind_where, blind_many, blind_keyword, blind_symbol}
+use Rattle.print_laws.proofs.PrintedWords.{kinds-name, kinds-literal, kinds-operator}
+use Rattle.print_laws.proofs.Prints.{Prints, PrintsTail, prints, tail, prints_pure, prints_bind, prints_last}
+use Rattle.print_laws.proofs.Prints.{prints_keyword}
+use Rattle.print_laws.proofs.Prints.{prints_symbol, prints_or, prints_where, prints_none, prints_many, prints_listed}
+use Rattle.print_laws.proofs.ExpressionWords as printed
+use Rattle.vb_print.proofs.ChainWords.{words-chain}
 
 -- ---- the grammar looks at no line and no bracket
 
@@ -161,7 +162,7 @@ module _ (line : ℕ) where
   words_chain : (first : Expression) (more : List Operation) → expression_words line (chain first more)
       ≡ expression_words line first ++ flat_map (λ (x : Tokens). x) (map (operation_words line) more)
   words_chain first [] = sym (append-nil (expression_words line first))
-  words_chain first (x ∷ more) = printed.words-chain line first (x ∷ more)
+  words_chain first (x ∷ more) = words-chain line first (x ∷ more)
 
   pub record PrintsInside (inside : Inside) : Type 0 where
     pub primary : Prints inside.primary (expression_words line)

@@ -22,12 +22,12 @@ use Rattle.vb_print.specs.Units.{property_word}
 use Rattle.vb_print.specs.Units.{property_words, field_word, member_words, class_words, access_word}
 use Rattle.vb_print.specs.Units.{item_words}
 use Rattle.vb_print.specs.Units.{option_words, print_of}
-use Rattle.vb_print.proofs.Again.{Again, again, self, again_pure, again_bind, again_last, again_or}
-use Rattle.vb_print.proofs.Again.{again_opened, again_many, again_word, behind, word_shown, again_keyword}
-use Rattle.vb_print.proofs.Again.{again_symbol}
-use Rattle.vb_print.proofs.Again.{quoted_shown, again_listed, again_some}
-use Rattle.vb_print.proofs.SimplePrinting.{again_name, again_access, again_declared}
-use Rattle.vb_print.proofs.BlockPrinting.{no_texts, end_shown, again_sentence, blocks_again, blocks_inside_again}
+use Rattle.print_laws.proofs.Again.{Again, again, self, again_pure, again_bind, again_last, again_or}
+use Rattle.print_laws.proofs.Again.{again_opened, again_many, again_word, behind, word_shown, again_keyword}
+use Rattle.print_laws.proofs.Again.{again_symbol}
+use Rattle.print_laws.proofs.Again.{quoted_shown, again_listed, again_some}
+use Rattle.print_laws.proofs.SimplePrinting.{again_name, again_access, again_declared}
+use Rattle.print_laws.proofs.BlockPrinting.{no_texts, end_shown, again_sentence, blocks_again, blocks_inside_again}
 
 -- ---- procedures
 

@@ -7,8 +7,8 @@ use Rattle.vb_value.specs.declared.token.Symbol.TheVariants as s
 use Rattle.vb_syntax.specs.grammar.Rules.{Tokens, Rule, pure, none, ◌>>=◌, ◌>>◌, ◌or◌, many, where_true}
 use Rattle.vb_syntax.specs.grammar.Words as words
 use Rattle.vb_print.specs.Words.{keyword, symbol, listed}
-use Rattle.vb_print.proofs.Alike.{kinds, kinds-append}
-use Rattle.vb_print.proofs.PrintedWords.{kinds-keyword, kinds-symbol}
+use Rattle.print_laws.proofs.Alike.{kinds, kinds-append}
+use Rattle.print_laws.proofs.PrintedWords.{kinds-keyword, kinds-symbol}
 
 -- what the rule spells has words that are alike to those that spelled it
 pub record Prints {A : Type 0} (r : Rule A) (print : A → Tokens) : Type 0 where

@@ -15,8 +15,8 @@ use Rattle.vb_syntax.specs.grammar.Words.{tag, line_of}
 use Rattle.vb_syntax.specs.grammar.Declarations.{opened}
 use Rattle.vb_syntax.specs.grammar.SimpleStatements as statements
 use Rattle.vb_print.specs.Words.{printed, keyword, symbol, quoted, listed}
-use Rattle.vb_print.proofs.Alike.{Blind}
-use Rattle.vb_print.proofs.Prints.{Prints}
+use Rattle.print_laws.proofs.Alike.{Blind}
+use Rattle.print_laws.proofs.Prints.{Prints}
 
 -- the printed words of what the rule spells spell it
 pub record Again {A : Type 0} (r : Rule A) (print : A → Tokens) : Type 0 where
