@@ -25,7 +25,7 @@ use Rattle.asp_job.specs.Runs.{draw_of, job_of, key_of}
 use Rattle.asp_job.specs.Told.{Told}
 use Rattle.asp_job.specs.Turns.{IsAdmit, IsBegin, IsNext, IsRefuse, MayCome, MayFollow, closing_runs, has_most_keys}
 use Rattle.asp_job.specs.Turns.{key_asked_by, key_for, needs_key, owed}
-use Rattle.asp_core.specs.Laws.{with_rule}
+use Rattle.core_laws.specs.Locks.{with_rule}
 
 -- ---- what the rule has no part in
 

@@ -18,7 +18,7 @@ use Rattle.asp_job.specs.Rules.{Rules}
 use Rattle.asp_job.specs.Runs.{draw_of, draws, key_of, replies_of, reply_in, stage_of}
 use Rattle.asp_job.specs.Told.{Told}
 use Rattle.asp_job.specs.Turns.{owed}
-use Rattle.asp_core.specs.Alone.{alone}
+use Rattle.core_laws.specs.Alone.{alone}
 use Rattle.asp_journal.proofs.Others.{key_other, stage_other}
 use Rattle.asp_core.proofs.Others.{began_other, draw_other, replies_other}
 use Rattle.asp_core.proofs.Right.{call_running, drawn_next, next_undrawn, unfinished_is}

@@ -12,9 +12,9 @@ use Rattle.asp_job.specs.declared.entry.What.TheVariants.{Admit, App, Begin, End
 use Rattle.asp_job.specs.declared.entry.What.TheVariants.{Tick}
 use Rattle.asp_job.specs.History.{with_lane}
 use Rattle.asp_job.specs.Rules.{Rules}
-use Rattle.asp_core.specs.Given.{IsOfFirst, answer_among, given, handed, hands_out, made_by}
+use Rattle.core_laws.specs.Given.{IsOfFirst, answer_among, given, handed, hands_out, made_by}
 use Rattle.asp_core.specs.Ready.{ready}
-use Rattle.asp_core.proofs.Ordering.{first_found, first_removed, given_more, handed_more, ready_more}
+use Rattle.core_laws.proofs.Ordering.{first_found, first_removed, given_more, handed_more, ready_more}
 
 -- the answers of the runs that pass a test
 abbrev pub of_group : (ℕ → Bool) → List (ℕ × Answer) → List (ℕ × Answer)

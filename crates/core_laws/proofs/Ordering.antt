@@ -10,7 +10,7 @@ use Rattle.asp_job.specs.declared.entry.What.TheVariants.{Tick}
 use Rattle.asp_job.specs.History.{with_lane}
 use Rattle.asp_job.specs.Output.{answer_by, unavailable_in}
 use Rattle.asp_job.specs.Rules.{Rules, TooManySessions}
-use Rattle.asp_core.specs.Given.{AreOfFirst, answer_among, given, handed, hands_out, made_by}
+use Rattle.core_laws.specs.Given.{AreOfFirst, answer_among, given, handed, hands_out, made_by}
 use Rattle.asp_core.specs.Ready.{ready, with_answer}
 use Rattle.asp_journal.proofs.Others.{own_number}
 

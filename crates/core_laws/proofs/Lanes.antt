@@ -19,9 +19,9 @@ use Rattle.asp_job.specs.Output.{answer_by, unavailable_in}
 use Rattle.asp_job.specs.Rules.{Rules, TooManySessions}
 use Rattle.asp_job.specs.Runs.{asking_lane_of, drawn, draws, is_stage_ended, stage_of}
 use Rattle.asp_job.specs.Turns.{IsTake, MayFollow, owed}
-use Rattle.asp_core.specs.Given.{AreOfLaneFirst, IsOfLaneFirst, for_lane, given, handed}
+use Rattle.core_laws.specs.Given.{AreOfLaneFirst, IsOfLaneFirst, for_lane, given, handed}
 use Rattle.asp_core.specs.Ready.{asked_by, first_for, ready, with_answer}
-use Rattle.asp_core.proofs.Grouping.{AreOfGroupFirst, IsOfGroupFirst, group_in_order, of_group}
+use Rattle.core_laws.proofs.Grouping.{AreOfGroupFirst, IsOfGroupFirst, group_in_order, of_group}
 use Rattle.asp_core.proofs.Right.{drawn_next, end_running, is_drawn, numbered, unfinished_is}
 use Rattle.asp_core.proofs.Staying.{unequal}
 

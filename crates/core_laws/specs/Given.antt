@@ -1,12 +1,13 @@
 -- All answers of a journal, and those that were handed out. All of it is our own.
 use Rattle.std.specs.Prelude.{◌≡◌, ℕ, ◌==◌, Bool, true, false, List, [], ◌∷◌, ◌++◌, filter, Some, None}
-use Rattle.std.specs.List.{find}
+use Rattle.std.specs.List.{count_by, find}
 use Rattle.asp_job.specs.declared.answer.Answer.{Answer}
 use Rattle.asp_job.specs.declared.entry.Entry.{Entry}
 use Rattle.asp_job.specs.declared.entry.What.{What}
 use Rattle.asp_job.specs.declared.entry.What.TheVariants.{Refuse, End, Take}
 use Rattle.asp_job.specs.Output.{answer_by, unavailable_in}
 use Rattle.asp_job.specs.Rules.{Rules, TooManySessions}
+use Rattle.asp_job.specs.Runs.{takes}
 use Rattle.asp_core.specs.Ready.{asked_by, first_for, ready, with_answer}
 
 -- All answers, each with its run, in the order in which their runs ended or were refused: those that wait, and those
@@ -41,6 +42,10 @@ handed rules (entry ∷ past) = elim entry.what [
   | Take run ↦ handed rules past ++ answer_among run (ready rules past)
   | _ ↦ handed rules past
 ]
+
+-- how often the answer of a run was handed out
+abbrev pub hand_outs : List Entry → ℕ → ℕ
+hand_outs past r = count_by (λ entry. takes r entry.what) past
 
 -- a hand-out is that of the first answer that waits
 abbrev pub IsOfFirst : List (ℕ × Answer) → What → Type 0

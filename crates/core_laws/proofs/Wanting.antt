@@ -20,7 +20,7 @@ use Rattle.asp_job.specs.Rules.{Rules}
 use Rattle.asp_job.specs.Runs.{replies_of, stage_of}
 use Rattle.asp_job.specs.Told.{Told, Wants, Meaning, heard}
 use Rattle.asp_job.specs.Turns.{owed}
-use Rattle.asp_core.specs.Wanted.{AreWanted}
+use Rattle.core_laws.specs.Wanted.{AreWanted}
 use Rattle.asp_core.proofs.Others.{told_other}
 use Rattle.asp_core.proofs.Right.{begin_right, drawn_next, is_begun, may_begin_waits, next_undrawn, no_replies}
 

@@ -14,7 +14,8 @@ use Rattle.asp_job.specs.Application.{AppState, apply, blocker_of, freed, has_lo
 use Rattle.asp_job.specs.History.{held_by, with_lane}
 use Rattle.asp_job.specs.Journal.{IsRight, AreRight, past_after}
 use Rattle.asp_job.specs.Rules.{Rules}
-use Rattle.asp_core.specs.Laws.{is_release_of, is_kept_out, NoneIs}
+use Rattle.asp_core.specs.Laws.{NoneIs}
+use Rattle.core_laws.specs.Locks.{is_release_of, is_kept_out}
 
 -- a run that has not the lock does not let it go
 freed_other : (held : AppState) (run r : ℕ) → held.holder ≡ Some r → (r == run) ≡ false → (freed run held).holder

@@ -1,6 +1,6 @@
-use Rattle.asp_core.proofs.Lanes as lanes
-use Rattle.asp_core.proofs.Ordering as ordering
-use Rattle.asp_core.proofs.laws.answers_in_order.Goals as goal
+use Rattle.core_laws.proofs.Lanes as lanes
+use Rattle.core_laws.proofs.Ordering as ordering
+use Rattle.core_laws.proofs.laws.answers_in_order.Goals as goal
 
 pub returns-clause-made : goal.returns-clause-made
 returns-clause-made c = ordering.both_more

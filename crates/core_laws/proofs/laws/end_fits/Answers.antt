@@ -1,5 +1,5 @@
-use Rattle.asp_core.proofs.Fitting as fitting
-use Rattle.asp_core.proofs.laws.end_fits.Goals as goal
+use Rattle.core_laws.proofs.Fitting as fitting
+use Rattle.core_laws.proofs.laws.end_fits.Goals as goal
 
 pub returns-clause-may : goal.returns-clause-may
 returns-clause-may c = fitting.may_end

@@ -1,5 +1,5 @@
-use Rattle.asp_core.proofs.Alone as alone
-use Rattle.asp_core.proofs.laws.sessions_apart.Goals as goal
+use Rattle.core_laws.proofs.Alone as alone
+use Rattle.core_laws.proofs.laws.sessions_apart.Goals as goal
 
 pub returns-clause-left_out : goal.returns-clause-left_out
 returns-clause-left_out c = alone.left_out
