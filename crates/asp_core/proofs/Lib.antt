@@ -12,7 +12,6 @@ pub mod Waiting
 pub mod Starting
 pub mod Same
 pub mod Staying
-pub mod Locking
 pub mod Finding
 pub mod Ticking
 pub mod Admitting
@@ -27,22 +26,15 @@ pub mod Made
 pub mod Ending
 pub mod Beginning
 pub mod Telling
-pub mod Once
 pub mod Opened
 pub mod Calling
 pub mod Called
 pub mod Holding
-pub mod Fitting
 pub mod Idling
-pub mod Wanting
-pub mod Ordering
-pub mod Alone
-pub mod Grouping
 pub mod Growing
 pub mod Expiring
 pub mod Asking
 pub mod Moving
-pub mod Lanes
 pub mod Lengths
 pub mod Bearing
 pub mod Lasting
@@ -54,4 +46,3 @@ pub mod Steps
 pub mod Stepping
 pub mod Finishing
 pub mod Owing
-pub mod Plain

@@ -11,9 +11,6 @@ pub mod Calling
 pub mod Taking
 pub mod Ends
 pub mod Waits
-pub mod Wanted
-pub mod Given
-pub mod Alone
 pub mod Calm
 pub mod Start
 pub mod Slice

@@ -1,12 +1,11 @@
 -- Which answers wait to be handed out: those of the runs that ended, until they are.
 use Rattle.std.specs.Prelude.{◌≡◌, ℕ, nat_eq, Bool, if◌then◌else◌, List, [], ◌∷◌, Option, None}
-use Rattle.std.specs.List.{count_by}
 use Rattle.std.specs.Map.{lookup}
 use Rattle.asp_job.specs.declared.answer.Answer.{Answer}
 use Rattle.asp_job.specs.declared.entry.Entry.{Entry}
 use Rattle.asp_job.specs.Output.{answer_of_run}
 use Rattle.asp_job.specs.Rules.{Rules}
-use Rattle.asp_job.specs.Runs.{has_ended, is_taken, takes}
+use Rattle.asp_job.specs.Runs.{has_ended, is_taken}
 use Rattle.asp_core.specs.Ready.{ready}
 
 -- no answer of the run is among these
@@ -30,7 +29,3 @@ WaitsFor rules past r =
 pub record AreThose (rules : Rules) (past : List Entry) : Type 0 where
   pub once : AreOnce (ready rules past)
   pub found : (r : ℕ) → WaitsFor rules past r
-
--- how often the answer of a run was handed out
-abbrev pub hand_outs : List Entry → ℕ → ℕ
-hand_outs past r = count_by (λ entry. takes r entry.what) past

@@ -33,9 +33,8 @@ pub use crossing::core_crosses;
 pub use house::{House, HouseOf, Housed};
 pub use kernel::{Core, CoreOf};
 pub use laws::{
-    account_steps, answer_stays, answers_in_order, answers_wait, calls_follow, end_fits,
-    events_bear_lane, handed_out_once, holder_is_unfinished, lock_holds, run_stays, runs_stay,
-    sessions_apart, some_run_may_begin, strict_is_plain,
+    account_steps, answer_stays, answers_wait, events_bear_lane, holder_is_unfinished, run_stays,
+    runs_stay, some_run_may_begin,
 };
 pub use ready::{BODY_ROOM, MOST_BODY_BYTES};
 pub use run::{Progress, Run, StandIns};

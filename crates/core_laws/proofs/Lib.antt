@@ -1,1 +1,10 @@
 pub mod Ended
+pub mod Locking
+pub mod Once
+pub mod Fitting
+pub mod Wanting
+pub mod Ordering
+pub mod Alone
+pub mod Grouping
+pub mod Lanes
+pub mod Plain

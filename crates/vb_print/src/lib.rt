@@ -3,12 +3,10 @@
 
 mod declarations;
 mod expressions;
-mod laws;
 mod parts;
 mod simple;
 mod statements;
 mod units;
 mod words;
 
-pub use laws::{print_and_parse, printed_again};
 pub use units::print;

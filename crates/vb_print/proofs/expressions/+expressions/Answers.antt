@@ -3,7 +3,7 @@ use Rattle.std.specs.List.{flat_map}
 use Rattle.vb_syntax.specs.grammar.Rules.{Tokens}
 use Rattle.vb_print.specs.Expressions as spec
 use Rattle.vb_print.proofs.Adding.{adds_more}
-use Rattle.vb_print.proofs.ExpressionWords.{words-chain}
+use Rattle.vb_print.proofs.ChainWords.{words-chain}
 use Rattle.vb_print.proofs.expressions.+expressions.Goals as goal
 
 pub print_expression-returns-in_ok-print_expression-in-Chain :

@@ -1,5 +1,0 @@
-use Rattle.asp_core.proofs.Once.{once_out}
-use Rattle.asp_core.proofs.laws.handed_out_once.Goals as goal
-
-pub returns : goal.returns
-returns c rules past run right = once_out rules past right run

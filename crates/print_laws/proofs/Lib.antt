@@ -1,0 +1,12 @@
+pub mod ExpressionWords
+pub mod Alike
+pub mod PrintedWords
+pub mod Prints
+pub mod ExpressionPrinting
+pub mod Again
+pub mod StatementWords
+pub mod SimplePrinting
+pub mod CallPrinting
+pub mod SimpleStatementPrinting
+pub mod BlockPrinting
+pub mod UnitPrinting
