@@ -6,7 +6,7 @@ ghost use Rattle.vb_meaning.specs.Meaning.{inside};
 ghost use Rattle.vb_meaning.specs.Releases.{settle_last, end_all};
 ghost use Rattle.vb_meaning.specs.State.{State, on_world};
 ghost use Rattle.vb_meaning.specs.Step.{Step, Ran, and_then, state_of};
-ghost use Rattle.vb_meaning.specs.Ticks.{act_end, end_in, page_end};
+ghost use Rattle.vb_meaning.specs.Ticks.{TellsOf, act_end, end_in, page_end};
 ghost use Rattle.vb_meaning.specs.Shown.{shown};
 ghost use Rattle.vb_plain.specs.Nests.{Executes, Enters};
 ghost use Rattle.vb_objects.specs.Seen.{seen, host};
@@ -185,6 +185,8 @@ impl<
             ≡ (Some end, env.now)) }
         ensures state { (step : Step (State I) (Unit {0})) → Ran step gave (seen playing.now env.now) → IfOk result (λ
             _. seen playing.now env.now ≡ state_of step) }
+        ensures tells { (step : Step (State I) (Unit {0})) → Ran step gave (seen playing.now env.now) → IfOk result (λ
+            end. TellsOf (state_of step) end env.now) }
     {
         match gave {
             Ok(()) => Ok(self.done(p, how, &playing.world)),
@@ -226,6 +228,8 @@ impl<
             how (seen playing.old env.old) ≡ (Some end, env.new)) }
         ensures state { IfOk result (λ _. seen playing.new env.new ≡ page_end I
             (inside I (host I.asked I.answered) p.now self.now.levels) (seen playing.old env.old)) }
+        ensures tells { IfOk result (λ end. TellsOf (page_end I
+            (inside I (host I.asked I.answered) p.now self.now.levels) (seen playing.old env.old)) end env.new) }
     {
         leave_page(self.alloc, &mut playing.world)?;
         let gave = self.last_objects(p, playing, env);
@@ -246,6 +250,8 @@ impl<
             ≡ (Some end, env.new)) }
         ensures state { (step : Step (State I) (Unit {0})) → Ran step gave (seen playing.old env.old) → IfOk result (λ
             _. seen playing.new env.new ≡ act_end I (inside I (host I.asked I.answered) p.now self.now.levels) step) }
+        ensures tells { (step : Step (State I) (Unit {0})) → Ran step gave (seen playing.old env.old) → IfOk result (λ
+            end. TellsOf (act_end I (inside I (host I.asked I.answered) p.now self.now.levels) step) end env.new) }
     {
         match gave {
             Ok(()) => self.page_ends(p, playing, env, ActEnd::Done),
@@ -279,6 +285,8 @@ impl<
             (seen playing.old env.old) ≡ (Some end, env.new)) }
         ensures state { IfOk result (λ _. seen playing.new env.new ≡ end_in I
             (inside I (host I.asked I.answered) p.now self.now.levels) act (seen playing.old env.old)) }
+        ensures tells { IfOk result (λ end. TellsOf (end_in I
+            (inside I (host I.asked I.answered) p.now self.now.levels) act (seen playing.old env.old)) end env.new) }
     {
         let gave = self.begun(p, playing, env, act);
         self.ends_act(p, playing, env, gave)

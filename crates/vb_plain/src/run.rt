@@ -1,7 +1,8 @@
 //! The run of an act.
 ghost use Rattle.std.specs.Prelude.{◌≡◌, IfOk, Some};
-ghost use Rattle.vb_meaning.specs.Acts.{act_in, act_of, begun};
+ghost use Rattle.vb_meaning.specs.Acts.{act_in, act_of, begun, fresh_world, most_ticks};
 ghost use Rattle.vb_meaning.specs.Meaning.{inside, most_levels};
+ghost use Rattle.vb_meaning.specs.Shown.{shown};
 ghost use Rattle.vb_meaning.specs.Ticks.{TellsOf, end_in};
 ghost use Rattle.vb_objects.specs.Seen.{host, seen};
 
@@ -24,7 +25,8 @@ const MOST_LEVELS: u32 = 2_000;
 
 /// The state in which an act begins: no data, and all its ticks.
 pub fn fresh_playing(alloc: Global, replies: &[AppReply]) -> Result<Playing<'_>, Memory>
-    ensures { (E : Type 0) → (env : E) → IfOk result (λ playing. seen playing env ≡ begun env replies.now) }
+    ensures { IfOk result (λ playing. (shown playing.world ≡ fresh_world) × (playing.ticks ≡ most_ticks)
+        × (playing.replies.now ≡ replies.now)) }
 {
     Ok(Playing {
         world: fresh_world(alloc)?,
@@ -46,6 +48,8 @@ pub fn run_act_in<I: Intrinsics>(
         (seen playing.old env.old) ≡ (Some end, env.new)) }
     ensures state { IfOk result (λ _. seen playing.new env.new
         ≡ end_in I (inside I (host I.asked I.answered) p.now most_levels) act (seen playing.old env.old)) }
+    ensures tells { IfOk result (λ end. TellsOf
+        (end_in I (inside I (host I.asked I.answered) p.now most_levels) act (seen playing.old env.old)) end env.new) }
 {
     Rules {
         env: PhantomData,
